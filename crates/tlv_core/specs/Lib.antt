@@ -1,0 +1,6 @@
+pub mod Classes
+pub mod Header
+pub mod Identifier
+pub mod Length
+pub mod Limits
+pub mod Reasons

@@ -1,0 +1,12 @@
+//! Tags, headers, limits, reasons and faults of BER and DER: what every other crate of pkder speaks in.
+//!
+//! Proved here: a header is the one shortest spelling of a tag, a form and a length (X.690 8.1.2, 8.1.3, 10.1);
+//! a `Tag` and `Limits` exist exactly for the arguments that their constructors name;
+//! the numbers and names of reasons are those of the table in `docs/formats.md`.
+#![tactic(auto)]
+
+pub mod fault;
+pub mod header;
+pub mod limits;
+pub mod reason;
+pub mod tag;
