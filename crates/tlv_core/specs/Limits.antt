@@ -1,5 +1,5 @@
 -- What a caller allows a document.
-use Rattle.std.specs.Prelude.{◌≡◌, ℕ, ◌≤◌, refl}
+use Rattle.std.specs.Prelude.{ℕ, ◌≤◌, refl}
 use Rattle.std.specs.Coded.{Coded, code_by, coded×, coded_ℕ}
 
 -- The greatest depth of nesting, the outermost element being at depth 1, and the greatest number of octets.

@@ -5,6 +5,7 @@
 //! the numbers and names of reasons are those of the table in `docs/formats.md`.
 #![tactic(auto)]
 
+pub mod der;
 pub mod fault;
 pub mod header;
 pub mod limits;
