@@ -1,0 +1,165 @@
+-- Identifiers and lengths delimit themselves.
+use Rattle.std.proofs.Common.{◌≡◌, ℕ, zero, suc, ◌+◌, ◌*◌, ◌/◌, ◌%◌, ◌^◌, ◌<◌, ◌≤◌, ◌≢◌, ◌⊎◌, inl, inr, ⊎_elim, ◌==◌, nat_lt, Bool, true, false, cond, List, [], ◌∷◌, ◌++◌, length, refl, sym, ◌∙◌, ap, append_assoc, arith}
+use Rattle.std.proofs.Common.{pow-suc, lit<}
+use Rattle.std.proofs.lemmas.Bool.Decides.{nat_tests}
+use Rattle.tlv_core.specs.Identifier.{IsTag, Tag, base128, identifier, leading_base128}
+use Rattle.tlv_core.specs.Length.{SpellsLength}
+
+abbrev pub branch : Bool → List ℕ → List ℕ → List ℕ
+branch b s t = elim b [ true ↦ s | false ↦ t ]
+
+-- a run of digits: bit 8 is set on all but the last
+abbrev pub IsRun : List ℕ → Type 0
+IsRun [] = 1 ≤ 0
+IsRun (x ∷ []) = x < 128
+IsRun (x ∷ y ∷ s) = (128 ≤ x) × (x < 256) × IsRun (y ∷ s)
+
+-- the number of a run, `high` standing before it
+abbrev pub run_value : ℕ → List ℕ → ℕ
+run_value high [] = high
+run_value high (x ∷ s) = run_value (high * 128 + x % 128) s
+
+pub run_alone : (s t x y : List ℕ) → IsRun s → IsRun t → s ++ x ≡ t ++ y → (s ≡ t) × (x ≡ y)
+run_alone [] t x y h k e = absurd (omega arith)
+run_alone (a ∷ s) [] x y h k e = absurd (omega arith)
+run_alone (a ∷ []) (b ∷ []) x y h k e = (cc, cc)
+run_alone (a ∷ []) (b ∷ b' ∷ t) x y h k e = let q : a ≡ b = cc in absurd (omega arith)
+run_alone (a ∷ a' ∷ s) (b ∷ []) x y h k e = let q : a ≡ b = cc in absurd (omega arith)
+run_alone (a ∷ a' ∷ s) (b ∷ b' ∷ t) x y h k e =
+    let q : a ≡ b = cc in
+    let rest : (a' ∷ s) ++ x ≡ (b' ∷ t) ++ y = cc in
+    let both = run_alone (a' ∷ s) (b' ∷ t) x y h.2 k.2 rest in
+    (cc, both.1)
+
+pub run_more : (x : ℕ) (s : List ℕ) → 128 ≤ x → x < 256 → IsRun s → IsRun (x ∷ s)
+run_more x [] l m h = absurd (omega arith)
+run_more x (y ∷ s) l m h = (l, m, h)
+
+-- the high digits, in front of a run, are one, with the number's own value
+pub high_run : (k n : ℕ) (s : List ℕ) → IsRun s → IsRun (leading_base128 k n ++ s)
+unfolding leading_base128
+high_run zero n s h = h
+high_run (suc k) n s h =
+    elim (n == 0) as (λ b. IsRun (branch b [] (leading_base128 k (n / 128) ++ ((128 + n % 128) ∷ [])) ++ s)) [
+      | true ↦ h
+      | false ↦ rw append_assoc (high_run k (n / 128) ((128 + n % 128) ∷ s) (run_more (128 + n % 128) s (omega arith) (omega arith) h))
+    ]
+
+pub high_value : (k n : ℕ) (s : List ℕ) → n < 128 ^ k → run_value 0 (leading_base128 k n ++ s) ≡ run_value n s
+unfolding leading_base128
+high_value zero n s h = let e : n ≡ 0 = omega arith in ap (λ m. run_value m s) (sym e)
+high_value (suc k) n s h =
+    let small : n / 128 < 128 ^ k = omega (arith, pow-suc 128 k) in
+    go (n == 0) refl (high_value k (n / 128) ((128 + n % 128) ∷ s) small)
+  where
+    go : (b : Bool) → (n == 0) ≡ b
+        → run_value 0 (leading_base128 k (n / 128) ++ ((128 + n % 128) ∷ s)) ≡ run_value (n / 128) ((128 + n % 128) ∷ s)
+        → run_value 0 (branch b [] (leading_base128 k (n / 128) ++ ((128 + n % 128) ∷ [])) ++ s) ≡ run_value n s
+    go true e ih = let z : n ≡ 0 = grind (arith, nat_tests) in ap (λ m. run_value m s) (sym z)
+    go false e ih =
+        rw append_assoc (ih ∙ (let q : n / 128 * 128 + (128 + n % 128) % 128 ≡ n = omega arith in ap (λ m. run_value m s) q))
+
+pub digits_run : (n : ℕ) → IsRun (base128 n)
+unfolding base128
+digits_run n = let last : n % 128 < 128 = omega arith in high_run n (n / 128) ((n % 128) ∷ []) last
+
+below_power : (n : ℕ) → n < 128 ^ n
+below_power zero = lit< tt
+below_power (suc n) = let ih = below_power n in omega (arith, pow-suc 128 n)
+
+pub digits_value : (n : ℕ) → run_value 0 (base128 n) ≡ n
+unfolding base128
+digits_value n =
+    high_value n (n / 128) ((n % 128) ∷ []) (let b = below_power n in omega arith)
+    ∙ (let q : n / 128 * 128 + n % 128 % 128 ≡ n = omega arith in q)
+
+pub digits_alone : (m n : ℕ) (x y : List ℕ) → base128 m ++ x ≡ base128 n ++ y → (m ≡ n) × (x ≡ y)
+digits_alone m n x y e =
+    let both = run_alone (base128 m) (base128 n) x y (digits_run m) (digits_run n) e in
+    (sym (digits_value m) ∙ ap (λ s. run_value 0 s) both.0 ∙ digits_value n, both.1)
+
+pub record IsShort (t : Tag) (f : Bool) : Type 0 where
+  pub small : t.number < 31
+  pub is : identifier t f ≡ (t.class * 64 + cond f 32 0 + t.number) ∷ []
+
+pub record IsLong (t : Tag) (f : Bool) : Type 0 where
+  pub large : 31 ≤ t.number
+  pub is : identifier t f ≡ (t.class * 64 + cond f 32 0 + 31) ∷ base128 t.number
+
+pub identifier_cases : (t : Tag) (f : Bool) → IsShort t f ⊎ IsLong t f
+unfolding identifier
+identifier_cases t f = go (nat_lt t.number 31) refl
+  where
+    go : (b : Bool) → nat_lt t.number 31 ≡ b → IsShort t f ⊎ IsLong t f
+    go true e = inl (record { small = grind (arith, nat_tests); is = rw (e, identifier) refl })
+    go false e = inr (record { large = grind (arith, nat_tests); is = rw (e, identifier) refl })
+
+lead_alone : (c d m n : ℕ) (f g : Bool) → m ≤ 31 → n ≤ 31 → c * 64 + cond f 32 0 + m ≡ d * 64 + cond g 32 0 + n → (c ≡ d) × (f ≡ g) × (m ≡ n)
+lead_alone c d m n true true h k e = (omega arith, refl, omega arith)
+lead_alone c d m n true false h k e = absurd (omega arith)
+lead_alone c d m n false true h k e = absurd (omega arith)
+lead_alone c d m n false false h k e = (omega arith, refl, omega arith)
+
+-- equal fronts, replaced
+pub along : {s s' t t' : List ℕ} (x y : List ℕ) → s ≡ s' → t ≡ t' → s ++ x ≡ t ++ y → s' ++ x ≡ t' ++ y
+along x y p q e = sym (ap (λ v. v ++ x) p) ∙ e ∙ ap (λ v. v ++ y) q
+
+tag_path : (t u : Tag) → t.class ≡ u.class → t.number ≡ u.number → t ≡ u
+tag_path t u p q = λ i. record { class = p i; number = q i }
+
+pub identifier_alone : (t u : Tag) (f g : Bool) (x y : List ℕ) → identifier t f ++ x ≡ identifier u g ++ y → (t ≡ u) × (f ≡ g) × (x ≡ y)
+identifier_alone t u f g x y e = ⊎_elim
+    (λ a. ⊎_elim
+    (λ b. let e' : ((t.class * 64 + cond f 32 0 + t.number) ∷ []) ++ x ≡ ((u.class * 64 + cond g 32 0 + u.number) ∷ []) ++ y = along x y a.is b.is e in
+    let l = lead_alone t.class u.class t.number u.number f g (omega arith) (omega arith) cc in
+    (tag_path t u l.0 l.2, l.1, cc))
+    (λ b. let e' : ((t.class * 64 + cond f 32 0 + t.number) ∷ []) ++ x ≡ ((u.class * 64 + cond g 32 0 + 31) ∷ base128 u.number) ++ y = along x y a.is b.is e in
+    let l = lead_alone t.class u.class t.number 31 f g (omega arith) (omega arith) cc in absurd (omega arith))
+    (identifier_cases u g))
+    (λ a. ⊎_elim
+    (λ b. let e' : ((t.class * 64 + cond f 32 0 + 31) ∷ base128 t.number) ++ x ≡ ((u.class * 64 + cond g 32 0 + u.number) ∷ []) ++ y = along x y a.is b.is e in
+    let l = lead_alone t.class u.class 31 u.number f g (omega arith) (omega arith) cc in absurd (omega arith))
+    (λ b. let e' : ((t.class * 64 + cond f 32 0 + 31) ∷ base128 t.number) ++ x ≡ ((u.class * 64 + cond g 32 0 + 31) ∷ base128 u.number) ++ y = along x y a.is b.is e in
+    let l = lead_alone t.class u.class 31 31 f g (omega arith) (omega arith) cc in
+    let d = digits_alone t.number u.number x y cc in
+    (tag_path t u l.0 d.0, l.1, d.1))
+    (identifier_cases u g))
+    (identifier_cases t f)
+
+-- an identifier begins with an octet that isn't 0
+pub record Starts (s : List ℕ) : Type 0 where
+  pub first : ℕ
+  pub rest : List ℕ
+  pub is : s ≡ first ∷ rest
+  pub nonzero : first ≢ 0
+
+pub identifier_starts : (t : Tag) (f : Bool) → IsTag t → Starts (identifier t f)
+identifier_starts t f h = ⊎_elim
+    (λ a. record { first = t.class * 64 + cond f 32 0 + t.number; rest = []; is = a.is; nonzero = λ z. h.not_end (omega arith) })
+    (λ a. record { first = t.class * 64 + cond f 32 0 + 31; rest = base128 t.number; is = a.is; nonzero = λ z. absurd (omega arith) })
+    (identifier_cases t f)
+
+pub split_alone : (s t x y : List ℕ) → length s ≡ length t → s ++ x ≡ t ++ y → (s ≡ t) × (x ≡ y)
+split_alone [] [] x y h e = (refl, e)
+split_alone [] (b ∷ t) x y h e = absurd (omega arith)
+split_alone (a ∷ s) [] x y h e = absurd (omega arith)
+split_alone (a ∷ s) (b ∷ t) x y h e =
+    let rest : s ++ x ≡ t ++ y = cc in
+    let both = split_alone s t x y (omega arith) rest in
+    (cc, both.1)
+
+pub len_alone : (m n : ℕ) (s t x y : List ℕ) → SpellsLength m s → SpellsLength n t → s ++ x ≡ t ++ y → (m ≡ n) × (s ≡ t) × (x ≡ y)
+unfolding SpellsLength
+len_alone m n [] t x y h k e = absurd (omega arith)
+len_alone m n (a ∷ s) [] x y h k e = absurd (omega arith)
+len_alone m n (a ∷ s) (b ∷ t) x y h k e =
+    let q : a ≡ b = cc in
+    let rest : s ++ x ≡ t ++ y = cc in
+    ⊎_elim (λ h'. ⊎_elim (λ k'. (cc, cc, cc)) (λ k'. absurd (omega arith)) k)
+    (λ h'. ⊎_elim (λ k'. absurd (omega arith)) (λ k'. let both = split_alone s t x y (omega arith) rest in (cc, cc, both.1)) k) h
+
+-- the indefinite form's octet is no length
+pub len_definite : (n : ℕ) (s x y : List ℕ) → SpellsLength n s → s ++ x ≡ 128 ∷ y → ⊥
+unfolding SpellsLength
+len_definite n [] x y h e = absurd (omega arith)
+len_definite n (a ∷ s) x y h e = let q : a ≡ 128 = cc in ⊎_elim (λ h'. absurd (omega arith)) (λ h'. absurd (omega arith)) h

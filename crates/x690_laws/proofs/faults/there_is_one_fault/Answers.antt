@@ -1,0 +1,5 @@
+use Rattle.x690_laws.proofs.Exactly.{one_fault}
+use Rattle.x690_laws.proofs.faults.there_is_one_fault.Goals as goal
+
+pub returns : goal.returns
+returns c = one_fault

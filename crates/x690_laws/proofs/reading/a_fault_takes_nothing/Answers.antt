@@ -1,0 +1,5 @@
+use Rattle.x690_laws.proofs.Judging.{exclusive}
+use Rattle.x690_laws.proofs.reading.a_fault_takes_nothing.Goals as goal
+
+pub returns : goal.returns
+returns c = exclusive

@@ -1,0 +1,5 @@
+use Rattle.x690_laws.proofs.OneValue.{one_value}
+use Rattle.x690_laws.proofs.types.a_tree_says_one_value.Goals as goal
+
+pub returns : goal.returns
+returns c = one_value

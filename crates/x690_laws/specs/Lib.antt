@@ -1,0 +1,4 @@
+pub mod LayoutLaws
+pub mod ReadingLaws
+pub mod FaultLaws
+pub mod DocumentLaws
