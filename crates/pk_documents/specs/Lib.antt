@@ -1,0 +1,4 @@
+pub mod Elements
+pub mod Normalised
+pub mod Parts
+pub mod PlainKey

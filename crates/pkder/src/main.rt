@@ -1,0 +1,70 @@
+//! `pkder` reads one document in BER or DER from standard input and writes its one DER text to standard output.
+//!
+//! Proved here: what `run` answers and writes for every input, memory apart; the exit status and the line on
+//! standard error of each outcome. Only tested: which command lines are accepted, and `main`.
+#![tactic(auto)]
+
+mod input;
+mod line;
+mod outcome;
+mod run;
+
+use line::{LineFault, Task};
+use outcome::Outcome;
+use std::alloc::Global;
+use std::io::{ErrorKind, Write};
+use std::process::ExitCode;
+
+fn main(rt: HostRuntime) -> ExitCode {
+    let alloc = rt.alloc();
+    let arguments = match std::env::args(&rt) {
+        Ok(arguments) => arguments,
+        Err(error) if error.kind() == ErrorKind::OutOfMemory => {
+            return complain(&rt, "out of memory\n", 3);
+        }
+        Err(_) => return complain(&rt, "the line is not UTF-8\n", 4),
+    };
+    let words: Vec<String> = match arguments.collect(alloc) {
+        Ok(words) => words,
+        Err(_) => return complain(&rt, "out of memory\n", 3),
+    };
+    match line::task_of(alloc, words.as_slice()) {
+        Ok(task) => finish(&rt, &serve(&rt, alloc, &task)),
+        Err(LineFault::Line(text)) => complain(&rt, text.as_str(), 4),
+        Err(LineFault::Help(text)) => match rt.print(text.as_str()) {
+            Ok(()) => ExitCode::from(0),
+            Err(_) => ExitCode::from(3),
+        },
+        Err(LineFault::Memory) => complain(&rt, "out of memory\n", 3),
+    }
+}
+
+/// Reads the input whole, runs the task on it, and writes what it made.
+fn serve(rt: &HostRuntime, alloc: Global, task: &Task) -> Outcome {
+    let most = u64::from(task.limits.octets()) + 1;
+    let given = match input::read_at_most(alloc, rt.stdin(), most) {
+        Ok(given) => given,
+        Err(outcome) => return outcome,
+    };
+    let mut made = Vec::new(alloc);
+    let outcome = run::run(alloc, &mut given.as_slice(), &mut made, task);
+    let (written, whole) = input::write_all(&mut rt.stdout(), made.as_slice());
+    if !whole || rt.stdout().flush().is_err() {
+        return Outcome::WriteFailed(written);
+    }
+    outcome
+}
+
+/// Prints the line of the outcome, and answers its status.
+fn finish(rt: &HostRuntime, outcome: &Outcome) -> ExitCode {
+    let status = outcome::status(outcome);
+    match outcome::outcome_text(rt.alloc(), outcome) {
+        Ok(text) => complain(rt, text.as_str(), status),
+        Err(_) => complain(rt, "out of memory\n", status),
+    }
+}
+
+fn complain(rt: &HostRuntime, text: &str, status: u8) -> ExitCode {
+    let _ = rt.eprint(text);
+    ExitCode::from(status)
+}

@@ -1,0 +1,86 @@
+//! How a run ends.
+ghost use Rattle.std.specs.Prelude.{◌≡◌, ◌++◌, codes, decimal, IfOk, OnOk, string_bytes};
+ghost use Rattle.pkder.specs.Outcomes.{status_of, line_of, line_feed, place_text, inside_text};
+
+use itoa::Buffer;
+use std::alloc::{AllocError, Global};
+use tlv_core::fault::Fault as DocumentFault;
+use tlv_core::reason::Reason;
+
+#[derive(Clone, Copy, Debug, PartialEq, Eq)]
+pub enum Outcome {
+    /// All that was asked for is written.
+    Done,
+    /// The document is not in DER: the first place where it differs from its DER text.
+    NotDer(u64),
+    /// The document is refused, and nothing is written.
+    Fault(DocumentFault),
+    /// The reader failed after so many octets, and nothing is written.
+    ReadFailed(u64),
+    /// The writer failed after so many octets.
+    WriteFailed(u64),
+    /// A growth of memory was refused, and nothing is written.
+    Memory,
+}
+
+/// The exit status.
+pub fn status(outcome: &Outcome) -> u8
+    ensures { result ≡ status_of outcome.now }
+{
+    match outcome {
+        Outcome::Done => 0,
+        Outcome::NotDer(_) => 1,
+        Outcome::Fault(_) => 2,
+        Outcome::ReadFailed(_) | Outcome::WriteFailed(_) | Outcome::Memory => 3,
+    }
+}
+
+/// The line for standard error, ended by a line feed; empty for `Done` and `NotDer`.
+pub fn outcome_text(alloc: Global, outcome: &Outcome) -> Result<String, AllocError>
+    ensures { IfOk result (λ text. string_bytes text ≡ line_of outcome.now) }
+{
+    match outcome {
+        Outcome::Done | Outcome::NotDer(_) => Ok(String::new(alloc)),
+        Outcome::Fault(fault) => fault_line(alloc, fault),
+        Outcome::ReadFailed(at) => number_line(alloc, "read failed at ", *at),
+        Outcome::WriteFailed(after) => number_line(alloc, "write failed after ", *after),
+        Outcome::Memory => String::from_str(alloc, "out of memory\n"),
+    }
+}
+
+fn number_line(alloc: Global, words: &str, number: u64) -> Result<String, AllocError>
+    ensures { IfOk result (λ text. string_bytes text ≡ words.now ++ decimal number ++ line_feed) }
+{
+    let mut text = String::from_str(alloc, words)?;
+    push_number(&mut text, number)?;
+    text.push_str("\n")?;
+    Ok(text)
+}
+
+fn fault_line(alloc: Global, fault: &DocumentFault) -> Result<String, AllocError>
+    ensures { IfOk result (λ text. string_bytes text ≡ codes "fault at " ++ place_text fault.now.at fault.now.why ++ inside_text fault.now.inside ++ line_feed) }
+{
+    let mut text = String::from_str(alloc, "fault at ")?;
+    push_place(&mut text, fault.at, fault.why)?;
+    if let Some((at, why)) = fault.inside {
+        text.push_str(" inside at ")?;
+        push_place(&mut text, at, why)?;
+    }
+    text.push_str("\n")?;
+    Ok(text)
+}
+
+fn push_place(text: &mut String, at: u64, why: Reason) -> Result<(), AllocError>
+    ensures { OnOk result (string_bytes text.new ≡ string_bytes text.old ++ place_text at why) }
+{
+    push_number(text, at)?;
+    text.push_str(": ")?;
+    text.push_str(why.name())
+}
+
+fn push_number(text: &mut String, number: u64) -> Result<(), AllocError>
+    ensures { OnOk result (string_bytes text.new ≡ string_bytes text.old ++ decimal number) }
+{
+    let mut buffer = Buffer::new();
+    text.push_str(buffer.format(number))
+}
