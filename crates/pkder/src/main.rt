@@ -68,3 +68,6 @@ fn complain(rt: &HostRuntime, text: &str, status: u8) -> ExitCode {
     let _ = rt.eprint(text);
     ExitCode::from(status)
 }
+
+#[cfg(test)]
+mod tests;
