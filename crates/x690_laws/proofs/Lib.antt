@@ -4,6 +4,7 @@ pub mod Fairs
 pub mod Gives
 pub mod HeaderGives
 pub mod HeaderSound
+pub mod HeaderLengths
 pub mod Headers
 pub mod Honesty
 pub mod Judging
