@@ -1,4 +1,5 @@
 pub mod Complete
+pub mod ContentLengths
 pub mod Exactly
 pub mod Fairs
 pub mod Gives
