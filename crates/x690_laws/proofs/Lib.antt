@@ -3,6 +3,7 @@ pub mod ContentLengths
 pub mod Exactly
 pub mod Fairs
 pub mod Gives
+pub mod Growth
 pub mod HeaderGives
 pub mod HeaderSound
 pub mod HeaderLengths
