@@ -1,5 +1,5 @@
 -- How many octets contents have: texts that are joined and arranged, leaves, and the segments of strings.
-use Rattle.std.proofs.Common.{◌≡◌, ℕ, ◌+◌, ◌*◌, ◌/◌, ◌^◌, ◌<◌, ◌≤◌, ◌==◌, max, ◌⊎◌, inl, inr, ⊎_elim, cond, Bool, true, false, List, [], ◌∷◌, ◌++◌, map, length, refl, sym, ap, subst, arith}
+use Rattle.std.proofs.Common.{◌≡◌, ℕ, ◌+◌, ◌*◌, ◌/◌, ◌^◌, ◌<◌, ◌≤◌, ◌==◌, max, ◌⊎◌, inl, inr, ⊎_elim, cond, Bool, true, false, List, [], ◌∷◌, ◌++◌, map, length, refl, sym, ◌∙◌, ap, append_assoc, subst, arith}
 use Rattle.std.proofs.lemmas.List.{length-append}
 use Rattle.tlv_core.specs.Identifier.{Tag, identifier}
 use Rattle.x690_laws.proofs.HeaderLengths.{definite_length, indefinite_length}
@@ -11,9 +11,9 @@ use Rattle.x690.specs.Values.{Value}
 
 -- lists that are joined
 
-pub joined_length : (s t : List (List ℕ)) → length (join (s ++ t)) ≡ length (join s) + length (join t)
-joined_length [] t = omega arith
-joined_length (x ∷ s) t = omega (arith, length-append x (join s), length-append x (join (s ++ t)), joined_length s t)
+pub joined_append : (s t : List (List ℕ)) → join (s ++ t) ≡ join s ++ join t
+joined_append [] t = refl
+joined_append (x ∷ s) t = ap (λ y. x ++ y) (joined_append s t) ∙ sym (append_assoc x (join s) (join t))
 
 insert_length : (x : List ℕ) (ys : List (List ℕ)) → length (join (insert_text x ys)) ≡ length x + length (join ys)
 unfolding insert_text
@@ -97,4 +97,4 @@ mutual
   segments_within NoTrees c h = omega arith
   segments_within (FirstTree r rs) c h =
       let a = frame r h.0 h.2 in
-      omega (arith, joined_length (segments r) (all_segments rs), segments_within rs h.1 h.3, a.holds, framed_length r h.0 a.form a.contents a.framed, ap length h.4, length-append h.0 h.1)
+      omega (arith, ap length (joined_append (segments r) (all_segments rs)), length-append (join (segments r)) (join (all_segments rs)), segments_within rs h.1 h.3, a.holds, framed_length r h.0 a.form a.contents a.framed, ap length h.4, length-append h.0 h.1)

@@ -75,6 +75,20 @@ number_below j high (x ∷ s) a h =
     let next : high * 256 + x < 256 ^ suc j = omega (arith, pow-suc 256 j) in
     subst (λ e. big_endian (high * 256 + x) s < 256 ^ e) (omega arith) (number_below (suc j) (high * 256 + x) s a.1 next)
 
+pub spelled_some : (n : ℕ) (s : List ℕ) → SpellsLength n s → 1 ≤ length s
+spelled_some n s h = ⊎_elim (λ a. omega (arith, a.one)) (λ a. omega (arith, ap length a.is)) (spelled_cases n s h)
+
+-- the shortest length of what is at most half as much again has at most one octet more
+pub shortest_against : (m n : ℕ) (s : List ℕ) → AllBelow 256 s → 2 * m ≤ 3 * n → SpellsLength n s → length (shortest_length m) ≤ length s + 1
+shortest_against m n s a l h = ⊎_elim
+    (λ x. omega (arith, x.one, x.small, shortest_within 1 m (omega (arith, x.small))))
+    (λ x.
+    let below : AllBelow 256 (x.count ∷ x.octets) = subst (AllBelow 256) x.is a in
+    let k : big_endian 0 x.octets < 256 ^ (0 + length x.octets) = number_below 0 0 x.octets below.1 (omega arith) in
+    let k' : n < 256 ^ length x.octets = subst (λ e. n < 256 ^ e) (omega arith) (subst (λ y. y < 256 ^ (0 + length x.octets)) x.number k) in
+    omega (arith, ap length x.is, shortest_within (suc (length x.octets)) m (omega (arith, pow-suc 256 (length x.octets)))))
+    (spelled_cases n s h)
+
 -- elements
 
 pub element_length : (t : Tag) (f : Bool) (o : List ℕ) → length (der_element t f o) ≡ length (identifier t f) + (length (shortest_length (length o)) + length o)

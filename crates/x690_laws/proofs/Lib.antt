@@ -3,10 +3,11 @@ pub mod ContentLengths
 pub mod Exactly
 pub mod Fairs
 pub mod Gives
-pub mod Growth
+pub mod Growing
+pub mod GrowthBounds
 pub mod HeaderGives
-pub mod HeaderSound
 pub mod HeaderLengths
+pub mod HeaderSound
 pub mod Headers
 pub mod Honesty
 pub mod Judging

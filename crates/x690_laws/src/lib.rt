@@ -5,6 +5,7 @@
 
 pub mod documents;
 pub mod faults;
+pub mod growth;
 pub mod layouts;
 pub mod reading;
 pub mod types;
