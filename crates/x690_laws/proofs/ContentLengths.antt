@@ -1,12 +1,11 @@
 -- How many octets contents have: texts that are joined and arranged, leaves, and the segments of strings.
-use Rattle.std.proofs.Common.{◌≡◌, ℕ, ◌+◌, ◌*◌, ◌/◌, ◌^◌, ◌<◌, ◌≤◌, ◌==◌, max, ◌⊎◌, inl, inr, ⊎_elim, cond, Bool, true, false, List, [], ◌∷◌, ◌++◌, map, length, refl, sym, ◌∙◌, ap, append_assoc, subst, arith}
+use Rattle.std.proofs.Common.{◌≡◌, ℕ, ◌+◌, ◌≤◌, ◌==◌, max, ◌⊎◌, inl, ⊎_elim, cond, Bool, true, false, List, [], ◌∷◌, ◌++◌, length, refl, sym, ◌∙◌, ap, append_assoc, arith}
 use Rattle.std.proofs.lemmas.List.{length-append}
-use Rattle.tlv_core.specs.Identifier.{Tag, identifier}
 use Rattle.x690_laws.proofs.HeaderLengths.{definite_length, indefinite_length}
-use Rattle.x690.specs.Contents.{BitString, BitStringContents, Boolean, Integer, LeafContents, LeafKind, Null, ObjectIdentifier, OctetString, StringContents, Utf8String, all_segments, bit_contents, bit_octets, boolean_contents, clear_unused, segments, unused_bits}
+use Rattle.x690.specs.Contents.{BitString, Boolean, Integer, LeafContents, LeafKind, Null, ObjectIdentifier, OctetString, Utf8String, all_segments, bit_octets, boolean_contents, clear_unused, segments, unused_bits}
 use Rattle.x690.specs.DerTexts.{arrange, der, insert_text, padded_less, texts_of}
 use Rattle.x690.specs.Layouts.{AllLaidOut, Constructed, Definite, FirstTree, Indefinite, LaidOut, NoTrees, Primitive, RawTree, RawTrees, tree_tag}
-use Rattle.x690.specs.Lists.{AllBelow, Picked, join}
+use Rattle.x690.specs.Lists.{Picked, join}
 use Rattle.x690.specs.Values.{Value}
 
 -- lists that are joined

@@ -1,15 +1,15 @@
 -- How long DER texts are against the octets that spell their values: one induction, for every bound that holds of each element.
-use Rattle.std.proofs.Common.{◌≡◌, ℕ, ◌+◌, ◌<◌, ◌≤◌, ◌⊎◌, max, inl, inr, ⊎_elim, Bool, true, false, List, [], ◌∷◌, ◌++◌, map, length, refl, sym, ◌∙◌, ap, subst, arith}
+use Rattle.std.proofs.Common.{◌≡◌, ℕ, ◌+◌, ◌≤◌, ◌⊎◌, inl, ⊎_elim, Bool, true, false, List, [], ◌∷◌, ◌++◌, length, refl, sym, ◌∙◌, ap, subst, arith}
 use Rattle.std.proofs.lemmas.List.{length-append}
 use Rattle.std.proofs.lemmas.Bool.{cases_lt}
 use Rattle.tlv_core.specs.Identifier.{Tag, identifier}
-use Rattle.x690_laws.proofs.ContentLengths.{Frame, arranged_length, frame, leaf_length, octets_are, picked_length}
+use Rattle.x690_laws.proofs.ContentLengths.{arranged_length, frame, leaf_length, octets_are, picked_length}
 use Rattle.x690_laws.proofs.Texts.{ders_map}
 use Rattle.x690.specs.Contents.{LeafContents, LeafKind, OctetString, segments}
 use Rattle.x690.specs.DerTexts.{arrange, der, der_element, der_texts, texts_of}
 use Rattle.x690.specs.Fitting.{Fits, FitsFields}
 use Rattle.x690.specs.Layouts.{AllLaidOut, Constructed, Definite, FirstTree, Indefinite, LaidOut, NoTrees, Primitive, RawTree, RawTrees, member_trees, tree_tag}
-use Rattle.x690.specs.Lists.{Each, Paired, Picked, join}
+use Rattle.x690.specs.Lists.{Each, Paired, join}
 use Rattle.x690.specs.OpenValues.{FitOpenInPlace, FitOpenPaired, FitsOpen, IsOpenLeaf}
 use Rattle.x690.specs.TypeTerms.{ContainingType, Default, DefinedByType, Fields, LeafType, NoFields, OpenType, Optional, RefusedType, Required, RuledType, SequenceOfType, SequenceType, SetOfType, TypeTerm}
 use Rattle.x690.specs.Values.{Leaf, Sequence, SetOf, Value, Values, members}

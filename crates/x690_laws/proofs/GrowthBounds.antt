@@ -1,7 +1,7 @@
 -- The bounds on the growth, and what they say of values that are read.
-use Rattle.std.proofs.Common.{◌≡◌, ℕ, suc, ◌+◌, ◌*◌, ◌^◌, ◌<◌, ◌≤◌, ◌⊎◌, inl, inr, ⊎_elim, Bool, true, false, List, [], ◌∷◌, ◌++◌, length, refl, sym, ap, subst, arith, append-nil}
+use Rattle.std.proofs.Common.{◌≡◌, ℕ, ◌+◌, ◌*◌, ◌<◌, ◌≤◌, inl, ⊎_elim, Bool, true, false, List, [], ◌∷◌, ◌++◌, length, refl, sym, ap, subst, arith, append-nil}
 use Rattle.std.proofs.lemmas.List.{length-append}
-use Rattle.tlv_core.specs.Identifier.{IsTag, Tag, identifier}
+use Rattle.tlv_core.specs.Identifier.{Tag, identifier}
 use Rattle.tlv_core.specs.Length.{SpellsLength, shortest_length}
 use Rattle.tlv_core.specs.Limits.{Limits}
 use Rattle.x690_laws.proofs.ContentLengths.{frame, framed_length, joined_append}
@@ -11,7 +11,7 @@ use Rattle.x690_laws.proofs.Judging.{sound}
 use Rattle.x690.specs.Contents.{BitString, LeafContents, Segmented, all_segments, segments}
 use Rattle.x690.specs.DerTexts.{der, der_element}
 use Rattle.x690.specs.Fitting.{Fits}
-use Rattle.x690.specs.Layouts.{AllLaidOut, Constructed, Definite, FirstTree, Indefinite, LaidOut, NoTrees, Primitive, RawTree, RawTrees, tree_tag, universal}
+use Rattle.x690.specs.Layouts.{AllLaidOut, Constructed, Definite, FirstTree, LaidOut, NoTrees, Primitive, RawTree, RawTrees, universal}
 use Rattle.x690.specs.Lists.{AllBelow, join}
 use Rattle.x690.specs.Points.{Enclosing, outermost}
 use Rattle.x690.specs.ReadTypes.{read_document}

@@ -1,5 +1,5 @@
 -- What the laws on the lengths of DER texts say.
-use Rattle.std.specs.Prelude.{List, [], length, ℕ, ◌*◌, ◌+◌, ◌<◌, ◌≡◌, ◌≤◌}
+use Rattle.std.specs.Prelude.{List, [], length, ℕ, ◌*◌, ◌<◌, ◌≡◌, ◌≤◌}
 use Rattle.tlv_core.specs.Limits.{Limits}
 use Rattle.x690.specs.DerTexts.{der}
 use Rattle.x690.specs.Fitting.{Fits}
