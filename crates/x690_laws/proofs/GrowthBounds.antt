@@ -1,25 +1,19 @@
--- The bounds on the growth, and what they say of values that are read.
+-- The bounds on the growth of DER texts.
 use Rattle.std.proofs.Common.{◌≡◌, ℕ, ◌+◌, ◌*◌, ◌<◌, ◌≤◌, inl, ⊎_elim, Bool, true, false, List, [], ◌∷◌, ◌++◌, length, refl, sym, ap, subst, arith, append-nil}
 use Rattle.std.proofs.lemmas.List.{length-append}
 use Rattle.tlv_core.specs.Identifier.{Tag, identifier}
 use Rattle.tlv_core.specs.Length.{SpellsLength, shortest_length}
-use Rattle.tlv_core.specs.Limits.{Limits}
 use Rattle.x690_laws.proofs.ContentLengths.{frame, framed_length, joined_append}
 use Rattle.x690_laws.proofs.Growing.{Framed, Growing, grows}
 use Rattle.x690_laws.proofs.HeaderLengths.{definite_length, element_length, identifier_form, identifier_some, indefinite_length, shortest_against, shortest_one, shortest_within, spelled_cases, spelled_some}
-use Rattle.x690_laws.proofs.Judging.{sound}
 use Rattle.x690.specs.Contents.{BitString, LeafContents, Segmented, all_segments, segments}
 use Rattle.x690.specs.DerTexts.{der, der_element}
 use Rattle.x690.specs.Fitting.{Fits}
 use Rattle.x690.specs.Layouts.{AllLaidOut, Constructed, Definite, FirstTree, LaidOut, NoTrees, Primitive, RawTree, RawTrees, universal}
 use Rattle.x690.specs.Lists.{AllBelow, join}
-use Rattle.x690.specs.Points.{Enclosing, outermost}
-use Rattle.x690.specs.ReadTypes.{read_document}
-use Rattle.x690.specs.Reading.{Took}
-use Rattle.x690.specs.Takes.{Takes}
-use Rattle.x690.specs.TypeTerms.{LeafType, TypeTerm}
-use Rattle.x690.specs.Values.{Leaf, Value}
-use Rattle.x690_laws.specs.GrowthLaws.{DocumentTexts, Growth, GrowthByHalf, GrowthByTwo, HalfIsReached, TakenTexts}
+use Rattle.x690.specs.TypeTerms.{LeafType}
+use Rattle.x690.specs.Values.{Leaf}
+use Rattle.x690_laws.specs.GrowthLaws.{Growth, GrowthByHalf, GrowthByTwo, HalfIsReached}
 
 -- lists of octets
 
@@ -163,31 +157,4 @@ half_is_reached = record {
   laid_out = no_segments;
   fits = no_bits;
   is = ap (λ x. 2 * length x) no_bits_text;
-}
-
--- values that are read
-
-taken_text : (l : Limits) (T : TypeTerm) (earlier : List Value) (c : Enclosing) (k : ℕ) (s : List ℕ) (v : Value) (n : ℕ) (rest : List ℕ) → l.octets < 2147483648 → Takes l T earlier c k s v n rest → (length (der v) ≤ 2 * n) × (n < 2147483648)
-taken_text l T earlier c k s v n rest h t =
-    let short : length t.octets < 2147483648 = omega (arith, t.count, t.in_limit) in
-    (omega (arith, growth_by_two l.depth T earlier t.tree v t.octets short t.laid_out t.fits), omega arith)
-
-pub taken_texts : TakenTexts
-taken_texts = record {
-  by_two = λ l T earlier c k s v n rest h t. (taken_text l T earlier c k s v n rest h t).0;
-  below = λ l T earlier c k s v n rest h t. let x = taken_text l T earlier c k s v n rest h t in omega (arith, x.0, x.1);
-}
-
-document_text : (l : Limits) (T : TypeTerm) (b : List ℕ) (v : Value) (n : ℕ) (rest : List ℕ) → l.octets < 2147483648 → read_document l T b ≡ Took v n rest → (length (der v) ≤ 2 * n) × (n < 2147483648)
-unfolding read_document
-document_text l T b v n rest h e =
-    let s = sound l T [] outermost 0 b v n rest e in
-    let t = taken_text l T [] outermost 0 b v s.0 rest h s.2 in
-    let same : n ≡ s.0 = omega (arith, s.1) in
-    (omega (arith, t.0), omega (arith, t.1))
-
-pub document_texts : DocumentTexts
-document_texts = record {
-  by_two = λ l T b v n rest h e. (document_text l T b v n rest h e).0;
-  below = λ l T b v n rest h e. let x = document_text l T b v n rest h e in omega (arith, x.0, x.1);
 }

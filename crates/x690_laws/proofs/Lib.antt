@@ -22,6 +22,7 @@ pub mod Readers
 pub mod Refit
 pub mod Runs
 pub mod Sames
+pub mod ShortTexts
 pub mod Sound
 pub mod Soundness
 pub mod Stopping

@@ -1,13 +1,15 @@
 -- What the laws on the lengths of DER texts say.
-use Rattle.std.specs.Prelude.{List, [], length, ℕ, ◌*◌, ◌<◌, ◌≡◌, ◌≤◌}
+use Rattle.std.specs.Prelude.{Bool, List, [], length, ℕ, ◌*◌, ◌+◌, ◌<◌, ◌≡◌, ◌≤◌}
+use Rattle.tlv_core.specs.Identifier.{IsTag, Tag, identifier}
 use Rattle.tlv_core.specs.Limits.{Limits}
 use Rattle.x690.specs.DerTexts.{der}
 use Rattle.x690.specs.Fitting.{Fits}
 use Rattle.x690.specs.Layouts.{LaidOut, RawTree}
 use Rattle.x690.specs.Lists.{AllBelow}
 use Rattle.x690.specs.Points.{Enclosing}
-use Rattle.x690.specs.ReadTypes.{read_document}
-use Rattle.x690.specs.Reading.{Took}
+use Rattle.x690.specs.ReadContents.{read_open}
+use Rattle.x690.specs.ReadTypes.{read_document, read_element, read_type}
+use Rattle.x690.specs.Reading.{Took, run}
 use Rattle.x690.specs.Takes.{Takes}
 use Rattle.x690.specs.TypeTerms.{TypeTerm}
 use Rattle.x690.specs.Values.{Value}
@@ -38,12 +40,20 @@ pub record HalfIsReached : Type 0 where
   pub fits : Fits depth type [] tree value
   pub is : 2 * length (der value) ≡ 3 * length octets
 
--- What is taken within a limit of less than 2^31 octets has a text at most twice as long as the octets it is taken of, and shorter than 2^32.
-pub record TakenTexts : Type 0 where
-  pub by_two : (l : Limits) (T : TypeTerm) (earlier : List Value) (c : Enclosing) (k : ℕ) (s : List ℕ) (v : Value) (n : ℕ) (rest : List ℕ) → l.octets < 2147483648 → Takes l T earlier c k s v n rest → length (der v) ≤ 2 * n
-  pub below : (l : Limits) (T : TypeTerm) (earlier : List Value) (c : Enclosing) (k : ℕ) (s : List ℕ) (v : Value) (n : ℕ) (rest : List ℕ) → l.octets < 2147483648 → Takes l T earlier c k s v n rest → length (der v) < 4294967296
+-- The text of a value that was read from one place to another: at most twice as long as the octets between them, and shorter than 2^32.
+pub record ShortText (v : Value) (start stop : ℕ) : Type 0 where
+  pub by_two : length (der v) + 2 * start ≤ 2 * stop
+  pub below : length (der v) < 4294967296
 
--- So has a document that is read.
-pub record DocumentTexts : Type 0 where
-  pub by_two : (l : Limits) (T : TypeTerm) (b : List ℕ) (v : Value) (n : ℕ) (rest : List ℕ) → l.octets < 2147483648 → read_document l T b ≡ Took v n rest → length (der v) ≤ 2 * n
-  pub below : (l : Limits) (T : TypeTerm) (b : List ℕ) (v : Value) (n : ℕ) (rest : List ℕ) → l.octets < 2147483648 → read_document l T b ≡ Took v n rest → length (der v) < 4294967296
+-- What is taken within a limit of fewer than 2^31 octets has a short text.
+abbrev pub TakenTexts : Type 0
+TakenTexts = (l : Limits) (T : TypeTerm) (earlier : List Value) (c : Enclosing) (k : ℕ) (s : List ℕ) (v : Value) (n : ℕ) (rest : List ℕ) → l.octets < 2147483648 → Takes l T earlier c k s v n rest → ShortText v k (k + n)
+
+-- What the plain reading gives within such a limit has a short text: of an element, of a document, and behind an identifier that began at place `p`, of a type and of an open value.
+pub record ReadTexts : Type 0 where
+  pub element : (l : Limits) (T : TypeTerm) (earlier : List Value) (c : Enclosing) (k : ℕ) (s : List ℕ) (v : Value) (q : ℕ) (rest : List ℕ) → l.octets < 2147483648 → run (read_element l T earlier c) k s ≡ Took v q rest → ShortText v k q
+  pub document : (l : Limits) (T : TypeTerm) (b : List ℕ) (v : Value) (n : ℕ) (rest : List ℕ) → l.octets < 2147483648 → read_document l T b ≡ Took v n rest → ShortText v 0 n
+  pub behind : (l : Limits) (T : TypeTerm) (earlier : List Value) (c : Enclosing) (p : ℕ) (t : Tag) (form : Bool) (k : ℕ) (s : List ℕ) (v : Value) (q : ℕ) (rest : List ℕ) → l.octets < 2147483648 → IsTag t → c.open_containers < l.depth → p + length (identifier t form) ≡ k
+      → run (read_type l T earlier c p t form) k s ≡ Took v q rest → ShortText v p q
+  pub open_behind : (l : Limits) (deep : ℕ) (c : Enclosing) (p : ℕ) (t : Tag) (form : Bool) (k : ℕ) (s : List ℕ) (v : Value) (q : ℕ) (rest : List ℕ) → l.octets < 2147483648 → IsTag t → c.open_containers < l.depth → p + length (identifier t form) ≡ k
+      → run (read_open deep l c p t form) k s ≡ Took v q rest → ShortText v p q
