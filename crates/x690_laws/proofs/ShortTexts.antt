@@ -19,7 +19,7 @@ use Rattle.x690.specs.Values.{Value}
 use Rattle.x690_laws.specs.GrowthLaws.{ReadTexts, ShortText, TakenTexts}
 
 -- octets from place to place that lay out a tree of the type
-laid_text : (d : ℕ) (T : TypeTerm) (earlier : List Value) (r : RawTree) (v : Value) (b : List ℕ) (start stop : ℕ) → start + length b ≡ stop → stop < 2147483648 → LaidOut r b → Fits d T earlier r v → ShortText v start stop
+pub laid_text : (d : ℕ) (T : TypeTerm) (earlier : List Value) (r : RawTree) (v : Value) (b : List ℕ) (start stop : ℕ) → start + length b ≡ stop → stop < 2147483648 → LaidOut r b → Fits d T earlier r v → ShortText v start stop
 laid_text d T earlier r v b start stop e h l f =
     let two = growth_by_two d T earlier r v b (omega arith) l f in
     record { by_two = omega arith; below = omega arith }
