@@ -72,14 +72,14 @@ containing_grows q r b c o a h l x =
     let f = frame r b h in
     q.element (tree_tag r) false f.form o f.contents b a (q.slack (length o) (length c) (length f.contents) (omega (arith, ap length (octets_are r c l))) x) f.framed
 
-row_grows : {Q : List ℕ → Type 0} {G : ℕ → ℕ → Type 0} → Growing Q G → (t : Tag) (vs : Values) (v : Value) (c b : List ℕ) → v ≡ Sequence t vs → Q b → Framed t true c b → AllGrown G (members vs) c → Grown G v b
+sequence_grows : {Q : List ℕ → Type 0} {G : ℕ → ℕ → Type 0} → Growing Q G → (t : Tag) (vs : Values) (v : Value) (c b : List ℕ) → v ≡ Sequence t vs → Q b → Framed t true c b → AllGrown G (members vs) c → Grown G v b
 unfolding der
-row_grows {G} q t vs v c b p a h x =
+sequence_grows {G} q t vs v c b p a h x =
     subst (λ w. Grown G w b) (sym p) (q.element t true true (join (der_texts vs)) c b a (subst (λ s. G (length (join s)) (length c)) (sym (ders_map vs)) x) h)
 
-bag_grows : {Q : List ℕ → Type 0} {G : ℕ → ℕ → Type 0} → Growing Q G → (t : Tag) (vs : Values) (v : Value) (c b : List ℕ) → v ≡ SetOf t vs → Q b → Framed t true c b → AllGrown G (members vs) c → Grown G v b
+set_grows : {Q : List ℕ → Type 0} {G : ℕ → ℕ → Type 0} → Growing Q G → (t : Tag) (vs : Values) (v : Value) (c b : List ℕ) → v ≡ SetOf t vs → Q b → Framed t true c b → AllGrown G (members vs) c → Grown G v b
 unfolding der
-bag_grows {G} q t vs v c b p a h x =
+set_grows {G} q t vs v c b p a h x =
     let e : length (texts_of (members vs)) ≡ length (join (arrange (der_texts vs))) = ap (λ s. length (join s)) (sym (ders_map vs)) ∙ sym (arranged_length (der_texts vs)) in
     subst (λ w. Grown G w b) (sym p) (q.element t true true (join (arrange (der_texts vs))) c b a (subst (λ n. G n (length c)) e x) h)
 
@@ -139,20 +139,20 @@ mutual
       ⊎_elim
       (λ x. open_leaf_grows q (Constructed t rs) v b a h x)
       (λ y. ⊎_elim
-      (λ x. row_grows q t x.0 v h.1.0 b x.2 a h.1.2 (open_row_grows q rs (members x.0) h.1.0 m h.1.1 x.3))
-      (λ x. bag_grows q t x.0 v h.1.0 b x.2 a h.1.2 (open_bag_grows q rs (members x.0) h.1.0 m h.1.1 x.3))
+      (λ x. sequence_grows q t x.0 v h.1.0 b x.2 a h.1.2 (open_sequence_grows q rs (members x.0) h.1.0 m h.1.1 x.3))
+      (λ x. set_grows q t x.0 v h.1.0 b x.2 a h.1.2 (open_set_grows q rs (members x.0) h.1.0 m h.1.1 x.3))
       y)
       k
 
-  open_row_grows : {Q : List ℕ → Type 0} {G : ℕ → ℕ → Type 0} → Growing Q G → (rs : RawTrees) (vs : List Value) (c : List ℕ) → Q c → AllLaidOut rs c → FitOpenInPlace rs vs → AllGrown G vs c
-  open_row_grows q NoTrees vs c a h k = none_grow q vs c k
-  open_row_grows q (FirstTree r rs) vs c a h k =
-      more_grow q k.0 k.1 vs h.0 h.1 c (first_length k.0 k.1 vs k.2) h.4 a (λ m. open_grows q r k.0 h.0 m h.2 k.3) (λ m. open_row_grows q rs k.1 h.1 m h.3 k.4)
+  open_sequence_grows : {Q : List ℕ → Type 0} {G : ℕ → ℕ → Type 0} → Growing Q G → (rs : RawTrees) (vs : List Value) (c : List ℕ) → Q c → AllLaidOut rs c → FitOpenInPlace rs vs → AllGrown G vs c
+  open_sequence_grows q NoTrees vs c a h k = none_grow q vs c k
+  open_sequence_grows q (FirstTree r rs) vs c a h k =
+      more_grow q k.0 k.1 vs h.0 h.1 c (first_length k.0 k.1 vs k.2) h.4 a (λ m. open_grows q r k.0 h.0 m h.2 k.3) (λ m. open_sequence_grows q rs k.1 h.1 m h.3 k.4)
 
-  open_bag_grows : {Q : List ℕ → Type 0} {G : ℕ → ℕ → Type 0} → Growing Q G → (rs : RawTrees) (vs : List Value) (c : List ℕ) → Q c → AllLaidOut rs c → FitOpenPaired rs vs → AllGrown G vs c
-  open_bag_grows q NoTrees vs c a h k = none_grow q vs c k
-  open_bag_grows q (FirstTree r rs) vs c a h k =
-      more_grow q k.0 k.1 vs h.0 h.1 c (picked_length k.0 vs k.1 k.2) h.4 a (λ m. open_grows q r k.0 h.0 m h.2 k.3) (λ m. open_bag_grows q rs k.1 h.1 m h.3 k.4)
+  open_set_grows : {Q : List ℕ → Type 0} {G : ℕ → ℕ → Type 0} → Growing Q G → (rs : RawTrees) (vs : List Value) (c : List ℕ) → Q c → AllLaidOut rs c → FitOpenPaired rs vs → AllGrown G vs c
+  open_set_grows q NoTrees vs c a h k = none_grow q vs c k
+  open_set_grows q (FirstTree r rs) vs c a h k =
+      more_grow q k.0 k.1 vs h.0 h.1 c (picked_length k.0 vs k.1 k.2) h.4 a (λ m. open_grows q r k.0 h.0 m h.2 k.3) (λ m. open_set_grows q rs k.1 h.1 m h.3 k.4)
 
 -- values of every type
 
@@ -177,13 +177,13 @@ mutual
   grows q d OpenType earlier r v b a h x = open_grows q r v b a h x
   grows q d (SequenceOfType t n T) earlier r v b a h x =
       let i = inside q t x.0 r b x.2 a h in
-      row_grows q t x.1 v i.contents b x.3 a i.framed (each_grow q (Fits d T []) (λ s w y m l z. grows q d T [] s w y m l z) (member_trees x.0) (members x.1) i.contents i.asked i.in_order x.5)
+      sequence_grows q t x.1 v i.contents b x.3 a i.framed (each_grow q (Fits d T []) (λ s w y m l z. grows q d T [] s w y m l z) (member_trees x.0) (members x.1) i.contents i.asked i.in_order x.5)
   grows q d (SetOfType t n T) earlier r v b a h x =
       let i = inside q t x.0 r b x.2 a h in
-      bag_grows q t x.1 v i.contents b x.3 a i.framed (paired_grow q (Fits d T []) (λ s w y m l z. grows q d T [] s w y m l z) (member_trees x.0) (members x.1) i.contents i.asked i.in_order x.5)
+      set_grows q t x.1 v i.contents b x.3 a i.framed (paired_grow q (Fits d T []) (λ s w y m l z. grows q d T [] s w y m l z) (member_trees x.0) (members x.1) i.contents i.asked i.in_order x.5)
   grows q d (SequenceType t fs) earlier r v b a h x =
       let i = inside q t x.0 r b x.2 a h in
-      row_grows q t x.1 v i.contents b x.3 a i.framed (fields_grow q d fs [] (member_trees x.0) (members x.1) i.contents i.asked i.in_order x.4)
+      sequence_grows q t x.1 v i.contents b x.3 a i.framed (fields_grow q d fs [] (member_trees x.0) (members x.1) i.contents i.asked i.in_order x.4)
   grows {Q} {G} q d (ContainingType t p T) earlier r v b a h x =
       let g = grows q d T earlier x.3 x.4 x.1 (subst Q (sym (octets_are r x.1 x.2)) (q.held r b h a)) x.6 x.7 in
       leaf_text G t (tree_tag r) (der x.4) b v x.0 x.8 (containing_grows q r b x.1 (der x.4) a h x.2 g)
