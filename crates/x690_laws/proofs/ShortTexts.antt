@@ -12,6 +12,7 @@ use Rattle.x690.specs.Fitting.{Fits}
 use Rattle.x690.specs.Layouts.{LaidOut, RawTree}
 use Rattle.x690.specs.OpenValues.{FitsOpen}
 use Rattle.x690.specs.Points.{Enclosing, outermost}
+use Rattle.x690.specs.ReadContents.{read_open}
 use Rattle.x690.specs.ReadTypes.{read_document, read_element, read_type}
 use Rattle.x690.specs.Reading.{Took, run}
 use Rattle.x690.specs.Reads.{Reads, Said}
