@@ -16,7 +16,7 @@ use Rattle.x690.specs.Lists.{Each, Paired, Picked, join}
 use Rattle.x690.specs.ObjectIdentifiers.{ObjectIdentifierContents}
 use Rattle.x690.specs.OpenValues.{FitOpenInPlace, FitOpenPaired, FitsOpen, IsOpenLeaf}
 use Rattle.x690.specs.TypeTerms.{ContainingType, Default, DefinedByType, Distinct, DistinctFields, Fields, LeafType, NoFields, OpenType, Optional, RefusedType, Required, RuledType, SequenceOfType, SequenceType, SetOfType, TypeTerm, fields_fit_tag, fits_tag}
-use Rattle.x690.specs.Values.{FirstValue, Leaf, NoValues, Sequence, SetOf, Value, Values, members}
+use Rattle.x690.specs.Values.{FirstMember, Leaf, NoMembers, Sequence, SetOf, Value, Values, members}
 use Rattle.x690_laws.specs.LayoutLaws.{OneText, TextSpells}
 
 -- what is short enough for its length to be laid out
@@ -28,8 +28,8 @@ unfoldable mutual
   Short (SetOf t vs) = Shorts vs
 
   pub Shorts : Values → Type 0
-  Shorts NoValues = Unit {0}
-  Shorts (FirstValue v vs) = Short v × Shorts vs
+  Shorts NoMembers = Unit {0}
+  Shorts (FirstMember v vs) = Short v × Shorts vs
 
 abbrev pub Every : {A : Type 0} → (A → Type 0) → List A → Type 0
 Every P [] = Unit {0}
@@ -44,8 +44,8 @@ pick_every P x (y ∷ ys) rest h p = ⊎_elim
 
 every_short : (vs : Values) → Shorts vs → Every Short (members vs)
 unfolding Short
-every_short NoValues h = tt
-every_short (FirstValue v vs) h = (h.0, every_short vs h.1)
+every_short NoMembers h = tt
+every_short (FirstMember v vs) h = (h.0, every_short vs h.1)
 
 insert_length : (x : List ℕ) (ys : List (List ℕ)) → length (join (insert_text x ys)) ≡ length x + length (join ys)
 unfolding insert_text
@@ -69,8 +69,8 @@ mutual
   short (SetOf t vs) h = shorts vs (omega (arith, element_long t true (join (arrange (der_texts vs))), arrange_length (der_texts vs)))
 
   shorts : (vs : Values) → length (join (der_texts vs)) < 18446744073709551616 → Shorts vs
-  shorts NoValues h = tt
-  shorts (FirstValue v vs) h = let e = length-append (der v) (join (der_texts vs)) in (short v (omega arith), shorts vs (omega arith))
+  shorts NoMembers h = tt
+  shorts (FirstMember v vs) h = let e = length-append (der v) (join (der_texts vs)) in (short v (omega arith), shorts vs (omega arith))
 
 -- the contents of a leaf are their own contents
 
