@@ -5,13 +5,13 @@ use Rattle.x690.specs.Contents.{BitString, Boolean, Integer, ObjectIdentifier, O
 use Rattle.x690.specs.Identifiers.{ec_public_key, extension_request, rfc8410_algorithms}
 use Rattle.x690.specs.Layouts.{context_specific, universal}
 use Rattle.x690.specs.Rules.{ec_parameters_rule, ec_rule, inner_curve_rule, inner_ec_rule, key_bits_rule, key_version_rule, parameters_rule, version_rule}
-use Rattle.x690.specs.TypeTerms.{ContainingType, Default, DefinedByType, Fields, LeafType, NoFields, OpenType, Optional, RefusedType, Required, RuledType, SequenceOfType, SequenceType, SetOfType, TypeTerm}
+use Rattle.x690.specs.TypeTerms.{ContainingType, Default, DefinedByType, Fields, LeafType, EndOfFields, OpenType, Optional, RefusedType, Required, RuledType, SequenceOfType, SequenceType, SetOfType, TypeTerm}
 
 abbrev pub sequence : Fields → TypeTerm
 sequence fs = SequenceType (universal 16) fs
 
 abbrev pub explicit : ℕ → TypeTerm → TypeTerm
-explicit n T = SequenceType (context_specific n) (Required T NoFields)
+explicit n T = SequenceType (context_specific n) (Required T EndOfFields)
 
 abbrev pub integer : TypeTerm
 integer = LeafType (universal 2) Integer
@@ -35,30 +35,30 @@ abbrev pub sequence_of : TypeTerm → TypeTerm
 sequence_of T = SequenceOfType (universal 16) 0 T
 
 unfoldable pub AlgorithmIdentifier : TypeTerm
-AlgorithmIdentifier = RuledType parameters_rule (sequence (Required object_identifier (Optional OpenType NoFields)))
+AlgorithmIdentifier = RuledType parameters_rule (sequence (Required object_identifier (Optional OpenType EndOfFields)))
 
 unfoldable pub NameItem : TypeTerm
-NameItem = sequence (Required object_identifier (Required OpenType NoFields))
+NameItem = sequence (Required object_identifier (Required OpenType EndOfFields))
 
 unfoldable pub Name : TypeTerm
 Name = sequence_of (set_of_some NameItem)
 
 unfoldable pub SubjectPublicKeyInfo : TypeTerm
-SubjectPublicKeyInfo = sequence (Required AlgorithmIdentifier (Required (RuledType (key_bits_rule (0 ∷ 0 ∷ [])) bit_string) NoFields))
+SubjectPublicKeyInfo = sequence (Required AlgorithmIdentifier (Required (RuledType (key_bits_rule (0 ∷ 0 ∷ [])) bit_string) EndOfFields))
 
 unfoldable pub Attribute : TypeTerm
-Attribute = sequence (Required object_identifier (Required (set_of_some OpenType) NoFields))
+Attribute = sequence (Required object_identifier (Required (set_of_some OpenType) EndOfFields))
 
 unfoldable pub Extension : TypeTerm
-Extension = sequence (Required object_identifier (Default (universal 1) (0 ∷ []) (LeafType (universal 1) Boolean) (Required octet_string NoFields)))
+Extension = sequence (Required object_identifier (Default (universal 1) (0 ∷ []) (LeafType (universal 1) Boolean) (Required octet_string EndOfFields)))
 
 unfoldable pub RequestAttribute : TypeTerm
-RequestAttribute = sequence (Required object_identifier (Required (DefinedByType (0 ∷ []) (extension_request ∷ []) (set_of_some (sequence_of Extension)) (set_of_some OpenType)) NoFields))
+RequestAttribute = sequence (Required object_identifier (Required (DefinedByType (0 ∷ []) (extension_request ∷ []) (set_of_some (sequence_of Extension)) (set_of_some OpenType)) EndOfFields))
 
 unfoldable pub ECPrivateKey : TypeTerm
 ECPrivateKey =
     RuledType ec_rule
-    (sequence (Required (RuledType (version_rule ((1 ∷ []) ∷ [])) integer) (Required octet_string (Optional (explicit 0 object_identifier) (Optional (explicit 1 bit_string) NoFields)))))
+    (sequence (Required (RuledType (version_rule ((1 ∷ []) ∷ [])) integer) (Required octet_string (Optional (explicit 0 object_identifier) (Optional (explicit 1 bit_string) EndOfFields)))))
 
 unfoldable pub OneAsymmetricKey : TypeTerm
 OneAsymmetricKey =
@@ -73,11 +73,11 @@ OneAsymmetricKey =
     (Optional (SetOfType (context_specific 0) 0 Attribute)
     (Optional
     (DefinedByType (0 ∷ []) ((0 ∷ []) ∷ []) (RefusedType (context_specific 1) VersionRule)
-    (RuledType (key_bits_rule (1 ∷ 0 ∷ [])) (LeafType (context_specific 1) BitString))) NoFields))))))
+    (RuledType (key_bits_rule (1 ∷ 0 ∷ [])) (LeafType (context_specific 1) BitString))) EndOfFields))))))
 
 unfoldable pub CertificationRequestInfo : TypeTerm
 CertificationRequestInfo =
-    sequence (Required (RuledType (version_rule ((0 ∷ []) ∷ [])) integer) (Required Name (Required SubjectPublicKeyInfo (Optional (SetOfType (context_specific 0) 0 RequestAttribute) NoFields))))
+    sequence (Required (RuledType (version_rule ((0 ∷ []) ∷ [])) integer) (Required Name (Required SubjectPublicKeyInfo (Optional (SetOfType (context_specific 0) 0 RequestAttribute) EndOfFields))))
 
 unfoldable pub CertificationRequest : TypeTerm
-CertificationRequest = sequence (Required CertificationRequestInfo (Required AlgorithmIdentifier (Required bit_string NoFields)))
+CertificationRequest = sequence (Required CertificationRequestInfo (Required AlgorithmIdentifier (Required bit_string EndOfFields)))

@@ -3,7 +3,7 @@ use Rattle.std.specs.Prelude.{List, Option, Some, ◌≡◌}
 use Rattle.tlv_core.specs.declared.reason.Reason.{Reason}
 use Rattle.tlv_core.specs.declared.reason.Reason.TheVariants.{Truncated}
 use Rattle.x690.specs.Lists.{Each}
-use Rattle.x690.specs.TypeTerms.{ContainingType, Default, DefinedByType, Fields, LeafType, NoFields, OpenType, Optional, RefusedType, Required, RuledType, SequenceOfType, SequenceType, SetOfType, TypeTerm}
+use Rattle.x690.specs.TypeTerms.{ContainingType, Default, DefinedByType, Fields, LeafType, EndOfFields, OpenType, Optional, RefusedType, Required, RuledType, SequenceOfType, SequenceType, SetOfType, TypeTerm}
 use Rattle.x690.specs.Values.{Same, Value}
 
 abbrev pub FairRule : (List Value → Value → Option Reason) → Type 0
@@ -23,7 +23,7 @@ unfoldable mutual
   Fair (DefinedByType p os A B) = Fair A × Fair B
 
   pub FairFields : Fields → Type 0
-  FairFields NoFields = Unit {0}
+  FairFields EndOfFields = Unit {0}
   FairFields (Required T fs) = Fair T × FairFields fs
   FairFields (Optional T fs) = Fair T × FairFields fs
   FairFields (Default t o T fs) = Fair T × FairFields fs
@@ -44,7 +44,7 @@ unfoldable mutual
   Honest (DefinedByType p os A B) = Honest A × Honest B
 
   pub HonestFields : Fields → Type 0
-  HonestFields NoFields = Unit {0}
+  HonestFields EndOfFields = Unit {0}
   HonestFields (Required T fs) = Honest T × HonestFields fs
   HonestFields (Optional T fs) = Honest T × HonestFields fs
   HonestFields (Default t o T fs) = Honest T × HonestFields fs

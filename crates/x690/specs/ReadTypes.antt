@@ -12,7 +12,7 @@ use Rattle.x690.specs.Points.{Enclosing, fault, outermost}
 use Rattle.x690.specs.ReadContents.{all_members, read_leaf, read_open}
 use Rattle.x690.specs.ReadHeaders.{ContainerEnds, ElementStands, Next, in_container, next_tag}
 use Rattle.x690.specs.Reading.{Done, Fail, Halted, Outcome, Reading, Took, choose, require, run, ◌>>=◌}
-use Rattle.x690.specs.TypeTerms.{ContainingType, Default, DefinedByType, Fields, LeafType, NoFields, OpenType, Optional, RefusedType, Required, RuledType, SequenceOfType, SequenceType, SetOfType, TypeTerm, fits_tag}
+use Rattle.x690.specs.TypeTerms.{ContainingType, Default, DefinedByType, Fields, LeafType, EndOfFields, OpenType, Optional, RefusedType, Required, RuledType, SequenceOfType, SequenceType, SetOfType, TypeTerm, fits_tag}
 use Rattle.x690.specs.Values.{Leaf, Sequence, SetOf, Value, leaf_at, leaf_contents, values_of}
 
 -- a rule on a value, at the identifier of its element
@@ -60,8 +60,8 @@ unfoldable mutual
 
   -- The fields from here on, `d` standing at the first place: the values of those that are there, a default apart.
   pub read_fields : Limits → Fields → List Value → Enclosing → Next → Reading (List Value)
-  read_fields l NoFields earlier c (ContainerEnds p) = Done []
-  read_fields l NoFields earlier c (ElementStands p t form) = Fail (fault p Extra)
+  read_fields l EndOfFields earlier c (ContainerEnds p) = Done []
+  read_fields l EndOfFields earlier c (ElementStands p t form) = Fail (fault p Extra)
   read_fields l (Required T fs) earlier c (ContainerEnds p) = Fail (fault p Missing)
   read_fields l (Required T fs) earlier c (ElementStands p t form) =
       require (fits_tag T t) (fault p WrongTag)

@@ -13,7 +13,7 @@ use Rattle.x690.specs.ReadContents.{add_member, all_members, bad_contents, read_
 use Rattle.x690.specs.ReadHeaders.{ContainerEnds, ElementStands, Ended, Next, each_member, fit_contents, header_octet, in_container, next_octets, next_tag, primitive_contents, read_big_endian, read_definite_length, read_high_number, read_length, read_number, read_tag_number}
 use Rattle.x690.specs.ReadTypes.{apply_rule, due_element, from_inside, read_element, read_fields, read_type}
 use Rattle.x690.specs.Reading.{Ask, Done, Fail, Halted, Outcome, Reading, Took, Where, choose, require, run, ◌>>=◌}
-use Rattle.x690.specs.TypeTerms.{ContainingType, Default, DefinedByType, Fields, LeafType, NoFields, OpenType, Optional, RefusedType, Required, RuledType, SequenceOfType, SequenceType, SetOfType, TypeTerm}
+use Rattle.x690.specs.TypeTerms.{ContainingType, Default, DefinedByType, Fields, LeafType, EndOfFields, OpenType, Optional, RefusedType, Required, RuledType, SequenceOfType, SequenceType, SetOfType, TypeTerm}
 use Rattle.x690.specs.Values.{Leaf, Sequence, SetOf, Value, values_of}
 use Rattle.x690_laws.specs.ReadingLaws.{CutAtEnd}
 
@@ -187,8 +187,8 @@ mutual
   judge_h l (DefinedByType path os A B) earlier c p t form h = pick_h _ _ _ (judge_h l A earlier c p t form h.0) (judge_h l B earlier c p t form h.1)
 
   fields_h : (l : Limits) (fs : Fields) (earlier : List Value) (c : Enclosing) (d : Next) → HonestFields fs → Plainly (read_fields l fs earlier c d)
-  fields_h l NoFields earlier c (ContainerEnds p) h = done_h _
-  fields_h l NoFields earlier c (ElementStands p t form) h = fail_h (List Value) _ (λ z. cc)
+  fields_h l EndOfFields earlier c (ContainerEnds p) h = done_h _
+  fields_h l EndOfFields earlier c (ElementStands p t form) h = fail_h (List Value) _ (λ z. cc)
   fields_h l (Required T fs) earlier c (ContainerEnds p) h = fail_h (List Value) _ (λ z. cc)
   fields_h l (Required T fs) earlier c (ElementStands p t form) h = guard_h _ _ _ (λ z. cc) (bind_h _ _ (judge_h l T earlier c p t form h.0) (λ v. bind_h _ _ (next_h l c) (λ d. bind_h _ _ (fields_h l fs _ c d h.1) (λ vs. done_h _))))
   fields_h l (Optional T fs) earlier c (ContainerEnds p) h = fields_h l fs earlier c (ContainerEnds p) h.1

@@ -10,7 +10,7 @@ use Rattle.x690.specs.Fitting.{Fits, FitsFields}
 use Rattle.x690.specs.Layouts.{Constructed, FirstTree, NoTrees, Primitive, RawTree, RawTrees, member_trees}
 use Rattle.x690.specs.Lists.{Each, Paired}
 use Rattle.x690.specs.OpenValues.{FitOpenInPlace, FitOpenPaired, FitsOpen, IsOpenLeaf, OpenLeaf, OpenPlain, OpenSequence, OpenSetOf, open_form}
-use Rattle.x690.specs.TypeTerms.{ContainingType, Default, DefinedByType, Fields, LeafType, NoFields, OpenType, Optional, RefusedType, Required, RuledType, SequenceOfType, SequenceType, SetOfType, TypeTerm}
+use Rattle.x690.specs.TypeTerms.{ContainingType, Default, DefinedByType, Fields, LeafType, EndOfFields, OpenType, Optional, RefusedType, Required, RuledType, SequenceOfType, SequenceType, SetOfType, TypeTerm}
 use Rattle.x690.specs.Values.{FirstMember, Leaf, NoMembers, Same, SameInPlace, Sequence, SetOf, Value, Values, leaf_at, leaf_contents, members, sequence_members}
 use Rattle.x690_laws.specs.LayoutLaws.{OneValue}
 
@@ -214,7 +214,7 @@ mutual
       h
 
   pub fields_same : (d : ℕ) (fs : Fields) (earlier earlier' : List Value) (rs : List RawTree) (vs ws : List Value) → Each Same earlier earlier' → FitsFields d fs earlier rs vs → FitsFields d fs earlier' rs ws → Each Same vs ws
-  fields_same d NoFields earlier earlier' rs vs ws e h k = each_none vs ws h.1 k.1
+  fields_same d EndOfFields earlier earlier' rs vs ws e h k = each_none vs ws h.1 k.1
   fields_same d (Required T fs) earlier earlier' rs vs ws e h k =
       let q : k.0 ≡ h.0 = let a = h.4 in let b = k.4 in cc in
       let q' : k.1 ≡ h.1 = let a = h.4 in let b = k.4 in cc in

@@ -15,7 +15,7 @@ use Rattle.x690.specs.Layouts.{Constructed, FirstTree, LaidOut, NoTrees, Primiti
 use Rattle.x690.specs.Lists.{Each, Paired, Picked, join}
 use Rattle.x690.specs.ObjectIdentifiers.{ObjectIdentifierContents}
 use Rattle.x690.specs.OpenValues.{FitOpenInPlace, FitOpenPaired, FitsOpen, IsOpenLeaf}
-use Rattle.x690.specs.TypeTerms.{ContainingType, Default, DefinedByType, Distinct, DistinctFields, Fields, LeafType, NoFields, OpenType, Optional, RefusedType, Required, RuledType, SequenceOfType, SequenceType, SetOfType, TypeTerm, fields_fit_tag, fits_tag}
+use Rattle.x690.specs.TypeTerms.{ContainingType, Default, DefinedByType, Distinct, DistinctFields, Fields, LeafType, EndOfFields, OpenType, Optional, RefusedType, Required, RuledType, SequenceOfType, SequenceType, SetOfType, TypeTerm, fields_fit_tag, fits_tag}
 use Rattle.x690.specs.Values.{FirstMember, Leaf, NoMembers, Sequence, SetOf, Value, Values, members}
 use Rattle.x690_laws.specs.LayoutLaws.{OneText, TextSpells}
 
@@ -158,7 +158,7 @@ begins_fits d (DefinedByType p os A B) earlier r v h = ⊎_elim
 
 starts_fits : (d : ℕ) (fs : Fields) (earlier : List Value) (r : RawTree) (rs : List RawTree) (vs : List Value) → FitsFields d fs earlier (r ∷ rs) vs → fields_fit_tag fs (tree_tag r) ≡ true
 unfolding Fits fields_fit_tag
-starts_fits d NoFields earlier r rs vs h = absurd (let x = h.0 in cc)
+starts_fits d EndOfFields earlier r rs vs h = absurd (let x = h.0 in cc)
 starts_fits d (Required T fs) earlier r rs vs h = let e : h.0 ≡ r = let x = h.4 in cc in ap (λ x. fits_tag T (tree_tag x)) (sym e) ∙ begins_fits d T earlier h.0 h.2 h.6
 starts_fits d (Optional T fs) earlier r rs vs h = ⊎_elim
     (λ a. let x = starts_fits d fs earlier r rs vs a.1 in grind (arith, nat_tests))
@@ -389,7 +389,7 @@ mutual
       h
 
   pub fields_refit : (d : ℕ) (fs : Fields) (earlier : List Value) (rs : List RawTree) (vs : List Value) → DistinctFields fs → Every Short vs → FitsFields d fs earlier rs vs → Canons (FitsFields d fs earlier) rs vs
-  fields_refit d NoFields earlier rs vs c s h =
+  fields_refit d EndOfFields earlier rs vs c s h =
       record { trees = []; texts_are = ap (map der) (sym h.1); fits = (refl, h.1); depth_le = omega arith; tagged = λ x. tt }
   fields_refit d (Required T fs) earlier rs vs c s h =
       let s' = subst (λ x. Every Short x) h.5 s in
