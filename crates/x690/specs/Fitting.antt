@@ -48,13 +48,13 @@ unfoldable mutual
   FitsFields depth (Optional type fields) earlier trees values =
       ((next_fits type trees ≡ false) × FitsFields depth fields earlier trees values)
       ⊎ ((tree : RawTree) × (trees' : List RawTree) × (value : Value) × (values' : List Value) × (trees ≡ tree ∷ trees') × (values ≡ value ∷ values')
-        × (next_fits type trees ≡ true) × Fits depth type earlier tree value × FitsFields depth fields (earlier ++ (value ∷ [])) trees' values')
+      × (next_fits type trees ≡ true) × Fits depth type earlier tree value × FitsFields depth fields (earlier ++ (value ∷ [])) trees' values')
   -- so is one with a default, and a value that is the default is left out (11.5)
   FitsFields depth (Default tag octets type fields) earlier trees values =
       ((next_fits type trees ≡ false) × FitsFields depth fields earlier trees values)
       ⊎ ((tree : RawTree) × (trees' : List RawTree) × (value : Value) × (trees ≡ tree ∷ trees') × (next_fits type trees ≡ true) × Fits depth type earlier tree value
-        × (((Same value (Leaf tag octets)) × FitsFields depth fields earlier trees' values)
-          ⊎ ((values' : List Value) × (values ≡ value ∷ values') × (Same value (Leaf tag octets) → ⊥) × FitsFields depth fields (earlier ++ (value ∷ [])) trees' values')))
+      × (((Same value (Leaf tag octets)) × FitsFields depth fields earlier trees' values)
+      ⊎ ((values' : List Value) × (values ≡ value ∷ values') × (Same value (Leaf tag octets) → ⊥) × FitsFields depth fields (earlier ++ (value ∷ [])) trees' values')))
 
 -- The octets spell the value, as a document of the type within the limits.
 pub record Spells (limits : Limits) (type : TypeTerm) (value : Value) (octets : List ℕ) : Type 0 where

@@ -31,7 +31,7 @@ use Rattle.x690.specs.Stops.{After, EndsHere, LengthStops, MemberStands, Opens, 
 use Rattle.x690.specs.Takes.{Proper}
 use Rattle.x690.specs.TypeTerms.{ContainingType, Default, DefinedByType, Fields, LeafType, EndOfFields, OpenType, Optional, RefusedType, Required, RuledType, SequenceOfType, SequenceType, SetOfType, TypeTerm, fits_tag}
 use Rattle.x690.specs.Values.{Leaf, Same, Value, leaf_contents}
-use Rattle.x690_laws.specs.FaultLaws.{Exact, OneFault}
+use Rattle.x690_laws.specs.FaultLaws.{StopIsFault, OneFault}
 
 fail_on : (A : Type 0) (f : Fault) (k : ℕ) (s : List ℕ) → run {A = A} (Fail f) k s ≡ Halted f
 unfolding run
@@ -376,7 +376,7 @@ mutual
       g)
       h
 
-pub exact : Exact
+pub exact : StopIsFault
 unfolding due_element
 exact l T earlier c k s f fr pr h = ⊎_elim
     (λ a. here_halts l T earlier earlier c k s f (behind_halts l T earlier earlier c fr (each_refl earlier) pr) a)

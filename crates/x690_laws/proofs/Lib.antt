@@ -1,4 +1,6 @@
+pub mod Answering
 pub mod Complete
+pub mod Deeper
 pub mod Exactly
 pub mod Fairs
 pub mod Gives
@@ -7,12 +9,12 @@ pub mod HeaderSound
 pub mod Headers
 pub mod Honesty
 pub mod Judging
+pub mod LawfulTypes
 pub mod LeafSound
 pub mod Lengths
 pub mod OneValue
 pub mod Order
 pub mod Pairing
-pub mod Plain
 pub mod PrefixFree
 pub mod Readers
 pub mod Refit

@@ -12,7 +12,7 @@ use Rattle.x690.specs.Lists.{Each, Paired}
 use Rattle.x690.specs.OpenValues.{FitOpenInPlace, FitOpenPaired, FitsOpen, IsOpenLeaf, OpenLeaf, OpenPlain, OpenSequence, OpenSetOf, open_form}
 use Rattle.x690.specs.TypeTerms.{ContainingType, Default, DefinedByType, Fields, LeafType, EndOfFields, OpenType, Optional, RefusedType, Required, RuledType, SequenceOfType, SequenceType, SetOfType, TypeTerm}
 use Rattle.x690.specs.Values.{FirstMember, Leaf, NoMembers, Same, SameInPlace, Sequence, SetOf, Value, Values, leaf_at, leaf_contents, members, sequence_members}
-use Rattle.x690_laws.specs.LayoutLaws.{OneValue}
+use Rattle.x690_laws.specs.TypeLaws.{OneValue}
 
 pub leaf_one : (k : LeafKind) (r : RawTree) (o p : List ℕ) → LeafContents k r o → LeafContents k r p → o ≡ p
 unfolding LeafContents

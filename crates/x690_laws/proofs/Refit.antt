@@ -17,7 +17,8 @@ use Rattle.x690.specs.ObjectIdentifiers.{ObjectIdentifierContents}
 use Rattle.x690.specs.OpenValues.{FitOpenInPlace, FitOpenPaired, FitsOpen, IsOpenLeaf}
 use Rattle.x690.specs.TypeTerms.{ContainingType, Default, DefinedByType, Distinct, DistinctFields, Fields, LeafType, EndOfFields, OpenType, Optional, RefusedType, Required, RuledType, SequenceOfType, SequenceType, SetOfType, TypeTerm, fields_fit_tag, fits_tag}
 use Rattle.x690.specs.Values.{FirstMember, Leaf, NoMembers, Sequence, SetOf, Value, Values, members}
-use Rattle.x690_laws.specs.LayoutLaws.{OneText, TextSpells}
+use Rattle.x690_laws.proofs.Deeper.{fits_deeper}
+use Rattle.x690_laws.specs.TypeLaws.{OneText, TextSpells}
 
 -- what is short enough for its length to be laid out
 
@@ -443,8 +444,10 @@ text_spells limits T v b c l h =
     }
 
 pub one_text : OneText
-one_text d T r s v w c l h k e =
-    let x = refit d T [] r v c (short v l) h in
-    let y = refit d T [] s w c (short w (subst (λ z. length z < 18446744073709551616) e l)) k in
+one_text limits limits' T v w b c cl lt h k e =
+    let d = limits.depth + limits'.depth in
+    let short_text : length (der v) < 18446744073709551616 = omega (arith, h.text_fits, lt) in
+    let x = refit d T [] h.tree v cl (short v short_text) (fits_deeper limits.depth d T [] h.tree v (omega arith) h.fits) in
+    let y = refit d T [] k.tree w cl (short w (subst (λ z. length z < 18446744073709551616) e short_text)) (fits_deeper limits'.depth d T [] k.tree w (omega arith) k.fits) in
     let same_trees = (text_alone x.tree y.tree [] [] (ap (λ z. z ++ []) (x.text_is ∙ e ∙ sym y.text_is))).0 in
     fits_same d T [] [] y.tree v w tt (subst (λ z. Fits d T [] z v) same_trees x.fits) y.fits

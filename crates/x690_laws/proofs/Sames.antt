@@ -3,7 +3,7 @@ use Rattle.std.proofs.Common.{inl, List, [], ◌∷◌, refl, sym, ◌∙◌, su
 use Rattle.x690_laws.proofs.Pairing.{paired_take, paired_add}
 use Rattle.x690.specs.Lists.{Paired}
 use Rattle.x690.specs.Values.{FirstMember, Leaf, NoMembers, Same, SameInPlace, SamePaired, Sequence, SetOf, Value, Values, members}
-use Rattle.x690_laws.specs.LayoutLaws.{Equivalence}
+use Rattle.x690_laws.specs.ValueLaws.{Equivalence}
 
 pub bag_paired : (vs : Values) (ws : List Value) → SamePaired vs ws → Paired Same (members vs) ws
 unfolding Same

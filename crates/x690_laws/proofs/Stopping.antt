@@ -22,7 +22,7 @@ use Rattle.x690.specs.Stops.{After, EndsHere, LengthStops, MemberStands, Opens, 
 use Rattle.x690.specs.Takes.{Takes}
 use Rattle.x690.specs.TypeTerms.{ContainingType, Default, DefinedByType, Fields, LeafType, EndOfFields, OpenType, Optional, RefusedType, Required, RuledType, SequenceOfType, SequenceType, SetOfType, TypeTerm}
 use Rattle.x690.specs.Values.{Leaf, Same, Value, leaf_contents}
-use Rattle.x690_laws.specs.FaultLaws.{Faithful}
+use Rattle.x690_laws.specs.FaultLaws.{FaultStops}
 
 -- what is taken behind an identifier
 pub record Took_one (l : Limits) (T : TypeTerm) (earlier : List Value) (c : Enclosing) (b : ℕ) (a : List ℕ) (v : Value) (q : ℕ) (r : List ℕ) : Type 0 where
@@ -406,5 +406,5 @@ mutual
       (λ x. inr (inr (inl (p, t, form, j, u, n, inl (x.0, fields_stop l fs earlier c k s (ElementStands p t form) j u f n x.1)))))
       (halted_pick _ _ _ j u f h)
 
-pub faithful : Faithful
-faithful l T earlier c k s f z h = here_stops l T earlier c k s f (behind_stops l T earlier c) h
+pub faithful : FaultStops
+faithful l T earlier c k s f h = here_stops l T earlier c k s f (behind_stops l T earlier c) h

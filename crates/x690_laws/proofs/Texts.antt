@@ -8,7 +8,7 @@ use Rattle.tlv_core.specs.Length.{big_endian, number_octets, shortest_length}
 use Rattle.x690.specs.DerTexts.{Ascends, arrange, der, der_element, der_texts, insert_text, padded_less}
 use Rattle.x690.specs.Lists.{Paired, Picked, join}
 use Rattle.x690.specs.Values.{FirstMember, Leaf, NoMembers, Same, SameInPlace, SamePaired, Sequence, SetOf, Value, Values, members}
-use Rattle.x690_laws.specs.LayoutLaws.{Arrangement, Canonical}
+use Rattle.x690_laws.specs.ValueLaws.{Arrangement, SameHaveOneText}
 
 -- big-endian octets
 
@@ -290,5 +290,5 @@ mutual
   bag_der (FirstMember v vs) ws k =
       (der k.0, map der k.1, pick_map der k.0 ws k.1 k.2, same_der v k.0 k.3, bag_der vs k.1 k.4)
 
-pub canonical : Canonical
+pub canonical : SameHaveOneText
 canonical v w s = same_der v w s

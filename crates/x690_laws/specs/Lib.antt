@@ -1,4 +1,7 @@
+pub mod AnswerLaws
+pub mod DocumentLaws
+pub mod FaultLaws
 pub mod LayoutLaws
 pub mod ReadingLaws
-pub mod FaultLaws
-pub mod DocumentLaws
+pub mod TypeLaws
+pub mod ValueLaws
