@@ -1,5 +1,6 @@
 pub mod Answering
 pub mod Complete
+pub mod Computed
 pub mod Deeper
 pub mod Exactly
 pub mod Fairs
@@ -18,6 +19,13 @@ pub mod Pairing
 pub mod PrefixFree
 pub mod Readers
 pub mod Refit
+pub mod RowsFaults
+pub mod RowsFurtherTypes
+pub mod RowsKeys
+pub mod RowsOpenValues
+pub mod RowsOrder
+pub mod RowsRequests
+pub mod RowsTools
 pub mod Runs
 pub mod Sames
 pub mod Sound

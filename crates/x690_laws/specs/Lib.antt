@@ -1,5 +1,6 @@
 pub mod AnswerLaws
 pub mod DocumentLaws
+pub mod Examples
 pub mod FaultLaws
 pub mod LayoutLaws
 pub mod ReadingLaws
