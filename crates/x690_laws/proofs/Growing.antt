@@ -11,7 +11,7 @@ use Rattle.x690.specs.Fitting.{Fits, FitsFields}
 use Rattle.x690.specs.Layouts.{AllLaidOut, Constructed, Definite, FirstTree, Indefinite, LaidOut, NoTrees, Primitive, RawTree, RawTrees, member_trees, tree_tag}
 use Rattle.x690.specs.Lists.{Each, Paired, join}
 use Rattle.x690.specs.OpenValues.{FitOpenInPlace, FitOpenPaired, FitsOpen, IsOpenLeaf}
-use Rattle.x690.specs.TypeTerms.{ContainingType, Default, DefinedByType, Fields, LeafType, NoFields, OpenType, Optional, RefusedType, Required, RuledType, SequenceOfType, SequenceType, SetOfType, TypeTerm}
+use Rattle.x690.specs.TypeTerms.{ContainingType, Default, DefinedByType, Fields, LeafType, EndOfFields, OpenType, Optional, RefusedType, Required, RuledType, SequenceOfType, SequenceType, SetOfType, TypeTerm}
 use Rattle.x690.specs.Values.{Leaf, Sequence, SetOf, Value, Values, members}
 
 abbrev pub Framed : Tag → Bool → List ℕ → List ℕ → Type 0
@@ -192,7 +192,7 @@ mutual
   grows q d (DefinedByType p os A B) earlier r v b a h x = ⊎_elim (λ y. grows q d A earlier r v b a h y.1) (λ y. grows q d B earlier r v b a h y.1) x
 
   fields_grow : {Q : List ℕ → Type 0} {G : ℕ → ℕ → Type 0} → Growing Q G → (d : ℕ) (fs : Fields) (earlier : List Value) (rs : List RawTree) (vs : List Value) (c : List ℕ) → Q c → InOrder rs c → FitsFields d fs earlier rs vs → AllGrown G vs c
-  fields_grow q d NoFields earlier rs vs c a h x = none_grow q vs c x.1
+  fields_grow q d EndOfFields earlier rs vs c a h x = none_grow q vs c x.1
   fields_grow q d (Required T fs) earlier rs vs c a h x =
       field_grows q x.0 x.1 rs x.2 x.3 vs c x.4 x.5 a h (λ b m l. grows q d T earlier x.0 x.2 b m l x.6) (λ y m l. fields_grow q d fs (earlier ++ (x.2 ∷ [])) x.1 x.3 y m l x.7)
   fields_grow q d (Optional T fs) earlier rs vs c a h x = ⊎_elim

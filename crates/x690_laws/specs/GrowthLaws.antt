@@ -14,19 +14,22 @@ use Rattle.x690.specs.Takes.{Takes}
 use Rattle.x690.specs.TypeTerms.{TypeTerm}
 use Rattle.x690.specs.Values.{Value}
 
--- The DER text of a value is at most 5 times as long as fewer than 2^31 octets that lay out a tree saying it.
 abbrev pub Growth : Type 0
-Growth = (d : ℕ) (T : TypeTerm) (earlier : List Value) (r : RawTree) (v : Value) (b : List ℕ) → length b < 2147483648 → LaidOut r b → Fits d T earlier r v → length (der v) ≤ 5 * length b
+Growth =
+    (depth : ℕ) (type : TypeTerm) (earlier : List Value) (tree : RawTree) (value : Value) (octets : List ℕ) → length octets < 2147483648
+    → LaidOut tree octets → Fits depth type earlier tree value → length (der value) ≤ 5 * length octets
 
--- It is at most twice as long.
 abbrev pub GrowthByTwo : Type 0
-GrowthByTwo = (d : ℕ) (T : TypeTerm) (earlier : List Value) (r : RawTree) (v : Value) (b : List ℕ) → length b < 2147483648 → LaidOut r b → Fits d T earlier r v → length (der v) ≤ 2 * length b
+GrowthByTwo =
+    (depth : ℕ) (type : TypeTerm) (earlier : List Value) (tree : RawTree) (value : Value) (octets : List ℕ) → length octets < 2147483648
+    → LaidOut tree octets → Fits depth type earlier tree value → length (der value) ≤ 2 * length octets
 
--- Where each number is below 256, as octets are, it is at most half as long again.
 abbrev pub GrowthByHalf : Type 0
-GrowthByHalf = (d : ℕ) (T : TypeTerm) (earlier : List Value) (r : RawTree) (v : Value) (b : List ℕ) → AllBelow 256 b → length b < 2147483648 → LaidOut r b → Fits d T earlier r v → 2 * length (der v) ≤ 3 * length b
+GrowthByHalf =
+    (depth : ℕ) (type : TypeTerm) (earlier : List Value) (tree : RawTree) (value : Value) (octets : List ℕ) → AllBelow 256 octets → length octets < 2147483648
+    → LaidOut tree octets → Fits depth type earlier tree value → 2 * length (der value) ≤ 3 * length octets
 
--- Some octets, each below 256, say a value whose text is half as long again.
+-- some octets whose value has a text that is half as long again
 pub record HalfIsReached : Type 0 where
   pub depth : ℕ
   pub type : TypeTerm
@@ -40,20 +43,25 @@ pub record HalfIsReached : Type 0 where
   pub fits : Fits depth type [] tree value
   pub is : 2 * length (der value) ≡ 3 * length octets
 
--- The text of a value that was read from one place to another: at most twice as long as the octets between them, and shorter than 2^32.
-pub record ShortText (v : Value) (start stop : ℕ) : Type 0 where
-  pub by_two : length (der v) + 2 * start ≤ 2 * stop
-  pub below : length (der v) < 4294967296
+-- The text of a value that octets from one place to another spell: at most twice as long as they are, and shorter than 2^32.
+pub record ShortText (value : Value) (start stop : ℕ) : Type 0 where
+  pub by_two : length (der value) + 2 * start ≤ 2 * stop
+  pub below : length (der value) < 4294967296
 
--- What is taken within a limit of fewer than 2^31 octets has a short text.
 abbrev pub TakenTexts : Type 0
-TakenTexts = (l : Limits) (T : TypeTerm) (earlier : List Value) (c : Enclosing) (k : ℕ) (s : List ℕ) (v : Value) (n : ℕ) (rest : List ℕ) → l.octets < 2147483648 → Takes l T earlier c k s v n rest → ShortText v k (k + n)
+TakenTexts =
+    (limits : Limits) (type : TypeTerm) (earlier : List Value) (enclosing : Enclosing) (place : ℕ) (octets : List ℕ) (value : Value) (taken : ℕ) (rest : List ℕ)
+    → limits.octets < 2147483648 → Takes limits type earlier enclosing place octets value taken rest → ShortText value place (place + taken)
 
--- What the plain reading gives within such a limit has a short text: of an element, of a document, and behind an identifier that began at place `p`, of a type and of an open value.
 pub record ReadTexts : Type 0 where
-  pub element : (l : Limits) (T : TypeTerm) (earlier : List Value) (c : Enclosing) (k : ℕ) (s : List ℕ) (v : Value) (q : ℕ) (rest : List ℕ) → l.octets < 2147483648 → run (read_element l T earlier c) k s ≡ Took v q rest → ShortText v k q
-  pub document : (l : Limits) (T : TypeTerm) (b : List ℕ) (v : Value) (n : ℕ) (rest : List ℕ) → l.octets < 2147483648 → read_document l T b ≡ Took v n rest → ShortText v 0 n
-  pub behind : (l : Limits) (T : TypeTerm) (earlier : List Value) (c : Enclosing) (p : ℕ) (t : Tag) (form : Bool) (k : ℕ) (s : List ℕ) (v : Value) (q : ℕ) (rest : List ℕ) → l.octets < 2147483648 → IsTag t → c.open_containers < l.depth → p + length (identifier t form) ≡ k
-      → run (read_type l T earlier c p t form) k s ≡ Took v q rest → ShortText v p q
-  pub open_behind : (l : Limits) (deep : ℕ) (c : Enclosing) (p : ℕ) (t : Tag) (form : Bool) (k : ℕ) (s : List ℕ) (v : Value) (q : ℕ) (rest : List ℕ) → l.octets < 2147483648 → IsTag t → c.open_containers < l.depth → p + length (identifier t form) ≡ k
-      → run (read_open deep l c p t form) k s ≡ Took v q rest → ShortText v p q
+  pub element : (limits : Limits) (type : TypeTerm) (earlier : List Value) (enclosing : Enclosing) (place : ℕ) (octets : List ℕ) (value : Value) (stop : ℕ) (rest : List ℕ)
+      → limits.octets < 2147483648 → run (read_element limits type earlier enclosing) place octets ≡ Took value stop rest → ShortText value place stop
+  pub document : (limits : Limits) (type : TypeTerm) (octets : List ℕ) (value : Value) (stop : ℕ) (rest : List ℕ)
+      → limits.octets < 2147483648 → read_document limits type octets ≡ Took value stop rest → ShortText value 0 stop
+  -- from behind the identifier, which began at `start`
+  pub behind : (limits : Limits) (type : TypeTerm) (earlier : List Value) (enclosing : Enclosing) (start : ℕ) (tag : Tag) (constructed : Bool) (place : ℕ) (octets : List ℕ) (value : Value) (stop : ℕ) (rest : List ℕ)
+      → limits.octets < 2147483648 → IsTag tag → enclosing.open_containers < limits.depth → start + length (identifier tag constructed) ≡ place
+      → run (read_type limits type earlier enclosing start tag constructed) place octets ≡ Took value stop rest → ShortText value start stop
+  pub open_behind : (limits : Limits) (deeper : ℕ) (enclosing : Enclosing) (start : ℕ) (tag : Tag) (constructed : Bool) (place : ℕ) (octets : List ℕ) (value : Value) (stop : ℕ) (rest : List ℕ)
+      → limits.octets < 2147483648 → IsTag tag → enclosing.open_containers < limits.depth → start + length (identifier tag constructed) ≡ place
+      → run (read_open deeper limits enclosing start tag constructed) place octets ≡ Took value stop rest → ShortText value start stop
