@@ -1,94 +1,99 @@
--- The contents of leaves (X.690 8.2 to 8.23).
+-- The contents of leaves (X.690 8.2, 8.3, 8.4, 8.6, 8.7, 8.8, 8.19, 8.23).
 use Rattle.std.specs.Prelude.{IsUtf8, List, [], false, length, true, ℕ, ◌*◌, ◌++◌, ◌/◌, ◌<◌, ◌==◌, ◌^◌, ◌∷◌, ◌≡◌, ◌≤◌}
 use Rattle.x690.specs.Layouts.{Constructed, FirstTree, NoTrees, Primitive, RawTree, RawTrees, tree_tag, universal}
 use Rattle.x690.specs.Lists.{join}
 use Rattle.x690.specs.ObjectIdentifiers.{ObjectIdentifierContents}
 
+-- What the contents of a leaf are. ENUMERATED has those of INTEGER (8.4), strings and times other than UTF8String those of OCTET STRING (8.23, 8.25).
 pub data LeafKind : Type 0 where
   Boolean Integer Null ObjectIdentifier BitString OctetString Utf8String : LeafKind
 
 unfoldable mutual
-  -- the contents of the primitive segments of a string, in order
+  -- the contents of the primitive segments of a string, in order: of the one that it is, or of those in it, however nested (8.6.4, 8.7.3)
   pub segments : RawTree → List (List ℕ)
-  segments (Primitive t o) = o ∷ []
-  segments (Constructed t rs) = all_segments rs
+  segments (Primitive tag contents) = contents ∷ []
+  segments (Constructed tag trees) = all_segments trees
 
   pub all_segments : RawTrees → List (List ℕ)
   all_segments NoTrees = []
-  all_segments (FirstTree r rs) = segments r ++ all_segments rs
+  all_segments (FirstTree tree trees) = segments tree ++ all_segments trees
 
 unfoldable mutual
-  -- each segment of the string has the universal tag `n`
+  -- Each segment in the string, primitive or constructed, has the universal tag of this number.
   pub Segmented : ℕ → RawTree → Type 0
-  Segmented n (Primitive t o) = Unit {0}
-  Segmented n (Constructed t rs) = AllSegmented n rs
+  Segmented number (Primitive tag contents) = Unit {0}
+  Segmented number (Constructed tag trees) = AllSegmented number trees
 
   pub AllSegmented : ℕ → RawTrees → Type 0
-  AllSegmented n NoTrees = Unit {0}
-  AllSegmented n (FirstTree r rs) = (tree_tag r ≡ universal n) × Segmented n r × AllSegmented n rs
+  AllSegmented number NoTrees = Unit {0}
+  AllSegmented number (FirstTree tree trees) = (tree_tag tree ≡ universal number) × Segmented number tree × AllSegmented number trees
 
--- The octets of a string (8.7).
-pub record StringContents (r : RawTree) (o : List ℕ) : Type 0 where
-  pub segmented : Segmented 4 r
-  pub is : o ≡ join (segments r)
+-- The octets of a string: its segments are OCTET STRINGs, joined in order (8.7, 8.23.6).
+pub record StringContents (tree : RawTree) (octets : List ℕ) : Type 0 where
+  pub segmented : Segmented 4 tree
+  pub is : octets ≡ join (segments tree)
 
--- A primitive segment of a bit string: the number of unused bits, 0 where no octet follows (8.6.2).
+-- The contents of a primitive BIT STRING: the number of unused bits, 0 to 7, and 0 where no octet follows (8.6.2).
 abbrev pub IsBitSegment : List ℕ → Type 0
 IsBitSegment [] = ⊥
-IsBitSegment (u ∷ o) = (u ≤ 7) × ((o ≡ []) → u ≡ 0)
+IsBitSegment (unused ∷ octets) = (unused ≤ 7) × ((octets ≡ []) → unused ≡ 0)
 
+-- the number of unused bits of the last segment, 0 where there is none
 abbrev pub unused_bits : List (List ℕ) → ℕ
 unused_bits [] = 0
 unused_bits ([] ∷ []) = 0
-unused_bits ((u ∷ o) ∷ []) = u
-unused_bits (s ∷ t ∷ more') = unused_bits (t ∷ more')
+unused_bits ((unused ∷ octets) ∷ []) = unused
+unused_bits (segment ∷ next ∷ more) = unused_bits (next ∷ more)
 
--- each a bit segment, all but the last without unused bits
+-- Each is the contents of a BIT STRING, and all but the last have no unused bits (8.6.4.1).
 abbrev pub AreBitSegments : List (List ℕ) → Type 0
 AreBitSegments [] = Unit {0}
-AreBitSegments (s ∷ []) = IsBitSegment s
-AreBitSegments (s ∷ t ∷ more') = IsBitSegment s × (unused_bits (s ∷ []) ≡ 0) × AreBitSegments (t ∷ more')
+AreBitSegments (segment ∷ []) = IsBitSegment segment
+AreBitSegments (segment ∷ next ∷ more) = IsBitSegment segment × (unused_bits (segment ∷ []) ≡ 0) × AreBitSegments (next ∷ more)
 
+-- the octets of the segments, their numbers of unused bits apart
 abbrev pub bit_octets : List (List ℕ) → List ℕ
 bit_octets [] = []
-bit_octets ([] ∷ more') = bit_octets more'
-bit_octets ((u ∷ o) ∷ more') = o ++ bit_octets more'
+bit_octets ([] ∷ more) = bit_octets more
+bit_octets ((unused ∷ octets) ∷ more) = octets ++ bit_octets more
 
--- the last `u` bits of the last octet set to 0
+-- the octets with the last `unused` bits of the last one set to 0 (11.2.1)
 abbrev pub clear_unused : ℕ → List ℕ → List ℕ
-clear_unused u [] = []
-clear_unused u (x ∷ []) = (x / 2 ^ u * 2 ^ u) ∷ []
-clear_unused u (x ∷ y ∷ s) = x ∷ clear_unused u (y ∷ s)
+clear_unused unused [] = []
+clear_unused unused (x ∷ []) = (x / 2 ^ unused * 2 ^ unused) ∷ []
+clear_unused unused (x ∷ y ∷ octets) = x ∷ clear_unused unused (y ∷ octets)
 
+-- the DER contents of a BIT STRING of these segments
 abbrev pub bit_contents : List (List ℕ) → List ℕ
-bit_contents s = unused_bits s ∷ clear_unused (unused_bits s) (bit_octets s)
+bit_contents segments = unused_bits segments ∷ clear_unused (unused_bits segments) (bit_octets segments)
 
--- The unused bits and the octets of a bit string (8.6).
-pub record BitStringContents (r : RawTree) (o : List ℕ) : Type 0 where
-  pub segmented : Segmented 3 r
-  pub each : AreBitSegments (segments r)
-  pub is : o ≡ bit_contents (segments r)
+-- The DER contents of a BIT STRING: its segments are BIT STRINGs (8.6).
+pub record BitStringContents (tree : RawTree) (octets : List ℕ) : Type 0 where
+  pub segmented : Segmented 3 tree
+  pub each : AreBitSegments (segments tree)
+  pub is : octets ≡ bit_contents (segments tree)
 
--- The first nine bits of an integer are neither all 0 nor all 1 (8.3.2).
+-- The contents of an INTEGER: at least one octet, and the first nine bits neither all 0 nor all 1 (8.3.2).
 abbrev pub IsInteger : List ℕ → Type 0
 IsInteger [] = ⊥
 IsInteger (x ∷ []) = Unit {0}
-IsInteger (x ∷ y ∷ s) = ((x ≡ 0) → 128 ≤ y) × ((x ≡ 255) → y < 128)
+IsInteger (x ∷ y ∷ octets) = ((x ≡ 0) → 128 ≤ y) × ((x ≡ 255) → y < 128)
 
+-- the DER contents of a BOOLEAN: 00 for FALSE, FF for TRUE, which BER gives as any octet but 00 (8.2.2, 11.1)
 abbrev pub boolean_contents : List ℕ → List ℕ
 boolean_contents [] = []
-boolean_contents (x ∷ s) = elim (x == 0) [ true ↦ 0 ∷ [] | false ↦ 255 ∷ [] ]
+boolean_contents (x ∷ octets) = elim (x == 0) [ true ↦ 0 ∷ [] | false ↦ 255 ∷ [] ]
 
--- The tree is a leaf of the kind, its tag apart, and `o` are its DER contents.
+-- The tree, its tag apart, is a leaf of the kind, and the octets are its DER contents. Strings alone may be constructed.
 unfoldable pub LeafContents : LeafKind → RawTree → List ℕ → Type 0
-LeafContents Boolean (Primitive t c) o = (length c ≡ 1) × (o ≡ boolean_contents c)
-LeafContents Boolean (Constructed t rs) o = ⊥
-LeafContents Integer (Primitive t c) o = IsInteger c × (o ≡ c)
-LeafContents Integer (Constructed t rs) o = ⊥
-LeafContents Null (Primitive t c) o = (c ≡ []) × (o ≡ c)
-LeafContents Null (Constructed t rs) o = ⊥
-LeafContents ObjectIdentifier (Primitive t c) o = ((arcs : List ℕ) × ObjectIdentifierContents arcs c) × (o ≡ c)
-LeafContents ObjectIdentifier (Constructed t rs) o = ⊥
-LeafContents BitString r o = BitStringContents r o
-LeafContents OctetString r o = StringContents r o
-LeafContents Utf8String r o = StringContents r o × IsUtf8 o
+LeafContents Boolean (Primitive tag contents) octets = (length contents ≡ 1) × (octets ≡ boolean_contents contents)
+LeafContents Boolean (Constructed tag trees) octets = ⊥
+LeafContents Integer (Primitive tag contents) octets = IsInteger contents × (octets ≡ contents)
+LeafContents Integer (Constructed tag trees) octets = ⊥
+LeafContents Null (Primitive tag contents) octets = (contents ≡ []) × (octets ≡ contents)
+LeafContents Null (Constructed tag trees) octets = ⊥
+LeafContents ObjectIdentifier (Primitive tag contents) octets = ((arcs : List ℕ) × ObjectIdentifierContents arcs contents) × (octets ≡ contents)
+LeafContents ObjectIdentifier (Constructed tag trees) octets = ⊥
+LeafContents BitString tree octets = BitStringContents tree octets
+LeafContents OctetString tree octets = StringContents tree octets
+LeafContents Utf8String tree octets = StringContents tree octets × IsUtf8 octets

@@ -1,23 +1,31 @@
--- The types of the documents and of their parts.
-use Rattle.std.specs.Prelude.{[], ℕ, ◌∷◌}
+-- The types of private keys and certification requests, and of their parts, each in the order of its ASN.1.
+use Rattle.std.specs.Prelude.{List, [], ℕ, ◌∷◌}
 use Rattle.tlv_core.specs.declared.reason.Reason.TheVariants.{VersionRule}
 use Rattle.x690.specs.Contents.{BitString, Boolean, Integer, ObjectIdentifier, OctetString}
 use Rattle.x690.specs.Identifiers.{ec_public_key, extension_request, rfc8410_algorithms}
 use Rattle.x690.specs.Layouts.{context_specific, universal}
 use Rattle.x690.specs.Rules.{ec_parameters_rule, ec_rule, inner_curve_rule, inner_ec_rule, key_bits_rule, key_version_rule, parameters_rule, version_rule}
-use Rattle.x690.specs.TypeTerms.{ContainingType, Default, DefinedByType, Fields, LeafType, NoFields, OpenType, Optional, RefusedType, Required, RuledType, SequenceOfType, SequenceType, SetOfType, TypeTerm}
+use Rattle.x690.specs.TypeTerms.{ContainingType, Default, DefinedByType, EndOfFields, Fields, LeafType, OpenType, Optional, RefusedType, Required, RuledType, SequenceOfType, SequenceType, SetOfType, TypeTerm}
+
+infixr 5 ◌⨾◌
+-- a field, and those behind it
+abbrev pub ◌⨾◌ : (Fields → Fields) → Fields → Fields
+field ⨾ fields = field fields
 
 abbrev pub sequence : Fields → TypeTerm
-sequence fs = SequenceType (universal 16) fs
+sequence fields = SequenceType (universal 16) fields
+
+abbrev pub sequence_of : TypeTerm → TypeTerm
+sequence_of type = SequenceOfType (universal 16) 0 type
+
+abbrev pub set_of_some : TypeTerm → TypeTerm
+set_of_some type = SetOfType (universal 17) 1 type
 
 abbrev pub explicit : ℕ → TypeTerm → TypeTerm
-explicit n T = SequenceType (context_specific n) (Required T NoFields)
+explicit number type = SequenceType (context_specific number) (Required type ⨾ EndOfFields)
 
 abbrev pub integer : TypeTerm
 integer = LeafType (universal 2) Integer
-
-abbrev pub object_identifier : TypeTerm
-object_identifier = LeafType (universal 6) ObjectIdentifier
 
 abbrev pub bit_string : TypeTerm
 bit_string = LeafType (universal 3) BitString
@@ -25,59 +33,90 @@ bit_string = LeafType (universal 3) BitString
 abbrev pub octet_string : TypeTerm
 octet_string = LeafType (universal 4) OctetString
 
-abbrev pub set_of : TypeTerm → TypeTerm
-set_of T = SetOfType (universal 17) 0 T
+abbrev pub object_identifier : TypeTerm
+object_identifier = LeafType (universal 6) ObjectIdentifier
 
-abbrev pub set_of_some : TypeTerm → TypeTerm
-set_of_some T = SetOfType (universal 17) 1 T
+-- an INTEGER that is one of these numbers, each below 128
+abbrev pub version : List (List ℕ) → TypeTerm
+version allowed = RuledType (version_rule allowed) integer
 
-abbrev pub sequence_of : TypeTerm → TypeTerm
-sequence_of T = SequenceOfType (universal 16) 0 T
-
+-- RFC 5280 section 4.1.1.2; without parameters under the algorithms of RFC 8410 (its section 3).
 unfoldable pub AlgorithmIdentifier : TypeTerm
-AlgorithmIdentifier = RuledType parameters_rule (sequence (Required object_identifier (Optional OpenType NoFields)))
+AlgorithmIdentifier = RuledType parameters_rule (sequence (Required object_identifier ⨾ Optional OpenType ⨾ EndOfFields))
 
+-- AttributeTypeAndValue of RFC 5280 section 4.1.2.4.
 unfoldable pub NameItem : TypeTerm
-NameItem = sequence (Required object_identifier (Required OpenType NoFields))
+NameItem = sequence (Required object_identifier ⨾ Required OpenType ⨾ EndOfFields)
 
+-- RFC 5280 section 4.1.2.4.
 unfoldable pub Name : TypeTerm
 Name = sequence_of (set_of_some NameItem)
 
+-- RFC 5280 section 4.1.2.7; under the algorithms of RFC 8410 the key has the length that goes with it.
 unfoldable pub SubjectPublicKeyInfo : TypeTerm
-SubjectPublicKeyInfo = sequence (Required AlgorithmIdentifier (Required (RuledType (key_bits_rule (0 ∷ 0 ∷ [])) bit_string) NoFields))
+SubjectPublicKeyInfo = sequence (Required AlgorithmIdentifier ⨾ Required (RuledType (key_bits_rule (0 ∷ 0 ∷ [])) bit_string) ⨾ EndOfFields)
 
+-- RFC 2986 section 4.1; at least one value (in keys: profile).
 unfoldable pub Attribute : TypeTerm
-Attribute = sequence (Required object_identifier (Required (set_of_some OpenType) NoFields))
+Attribute = sequence (Required object_identifier ⨾ Required (set_of_some OpenType) ⨾ EndOfFields)
 
+-- RFC 5280 section 4.1: `critical` is FALSE by default.
 unfoldable pub Extension : TypeTerm
-Extension = sequence (Required object_identifier (Default (universal 1) (0 ∷ []) (LeafType (universal 1) Boolean) (Required octet_string NoFields)))
+Extension = sequence (Required object_identifier ⨾ Default (universal 1) (0 ∷ []) (LeafType (universal 1) Boolean) ⨾ Required octet_string ⨾ EndOfFields)
 
+-- An attribute of a request: extensionRequest has lists of extensions (RFC 2985 section 5.4.2), any other one open values.
 unfoldable pub RequestAttribute : TypeTerm
-RequestAttribute = sequence (Required object_identifier (Required (DefinedByType (0 ∷ []) (extension_request ∷ []) (set_of_some (sequence_of Extension)) (set_of_some OpenType)) NoFields))
+RequestAttribute =
+    sequence (Required object_identifier
+    ⨾ Required (DefinedByType (0 ∷ []) (extension_request ∷ []) (set_of_some (sequence_of Extension)) (set_of_some OpenType))
+    ⨾ EndOfFields)
 
+-- RFC 5915 section 3. The parameters may be absent (profile), and are a named curve.
 unfoldable pub ECPrivateKey : TypeTerm
 ECPrivateKey =
     RuledType ec_rule
-    (sequence (Required (RuledType (version_rule ((1 ∷ []) ∷ [])) integer) (Required octet_string (Optional (explicit 0 object_identifier) (Optional (explicit 1 bit_string) NoFields)))))
+    (sequence (Required (version ((1 ∷ []) ∷ []))
+    ⨾ Required octet_string
+    ⨾ Optional (explicit 0 object_identifier)
+    ⨾ Optional (explicit 1 bit_string)
+    ⨾ EndOfFields))
 
-unfoldable pub OneAsymmetricKey : TypeTerm
-OneAsymmetricKey =
+-- privateKey of a OneAsymmetricKey: what its octets contain goes by the algorithm, which stands second in the container (RFC 5915 section 3, RFC 8410 section 7).
+abbrev pub private_key : TypeTerm → TypeTerm
+private_key others =
+    DefinedByType (1 ∷ 0 ∷ []) (ec_public_key ∷ []) (ContainingType (universal 4) inner_ec_rule ECPrivateKey)
+    (DefinedByType (1 ∷ 0 ∷ []) rfc8410_algorithms (ContainingType (universal 4) inner_curve_rule octet_string) others)
+
+-- publicKey of a OneAsymmetricKey: [1] may not stand in one of version 0 (RFC 5958 section 2).
+abbrev pub public_key : TypeTerm
+public_key =
+    DefinedByType (0 ∷ []) ((0 ∷ []) ∷ []) (RefusedType (context_specific 1) VersionRule)
+    (RuledType (key_bits_rule (1 ∷ 0 ∷ [])) (LeafType (context_specific 1) BitString))
+
+-- RFC 5958 section 2, closed (profile); `others` is privateKey under algorithms that have no rule of their own.
+abbrev pub asymmetric_key : TypeTerm → TypeTerm
+asymmetric_key others =
     RuledType key_version_rule
-    (sequence
-    (Required (RuledType (version_rule ((0 ∷ []) ∷ (1 ∷ []) ∷ [])) integer)
-    (Required (RuledType ec_parameters_rule AlgorithmIdentifier)
-    (Required
-    (DefinedByType (1 ∷ 0 ∷ []) (ec_public_key ∷ []) (ContainingType (universal 4) inner_ec_rule ECPrivateKey)
-    (DefinedByType (1 ∷ 0 ∷ []) rfc8410_algorithms (ContainingType (universal 4) inner_curve_rule octet_string)
-    octet_string))
-    (Optional (SetOfType (context_specific 0) 0 Attribute)
-    (Optional
-    (DefinedByType (0 ∷ []) ((0 ∷ []) ∷ []) (RefusedType (context_specific 1) VersionRule)
-    (RuledType (key_bits_rule (1 ∷ 0 ∷ [])) (LeafType (context_specific 1) BitString))) NoFields))))))
+    (sequence (Required (version ((0 ∷ []) ∷ (1 ∷ []) ∷ []))
+    ⨾ Required (RuledType ec_parameters_rule AlgorithmIdentifier)
+    ⨾ Required (private_key others)
+    ⨾ Optional (SetOfType (context_specific 0) 0 Attribute)
+    ⨾ Optional public_key
+    ⨾ EndOfFields))
 
+-- Under all other algorithms the octets of privateKey are carried.
+unfoldable pub OneAsymmetricKey : TypeTerm
+OneAsymmetricKey = asymmetric_key octet_string
+
+-- RFC 2986 section 4.1. The attributes may be absent (profile).
 unfoldable pub CertificationRequestInfo : TypeTerm
 CertificationRequestInfo =
-    sequence (Required (RuledType (version_rule ((0 ∷ []) ∷ [])) integer) (Required Name (Required SubjectPublicKeyInfo (Optional (SetOfType (context_specific 0) 0 RequestAttribute) NoFields))))
+    sequence (Required (version ((0 ∷ []) ∷ []))
+    ⨾ Required Name
+    ⨾ Required SubjectPublicKeyInfo
+    ⨾ Optional (SetOfType (context_specific 0) 0 RequestAttribute)
+    ⨾ EndOfFields)
 
+-- RFC 2986 section 4.2.
 unfoldable pub CertificationRequest : TypeTerm
-CertificationRequest = sequence (Required CertificationRequestInfo (Required AlgorithmIdentifier (Required bit_string NoFields)))
+CertificationRequest = sequence (Required CertificationRequestInfo ⨾ Required AlgorithmIdentifier ⨾ Required bit_string ⨾ EndOfFields)

@@ -1,31 +1,31 @@
--- Lists: pairing, relating in place, joining.
+-- Relations and tests on lists that the definitions share.
 use Rattle.std.specs.Prelude.{Bool, List, [], false, true, ℕ, ◌&&◌, ◌++◌, ◌<◌, ◌==◌, ◌||◌, ◌∷◌, ◌≡◌, ◌⊎◌}
 
--- `x` stands in the list, and `rest` is what remains of it without one `x`
+-- The member stands in the list, and `rest` is what remains of the list without it.
 abbrev pub Picked : {A : Type 0} → A → List A → List A → Type 0
 Picked x [] rest = ⊥
 Picked x (y ∷ ys) rest = ((x ≡ y) × (rest ≡ ys)) ⊎ ((zs : _) × (rest ≡ y ∷ zs) × Picked x ys zs)
 
--- the members of two lists can be paired one to one, each pair related
+-- The members of two lists can be paired one to one, each pair being related.
 abbrev pub Paired : {A B : Type 0} → (A → B → Type 0) → List A → List B → Type 0
-Paired R [] bs = bs ≡ []
-Paired {B} R (a ∷ as') bs = (b : B) × (rest : List B) × Picked b bs rest × R a b × Paired R as' rest
+Paired Related [] bs = bs ≡ []
+Paired {B} Related (a ∷ as') bs = (b : B) × (rest : List B) × Picked b bs rest × Related a b × Paired Related as' rest
 
--- related in place
+-- The members of two lists are related in place, and there are as many.
 abbrev pub Each : {A B : Type 0} → (A → B → Type 0) → List A → List B → Type 0
-Each R [] [] = Unit {0}
-Each R [] (b ∷ bs) = ⊥
-Each R (a ∷ as') [] = ⊥
-Each R (a ∷ as') (b ∷ bs) = R a b × Each R as' bs
+Each Related [] [] = Unit {0}
+Each Related [] (b ∷ bs) = ⊥
+Each Related (a ∷ as') [] = ⊥
+Each Related (a ∷ as') (b ∷ bs) = Related a b × Each Related as' bs
 
--- the texts one after another
+-- the lists one after another
 abbrev pub join : List (List ℕ) → List ℕ
 join [] = []
-join (x ∷ xs) = x ++ join xs
+join (octets ∷ more) = octets ++ join more
 
 abbrev pub AllBelow : ℕ → List ℕ → Type 0
-AllBelow n [] = Unit {0}
-AllBelow n (x ∷ xs) = (x < n) × AllBelow n xs
+AllBelow bound [] = Unit {0}
+AllBelow bound (x ∷ xs) = (x < bound) × AllBelow bound xs
 
 abbrev pub same_octets : List ℕ → List ℕ → Bool
 same_octets [] [] = true
@@ -33,6 +33,7 @@ same_octets [] (y ∷ ys) = false
 same_octets (x ∷ xs) [] = false
 same_octets (x ∷ xs) (y ∷ ys) = (x == y) && same_octets xs ys
 
+-- the octets are one of these
 abbrev pub one_of : List ℕ → List (List ℕ) → Bool
-one_of o [] = false
-one_of o (x ∷ xs) = same_octets o x || one_of o xs
+one_of octets [] = false
+one_of octets (other ∷ others) = same_octets octets other || one_of octets others

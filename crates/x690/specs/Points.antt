@@ -1,42 +1,51 @@
 -- Where an element stands, and faults there.
-use Rattle.std.specs.Prelude.{Bool, None, Option, Some, false, nat_le, nat_lt, true, ℕ, ◌==◌}
+use Rattle.std.specs.Prelude.{Bool, None, Option, Some, false, nat_le, nat_lt, true, ℕ, ◌==◌, ◌≡◌, ◌⊎◌}
 use Rattle.tlv_core.specs.declared.fault.Fault.{Fault}
 use Rattle.tlv_core.specs.declared.reason.Reason.{Reason}
+use Rattle.tlv_core.specs.declared.reason.Reason.TheVariants.{Inner}
 
+-- a fault at a place, with nothing inside
 abbrev pub fault : ℕ → Reason → Fault
-fault p w = record { at = p; why = w; inside = None }
+fault place why = record { at = place; why = why; inside = None }
 
--- the innermost container: none, one that ends at a place, one that ends with `00 00`
+-- What is inside a fault is there exactly where its reason is Inner.
+abbrev pub InsideWhereInner : Fault → Type 0
+InsideWhereInner found = ((found.why ≡ Inner) × (found.inside ≡ None → ⊥)) ⊎ ((found.why ≡ Inner → ⊥) × (found.inside ≡ None))
+
+-- The innermost container: none, one of definite length that ends at a place, one of indefinite length that ends with `00 00`.
 pub data Innermost : Type 0 where
   NoContainer : Innermost
   EndsAt : ℕ → Innermost
   EndsWithZeros : Innermost
 
--- Where an element is due, its place apart: the end of the nearest enclosing definite container, the innermost container, the number of open ones.
+-- What encloses an element: the end of the nearest container of definite length, if there is one, the innermost container, and how many are open.
 pub record Enclosing : Type 0 where
   pub nearest_end : Option ℕ
   pub innermost : Innermost
   pub open_containers : ℕ
 
+-- what encloses a document
 abbrev pub outermost : Enclosing
 outermost = record { nearest_end = None; innermost = NoContainer; open_containers = 0 }
 
--- the place isn't before the end
+-- no octet may stand at the place: it isn't before the end
 abbrev pub at_end : Option ℕ → ℕ → Bool
-at_end None k = false
-at_end (Some e) k = nat_le e k
+at_end None place = false
+at_end (Some end) place = nat_le end place
 
--- the place is behind the end
+-- contents may not end at the place: it is behind the end
 abbrev pub past_end : Option ℕ → ℕ → Bool
-past_end None k = false
-past_end (Some e) k = nat_lt e k
+past_end None place = false
+past_end (Some end) place = nat_lt end place
 
+-- end-of-contents octets may stand here
 abbrev pub ends_with_zeros : Innermost → Bool
 ends_with_zeros NoContainer = false
-ends_with_zeros (EndsAt e) = false
+ends_with_zeros (EndsAt end) = false
 ends_with_zeros EndsWithZeros = true
 
+-- a container of definite length ends here
 abbrev pub stands_at_end : Innermost → ℕ → Bool
-stands_at_end NoContainer p = false
-stands_at_end (EndsAt e) p = e == p
-stands_at_end EndsWithZeros p = false
+stands_at_end NoContainer place = false
+stands_at_end (EndsAt end) place = end == place
+stands_at_end EndsWithZeros place = false

@@ -1,4 +1,5 @@
--- The plain reading of leaves and open values.
+-- The plain reading of leaves and open values (X.690 8.2 to 8.8, 8.19, 8.23), with the first fault in each (profile).
+-- Tests on contents, each the same as the relation of its name in Contents and ObjectIdentifiers.
 use Rattle.std.specs.Prelude.{Bool, List, None, Option, Some, [], false, length, nat_le, nat_lt, not, suc, true, zero, ℕ, ◌&&◌, ◌*◌, ◌++◌, ◌+◌, ◌-◌, ◌==◌, ◌||◌, ◌∷◌}
 use Rattle.std.specs.Str.{is_utf8}
 use Rattle.tlv_core.specs.Identifier.{Tag}
@@ -17,47 +18,48 @@ use Rattle.x690.specs.Values.{Leaf, Sequence, SetOf, Value, values_of}
 abbrev pub is_integer_contents : List ℕ → Bool
 is_integer_contents [] = false
 is_integer_contents (x ∷ []) = true
-is_integer_contents (x ∷ y ∷ s) = (not (x == 0) || nat_le 128 y) && (not (x == 255) || nat_lt y 128)
+is_integer_contents (x ∷ y ∷ segments) = (not (x == 0) || nat_le 128 y) && (not (x == 255) || nat_lt y 128)
 
--- subidentifiers below 2^128, `n` being what stands before the next octet, 0 in front of a subidentifier
+-- Subidentifiers below 2^128; `number` is what stands before the next octet, 0 in front of a subidentifier.
 unfoldable pub is_subidentifiers : ℕ → List ℕ → Bool
-is_subidentifiers n [] = n == 0
-is_subidentifiers n (x ∷ s) =
-    (not ((n == 0) && (x == 128)) && nat_lt x 256)
+is_subidentifiers number [] = number == 0
+is_subidentifiers number (x ∷ segments) =
+    (not ((number == 0) && (x == 128)) && nat_lt x 256)
     && elim (nat_lt x 128) [
-      | true ↦ nat_lt (n * 128 + x) 340282366920938463463374607431768211456 && is_subidentifiers 0 s
-      | false ↦ is_subidentifiers (n * 128 + (x - 128)) s
+      | true ↦ nat_lt (number * 128 + x) 340282366920938463463374607431768211456 && is_subidentifiers 0 segments
+      | false ↦ is_subidentifiers (number * 128 + (x - 128)) segments
     ]
 
 abbrev pub is_object_identifier : List ℕ → Bool
 is_object_identifier [] = false
-is_object_identifier (x ∷ s) = is_subidentifiers 0 (x ∷ s)
+is_object_identifier (x ∷ segments) = is_subidentifiers 0 (x ∷ segments)
 
 abbrev pub is_bit_segment : List ℕ → Bool
 is_bit_segment [] = false
-is_bit_segment (u ∷ []) = u == 0
-is_bit_segment (u ∷ x ∷ s) = nat_le u 7
+is_bit_segment (unused ∷ []) = unused == 0
+is_bit_segment (unused ∷ x ∷ segments) = nat_le unused 7
 
--- the contents are those of the kind
+-- the contents of a primitive element are those of the kind
 abbrev pub is_contents : LeafKind → List ℕ → Bool
-is_contents Boolean o = length o == 1
-is_contents Integer o = is_integer_contents o
-is_contents Null o = length o == 0
-is_contents ObjectIdentifier o = is_object_identifier o
-is_contents BitString o = is_bit_segment o
-is_contents OctetString o = true
-is_contents Utf8String o = is_utf8 o
+is_contents Boolean contents = length contents == 1
+is_contents Integer contents = is_integer_contents contents
+is_contents Null contents = length contents == 0
+is_contents ObjectIdentifier contents = is_object_identifier contents
+is_contents BitString contents = is_bit_segment contents
+is_contents OctetString contents = true
+is_contents Utf8String contents = is_utf8 contents
 
 -- the DER contents, of the contents of a primitive element
 abbrev pub der_contents : LeafKind → List ℕ → List ℕ
-der_contents Boolean o = boolean_contents o
-der_contents Integer o = o
-der_contents Null o = o
-der_contents ObjectIdentifier o = o
-der_contents BitString o = bit_contents (o ∷ [])
-der_contents OctetString o = o
-der_contents Utf8String o = o
+der_contents Boolean contents = boolean_contents contents
+der_contents Integer contents = contents
+der_contents Null contents = contents
+der_contents ObjectIdentifier contents = contents
+der_contents BitString contents = bit_contents (contents ∷ [])
+der_contents OctetString contents = contents
+der_contents Utf8String contents = contents
 
+-- the reason where they aren't
 abbrev pub bad_contents : LeafKind → Reason
 bad_contents Boolean = BadBoolean
 bad_contents Integer = BadInteger
@@ -67,7 +69,7 @@ bad_contents BitString = BadBits
 bad_contents OctetString = BadText
 bad_contents Utf8String = BadText
 
--- the segments of a string: the number of their tag
+-- the universal tag that the segments of a constructed string have, none where the kind is always primitive
 abbrev pub segment_tag : LeafKind → Option ℕ
 segment_tag Boolean = None
 segment_tag Integer = None
@@ -79,65 +81,66 @@ segment_tag Utf8String = Some 4
 
 -- the DER contents, of the primitive segments of a string
 abbrev pub joined_contents : LeafKind → List (List ℕ) → List ℕ
-joined_contents Boolean s = join s
-joined_contents Integer s = join s
-joined_contents Null s = join s
-joined_contents ObjectIdentifier s = join s
-joined_contents BitString s = bit_contents s
-joined_contents OctetString s = join s
-joined_contents Utf8String s = join s
+joined_contents Boolean segments = join segments
+joined_contents Integer segments = join segments
+joined_contents Null segments = join segments
+joined_contents ObjectIdentifier segments = join segments
+joined_contents BitString segments = bit_contents segments
+joined_contents OctetString segments = join segments
+joined_contents Utf8String segments = join segments
 
+-- the joined segments are contents of the kind
 abbrev pub is_joined_contents : LeafKind → List (List ℕ) → Bool
-is_joined_contents Boolean s = false
-is_joined_contents Integer s = false
-is_joined_contents Null s = false
-is_joined_contents ObjectIdentifier s = false
-is_joined_contents BitString s = true
-is_joined_contents OctetString s = true
-is_joined_contents Utf8String s = is_utf8 (join s)
+is_joined_contents Boolean segments = false
+is_joined_contents Integer segments = false
+is_joined_contents Null segments = false
+is_joined_contents ObjectIdentifier segments = false
+is_joined_contents BitString segments = true
+is_joined_contents OctetString segments = true
+is_joined_contents Utf8String segments = is_utf8 (join segments)
 
--- a primitive segment, behind those before it
+-- The contents of a primitive segment behind those before it: in a BIT STRING these have no unused bits.
 abbrev pub is_next_segment : ℕ → List (List ℕ) → List ℕ → Bool
-is_next_segment n before o = not (n == 3) || (is_bit_segment o && (unused_bits before == 0))
+is_next_segment number before contents = not (number == 3) || (is_bit_segment contents && (unused_bits before == 0))
 
--- A segment of a string whose identifier is taken, at most `deep` deep: the primitive segments before it and in it.
+-- A segment whose identifier is taken, at most `deep` deep: the contents of the primitive segments before it and in it.
 unfoldable pub read_segment : ℕ → Limits → ℕ → Enclosing → List (List ℕ) → ℕ → Tag → Bool → Reading (List (List ℕ))
-read_segment zero l n c s p t form = Fail (fault p TooDeep)
-read_segment (suc deep) l n c s p t form =
-    require (same_tag t (universal n)) (fault p WrongTag)
-    (elim form [
-      | true ↦ in_container l c p true (λ c'. each_member (read_segment deep l n c') l.octets l c' s) >>= λ e. Done e.all
-      | false ↦ primitive_contents l c p >>= λ o. require (is_next_segment n s o) (fault p BadBits) (Done (s ++ (o ∷ [])))
+read_segment zero limits number enclosing segments place tag constructed = Fail (fault place TooDeep)
+read_segment (suc deep) limits number enclosing segments place tag constructed =
+    require (same_tag tag (universal number)) (fault place WrongTag)
+    (elim constructed [
+      | true ↦ in_container limits enclosing place true (λ inside. each_member (read_segment deep limits number inside) limits.octets limits inside segments) >>= λ ended. Done ended.all
+      | false ↦ primitive_contents limits enclosing place >>= λ contents. require (is_next_segment number segments contents) (fault place BadBits) (Done (segments ++ (contents ∷ [])))
     ])
 
--- A leaf whose identifier is taken: points 5 to 8.
+-- A leaf whose identifier is taken.
 unfoldable pub read_leaf : Limits → Enclosing → LeafKind → ℕ → Tag → Bool → Reading Value
-read_leaf l c kind p t form =
-    elim form [
-      | false ↦ primitive_contents l c p >>= λ o. require (is_contents kind o) (fault p (bad_contents kind)) (Done (Leaf t (der_contents kind o)))
+read_leaf limits enclosing kind place tag constructed =
+    elim constructed [
+      | false ↦ primitive_contents limits enclosing place >>= λ contents. require (is_contents kind contents) (fault place (bad_contents kind)) (Done (Leaf tag (der_contents kind contents)))
       | true ↦ elim (segment_tag kind) [
-        | None ↦ Fail (fault p WrongForm)
-        | Some n ↦ in_container l c p true (λ c'. each_member (read_segment l.depth l n c') l.octets l c' [])
-            >>= λ e. require (is_joined_contents kind e.all) (fault p BadText) (Done (Leaf t (joined_contents kind e.all)))
+        | None ↦ Fail (fault place WrongForm)
+        | Some number ↦ in_container limits enclosing place true (λ inside. each_member (read_segment limits.depth limits number inside) limits.octets limits inside [])
+            >>= λ ended. require (is_joined_contents kind ended.all) (fault place BadText) (Done (Leaf tag (joined_contents kind ended.all)))
       ]
     ]
 
--- one more member, by a reading of members
+-- one more value behind those before, by the reading of a member
 unfoldable pub add_member : (ℕ → Tag → Bool → Reading Value) → List Value → ℕ → Tag → Bool → Reading (List Value)
-add_member one vs p t form = one p t form >>= λ v. Done (vs ++ (v ∷ []))
+add_member one values place tag constructed = one place tag constructed >>= λ value. Done (values ++ (value ∷ []))
 
 -- the values of all elements of the container
 unfoldable pub all_members : Limits → Enclosing → ℕ → Bool → (Enclosing → ℕ → Tag → Bool → Reading Value) → Reading (Ended (List Value))
-all_members l c p form one = in_container l c p form (λ c'. each_member (add_member (one c')) l.octets l c' [])
+all_members limits enclosing place constructed one = in_container limits enclosing place constructed (λ inside. each_member (add_member (one inside)) limits.octets limits inside [])
 
 -- An open value whose identifier is taken, at most `deep` deep.
 unfoldable pub read_open : ℕ → Limits → Enclosing → ℕ → Tag → Bool → Reading Value
-read_open zero l c p t form = Fail (fault p TooDeep)
-read_open (suc deep) l c p t form =
-    elim (open_form t) [
-      | OpenRefused ↦ Fail (fault p LeftOut)
-      | OpenLeaf kind ↦ read_leaf l c kind p t form
-      | OpenPlain ↦ elim form [ false ↦ primitive_contents l c p >>= λ o. Done (Leaf t o) | true ↦ all_members l c p true (λ c'. read_open deep l c') >>= λ e. Done (Sequence t (values_of e.all)) ]
-      | OpenSequence ↦ all_members l c p form (λ c'. read_open deep l c') >>= λ e. Done (Sequence t (values_of e.all))
-      | OpenSetOf ↦ all_members l c p form (λ c'. read_open deep l c') >>= λ e. Done (SetOf t (values_of e.all))
+read_open zero limits enclosing place tag constructed = Fail (fault place TooDeep)
+read_open (suc deep) limits enclosing place tag constructed =
+    elim (open_form tag) [
+      | OpenRefused ↦ Fail (fault place LeftOut)
+      | OpenLeaf kind ↦ read_leaf limits enclosing kind place tag constructed
+      | OpenPlain ↦ elim constructed [ false ↦ primitive_contents limits enclosing place >>= λ contents. Done (Leaf tag contents) | true ↦ all_members limits enclosing place true (λ inside. read_open deep limits inside) >>= λ ended. Done (Sequence tag (values_of ended.all)) ]
+      | OpenSequence ↦ all_members limits enclosing place constructed (λ inside. read_open deep limits inside) >>= λ ended. Done (Sequence tag (values_of ended.all))
+      | OpenSetOf ↦ all_members limits enclosing place constructed (λ inside. read_open deep limits inside) >>= λ ended. Done (SetOf tag (values_of ended.all))
     ]

@@ -1,4 +1,5 @@
--- The plain reading of identifiers and lengths.
+-- The plain reading of identifier octets, length octets and contents octets (X.690 8.1.2 to 8.1.5), with the first fault in each (profile).
+-- A fault stands at `place`, where the identifier of its element begins; only Truncated stands where the octets end.
 use Rattle.std.specs.Prelude.{Bool, List, Option, Some, [], nat_le, nat_lt, not, suc, zero, ℕ, ◌%◌, ◌&&◌, ◌*◌, ◌+◌, ◌-◌, ◌/◌, ◌==◌, ◌∷◌}
 use Rattle.tlv_core.specs.Identifier.{Tag}
 use Rattle.tlv_core.specs.Limits.{Limits}
@@ -6,88 +7,93 @@ use Rattle.tlv_core.specs.declared.reason.Reason.TheVariants.{BadEnd, BadLength,
 use Rattle.x690.specs.Points.{Enclosing, EndsAt, EndsWithZeros, at_end, ends_with_zeros, fault, past_end, stands_at_end}
 use Rattle.x690.specs.Reading.{Ask, Done, Fail, Reading, Where, choose, require, ◌>>=◌}
 
--- One octet of a header or of `00 00`, belonging to the identifier at `p`.
+-- One octet of an identifier, of length octets or of end-of-contents octets: it has to stand within the nearest definite container and within the limit.
 unfoldable pub header_octet : Limits → Option ℕ → ℕ → Reading ℕ
-header_octet l e p = Where (λ k. require (not (at_end e k)) (fault p PastEnd) (require (nat_lt k l.octets) (fault p TooLong) (Ask Done)))
+header_octet limits end place = Where (λ here. require (not (at_end end here)) (fault place PastEnd) (require (nat_lt here limits.octets) (fault place TooLong) (Ask Done)))
 
--- What stands at a point: the end of the container, or an element with its place, tag and form.
+-- What stands here: the end of the container, with its place, or an element, with its place, its tag and whether it is constructed.
 pub data Next : Type 0 where
   ContainerEnds : ℕ → Next
   ElementStands : ℕ → Tag → Bool → Next
 
--- the rest of a high tag number, at most `left` octets of it
+-- the octets of a tag number of 31 or more behind the first identifier octet, at most `left` of them (8.1.2.4); `number` is what stands before the next
 unfoldable pub read_high_number : Limits → Option ℕ → ℕ → ℕ → ℕ → Reading ℕ
-read_high_number l e p zero n = Fail (fault p BadTag)
-read_high_number l e p (suc left) n =
-    header_octet l e p >>= λ x. require (not ((n == 0) && (x == 128)) && nat_lt x 256) (fault p BadTag)
-    (choose (nat_lt x 128)
-    (require (nat_le 31 (n * 128 + x)) (fault p BadTag) (Done (n * 128 + x)))
-    (read_high_number l e p left (n * 128 + (x - 128))))
+read_high_number limits end place zero number = Fail (fault place BadTag)
+read_high_number limits end place (suc left) number =
+    header_octet limits end place >>= λ octet. require (not ((number == 0) && (octet == 128)) && nat_lt octet 256) (fault place BadTag)
+    (choose (nat_lt octet 128)
+    (require (nat_le 31 (number * 128 + octet)) (fault place BadTag) (Done (number * 128 + octet)))
+    (read_high_number limits end place left (number * 128 + (octet - 128))))
 
--- the tag number, behind its first octet
+-- the tag number, behind the first identifier octet
 unfoldable pub read_tag_number : Limits → Option ℕ → ℕ → ℕ → Reading ℕ
-read_tag_number l e p x = choose (nat_lt (x % 32) 31) (Done (x % 32)) (read_high_number l e p 4 0)
+read_tag_number limits end place octet = choose (nat_lt (octet % 32) 31) (Done (octet % 32)) (read_high_number limits end place 4 0)
 
--- Points 1 to 3: what stands here.
+-- End of the container, or an identifier: the end of a definite container comes first, then end-of-contents octets, a bad tag, an element that is nested too deep.
 unfoldable pub next_tag : Limits → Enclosing → Reading Next
-next_tag l c =
-    Where (λ p. choose (stands_at_end c.innermost p) (Done (ContainerEnds p))
-    (header_octet l c.nearest_end p >>= λ x.
-    choose (x == 0)
-    (require (ends_with_zeros c.innermost) (fault p BadEnd) (header_octet l c.nearest_end p >>= λ y. require (y == 0) (fault p BadEnd) (Done (ContainerEnds p))))
-    (require (not (x == 32) && nat_lt x 256) (fault p BadTag)
-    (read_tag_number l c.nearest_end p x >>= λ n. require (nat_lt c.open_containers l.depth) (fault p TooDeep)
-    (Done (ElementStands p (record { class = x / 64; number = n }) (nat_le 32 (x % 64))))))))
+next_tag limits enclosing =
+    Where (λ place. choose (stands_at_end enclosing.innermost place) (Done (ContainerEnds place))
+    (header_octet limits enclosing.nearest_end place >>= λ octet.
+    choose (octet == 0)
+    (require (ends_with_zeros enclosing.innermost) (fault place BadEnd) (header_octet limits enclosing.nearest_end place >>= λ second. require (second == 0) (fault place BadEnd) (Done (ContainerEnds place))))
+    (require (not (octet == 32) && nat_lt octet 256) (fault place BadTag)
+    (read_tag_number limits enclosing.nearest_end place octet >>= λ number. require (nat_lt enclosing.open_containers limits.depth) (fault place TooDeep)
+    (Done (ElementStands place (record { class = octet / 64; number = number }) (nat_le 32 (octet % 64))))))))
 
--- Point 6: the number of contents octets, or the indefinite form.
+-- What length octets give (8.1.3).
 pub data LengthForm : Type 0 where
   DefiniteLength : ℕ → LengthForm
   IndefiniteLength : LengthForm
 
+-- So many contents octets fit into the nearest definite container, and within the limit.
 unfoldable pub fit_contents : Limits → Option ℕ → ℕ → ℕ → Reading ℕ
-fit_contents l e p n = Where (λ k. require (not (past_end e (k + n))) (fault p PastEnd) (require (nat_le (k + n) l.octets) (fault p TooLong) (Done n)))
+fit_contents limits end place number = Where (λ here. require (not (past_end end (here + number))) (fault place PastEnd) (require (nat_le (here + number) limits.octets) (fault place TooLong) (Done number)))
 
--- a big-endian number of `left` more octets, `n` standing before them
+-- a big-endian number of `left` more octets, `number` standing before them
 unfoldable pub read_big_endian : Limits → Option ℕ → ℕ → ℕ → ℕ → Reading ℕ
-read_big_endian l e p zero n = Done n
-read_big_endian l e p (suc left) n = header_octet l e p >>= λ x. read_big_endian l e p left (n * 256 + x)
+read_big_endian limits end place zero number = Done number
+read_big_endian limits end place (suc left) number = header_octet limits end place >>= λ octet. read_big_endian limits end place left (number * 256 + octet)
 
--- the number that the length gives, behind its first octet `x`
+-- the number of contents octets, behind the first length octet: the octet itself, or so many octets as it says (8.1.3.4, 8.1.3.5)
 unfoldable pub read_number : Limits → Option ℕ → ℕ → ℕ → Reading ℕ
-read_number l e p x = choose (nat_lt x 128) (Done x) (read_big_endian l e p (x - 128) 0) >>= λ n. fit_contents l e p n
+read_number limits end place octet = choose (nat_lt octet 128) (Done octet) (read_big_endian limits end place (octet - 128) 0) >>= λ number. fit_contents limits end place number
 
+-- The length octets of a constructed element: FF isn't used (8.1.3.5), 80 is the indefinite form (8.1.3.6).
 unfoldable pub read_length : Limits → Option ℕ → ℕ → Reading LengthForm
-read_length l e p =
-    header_octet l e p >>= λ x. require (nat_lt x 255) (fault p BadLength)
-    (choose (x == 128) (Done IndefiniteLength) (read_number l e p x >>= λ n. Done (DefiniteLength n)))
+read_length limits end place =
+    header_octet limits end place >>= λ octet. require (nat_lt octet 255) (fault place BadLength)
+    (choose (octet == 128) (Done IndefiniteLength) (read_number limits end place octet >>= λ number. Done (DefiniteLength number)))
 
+-- The length octets of a primitive element, which has no indefinite form (8.1.3.2).
 unfoldable pub read_definite_length : Limits → Option ℕ → ℕ → Reading ℕ
-read_definite_length l e p = header_octet l e p >>= λ x. require (nat_lt x 255 && not (x == 128)) (fault p BadLength) (read_number l e p x)
+read_definite_length limits end place = header_octet limits end place >>= λ octet. require (nat_lt octet 255 && not (octet == 128)) (fault place BadLength) (read_number limits end place octet)
 
--- the next `n` octets
+-- the next octets, so many of them
 unfoldable pub next_octets : ℕ → Reading (List ℕ)
 next_octets zero = Done []
-next_octets (suc n) = Ask (λ x. next_octets n >>= λ o. Done (x ∷ o))
+next_octets (suc number) = Ask (λ octet. next_octets number >>= λ octets. Done (octet ∷ octets))
 
--- the contents of a primitive element
+-- length and contents of a primitive element
 unfoldable pub primitive_contents : Limits → Enclosing → ℕ → Reading (List ℕ)
-primitive_contents l c p = read_definite_length l c.nearest_end p >>= λ n. next_octets n
+primitive_contents limits enclosing place = read_definite_length limits enclosing.nearest_end place >>= λ number. next_octets number
 
+-- what encloses the members of a container whose contents begin here
 abbrev pub entered : Enclosing → ℕ → LengthForm → Enclosing
-entered c k (DefiniteLength n) = record { nearest_end = Some (k + n); innermost = EndsAt (k + n); open_containers = c.open_containers + 1 }
-entered c k IndefiniteLength = record { nearest_end = c.nearest_end; innermost = EndsWithZeros; open_containers = c.open_containers + 1 }
+entered enclosing here (DefiniteLength number) = record { nearest_end = Some (here + number); innermost = EndsAt (here + number); open_containers = enclosing.open_containers + 1 }
+entered enclosing here IndefiniteLength = record { nearest_end = enclosing.nearest_end; innermost = EndsWithZeros; open_containers = enclosing.open_containers + 1 }
 
--- Points 5 and 6 of a container, and then what stands in it.
+-- A container: its form, its length, and then what stands in it.
 unfoldable pub in_container : {A : Type 0} → Limits → Enclosing → ℕ → Bool → (Enclosing → Reading A) → Reading A
-in_container l c p form body = require form (fault p WrongForm) (read_length l c.nearest_end p >>= λ x. Where (λ k. body (entered c k x)))
+in_container limits enclosing place constructed body = require constructed (fault place WrongForm) (read_length limits enclosing.nearest_end place >>= λ octet. Where (λ here. body (entered enclosing here octet)))
 
--- what the members gave, and the place of the container's end
+-- what the members gave, and the place where the container ends
 pub record Ended (S : Type 0) : Type 0 where
   pub all : S
   pub at : ℕ
 
--- the members up to the end of the container, less than `fuel` of them; each takes an octet at least, so the limit is enough
+-- The members up to the end of the container, by one reading after another that goes on from what those before gave.
+-- There are less than `fuel` of them: each takes an octet at least, so the limit of octets is always enough.
 unfoldable pub each_member : {S : Type 0} → (S → ℕ → Tag → Bool → Reading S) → ℕ → Limits → Enclosing → S → Reading (Ended S)
-each_member one zero l c s = Fail (fault l.octets TooLong)
-each_member one (suc fuel) l c s =
-    next_tag l c >>= λ d. elim d [ ContainerEnds p ↦ Done (record { all = s; at = p }) | ElementStands p t form ↦ one s p t form >>= λ s'. each_member one fuel l c s' ]
+each_member one zero limits enclosing state = Fail (fault limits.octets TooLong)
+each_member one (suc fuel) limits enclosing state =
+    next_tag limits enclosing >>= λ next. elim next [ ContainerEnds place ↦ Done (record { all = state; at = place }) | ElementStands place tag constructed ↦ one state place tag constructed >>= λ state'. each_member one fuel limits enclosing state' ]

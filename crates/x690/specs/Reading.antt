@@ -1,40 +1,43 @@
--- Plain readings: what is asked of the input, octet by octet, and what is answered.
+-- Plain readings: what is asked of the input, octet by octet, and what is answered. A reading is data, a tree; `run` walks it along the octets.
 use Rattle.std.specs.Prelude.{Bool, List, [], false, true, ℕ, ◌+◌, ◌∷◌}
 use Rattle.tlv_core.specs.declared.fault.Fault.{Fault}
 use Rattle.tlv_core.specs.declared.reason.Reason.TheVariants.{Truncated}
 use Rattle.x690.specs.Points.{fault}
 
--- A reading: done with a value, a fault, or a step further with the place, or with the next octet.
 pub data Reading (A : Type 0) : Type 0 where
+  -- a value
   Done : A → Reading A
+  -- a fault
   Fail : Fault → Reading A
+  -- goes on with the place where it stands
   Where : (ℕ → Reading A) → Reading A
+  -- goes on with the next octet
   Ask : (ℕ → Reading A) → Reading A
 
 infixl 10 ◌>>=◌
--- one reading, and then another with what it gave
+-- one reading, and then another with the value that it gave
 unfoldable pub ◌>>=◌ : {A B : Type 0} → Reading A → (A → Reading B) → Reading B
-(Done a) >>= f = f a
-(Fail g) >>= f = Fail g
-(Where h) >>= f = Where (λ k. h k >>= f)
-(Ask h) >>= f = Ask (λ x. h x >>= f)
+(Done value) >>= then' = then' value
+(Fail fault') >>= then' = Fail fault'
+(Where reading) >>= then' = Where (λ place. reading place >>= then')
+(Ask reading) >>= then' = Ask (λ octet. reading octet >>= then')
 
--- on, where the test holds, else a fault
+-- the reading where the test holds, else the fault
 unfoldable pub require : {A : Type 0} → Bool → Fault → Reading A → Reading A
-require b f p = elim b [ true ↦ p | false ↦ Fail f ]
+require test fault' reading = elim test [ true ↦ reading | false ↦ Fail fault' ]
 
 unfoldable pub choose : {A : Type 0} → Bool → Reading A → Reading A → Reading A
-choose b p q = elim b [ true ↦ p | false ↦ q ]
+choose test first second = elim test [ true ↦ first | false ↦ second ]
 
 pub data Outcome (A : Type 0) : Type 0 where
   -- the value, the place behind what was taken, and the octets from there on
   Took : A → ℕ → List ℕ → Outcome A
   Halted : Fault → Outcome A
 
--- The reading, at a place, of the octets that follow it.
+-- The outcome of a reading that begins at a place, before these octets. Where an octet is asked for and none is left, the document is truncated there.
 unfoldable pub run : {A : Type 0} → Reading A → ℕ → List ℕ → Outcome A
-run (Done a) k s = Took a k s
-run (Fail f) k s = Halted f
-run (Where h) k s = run (h k) k s
-run (Ask h) k [] = Halted (fault k Truncated)
-run (Ask h) k (x ∷ s) = run (h x) (k + 1) s
+run (Done value) place octets = Took value place octets
+run (Fail fault') place octets = Halted fault'
+run (Where reading) place octets = run (reading place) place octets
+run (Ask reading) place [] = Halted (fault place Truncated)
+run (Ask reading) place (octet ∷ octets) = run (reading octet) (place + 1) octets

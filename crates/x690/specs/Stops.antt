@@ -13,7 +13,7 @@ use Rattle.x690.specs.ReadContents.{read_leaf, read_open}
 use Rattle.x690.specs.ReadHeaders.{ContainerEnds, ElementStands, entered, next_tag, read_length}
 use Rattle.x690.specs.Reading.{Halted, Took, run}
 use Rattle.x690.specs.Takes.{Takes}
-use Rattle.x690.specs.TypeTerms.{ContainingType, Default, DefinedByType, Fields, LeafType, NoFields, OpenType, Optional, RefusedType, Required, RuledType, SequenceOfType, SequenceType, SetOfType, TypeTerm, fits_tag}
+use Rattle.x690.specs.TypeTerms.{ContainingType, Default, DefinedByType, Fields, LeafType, EndOfFields, OpenType, Optional, RefusedType, Required, RuledType, SequenceOfType, SequenceType, SetOfType, TypeTerm, fits_tag}
 use Rattle.x690.specs.Values.{Leaf, Same, Value, leaf_at, leaf_contents}
 
 -- an element stands here: its place, tag and form, and what is behind its identifier
@@ -87,7 +87,7 @@ unfoldable mutual
 
   -- The fields from here on stop.
   pub StopsFields : Limits → Fields → List Value → Enclosing → ℕ → List ℕ → Fault → Type 0
-  StopsFields l NoFields earlier c k s f =
+  StopsFields l EndOfFields earlier c k s f =
       (run (next_tag l c) k s ≡ Halted f)
       ⊎ ((p : ℕ) × (t : Tag) × (form : Bool) × (j : ℕ) × (u : List ℕ) × Stands l c k s p t form j u × (f ≡ fault p Extra))
   StopsFields l (Required T fs) earlier c k s f =

@@ -1,4 +1,4 @@
--- What an element takes.
+-- What an element takes of the octets that follow.
 use Rattle.std.specs.Prelude.{List, Some, false, length, ℕ, ◌++◌, ◌+◌, ◌≡◌, ◌≤◌}
 use Rattle.tlv_core.specs.Limits.{Limits}
 use Rattle.x690.specs.Fitting.{Fits}
@@ -7,18 +7,18 @@ use Rattle.x690.specs.Points.{Enclosing, EndsAt, past_end}
 use Rattle.x690.specs.TypeTerms.{TypeTerm}
 use Rattle.x690.specs.Values.{Value}
 
--- Of the octets `s` from place `k` on, the first `n` lay out an element of the type that says `v`, within its container and the limits; `rest` stands behind them.
-pub record Takes (l : Limits) (T : TypeTerm) (earlier : List Value) (c : Enclosing) (k : ℕ) (s : List ℕ) (v : Value) (n : ℕ) (rest : List ℕ) : Type 0 where
+-- The first `taken` of the octets that stand from `place` on lay out an element of the type that says the value, within its containers and the limits; `rest` stands behind them.
+pub record Takes (limits : Limits) (type : TypeTerm) (earlier : List Value) (enclosing : Enclosing) (place : ℕ) (stand : List ℕ) (value : Value) (taken : ℕ) (rest : List ℕ) : Type 0 where
   pub tree : RawTree
   pub octets : List ℕ
-  pub is : s ≡ octets ++ rest
-  pub count : length octets ≡ n
+  pub is : stand ≡ octets ++ rest
+  pub count : length octets ≡ taken
   pub laid_out : LaidOut tree octets
-  pub in_bound : past_end c.nearest_end (k + n) ≡ false
-  pub in_limit : k + n ≤ l.octets
-  pub depth_fits : c.open_containers + tree_depth tree ≤ l.depth
-  pub fits : Fits l.depth T earlier tree v
+  pub in_bound : past_end enclosing.nearest_end (place + taken) ≡ false
+  pub in_limit : place + taken ≤ limits.octets
+  pub depth_fits : enclosing.open_containers + tree_depth tree ≤ limits.depth
+  pub fits : Fits limits.depth type earlier tree value
 
--- A definite container ends at the bound.
+-- An innermost container of definite length is the nearest one of definite length: so it is wherever a reader can stand.
 abbrev pub Proper : Enclosing → Type 0
-Proper c = (e : ℕ) → c.innermost ≡ EndsAt e → c.nearest_end ≡ Some e
+Proper enclosing = (end : ℕ) → enclosing.innermost ≡ EndsAt end → enclosing.nearest_end ≡ Some end

@@ -1,4 +1,4 @@
--- Type terms.
+-- Type terms: the types of ASN.1 that the documents use, as data.
 use Rattle.std.specs.Prelude.{Bool, List, Option, false, true, ℕ, ◌||◌, ◌≡◌}
 use Rattle.tlv_core.specs.Identifier.{Tag}
 use Rattle.tlv_core.specs.declared.reason.Reason.{Reason}
@@ -6,64 +6,67 @@ use Rattle.x690.specs.Contents.{LeafKind}
 use Rattle.x690.specs.Layouts.{same_tag}
 use Rattle.x690.specs.Values.{Value}
 
+-- Why a value is refused, if it is, by the earlier fields of its container and itself.
+abbrev pub Rule : Type 0
+Rule = List Value → Value → Option Reason
+
 mutual
-  -- A type. A tag that is implicit stands in place of the type's own; an explicit one is a sequence of one field.
+  -- Each type carries its tag: an IMPLICIT tag stands in the place of the type's own, an EXPLICIT one is that of a sequence of one field.
   pub data TypeTerm : Type 0 where
     LeafType : Tag → LeafKind → TypeTerm
     OpenType : TypeTerm
-    SequenceOfType : Tag → ℕ → TypeTerm → TypeTerm
-    SetOfType : Tag → ℕ → TypeTerm → TypeTerm
+    -- with the least number of members, and their type
+    SequenceOfType SetOfType : Tag → ℕ → TypeTerm → TypeTerm
     SequenceType : Tag → Fields → TypeTerm
-    -- an octet string whose octets are one element of the type, and a rule on the earlier fields of the container and that element's value
-    ContainingType : Tag → (List Value → Value → Option Reason) → TypeTerm → TypeTerm
-    -- a rule on the earlier fields of the container and the value: why it is refused, if it is
-    RuledType : (List Value → Value → Option Reason) → TypeTerm → TypeTerm
-    -- no value: an element of the tag is refused for the reason
+    -- an OCTET STRING whose octets are one element of the type and nothing else, with a rule on the value of that element
+    ContainingType : Tag → Rule → TypeTerm → TypeTerm
+    -- the type, with a rule on its value
+    RuledType : Rule → TypeTerm → TypeTerm
+    -- no value at all: an element of the tag is refused, for the reason
     RefusedType : Tag → Reason → TypeTerm
     -- the first type where the leaf at the path among the earlier fields is one of these octets, else the second
     DefinedByType : List ℕ → List (List ℕ) → TypeTerm → TypeTerm → TypeTerm
 
   pub data Fields : Type 0 where
-    NoFields : Fields
-    Required : TypeTerm → Fields → Fields
-    Optional : TypeTerm → Fields → Fields
-    -- with a default, a leaf
+    EndOfFields : Fields
+    Required Optional : TypeTerm → Fields → Fields
+    -- with a DEFAULT, which is a leaf: its tag and contents
     Default : Tag → List ℕ → TypeTerm → Fields → Fields
 
--- a value of the type may begin with the tag
+-- A value of the type may begin with the tag.
 unfoldable pub fits_tag : TypeTerm → Tag → Bool
-fits_tag (LeafType t k) u = same_tag t u
-fits_tag OpenType u = true
-fits_tag (SequenceOfType t n T) u = same_tag t u
-fits_tag (SetOfType t n T) u = same_tag t u
-fits_tag (SequenceType t fs) u = same_tag t u
-fits_tag (ContainingType t q T) u = same_tag t u
-fits_tag (RefusedType t w) u = same_tag t u
-fits_tag (RuledType p T) u = fits_tag T u
-fits_tag (DefinedByType p os A B) u = fits_tag A u || fits_tag B u
+fits_tag (LeafType own kind) tag = same_tag own tag
+fits_tag OpenType tag = true
+fits_tag (SequenceOfType own least type) tag = same_tag own tag
+fits_tag (SetOfType own least type) tag = same_tag own tag
+fits_tag (SequenceType own fields) tag = same_tag own tag
+fits_tag (ContainingType own rule type) tag = same_tag own tag
+fits_tag (RefusedType own why) tag = same_tag own tag
+fits_tag (RuledType rule type) tag = fits_tag type tag
+fits_tag (DefinedByType path octets first second) tag = fits_tag first tag || fits_tag second tag
 
--- the tag may begin the first member of the fields
+-- The fields may begin with the tag.
 unfoldable pub fields_fit_tag : Fields → Tag → Bool
-fields_fit_tag NoFields u = false
-fields_fit_tag (Required T fs) u = fits_tag T u
-fields_fit_tag (Optional T fs) u = fits_tag T u || fields_fit_tag fs u
-fields_fit_tag (Default t o T fs) u = fits_tag T u || fields_fit_tag fs u
+fields_fit_tag EndOfFields tag = false
+fields_fit_tag (Required type fields) tag = fits_tag type tag
+fields_fit_tag (Optional type fields) tag = fits_tag type tag || fields_fit_tag fields tag
+fields_fit_tag (Default own octets type fields) tag = fits_tag type tag || fields_fit_tag fields tag
 
 unfoldable mutual
-  -- a field that may be missing never begins as what may follow it
+  -- No field that may be missing begins as what may follow it (X.680 25.6).
   pub Distinct : TypeTerm → Type 0
-  Distinct (LeafType t k) = Unit {0}
+  Distinct (LeafType tag kind) = Unit {0}
   Distinct OpenType = Unit {0}
-  Distinct (SequenceOfType t n T) = Distinct T
-  Distinct (SetOfType t n T) = Distinct T
-  Distinct (SequenceType t fs) = DistinctFields fs
-  Distinct (ContainingType t q T) = Distinct T
-  Distinct (RefusedType t w) = Unit {0}
-  Distinct (RuledType p T) = Distinct T
-  Distinct (DefinedByType p os A B) = Distinct A × Distinct B
+  Distinct (SequenceOfType tag least type) = Distinct type
+  Distinct (SetOfType tag least type) = Distinct type
+  Distinct (SequenceType tag fields) = DistinctFields fields
+  Distinct (ContainingType tag rule type) = Distinct type
+  Distinct (RefusedType tag why) = Unit {0}
+  Distinct (RuledType rule type) = Distinct type
+  Distinct (DefinedByType path octets first second) = Distinct first × Distinct second
 
   pub DistinctFields : Fields → Type 0
-  DistinctFields NoFields = Unit {0}
-  DistinctFields (Required T fs) = Distinct T × DistinctFields fs
-  DistinctFields (Optional T fs) = Distinct T × DistinctFields fs × ((u : Tag) → fits_tag T u ≡ true → fields_fit_tag fs u ≡ false)
-  DistinctFields (Default t o T fs) = Distinct T × DistinctFields fs × ((u : Tag) → fits_tag T u ≡ true → fields_fit_tag fs u ≡ false)
+  DistinctFields EndOfFields = Unit {0}
+  DistinctFields (Required type fields) = Distinct type × DistinctFields fields
+  DistinctFields (Optional type fields) = Distinct type × DistinctFields fields × ((tag : Tag) → fits_tag type tag ≡ true → fields_fit_tag fields tag ≡ false)
+  DistinctFields (Default own octets type fields) = Distinct type × DistinctFields fields × ((tag : Tag) → fits_tag type tag ≡ true → fields_fit_tag fields tag ≡ false)

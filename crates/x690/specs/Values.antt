@@ -4,80 +4,80 @@ use Rattle.tlv_core.specs.Identifier.{Tag}
 use Rattle.x690.specs.Lists.{Picked}
 
 mutual
-  -- A leaf with the octets of its DER contents, a list, or a multiset.
+  -- What a tree says: a leaf with its DER contents, a sequence of values in order (SEQUENCE and SEQUENCE OF), or a SET OF, whose order says nothing.
   pub data Value : Type 0 where
     Leaf : Tag → List ℕ → Value
     Sequence : Tag → Values → Value
     SetOf : Tag → Values → Value
 
   pub data Values : Type 0 where
-    NoValues : Values
-    FirstValue : Value → Values → Values
+    NoMembers : Values
+    FirstMember : Value → Values → Values
 
 abbrev pub value_tag : Value → Tag
-value_tag (Leaf t o) = t
-value_tag (Sequence t vs) = t
-value_tag (SetOf t vs) = t
+value_tag (Leaf tag contents) = tag
+value_tag (Sequence tag values) = tag
+value_tag (SetOf tag values) = tag
 
--- the members as a plain list
 abbrev pub members : Values → List Value
-members NoValues = []
-members (FirstValue v vs) = v ∷ members vs
+members NoMembers = []
+members (FirstMember value values) = value ∷ members values
 
 abbrev pub values_of : List Value → Values
-values_of [] = NoValues
-values_of (v ∷ vs) = FirstValue v (values_of vs)
+values_of [] = NoMembers
+values_of (value ∷ list) = FirstMember value (values_of list)
 
 abbrev mutual
-  -- how deep the value is
+  -- how deep the value is, 1 where nothing is in it
   pub value_depth : Value → ℕ
-  value_depth (Leaf t o) = 1
-  value_depth (Sequence t vs) = values_depth vs + 1
-  value_depth (SetOf t vs) = values_depth vs + 1
+  value_depth (Leaf tag contents) = 1
+  value_depth (Sequence tag values) = values_depth values + 1
+  value_depth (SetOf tag values) = values_depth values + 1
 
   pub values_depth : Values → ℕ
-  values_depth NoValues = 0
-  values_depth (FirstValue v vs) = max (value_depth v) (values_depth vs)
+  values_depth NoMembers = 0
+  values_depth (FirstMember value values) = max (value_depth value) (values_depth values)
 
 unfoldable mutual
-  -- Two values are the same: bags count how often each member stands, in whatever order.
+  -- Two values are the same: a SET OF counts how often each member stands in it, in whatever order.
   pub Same : Value → Value → Type 0
-  Same (Leaf t o) (Leaf u p) = (t ≡ u) × (o ≡ p)
-  Same (Leaf t o) (Sequence u ws) = ⊥
-  Same (Leaf t o) (SetOf u ws) = ⊥
-  Same (Sequence t vs) (Leaf u p) = ⊥
-  Same (Sequence t vs) (Sequence u ws) = (t ≡ u) × SameInPlace vs ws
-  Same (Sequence t vs) (SetOf u ws) = ⊥
-  Same (SetOf t vs) (Leaf u p) = ⊥
-  Same (SetOf t vs) (Sequence u ws) = ⊥
-  Same (SetOf t vs) (SetOf u ws) = (t ≡ u) × SamePaired vs (members ws)
+  Same (Leaf tag contents) (Leaf tag' contents') = (tag ≡ tag') × (contents ≡ contents')
+  Same (Leaf tag contents) (Sequence tag' values') = ⊥
+  Same (Leaf tag contents) (SetOf tag' values') = ⊥
+  Same (Sequence tag values) (Leaf tag' contents') = ⊥
+  Same (Sequence tag values) (Sequence tag' values') = (tag ≡ tag') × SameInPlace values values'
+  Same (Sequence tag values) (SetOf tag' values') = ⊥
+  Same (SetOf tag values) (Leaf tag' contents') = ⊥
+  Same (SetOf tag values) (Sequence tag' values') = ⊥
+  Same (SetOf tag values) (SetOf tag' values') = (tag ≡ tag') × SamePaired values (members values')
 
-  -- the same in place
   pub SameInPlace : Values → Values → Type 0
-  SameInPlace NoValues NoValues = Unit {0}
-  SameInPlace NoValues (FirstValue w ws) = ⊥
-  SameInPlace (FirstValue v vs) NoValues = ⊥
-  SameInPlace (FirstValue v vs) (FirstValue w ws) = Same v w × SameInPlace vs ws
+  SameInPlace NoMembers NoMembers = Unit {0}
+  SameInPlace NoMembers (FirstMember value' values') = ⊥
+  SameInPlace (FirstMember value values) NoMembers = ⊥
+  SameInPlace (FirstMember value values) (FirstMember value' values') = Same value value' × SameInPlace values values'
 
-  -- paired one to one, each pair the same
+  -- The values can be paired one to one with those of the list, each pair being the same.
   pub SamePaired : Values → List Value → Type 0
-  SamePaired NoValues ws = ws ≡ []
-  SamePaired (FirstValue v vs) ws = (w : Value) × (rest : List Value) × Picked w ws rest × Same v w × SamePaired vs rest
+  SamePaired NoMembers list = list ≡ []
+  SamePaired (FirstMember value values) list = (value' : Value) × (rest : List Value) × Picked value' list rest × Same value value' × SamePaired values rest
 
--- the octets of the leaf at a place, and the members of the list at a place
+-- the contents of a leaf, none of other values
 abbrev pub leaf_contents : Value → List ℕ
-leaf_contents (Leaf t o) = o
-leaf_contents (Sequence t vs) = []
-leaf_contents (SetOf t vs) = []
+leaf_contents (Leaf tag contents) = contents
+leaf_contents (Sequence tag values) = []
+leaf_contents (SetOf tag values) = []
 
+-- the members of a sequence, none of other values
 abbrev pub sequence_members : Value → List Value
-sequence_members (Leaf t o) = []
-sequence_members (Sequence t vs) = members vs
-sequence_members (SetOf t vs) = []
+sequence_members (Leaf tag contents) = []
+sequence_members (Sequence tag values) = members values
+sequence_members (SetOf tag values) = []
 
+-- the contents of the leaf at a path: the member at its first number, counted from 0, and on inside that member; no octets where no leaf stands there
 unfoldable pub leaf_at : List ℕ → List Value → List ℕ
-leaf_at [] vs = []
-leaf_at (i ∷ p) [] = []
-leaf_at (zero ∷ []) (v ∷ vs) = leaf_contents v
-leaf_at (zero ∷ j ∷ p) (v ∷ vs) = leaf_at (j ∷ p) (sequence_members v)
-leaf_at (suc i ∷ p) (v ∷ vs) = leaf_at (i ∷ p) vs
+leaf_at [] values = []
+leaf_at (i ∷ path) [] = []
+leaf_at (zero ∷ []) (value ∷ values) = leaf_contents value
+leaf_at (zero ∷ j ∷ path) (value ∷ values) = leaf_at (j ∷ path) (sequence_members value)
+leaf_at (suc i ∷ path) (value ∷ values) = leaf_at (i ∷ path) values

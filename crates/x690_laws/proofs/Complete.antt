@@ -34,7 +34,7 @@ use Rattle.x690.specs.ReadContents.{add_member, all_members, der_contents, is_bi
 use Rattle.x690.specs.ReadHeaders.{ContainerEnds, ElementStands, Next, each_member, in_container, next_tag, primitive_contents}
 use Rattle.x690.specs.ReadTypes.{apply_rule, due_element, from_inside, is_this_leaf, read_fields, read_type}
 use Rattle.x690.specs.Reading.{Done, Halted, Outcome, Reading, Took, choose, run, ◌>>=◌}
-use Rattle.x690.specs.TypeTerms.{ContainingType, Default, DefinedByType, Fields, LeafType, NoFields, OpenType, Optional, RefusedType, Required, RuledType, SequenceOfType, SequenceType, SetOfType, TypeTerm}
+use Rattle.x690.specs.TypeTerms.{ContainingType, Default, DefinedByType, Fields, LeafType, EndOfFields, OpenType, Optional, RefusedType, Required, RuledType, SequenceOfType, SequenceType, SetOfType, TypeTerm}
 use Rattle.x690.specs.Values.{Leaf, Same, Sequence, SetOf, Value, Values, members, values_of}
 
 -- strings
@@ -403,7 +403,7 @@ paired_length [] ws h = sym (ap length h)
 paired_length (v ∷ vs) ws h = let i = paired_length vs h.1 h.4 in let e = pick_length h.0 ws h.1 h.2 in omega arith
 
 -- no field is left, and no member
-done_give : (l : Limits) (earlier : List Value) (rs : RawTrees) → member_trees rs ≡ [] → FieldsGive l NoFields earlier rs []
+done_give : (l : Limits) (earlier : List Value) (rs : RawTrees) → member_trees rs ≡ [] → FieldsGive l EndOfFields earlier rs []
 unfolding read_type LaidOut
 done_give l earlier NoTrees h c k q o tail r j u ly d e w n =
     let s = same_took _ _ _ _ _ _ _ n (at_end c k q o tail r l ly e w) in
@@ -511,7 +511,7 @@ mutual
       h
 
   pub fields_on : (l : Limits) (fs : Fields) (earlier earlier' : List Value) (rs : RawTrees) (vs : List Value) → FairFields fs → Each Same earlier earlier' → FitsFields l.depth fs earlier (member_trees rs) vs → (ws : List Value) × Each Same vs ws × FieldsGive l fs earlier' rs ws
-  fields_on l NoFields earlier earlier' rs vs fr es h =
+  fields_on l EndOfFields earlier earlier' rs vs fr es h =
       ([], subst (λ a. Each Same a []) (sym h.1) tt, done_give l earlier' rs h.0)
   fields_on l (Required T fs) earlier earlier' NoTrees vs fr es h = absurd (let e = h.4 in cc)
   fields_on l (Required T fs) earlier earlier' (FirstTree x xs) vs fr es h =

@@ -29,9 +29,9 @@ use Rattle.x690.specs.ReadTypes.{apply_rule, due_element, from_inside, is_this_l
 use Rattle.x690.specs.Reading.{Done, Fail, Halted, Outcome, Reading, Took, choose, require, run, ◌>>=◌}
 use Rattle.x690.specs.Stops.{After, EndsHere, LengthStops, MemberStands, Opens, Stands, StopsBehind, StopsFields, StopsHere}
 use Rattle.x690.specs.Takes.{Proper}
-use Rattle.x690.specs.TypeTerms.{ContainingType, Default, DefinedByType, Fields, LeafType, NoFields, OpenType, Optional, RefusedType, Required, RuledType, SequenceOfType, SequenceType, SetOfType, TypeTerm, fits_tag}
+use Rattle.x690.specs.TypeTerms.{ContainingType, Default, DefinedByType, Fields, LeafType, EndOfFields, OpenType, Optional, RefusedType, Required, RuledType, SequenceOfType, SequenceType, SetOfType, TypeTerm, fits_tag}
 use Rattle.x690.specs.Values.{Leaf, Same, Value, leaf_contents}
-use Rattle.x690_laws.specs.FaultLaws.{Exact, OneFault}
+use Rattle.x690_laws.specs.FaultLaws.{StopIsFault, OneFault}
 
 fail_on : (A : Type 0) (f : Fault) (k : ℕ) (s : List ℕ) → run {A = A} (Fail f) k s ≡ Halted f
 unfolding run
@@ -314,7 +314,7 @@ mutual
       h
 
   fields_halt : (l : Limits) (fs : Fields) (earlier earlier' : List Value) (c : Enclosing) (k : ℕ) (s : List ℕ) (f : Fault) → FairFields fs → Each Same earlier earlier' → Proper c → StopsFields l fs earlier c k s f → run (next_tag l c >>= λ d. read_fields l fs earlier' c d) k s ≡ Halted f
-  fields_halt l NoFields earlier earlier' c k s f fr es pr h = ⊎_elim
+  fields_halt l EndOfFields earlier earlier' c k s f fr es pr h = ⊎_elim
       (λ a. halt_bind (next_tag l c) _ k s f a)
       (λ a. run_bind (next_tag l c) _ k s (ElementStands a.0 a.1 a.2) a.3 a.4 a.5 ∙ fail_on (List Value) (fault a.0 Extra) a.3 a.4 ∙ ap Halted (sym a.6))
       h
@@ -376,7 +376,7 @@ mutual
       g)
       h
 
-pub exact : Exact
+pub exact : StopIsFault
 unfolding due_element
 exact l T earlier c k s f fr pr h = ⊎_elim
     (λ a. here_halts l T earlier earlier c k s f (behind_halts l T earlier earlier c fr (each_refl earlier) pr) a)

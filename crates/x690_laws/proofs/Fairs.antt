@@ -1,18 +1,16 @@
--- The rules of the documents are fair.
+-- The rules over the types of documents are fair.
 use Rattle.std.proofs.Common.{◌≡◌, ℕ, zero, suc, ◌-◌, ◌==◌, ◌&&◌, ◌||◌, not, Bool, true, false, List, [], ◌∷◌, length, Option, refl, ap, ap₂}
 use Rattle.x690_laws.proofs.OneValue.{octets_same, row_items_same, leaf_at_same}
 use Rattle.x690_laws.proofs.Complete.{each_length}
 use Rattle.tlv_core.specs.Identifier.{Tag}
 use Rattle.tlv_core.specs.declared.reason.Reason.{Reason}
 use Rattle.tlv_core.specs.declared.reason.Reason.TheVariants.{Curve, KeyLength, Parameters, Version, VersionRule}
-use Rattle.x690.specs.DocumentTypes.{AlgorithmIdentifier, Attribute, CertificationRequest, CertificationRequestInfo, ECPrivateKey, Extension, Name, NameItem, OneAsymmetricKey, RequestAttribute, SubjectPublicKeyInfo}
 use Rattle.x690.specs.Identifiers.{curve_lengths, ec_public_key, length_under, rfc8410_algorithms, rfc8410_lengths}
 use Rattle.x690.specs.Layouts.{context_specific, same_tag, universal}
 use Rattle.x690.specs.Lists.{Each, one_of, same_octets}
-use Rattle.x690.specs.Premises.{Fair, FairRule}
-use Rattle.x690.specs.Rules.{ec_length, ec_parameters_rule, ec_rule, else_refused, has_length, inner_curve_rule, inner_ec_rule, key_bits_rule, key_version_rule, no_unused, nth_tag, own_curve, parameters_rule, version_rule, with_tag}
+use Rattle.x690.specs.Premises.{FairRule}
+use Rattle.x690.specs.Rules.{ec_length, ec_parameters_rule, ec_rule, else_refused, has_length, inner_curve_rule, inner_ec_rule, key_bits_rule, key_version_rule, no_unused, nth_tag, own_curve, parameters_rule, rsa_version_rule, version_rule, with_tag}
 use Rattle.x690.specs.Values.{Leaf, Same, Sequence, SetOf, Value, leaf_at, sequence_members, value_tag}
-use Rattle.x690_laws.specs.DocumentLaws.{FairKinds}
 
 tag_same : (v w : Value) → Same v w → value_tag v ≡ value_tag w
 unfolding Same
@@ -27,13 +25,10 @@ tag_same (SetOf t vs) (Sequence u ws) h = absurd h
 tag_same (SetOf t vs) (SetOf u ws) h = h.0
 
 nth_tag_same : (n : ℕ) (vs ws : List Value) → Each Same vs ws → nth_tag n vs ≡ nth_tag n ws
-nth_tag_same zero [] [] h = refl
-nth_tag_same zero [] (w ∷ ws) h = absurd h
-nth_tag_same zero (v ∷ vs) [] h = absurd h
+nth_tag_same n [] [] h = refl
+nth_tag_same n [] (w ∷ ws) h = absurd h
+nth_tag_same n (v ∷ vs) [] h = absurd h
 nth_tag_same zero (v ∷ vs) (w ∷ ws) h = tag_same v w h.0
-nth_tag_same (suc n) [] [] h = refl
-nth_tag_same (suc n) [] (w ∷ ws) h = absurd h
-nth_tag_same (suc n) (v ∷ vs) [] h = absurd h
 nth_tag_same (suc n) (v ∷ vs) (w ∷ ws) h = nth_tag_same n vs ws h.1
 
 with_tag_same : (t : Tag) (vs ws : List Value) → Each Same vs ws → Each Same (with_tag t vs) (with_tag t ws)
@@ -48,20 +43,20 @@ with_tag_same t (v ∷ vs) (w ∷ ws) h = go (same_tag t (value_tag v)) (same_ta
     go false true e i = cc
     go false false e i = i
 
-fair_version : (allowed : List (List ℕ)) → FairRule (version_rule allowed)
+pub fair_version : (allowed : List (List ℕ)) → FairRule (version_rule allowed)
 fair_version allowed earlier earlier' v w es s = ap (λ o. else_refused (one_of o allowed) Version) (octets_same v w s)
 
-fair_parameters : FairRule parameters_rule
+pub fair_parameters : FairRule parameters_rule
 fair_parameters earlier earlier' v w es s =
     let r = row_items_same v w s in
     ap₂ (λ (o : List ℕ) (n : ℕ). else_refused (not (one_of o rfc8410_algorithms) || (n == 1)) Parameters) (leaf_at_same (0 ∷ []) (sequence_members v) (sequence_members w) r) (each_length (sequence_members v) (sequence_members w) r)
 
-fair_ec_parameters : FairRule ec_parameters_rule
+pub fair_ec_parameters : FairRule ec_parameters_rule
 fair_ec_parameters earlier earlier' v w es s =
     let r = row_items_same v w s in
     ap₂ (λ (o : List ℕ) (t : Tag). else_refused (not (one_of o (ec_public_key ∷ [])) || same_tag t (universal 6)) Parameters) (leaf_at_same (0 ∷ []) (sequence_members v) (sequence_members w) r) (nth_tag_same 1 (sequence_members v) (sequence_members w) r)
 
-fair_key_bits : (path : List ℕ) → FairRule (key_bits_rule path)
+pub fair_key_bits : (path : List ℕ) → FairRule (key_bits_rule path)
 fair_key_bits path earlier earlier' v w es s =
     ap₂ (λ (p : List ℕ) (o : List ℕ). else_refused (not (one_of p rfc8410_algorithms) || (has_length (length_under rfc8410_lengths p) (length o - 1) && no_unused o)) KeyLength) (leaf_at_same path earlier earlier' es) (octets_same v w s)
 
@@ -75,14 +70,14 @@ ec_length_same c c' v w e s = ap₂ (λ a o. ec_length_of a o) e (leaf_at_same (
     ec_length_of : List ℕ → List ℕ → Bool
     ec_length_of a o = has_length (length_under curve_lengths a) (length o)
 
-fair_ec : FairRule ec_rule
+pub fair_ec : FairRule ec_rule
 fair_ec earlier earlier' v w es s = ap (λ b. else_refused b KeyLength) (ec_length_same (own_curve v) (own_curve w) v w (own_curve_same v w s) s)
 
-fair_inner_curve : FairRule inner_curve_rule
+pub fair_inner_curve : FairRule inner_curve_rule
 fair_inner_curve earlier earlier' v w es s =
     ap₂ (λ (p : List ℕ) (o : List ℕ). else_refused (has_length (length_under rfc8410_lengths p) (length o)) KeyLength) (leaf_at_same (1 ∷ 0 ∷ []) earlier earlier' es) (octets_same v w s)
 
-fair_inner_ec : FairRule inner_ec_rule
+pub fair_inner_ec : FairRule inner_ec_rule
 fair_inner_ec earlier earlier' v w es s =
     let c = leaf_at_same (1 ∷ 1 ∷ []) earlier earlier' es in
     let o = own_curve_same v w s in
@@ -91,47 +86,13 @@ fair_inner_ec earlier earlier' v w es s =
     (ap₂ (λ a b. else_refused (same_octets a b) Curve) o c)
     (ap (λ b. else_refused b KeyLength) (ec_length_same (leaf_at (1 ∷ 1 ∷ []) earlier) (leaf_at (1 ∷ 1 ∷ []) earlier') v w c s)))
 
-fair_key_version : FairRule key_version_rule
+pub fair_key_version : FairRule key_version_rule
 fair_key_version earlier earlier' v w es s =
     let r = row_items_same v w s in
     ap₂ (λ (o : List ℕ) (n : ℕ). else_refused (one_of o ((0 ∷ []) ∷ []) || not (n == 0)) VersionRule) (leaf_at_same (0 ∷ []) (sequence_members v) (sequence_members w) r)
     (each_length (with_tag (context_specific 1) (sequence_members v)) (with_tag (context_specific 1) (sequence_members w)) (with_tag_same (context_specific 1) (sequence_members v) (sequence_members w) r))
 
-pub fair_algorithm : Fair AlgorithmIdentifier
-unfolding Fair AlgorithmIdentifier
-fair_algorithm = (fair_parameters, (tt, (tt, tt)))
-
-pub fair_public : Fair SubjectPublicKeyInfo
-unfolding Fair SubjectPublicKeyInfo
-fair_public = (fair_algorithm, ((fair_key_bits (0 ∷ 0 ∷ []), tt), tt))
-
-pub fair_ec_key : Fair ECPrivateKey
-unfolding Fair ECPrivateKey
-fair_ec_key = (fair_ec, ((fair_version ((1 ∷ []) ∷ []), tt), (tt, ((tt, tt), ((tt, tt), tt)))))
-
-pub fair_key : Fair OneAsymmetricKey
-unfolding Fair OneAsymmetricKey Attribute
-fair_key = (
-  fair_key_version,
-  (
-    (fair_version ((0 ∷ []) ∷ (1 ∷ []) ∷ []), tt),
-    (
-      (fair_ec_parameters, fair_algorithm),
-      (
-        ((fair_inner_ec, fair_ec_key), ((fair_inner_curve, tt), tt)),
-        (
-          (tt, (tt, tt)),
-          ((tt, (fair_key_bits (1 ∷ 0 ∷ []), tt)), tt),
-        ),
-      ),
-    ),
-  ),
-)
-
-pub fair_request : Fair CertificationRequest
-unfolding Fair CertificationRequest CertificationRequestInfo Name NameItem RequestAttribute Extension
-fair_request =
-    (((fair_version ((0 ∷ []) ∷ []), tt), ((tt, (tt, tt)), (fair_public, ((tt, ((((tt, (tt, (tt, tt)))), tt), tt)), tt)))), (fair_algorithm, (tt, tt)))
-
-pub fair_kinds : FairKinds
-fair_kinds = record { key = fair_key; ec = fair_ec_key; public = fair_public; request = fair_request }
+pub fair_rsa_version : FairRule rsa_version_rule
+fair_rsa_version earlier earlier' v w es s =
+    let r = row_items_same v w s in
+    ap₂ (λ (o : List ℕ) (n : ℕ). else_refused (one_of o ((0 ∷ []) ∷ []) || n == 10) VersionRule) (leaf_at_same (0 ∷ []) (sequence_members v) (sequence_members w) r) (each_length (sequence_members v) (sequence_members w) r)

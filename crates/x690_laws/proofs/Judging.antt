@@ -22,15 +22,15 @@ use Rattle.x690.specs.Reading.{Halted, Outcome, Took, run}
 use Rattle.x690.specs.Takes.{Proper, Takes}
 use Rattle.x690.specs.TypeTerms.{TypeTerm}
 use Rattle.x690.specs.Values.{Same, Value}
-use Rattle.x690_laws.specs.ReadingLaws.{Complete, Exclusive, Need, OneTake, Sound}
+use Rattle.x690_laws.specs.ReadingLaws.{TakenIsRead, FaultTakesNothing, MoreOctets, OneTaken, ReadIsTaken}
 
-pub sound : Sound
+pub sound : ReadIsTaken
 sound l T earlier c k s v q rest h =
     let m = outer_took l c (read_type l T earlier c) (Fits l.depth T earlier) k s v q rest (judge_took l T earlier c) h in
     let w = subst (λ x. Within l c.nearest_end x) m.place m.within in
     (length m.octets, m.place, record { tree = m.tree; octets = m.octets; is = m.is; count = refl; laid_out = m.laid_out; in_bound = w.nearest_end; in_limit = w.limit; depth_fits = m.deep; fits = m.fact })
 
-pub need : Need
+pub need : MoreOctets
 need = record {
   value = λ l T earlier c k s x v q rest h. took_more (read_element l T earlier c) k s x v q rest h;
   refusal = λ l T earlier c k s f h. halt_more (read_element l T earlier c) k s f h;
@@ -73,16 +73,16 @@ complete_env l T earlier' earlier c k s v n rest fr pr es h =
           ∙ ap (λ x. Took i.0 x rest) q,
     )
 
-pub complete : Complete
+pub complete : TakenIsRead
 complete l T earlier c k s v n rest fr pr h = complete_env l T earlier earlier c k s v n rest fr pr (each_refl earlier) h
 
-pub exclusive : Exclusive
+pub exclusive : FaultTakesNothing
 exclusive l T earlier c k s f fr pr h v n rest t = let x = complete l T earlier c k s v n rest fr pr t in clash (run (read_element l T earlier c) k s) f x.0 (k + n) rest h x.2
   where
     clash : (o : Outcome Value) (f : Fault) (w : Value) (q : ℕ) (r : List ℕ) → o ≡ Halted f → o ≡ Took w q r → ⊥
     clash o f w q r a b = cc
 
-pub one_take : OneTake
+pub one_take : OneTaken
 one_take l T earlier c k s v w n m rest rest' fr pr h g =
     let x = complete l T earlier c k s v n rest fr pr h in
     let y = complete l T earlier c k s w m rest' fr pr g in

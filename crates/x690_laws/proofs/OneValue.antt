@@ -10,9 +10,9 @@ use Rattle.x690.specs.Fitting.{Fits, FitsFields}
 use Rattle.x690.specs.Layouts.{Constructed, FirstTree, NoTrees, Primitive, RawTree, RawTrees, member_trees}
 use Rattle.x690.specs.Lists.{Each, Paired}
 use Rattle.x690.specs.OpenValues.{FitOpenInPlace, FitOpenPaired, FitsOpen, IsOpenLeaf, OpenLeaf, OpenPlain, OpenSequence, OpenSetOf, open_form}
-use Rattle.x690.specs.TypeTerms.{ContainingType, Default, DefinedByType, Fields, LeafType, NoFields, OpenType, Optional, RefusedType, Required, RuledType, SequenceOfType, SequenceType, SetOfType, TypeTerm}
-use Rattle.x690.specs.Values.{FirstValue, Leaf, NoValues, Same, SameInPlace, Sequence, SetOf, Value, Values, leaf_at, leaf_contents, members, sequence_members}
-use Rattle.x690_laws.specs.LayoutLaws.{OneValue}
+use Rattle.x690.specs.TypeTerms.{ContainingType, Default, DefinedByType, Fields, LeafType, EndOfFields, OpenType, Optional, RefusedType, Required, RuledType, SequenceOfType, SequenceType, SetOfType, TypeTerm}
+use Rattle.x690.specs.Values.{FirstMember, Leaf, NoMembers, Same, SameInPlace, Sequence, SetOf, Value, Values, leaf_at, leaf_contents, members, sequence_members}
+use Rattle.x690_laws.specs.TypeLaws.{OneValue}
 
 pub leaf_one : (k : LeafKind) (r : RawTree) (o p : List ℕ) → LeafContents k r o → LeafContents k r p → o ≡ p
 unfolding LeafContents
@@ -37,17 +37,17 @@ same_along v w v' w' p q h = same_trans v v' w (same_of v v' p) (same_trans v' w
 
 pub each_row : (vs ws : Values) → Each Same (members vs) (members ws) → SameInPlace vs ws
 unfolding Same
-each_row NoValues NoValues h = tt
-each_row NoValues (FirstValue w ws) h = absurd h
-each_row (FirstValue v vs) NoValues h = absurd h
-each_row (FirstValue v vs) (FirstValue w ws) h = (h.0, each_row vs ws h.1)
+each_row NoMembers NoMembers h = tt
+each_row NoMembers (FirstMember w ws) h = absurd h
+each_row (FirstMember v vs) NoMembers h = absurd h
+each_row (FirstMember v vs) (FirstMember w ws) h = (h.0, each_row vs ws h.1)
 
 pub row_each : (vs ws : Values) → SameInPlace vs ws → Each Same (members vs) (members ws)
 unfolding Same
-row_each NoValues NoValues h = tt
-row_each NoValues (FirstValue w ws) h = absurd h
-row_each (FirstValue v vs) NoValues h = absurd h
-row_each (FirstValue v vs) (FirstValue w ws) h = (h.0, row_each vs ws h.1)
+row_each NoMembers NoMembers h = tt
+row_each NoMembers (FirstMember w ws) h = absurd h
+row_each (FirstMember v vs) NoMembers h = absurd h
+row_each (FirstMember v vs) (FirstMember w ws) h = (h.0, row_each vs ws h.1)
 
 pub same_row : (t : Tag) (vs ws : Values) → Each Same (members vs) (members ws) → Same (Sequence t vs) (Sequence t ws)
 unfolding Same
@@ -214,7 +214,7 @@ mutual
       h
 
   pub fields_same : (d : ℕ) (fs : Fields) (earlier earlier' : List Value) (rs : List RawTree) (vs ws : List Value) → Each Same earlier earlier' → FitsFields d fs earlier rs vs → FitsFields d fs earlier' rs ws → Each Same vs ws
-  fields_same d NoFields earlier earlier' rs vs ws e h k = each_none vs ws h.1 k.1
+  fields_same d EndOfFields earlier earlier' rs vs ws e h k = each_none vs ws h.1 k.1
   fields_same d (Required T fs) earlier earlier' rs vs ws e h k =
       let q : k.0 ≡ h.0 = let a = h.4 in let b = k.4 in cc in
       let q' : k.1 ≡ h.1 = let a = h.4 in let b = k.4 in cc in

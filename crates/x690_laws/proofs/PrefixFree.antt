@@ -4,7 +4,7 @@ use Rattle.std.proofs.lemmas.List.{append_cancel_left}
 use Rattle.x690_laws.proofs.Headers.{identifier_alone, identifier_starts, split_alone, len_alone, len_definite, Starts, along}
 use Rattle.tlv_core.specs.Identifier.{IsTag, Tag, identifier}
 use Rattle.x690.specs.Layouts.{AllLaidOut, Constructed, Definite, FirstTree, Indefinite, LaidOut, NoTrees, Primitive, RawTree, RawTrees}
-use Rattle.x690_laws.specs.LayoutLaws.{Prefix}
+use Rattle.x690_laws.specs.LayoutLaws.{NoneBeginsAnother}
 
 pub record Alike (t u : Tag) (f g : Bool) (o p b c x y : List ℕ) : Type 0 where
   pub tags : t ≡ u
@@ -99,6 +99,6 @@ mutual
       let all = trees_alone rs ss h.1 k.1 x y h.3 k.3 rest m n in
       (let p = one.0 in let q = all.0 in cc, h.4 ∙ ap₂ (λ v w. v ++ w) one.1 all.1 ∙ sym k.4)
 
-pub prefix : Prefix
+pub prefix : NoneBeginsAnother
 prefix r s b c x h k e =
     let both = tree_alone r s b c x [] h k (sym e ∙ sym (append-nil c)) in (both.1, both.0)

@@ -15,9 +15,10 @@ use Rattle.x690.specs.Layouts.{Constructed, FirstTree, LaidOut, NoTrees, Primiti
 use Rattle.x690.specs.Lists.{Each, Paired, Picked, join}
 use Rattle.x690.specs.ObjectIdentifiers.{ObjectIdentifierContents}
 use Rattle.x690.specs.OpenValues.{FitOpenInPlace, FitOpenPaired, FitsOpen, IsOpenLeaf}
-use Rattle.x690.specs.TypeTerms.{ContainingType, Default, DefinedByType, Distinct, DistinctFields, Fields, LeafType, NoFields, OpenType, Optional, RefusedType, Required, RuledType, SequenceOfType, SequenceType, SetOfType, TypeTerm, fields_fit_tag, fits_tag}
-use Rattle.x690.specs.Values.{FirstValue, Leaf, NoValues, Sequence, SetOf, Value, Values, members}
-use Rattle.x690_laws.specs.LayoutLaws.{OneText, TextSpells}
+use Rattle.x690.specs.TypeTerms.{ContainingType, Default, DefinedByType, Distinct, DistinctFields, Fields, LeafType, EndOfFields, OpenType, Optional, RefusedType, Required, RuledType, SequenceOfType, SequenceType, SetOfType, TypeTerm, fields_fit_tag, fits_tag}
+use Rattle.x690.specs.Values.{FirstMember, Leaf, NoMembers, Sequence, SetOf, Value, Values, members}
+use Rattle.x690_laws.proofs.Deeper.{fits_deeper}
+use Rattle.x690_laws.specs.TypeLaws.{OneText, TextSpells}
 
 -- what is short enough for its length to be laid out
 
@@ -28,8 +29,8 @@ unfoldable mutual
   Short (SetOf t vs) = Shorts vs
 
   pub Shorts : Values → Type 0
-  Shorts NoValues = Unit {0}
-  Shorts (FirstValue v vs) = Short v × Shorts vs
+  Shorts NoMembers = Unit {0}
+  Shorts (FirstMember v vs) = Short v × Shorts vs
 
 abbrev pub Every : {A : Type 0} → (A → Type 0) → List A → Type 0
 Every P [] = Unit {0}
@@ -44,8 +45,8 @@ pick_every P x (y ∷ ys) rest h p = ⊎_elim
 
 every_short : (vs : Values) → Shorts vs → Every Short (members vs)
 unfolding Short
-every_short NoValues h = tt
-every_short (FirstValue v vs) h = (h.0, every_short vs h.1)
+every_short NoMembers h = tt
+every_short (FirstMember v vs) h = (h.0, every_short vs h.1)
 
 insert_length : (x : List ℕ) (ys : List (List ℕ)) → length (join (insert_text x ys)) ≡ length x + length (join ys)
 unfolding insert_text
@@ -69,8 +70,8 @@ mutual
   short (SetOf t vs) h = shorts vs (omega (arith, element_long t true (join (arrange (der_texts vs))), arrange_length (der_texts vs)))
 
   shorts : (vs : Values) → length (join (der_texts vs)) < 18446744073709551616 → Shorts vs
-  shorts NoValues h = tt
-  shorts (FirstValue v vs) h = let e = length-append (der v) (join (der_texts vs)) in (short v (omega arith), shorts vs (omega arith))
+  shorts NoMembers h = tt
+  shorts (FirstMember v vs) h = let e = length-append (der v) (join (der_texts vs)) in (short v (omega arith), shorts vs (omega arith))
 
 -- the contents of a leaf are their own contents
 
@@ -158,7 +159,7 @@ begins_fits d (DefinedByType p os A B) earlier r v h = ⊎_elim
 
 starts_fits : (d : ℕ) (fs : Fields) (earlier : List Value) (r : RawTree) (rs : List RawTree) (vs : List Value) → FitsFields d fs earlier (r ∷ rs) vs → fields_fit_tag fs (tree_tag r) ≡ true
 unfolding Fits fields_fit_tag
-starts_fits d NoFields earlier r rs vs h = absurd (let x = h.0 in cc)
+starts_fits d EndOfFields earlier r rs vs h = absurd (let x = h.0 in cc)
 starts_fits d (Required T fs) earlier r rs vs h = let e : h.0 ≡ r = let x = h.4 in cc in ap (λ x. fits_tag T (tree_tag x)) (sym e) ∙ begins_fits d T earlier h.0 h.2 h.6
 starts_fits d (Optional T fs) earlier r rs vs h = ⊎_elim
     (λ a. let x = starts_fits d fs earlier r rs vs a.1 in grind (arith, nat_tests))
@@ -389,7 +390,7 @@ mutual
       h
 
   pub fields_refit : (d : ℕ) (fs : Fields) (earlier : List Value) (rs : List RawTree) (vs : List Value) → DistinctFields fs → Every Short vs → FitsFields d fs earlier rs vs → Canons (FitsFields d fs earlier) rs vs
-  fields_refit d NoFields earlier rs vs c s h =
+  fields_refit d EndOfFields earlier rs vs c s h =
       record { trees = []; texts_are = ap (map der) (sym h.1); fits = (refl, h.1); depth_le = omega arith; tagged = λ x. tt }
   fields_refit d (Required T fs) earlier rs vs c s h =
       let s' = subst (λ x. Every Short x) h.5 s in
@@ -443,8 +444,10 @@ text_spells limits T v b c l h =
     }
 
 pub one_text : OneText
-one_text d T r s v w c l h k e =
-    let x = refit d T [] r v c (short v l) h in
-    let y = refit d T [] s w c (short w (subst (λ z. length z < 18446744073709551616) e l)) k in
+one_text limits limits' T v w b c cl lt h k e =
+    let d = limits.depth + limits'.depth in
+    let short_text : length (der v) < 18446744073709551616 = omega (arith, h.text_fits, lt) in
+    let x = refit d T [] h.tree v cl (short v short_text) (fits_deeper limits.depth d T [] h.tree v (omega arith) h.fits) in
+    let y = refit d T [] k.tree w cl (short w (subst (λ z. length z < 18446744073709551616) e short_text)) (fits_deeper limits'.depth d T [] k.tree w (omega arith) k.fits) in
     let same_trees = (text_alone x.tree y.tree [] [] (ap (λ z. z ++ []) (x.text_is ∙ e ∙ sym y.text_is))).0 in
     fits_same d T [] [] y.tree v w tt (subst (λ z. Fits d T [] z v) same_trees x.fits) y.fits

@@ -2,18 +2,18 @@
 use Rattle.std.proofs.Common.{inl, List, [], ◌∷◌, refl, sym, ◌∙◌, subst}
 use Rattle.x690_laws.proofs.Pairing.{paired_take, paired_add}
 use Rattle.x690.specs.Lists.{Paired}
-use Rattle.x690.specs.Values.{FirstValue, Leaf, NoValues, Same, SameInPlace, SamePaired, Sequence, SetOf, Value, Values, members}
-use Rattle.x690_laws.specs.LayoutLaws.{Equivalence}
+use Rattle.x690.specs.Values.{FirstMember, Leaf, NoMembers, Same, SameInPlace, SamePaired, Sequence, SetOf, Value, Values, members}
+use Rattle.x690_laws.specs.ValueLaws.{Equivalence}
 
 pub bag_paired : (vs : Values) (ws : List Value) → SamePaired vs ws → Paired Same (members vs) ws
 unfolding Same
-bag_paired NoValues ws h = h
-bag_paired (FirstValue v vs) ws h = (h.0, h.1, h.2, h.3, bag_paired vs h.1 h.4)
+bag_paired NoMembers ws h = h
+bag_paired (FirstMember v vs) ws h = (h.0, h.1, h.2, h.3, bag_paired vs h.1 h.4)
 
 pub paired_bag : (vs : Values) (ws : List Value) → Paired Same (members vs) ws → SamePaired vs ws
 unfolding Same
-paired_bag NoValues ws h = h
-paired_bag (FirstValue v vs) ws h = (h.0, h.1, h.2, h.3, paired_bag vs h.1 h.4)
+paired_bag NoMembers ws h = h
+paired_bag (FirstMember v vs) ws h = (h.0, h.1, h.2, h.3, paired_bag vs h.1 h.4)
 
 mutual
   unfolding Same
@@ -24,12 +24,12 @@ mutual
   same_refl (SetOf t vs) = (refl, bag_refl vs)
 
   row_refl : (vs : Values) → SameInPlace vs vs
-  row_refl NoValues = tt
-  row_refl (FirstValue v vs) = (same_refl v, row_refl vs)
+  row_refl NoMembers = tt
+  row_refl (FirstMember v vs) = (same_refl v, row_refl vs)
 
   bag_refl : (vs : Values) → SamePaired vs (members vs)
-  bag_refl NoValues = refl
-  bag_refl (FirstValue v vs) = (v, members vs, inl (refl, refl), same_refl v, bag_refl vs)
+  bag_refl NoMembers = refl
+  bag_refl (FirstMember v vs) = (v, members vs, inl (refl, refl), same_refl v, bag_refl vs)
 
 mutual
   unfolding Same
@@ -46,14 +46,14 @@ mutual
   same_sym (SetOf t vs) (SetOf u ws) h = (sym h.0, paired_bag ws (members vs) (bag_sym vs (members ws) h.1))
 
   row_sym : (vs ws : Values) → SameInPlace vs ws → SameInPlace ws vs
-  row_sym NoValues NoValues h = tt
-  row_sym NoValues (FirstValue w ws) h = absurd h
-  row_sym (FirstValue v vs) NoValues h = absurd h
-  row_sym (FirstValue v vs) (FirstValue w ws) h = (same_sym v w h.0, row_sym vs ws h.1)
+  row_sym NoMembers NoMembers h = tt
+  row_sym NoMembers (FirstMember w ws) h = absurd h
+  row_sym (FirstMember v vs) NoMembers h = absurd h
+  row_sym (FirstMember v vs) (FirstMember w ws) h = (same_sym v w h.0, row_sym vs ws h.1)
 
   bag_sym : (vs : Values) (ws : List Value) → SamePaired vs ws → Paired Same ws (members vs)
-  bag_sym NoValues ws h = subst (λ x. Paired Same x []) (sym h) refl
-  bag_sym (FirstValue v vs) ws h =
+  bag_sym NoMembers ws h = subst (λ x. Paired Same x []) (sym h) refl
+  bag_sym (FirstMember v vs) ws h =
       paired_add Same h.0 v ws h.1 (v ∷ members vs) (members vs) h.2 (inl (refl, refl)) (same_sym v h.0 h.3) (bag_sym vs h.1 h.4)
 
 mutual
@@ -77,15 +77,15 @@ mutual
   same_trans (SetOf t us) (SetOf u vs) (SetOf x ws) h k = (h.0 ∙ k.0, bag_trans us (members vs) (members ws) h.1 (bag_paired vs (members ws) k.1))
 
   row_trans : (us vs ws : Values) → SameInPlace us vs → SameInPlace vs ws → SameInPlace us ws
-  row_trans NoValues NoValues ws h k = k
-  row_trans NoValues (FirstValue v vs) ws h k = absurd h
-  row_trans (FirstValue u us) NoValues ws h k = absurd h
-  row_trans (FirstValue u us) (FirstValue v vs) NoValues h k = absurd k
-  row_trans (FirstValue u us) (FirstValue v vs) (FirstValue w ws) h k = (same_trans u v w h.0 k.0, row_trans us vs ws h.1 k.1)
+  row_trans NoMembers NoMembers ws h k = k
+  row_trans NoMembers (FirstMember v vs) ws h k = absurd h
+  row_trans (FirstMember u us) NoMembers ws h k = absurd h
+  row_trans (FirstMember u us) (FirstMember v vs) NoMembers h k = absurd k
+  row_trans (FirstMember u us) (FirstMember v vs) (FirstMember w ws) h k = (same_trans u v w h.0 k.0, row_trans us vs ws h.1 k.1)
 
   bag_trans : (us : Values) (vs ws : List Value) → SamePaired us vs → Paired Same vs ws → SamePaired us ws
-  bag_trans NoValues vs ws h k = let k' = subst (λ x. Paired Same x ws) h k in k'
-  bag_trans (FirstValue u us) vs ws h k =
+  bag_trans NoMembers vs ws h k = let k' = subst (λ x. Paired Same x ws) h k in k'
+  bag_trans (FirstMember u us) vs ws h k =
       let t = paired_take Same h.0 vs h.1 ws h.2 k in
       (t.partner, t.left, t.choose, same_trans u h.0 t.partner h.3 t.related, bag_trans us h.1 t.left h.4 t.paired)
 

@@ -21,7 +21,7 @@ use Rattle.x690.specs.ReadContents.{add_member, all_members, read_leaf, read_ope
 use Rattle.x690.specs.ReadHeaders.{ContainerEnds, ElementStands, Ended, Next, each_member, next_tag, primitive_contents}
 use Rattle.x690.specs.ReadTypes.{apply_rule, due_element, from_inside, is_this_leaf, read_fields, read_type}
 use Rattle.x690.specs.Reading.{Done, Fail, Halted, Outcome, Reading, Took, run, ◌>>=◌}
-use Rattle.x690.specs.TypeTerms.{ContainingType, Default, DefinedByType, Fields, LeafType, NoFields, OpenType, Optional, RefusedType, Required, RuledType, SequenceOfType, SequenceType, SetOfType, TypeTerm, fits_tag}
+use Rattle.x690.specs.TypeTerms.{ContainingType, Default, DefinedByType, Fields, LeafType, EndOfFields, OpenType, Optional, RefusedType, Required, RuledType, SequenceOfType, SequenceType, SetOfType, TypeTerm, fits_tag}
 use Rattle.x690.specs.Values.{Leaf, Same, Sequence, SetOf, Value, leaf_contents, members, values_of}
 
 pub items_values : (vs : List Value) → members (values_of vs) ≡ vs
@@ -323,10 +323,10 @@ mutual
 
   pub fields_took : (l : Limits) (fs : Fields) (earlier : List Value) (c : Enclosing) (k : ℕ) (s : List ℕ) (x : Next) (j : ℕ) (u : List ℕ) (vs : List Value) (q : ℕ) (r : List ℕ) → c.open_containers ≤ l.depth → NextIs l c k s x j u
       → run (read_fields l fs earlier c x) j u ≡ Took vs q r → Held l c k s (FieldsSay l.depth fs earlier x vs) q r
-  fields_took l NoFields earlier c k s (ContainerEnds p) j u vs q r o n h =
+  fields_took l EndOfFields earlier c k s (ContainerEnds p) j u vs q r o n h =
       let y = took_done _ _ _ _ _ _ h in
-      held_none l c k s p (FieldsSay l.depth NoFields earlier (ContainerEnds p) vs) q r o (subst (λ w. NextEnds l c k s p q w) y.2 (subst (λ w. NextEnds l c k s p w u) y.1 n)) ((refl, sym y.0), refl)
-  fields_took l NoFields earlier c k s (ElementStands p t form) j u vs q r o n h = absurd (took_fail _ _ _ _ _ _ h)
+      held_none l c k s p (FieldsSay l.depth EndOfFields earlier (ContainerEnds p) vs) q r o (subst (λ w. NextEnds l c k s p q w) y.2 (subst (λ w. NextEnds l c k s p w u) y.1 n)) ((refl, sym y.0), refl)
+  fields_took l EndOfFields earlier c k s (ElementStands p t form) j u vs q r o n h = absurd (took_fail _ _ _ _ _ _ h)
   fields_took l (Required T fs) earlier c k s (ContainerEnds p) j u vs q r o n h = absurd (took_fail _ _ _ _ _ _ h)
   fields_took l (Required T fs) earlier c k s (ElementStands p t form) j u vs q r o n h =
       let x = took_guard _ _ _ _ _ _ _ _ h in

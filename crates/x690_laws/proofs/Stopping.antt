@@ -20,9 +20,9 @@ use Rattle.x690.specs.ReadTypes.{apply_rule, due_element, from_inside, is_this_l
 use Rattle.x690.specs.Reading.{Done, Fail, Halted, Outcome, Reading, Took, Where, run, ◌>>=◌}
 use Rattle.x690.specs.Stops.{After, EndsHere, LengthStops, MemberStands, Opens, Stands, Stops, StopsBehind, StopsFields, StopsHere}
 use Rattle.x690.specs.Takes.{Takes}
-use Rattle.x690.specs.TypeTerms.{ContainingType, Default, DefinedByType, Fields, LeafType, NoFields, OpenType, Optional, RefusedType, Required, RuledType, SequenceOfType, SequenceType, SetOfType, TypeTerm}
+use Rattle.x690.specs.TypeTerms.{ContainingType, Default, DefinedByType, Fields, LeafType, EndOfFields, OpenType, Optional, RefusedType, Required, RuledType, SequenceOfType, SequenceType, SetOfType, TypeTerm}
 use Rattle.x690.specs.Values.{Leaf, Same, Value, leaf_contents}
-use Rattle.x690_laws.specs.FaultLaws.{Faithful}
+use Rattle.x690_laws.specs.FaultLaws.{FaultStops}
 
 -- what is taken behind an identifier
 pub record Took_one (l : Limits) (T : TypeTerm) (earlier : List Value) (c : Enclosing) (b : ℕ) (a : List ℕ) (v : Value) (q : ℕ) (r : List ℕ) : Type 0 where
@@ -221,7 +221,7 @@ values_few l T c p form k s n e q r g h =
 
 pub next_stops : (l : Limits) (fs : Fields) (earlier : List Value) (c : Enclosing) (k : ℕ) (s : List ℕ) (f : Fault) → run (next_tag l c) k s ≡ Halted f → StopsFields l fs earlier c k s f
 unfolding StopsFields
-next_stops l NoFields earlier c k s f h = inl h
+next_stops l EndOfFields earlier c k s f h = inl h
 next_stops l (Required T fs) earlier c k s f h = inl h
 next_stops l (Optional T fs) earlier c k s f h = inl h
 next_stops l (Default w o T fs) earlier c k s f h = inl h
@@ -343,8 +343,8 @@ mutual
       (halted_pick _ _ _ k s f h)
 
   fields_stop : (l : Limits) (fs : Fields) (earlier : List Value) (c : Enclosing) (k : ℕ) (s : List ℕ) (d : Next) (j : ℕ) (u : List ℕ) (f : Fault) → run (next_tag l c) k s ≡ Took d j u → run (read_fields l fs earlier c d) j u ≡ Halted f → StopsFields l fs earlier c k s f
-  fields_stop l NoFields earlier c k s (ContainerEnds p) j u f n h = absurd (halted_done _ j u f h)
-  fields_stop l NoFields earlier c k s (ElementStands p t form) j u f n h = inr (p, t, form, j, u, n, halted_fail (List Value) (fault p Extra) j u f h)
+  fields_stop l EndOfFields earlier c k s (ContainerEnds p) j u f n h = absurd (halted_done _ j u f h)
+  fields_stop l EndOfFields earlier c k s (ElementStands p t form) j u f n h = inr (p, t, form, j, u, n, halted_fail (List Value) (fault p Extra) j u f h)
   fields_stop l (Required T fs) earlier c k s (ContainerEnds p) j u f n h = inr (inl (p, (j, u, n), halted_fail (List Value) (fault p Missing) j u f h))
   fields_stop l (Required T fs) earlier c k s (ElementStands p t form) j u f n h = ⊎_elim
       (λ x. inr (inr (inl (p, t, form, j, u, n, inl x))))
@@ -406,5 +406,5 @@ mutual
       (λ x. inr (inr (inl (p, t, form, j, u, n, inl (x.0, fields_stop l fs earlier c k s (ElementStands p t form) j u f n x.1)))))
       (halted_pick _ _ _ j u f h)
 
-pub faithful : Faithful
-faithful l T earlier c k s f z h = here_stops l T earlier c k s f (behind_stops l T earlier c) h
+pub faithful : FaultStops
+faithful l T earlier c k s f h = here_stops l T earlier c k s f (behind_stops l T earlier c) h

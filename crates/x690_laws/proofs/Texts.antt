@@ -7,8 +7,8 @@ use Rattle.tlv_core.specs.Identifier.{Tag, identifier}
 use Rattle.tlv_core.specs.Length.{big_endian, number_octets, shortest_length}
 use Rattle.x690.specs.DerTexts.{Ascends, arrange, der, der_element, der_texts, insert_text, padded_less}
 use Rattle.x690.specs.Lists.{Paired, Picked, join}
-use Rattle.x690.specs.Values.{FirstValue, Leaf, NoValues, Same, SameInPlace, SamePaired, Sequence, SetOf, Value, Values, members}
-use Rattle.x690_laws.specs.LayoutLaws.{Arrangement, Canonical}
+use Rattle.x690.specs.Values.{FirstMember, Leaf, NoMembers, Same, SameInPlace, SamePaired, Sequence, SetOf, Value, Values, members}
+use Rattle.x690_laws.specs.ValueLaws.{Arrangement, SameHaveOneText}
 
 -- big-endian octets
 
@@ -107,8 +107,8 @@ der_text (SetOf t vs) = element_text t true (join (arrange (der_texts vs)))
 
 pub ders_texts : (vs : Values) → Texts (der_texts vs)
 unfolding der
-ders_texts NoValues = tt
-ders_texts (FirstValue v vs) = (der_text v, ders_texts vs)
+ders_texts NoMembers = tt
+ders_texts (FirstMember v vs) = (der_text v, ders_texts vs)
 
 -- no text begins another one
 pub text_front : (x y z : List ℕ) → IsText x → IsText y → y ≡ x ++ z → x ≡ y
@@ -260,8 +260,8 @@ pick_map f x (y ∷ ys) rest p = ⊎_elim
 
 pub ders_map : (vs : Values) → der_texts vs ≡ map der (members vs)
 unfolding der
-ders_map NoValues = refl
-ders_map (FirstValue v vs) = ap (λ s. der v ∷ s) (ders_map vs)
+ders_map NoMembers = refl
+ders_map (FirstMember v vs) = ap (λ s. der v ∷ s) (ders_map vs)
 
 mutual
   unfolding Same der
@@ -280,15 +280,15 @@ mutual
       ap₂ (λ a b. der_element a true (join b)) k.0 (arrange_paired (der_texts vs) (der_texts ws) (ders_texts ws) (subst (λ x. Paired (λ x y. x ≡ y) (der_texts vs) x) (sym (ders_map ws)) p))
 
   row_der : (vs ws : Values) → SameInPlace vs ws → der_texts vs ≡ der_texts ws
-  row_der NoValues NoValues k = refl
-  row_der NoValues (FirstValue w ws) k = absurd k
-  row_der (FirstValue v vs) NoValues k = absurd k
-  row_der (FirstValue v vs) (FirstValue w ws) k = ap₂ (λ a b. a ∷ b) (same_der v w k.0) (row_der vs ws k.1)
+  row_der NoMembers NoMembers k = refl
+  row_der NoMembers (FirstMember w ws) k = absurd k
+  row_der (FirstMember v vs) NoMembers k = absurd k
+  row_der (FirstMember v vs) (FirstMember w ws) k = ap₂ (λ a b. a ∷ b) (same_der v w k.0) (row_der vs ws k.1)
 
   bag_der : (vs : Values) (ws : List Value) → SamePaired vs ws → Paired (λ x y. x ≡ y) (der_texts vs) (map der ws)
-  bag_der NoValues ws k = ap (map der) k
-  bag_der (FirstValue v vs) ws k =
+  bag_der NoMembers ws k = ap (map der) k
+  bag_der (FirstMember v vs) ws k =
       (der k.0, map der k.1, pick_map der k.0 ws k.1 k.2, same_der v k.0 k.3, bag_der vs k.1 k.4)
 
-pub canonical : Canonical
+pub canonical : SameHaveOneText
 canonical v w s = same_der v w s

@@ -1,9 +1,23 @@
--- What the laws on the types of documents say.
-use Rattle.x690.specs.DocumentTypes.{CertificationRequest, ECPrivateKey, OneAsymmetricKey, SubjectPublicKeyInfo}
-use Rattle.x690.specs.Premises.{Fair}
+-- What the law on the types of documents says.
+use Rattle.x690.specs.DocumentTypes.{AlgorithmIdentifier, Attribute, CertificationRequest, CertificationRequestInfo, ECPrivateKey, Extension, Name, NameItem, OneAsymmetricKey, RequestAttribute, SubjectPublicKeyInfo}
+use Rattle.x690.specs.FurtherTypes.{AsymmetricKeyPackage, EncryptedPrivateKeyInfo, OneAsymmetricKeyWithRsa, RSAPrivateKey}
+use Rattle.x690.specs.Premises.{Lawful}
 
-pub record FairKinds : Type 0 where
-  pub key : Fair OneAsymmetricKey
-  pub ec : Fair ECPrivateKey
-  pub public : Fair SubjectPublicKeyInfo
-  pub request : Fair CertificationRequest
+pub record DocumentsAreLawful : Type 0 where
+  pub key : Lawful OneAsymmetricKey
+  pub ec : Lawful ECPrivateKey
+  pub public_key_info : Lawful SubjectPublicKeyInfo
+  pub request : Lawful CertificationRequest
+  pub request_info : Lawful CertificationRequestInfo
+  pub algorithm : Lawful AlgorithmIdentifier
+  pub name_item : Lawful NameItem
+  pub name : Lawful Name
+  pub attribute : Lawful Attribute
+  pub request_attribute : Lawful RequestAttribute
+  pub extension : Lawful Extension
+
+pub record FurtherAreLawful : Type 0 where
+  pub rsa : Lawful RSAPrivateKey
+  pub key_with_rsa : Lawful OneAsymmetricKeyWithRsa
+  pub encrypted : Lawful EncryptedPrivateKeyInfo
+  pub key_package : Lawful AsymmetricKeyPackage

@@ -1,5 +1,5 @@
--- What the laws on faults say.
-use Rattle.std.specs.Prelude.{List, ℕ, ◌≡◌, ◌≤◌}
+-- What the laws on the fault grammar say.
+use Rattle.std.specs.Prelude.{List, ℕ, ◌≡◌}
 use Rattle.tlv_core.specs.Limits.{Limits}
 use Rattle.tlv_core.specs.declared.fault.Fault.{Fault}
 use Rattle.x690.specs.Points.{Enclosing}
@@ -11,15 +11,16 @@ use Rattle.x690.specs.Takes.{Proper, Takes}
 use Rattle.x690.specs.TypeTerms.{TypeTerm}
 use Rattle.x690.specs.Values.{Value}
 
--- A fault of the program is one of the grammar.
-abbrev pub Faithful : Type 0
-Faithful = (l : Limits) (T : TypeTerm) (earlier : List Value) (c : Enclosing) (k : ℕ) (s : List ℕ) (f : Fault) → k ≤ l.octets → run (read_element l T earlier c) k s ≡ Halted f → Stops l T earlier c k s f
+abbrev pub FaultStops : Type 0
+FaultStops = (limits : Limits) (type : TypeTerm) (earlier : List Value) (enclosing : Enclosing) (place : ℕ) (octets : List ℕ) (found : Fault)
+    → run (read_element limits type earlier enclosing) place octets ≡ Halted found → Stops limits type earlier enclosing place octets found
 
--- A fault of the grammar is the program's.
-abbrev pub Exact : Type 0
-Exact = (l : Limits) (T : TypeTerm) (earlier : List Value) (c : Enclosing) (k : ℕ) (s : List ℕ) (f : Fault) → Fair T → Proper c → Stops l T earlier c k s f → run (read_element l T earlier c) k s ≡ Halted f
+abbrev pub StopIsFault : Type 0
+StopIsFault = (limits : Limits) (type : TypeTerm) (earlier : List Value) (enclosing : Enclosing) (place : ℕ) (octets : List ℕ) (found : Fault)
+    → Fair type → Proper enclosing → Stops limits type earlier enclosing place octets found → run (read_element limits type earlier enclosing) place octets ≡ Halted found
 
--- There is one fault, and none where the element is taken.
 pub record OneFault : Type 0 where
-  pub single : (l : Limits) (T : TypeTerm) (earlier : List Value) (c : Enclosing) (k : ℕ) (s : List ℕ) (f g : Fault) → Fair T → Proper c → Stops l T earlier c k s f → Stops l T earlier c k s g → f ≡ g
-  pub apart : (l : Limits) (T : TypeTerm) (earlier : List Value) (c : Enclosing) (k : ℕ) (s : List ℕ) (f : Fault) (v : Value) (n : ℕ) (rest : List ℕ) → Fair T → Proper c → Stops l T earlier c k s f → Takes l T earlier c k s v n rest → ⊥
+  pub single : (limits : Limits) (type : TypeTerm) (earlier : List Value) (enclosing : Enclosing) (place : ℕ) (octets : List ℕ) (found other : Fault)
+      → Fair type → Proper enclosing → Stops limits type earlier enclosing place octets found → Stops limits type earlier enclosing place octets other → found ≡ other
+  pub apart : (limits : Limits) (type : TypeTerm) (earlier : List Value) (enclosing : Enclosing) (place : ℕ) (octets : List ℕ) (found : Fault) (value : Value) (taken : ℕ) (rest : List ℕ)
+      → Fair type → Proper enclosing → Stops limits type earlier enclosing place octets found → Takes limits type earlier enclosing place octets value taken rest → ⊥

@@ -1,4 +1,9 @@
+pub mod AnswerLaws
+pub mod DocumentLaws
+pub mod Examples
+pub mod FaultLaws
+pub mod GrowthLaws
 pub mod LayoutLaws
 pub mod ReadingLaws
-pub mod FaultLaws
-pub mod DocumentLaws
+pub mod TypeLaws
+pub mod ValueLaws

@@ -1,7 +1,12 @@
-//! Laws on the types of documents.
-ghost use Rattle.x690_laws.specs.DocumentLaws.{FairKinds};
+//! The laws' premises on types: they hold of every type of document and part.
+ghost use Rattle.x690_laws.specs.DocumentLaws.{DocumentsAreLawful, FurtherAreLawful};
 
-/// The rules of each kind of document judge values that are the same alike.
-pub fn rules_of_documents_are_fair()
-    ensures { FairKinds }
+/// The rules of keys, requests and their parts judge values that are the same alike, and give reasons of their own; no optional field is mistaken for another one.
+pub fn documents_are_lawful()
+    ensures { DocumentsAreLawful }
+{}
+
+/// So it is for RSA keys, encrypted keys and packages of keys.
+pub fn further_types_are_lawful()
+    ensures { FurtherAreLawful }
 {}

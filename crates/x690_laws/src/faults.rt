@@ -1,17 +1,17 @@
-//! Laws on faults.
-ghost use Rattle.x690_laws.specs.FaultLaws.{Faithful, Exact, OneFault};
+//! The laws on the fault grammar, for every type term.
+ghost use Rattle.x690_laws.specs.FaultLaws.{FaultStops, StopIsFault, OneFault};
 
-/// A fault of the plain reading stops the element by the fault grammar.
+/// The fault that the plain reading finds stops the element by the fault grammar.
 pub fn a_fault_stops_the_element()
-    ensures { Faithful }
+    ensures { FaultStops }
 {}
 
-/// A fault of the fault grammar is the one that the plain reading gives.
-pub fn what_stops_the_element_is_the_fault()
-    ensures { Exact }
+/// A fault that stops the element by the fault grammar is the one that the plain reading finds.
+pub fn what_stops_is_the_fault()
+    ensures { StopIsFault }
 {}
 
-/// There is one fault, and none where the element is taken.
+/// The fault grammar stops an element by one fault at most, and by none where the element takes its octets.
 pub fn there_is_one_fault()
     ensures { OneFault }
 {}

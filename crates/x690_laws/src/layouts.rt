@@ -1,7 +1,7 @@
-//! Laws on layouts.
-ghost use Rattle.x690_laws.specs.LayoutLaws.{Prefix};
+//! The law on layouts.
+ghost use Rattle.x690_laws.specs.LayoutLaws.{NoneBeginsAnother};
 
-/// No layout of a raw tree begins another one: octets that lay out two trees, one beginning the other, are the same octets and the same tree.
+/// Where the octets that lay out one tree begin the octets that lay out another one, the octets are the same, and so are the trees (X.690 8.1).
 pub fn no_layout_begins_another()
-    ensures { Prefix }
+    ensures { NoneBeginsAnother }
 {}

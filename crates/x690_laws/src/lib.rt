@@ -1,10 +1,14 @@
-//! The laws on the definitions of `x690`, each the contract of a public function without parameters,
-//! and the rules by which readers written in Rust are composed (`proofs/Readers.antt`).
-//! Nothing in the chain of code waits for this crate but its rules of composition.
+//! The laws on the definitions of `x690`, and the rules by which readers written in Rust are composed.
+//!
+//! Each law is the contract of a public function without parameters that does nothing: what it ensures is proved once, over all
+//! type terms, so that a reader owes one equation with the plain reading (`x690`, `specs/Reads.antt`) and has the rest from here.
+//! The rules of composition are the lemmas of `proofs/Readers.antt`. `proofs/Rows.antt` has documents with their answers, closed by computing.
 #![tactic(auto)]
 
+pub mod answers;
 pub mod documents;
 pub mod faults;
+pub mod growth;
 pub mod layouts;
 pub mod reading;
 pub mod types;

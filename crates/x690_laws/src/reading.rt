@@ -1,32 +1,37 @@
-//! Laws on the plain reading.
-ghost use Rattle.x690_laws.specs.ReadingLaws.{Sound, Need, Complete, Exclusive, OneTake, CutAtEnd};
+//! The laws on the plain reading of an element that has to stand at a place, for every type term.
+ghost use Rattle.x690_laws.specs.ReadingLaws.{ReadIsTaken, TakenIsRead, FaultTakesNothing, OneTaken, MoreOctets, TruncatedAtTheEnd, InsideOfFaults};
 
-/// What the plain reading takes, the definitions take.
+/// What the plain reading takes, an element takes by the definitions of layout and fit: no more octets, and this value.
 pub fn what_is_read_is_taken()
-    ensures { Sound }
+    ensures { ReadIsTaken }
 {}
 
-/// More octets change no answer but that the octets end, which stands at their end.
-pub fn more_octets_change_nothing()
-    ensures { Need }
-{}
-
-/// What the definitions take, the plain reading takes, with a value that is the same.
+/// Where an element takes octets by the definitions, the plain reading takes as many, and gives a value that is the same.
 pub fn what_is_taken_is_read()
-    ensures { Complete }
+    ensures { TakenIsRead }
 {}
 
-/// Where the plain reading has a fault, the definitions take nothing.
+/// Where the plain reading finds a fault, no element takes anything by the definitions.
 pub fn a_fault_takes_nothing()
-    ensures { Exclusive }
+    ensures { FaultTakesNothing }
 {}
 
-/// The definitions take one number of octets and one value.
-pub fn one_value_is_taken()
-    ensures { OneTake }
+/// Elements that take octets at one place take as many, and say values that are the same.
+pub fn one_element_is_taken()
+    ensures { OneTaken }
 {}
 
-/// A fault that says Truncated stands at the end of the octets.
+/// Octets behind those that were needed change no value and no fault; the one fault that they may change is that the octets end, where they end.
+pub fn more_octets_change_nothing()
+    ensures { MoreOctets }
+{}
+
+/// A fault whose reason is Truncated stands where the octets end, with nothing inside.
 pub fn truncated_stands_at_the_end()
-    ensures { CutAtEnd }
+    ensures { TruncatedAtTheEnd }
+{}
+
+/// What is inside a fault is there exactly where its reason is Inner.
+pub fn inside_is_there_for_inner()
+    ensures { InsideOfFaults }
 {}

@@ -1,17 +1,17 @@
-//! Laws on the values of a type.
-ghost use Rattle.x690_laws.specs.LayoutLaws.{OneValue, TextSpells, OneText};
+//! The laws on the trees and values of a type, for every type term.
+ghost use Rattle.x690_laws.specs.TypeLaws.{OneValue, TextSpells, OneText};
 
-/// A tree of a type says one value.
+/// The values that a tree of a type says are the same.
 pub fn a_tree_says_one_value()
     ensures { OneValue }
 {}
 
-/// The DER text of a value that octets spell spells it too, within the same limits.
+/// What spells a value may be replaced by the value's DER text: it spells the value within the same limits.
 pub fn the_text_spells_the_value()
     ensures { TextSpells }
 {}
 
-/// Values of one type that have one DER text are the same.
+/// Values of a type that are spelled, and have one DER text, are the same.
 pub fn one_text_is_one_value()
     ensures { OneText }
 {}

@@ -1,17 +1,18 @@
-//! Laws on values and their DER texts.
-ghost use Rattle.x690_laws.specs.LayoutLaws.{Equivalence, Arrangement, Canonical};
+//! The laws on values and their DER texts, for all values.
+ghost use Rattle.x690_laws.specs.ValueLaws.{Equivalence, Arrangement, SameHaveOneText};
 
-/// Being the same is an equivalence on values.
+/// Being the same is an equivalence.
 pub fn same_is_an_equivalence()
     ensures { Equivalence }
 {}
 
-/// The order of SET OF: it is total and transitive, no DER text begins another, texts that tie are equal, and there is one ascending arrangement of the texts of a SET OF.
+/// The order of SET OF (X.690 11.6) is total and transitive. No DER text begins another one, so texts that tie are equal.
+/// There is one list of a SET OF's texts that ascends, and the DER text has its members in this order.
 pub fn set_of_has_one_arrangement()
     ensures { Arrangement }
 {}
 
 /// Values that are the same have one DER text.
 pub fn same_values_have_one_text()
-    ensures { Canonical }
+    ensures { SameHaveOneText }
 {}

@@ -1,5 +1,5 @@
-use Rattle.x690_laws.proofs.Honesty.{cut_at_end}
+use Rattle.x690_laws.proofs.Honesty.{truncated_at_the_end}
 use Rattle.x690_laws.proofs.reading.truncated_stands_at_the_end.Goals as goal
 
 pub returns : goal.returns
-returns c = cut_at_end
+returns c = truncated_at_the_end

@@ -1,5 +1,5 @@
 use Rattle.x690_laws.proofs.Exactly.{exact}
-use Rattle.x690_laws.proofs.faults.what_stops_the_element_is_the_fault.Goals as goal
+use Rattle.x690_laws.proofs.faults.what_stops_is_the_fault.Goals as goal
 
 pub returns : goal.returns
 returns c = exact

@@ -1,5 +1,5 @@
 use Rattle.x690_laws.proofs.Judging.{one_take}
-use Rattle.x690_laws.proofs.reading.one_value_is_taken.Goals as goal
+use Rattle.x690_laws.proofs.reading.one_element_is_taken.Goals as goal
 
 pub returns : goal.returns
 returns c = one_take

@@ -1,0 +1,20 @@
+-- What the laws on the trees and values of a type say.
+use Rattle.std.specs.Prelude.{List, [], ℕ, ◌<◌, ◌≡◌}
+use Rattle.tlv_core.specs.Limits.{Limits}
+use Rattle.x690.specs.DerTexts.{der}
+use Rattle.x690.specs.Fitting.{Fits, Spells}
+use Rattle.x690.specs.Layouts.{RawTree}
+use Rattle.x690.specs.TypeTerms.{Distinct, TypeTerm}
+use Rattle.x690.specs.Values.{Same, Value}
+
+abbrev pub OneValue : Type 0
+OneValue = (depth : ℕ) (type : TypeTerm) (tree : RawTree) (v w : Value) → Fits depth type [] tree v → Fits depth type [] tree w → Same v w
+
+abbrev pub TextSpells : Type 0
+TextSpells = (limits : Limits) (type : TypeTerm) (value : Value) (octets : List ℕ) → Distinct type → limits.octets < 2147483648 → Spells limits type value octets → Spells limits type value (der value)
+
+-- The limits may differ.
+abbrev pub OneText : Type 0
+OneText =
+    (limits limits' : Limits) (type : TypeTerm) (v w : Value) (octets octets' : List ℕ) → Distinct type → limits.octets < 2147483648
+    → Spells limits type v octets → Spells limits' type w octets' → der v ≡ der w → Same v w
