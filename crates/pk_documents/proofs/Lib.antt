@@ -1,5 +1,6 @@
 pub mod Documents
 pub mod Elements
+pub mod GeneralKeys
 pub mod Keys
 pub mod PlainKeys
 pub mod WholeKeys

@@ -2,3 +2,4 @@ pub mod Elements
 pub mod Normalised
 pub mod Parts
 pub mod PlainKey
+pub mod PlainKeyLaw

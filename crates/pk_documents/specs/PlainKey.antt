@@ -3,7 +3,7 @@
 use Rattle.std.specs.Prelude.{◌≡◌, ℕ, ◌≤◌, List, [], ◌∷◌, ◌++◌, length, true, false}
 use Rattle.tlv_core.specs.Limits.{Limits}
 use Rattle.x690.specs.Layouts.{Definite, universal}
-use Rattle.x690.specs.Values.{Value, Leaf, Sequence, NoValues, FirstValue}
+use Rattle.x690.specs.Values.{Value, Leaf, Sequence, NoMembers, FirstMember}
 use Rattle.x690.specs.DerTexts.{der}
 use Rattle.pk_documents.specs.declared.plain_key.Algorithm.{Algorithm}
 use Rattle.pk_documents.specs.declared.plain_key.Algorithm.TheVariants.{X25519, X448, Ed25519, Ed448}
@@ -26,9 +26,9 @@ key_length Ed448 = 57
 abbrev pub plain_key : Algorithm → List ℕ → Value
 plain_key algorithm secret =
     Sequence (universal 16)
-    (FirstValue (Leaf (universal 2) (0 ∷ []))
-    (FirstValue (Sequence (universal 16) (FirstValue (Leaf (universal 6) (identifier_contents algorithm)) NoValues))
-    (FirstValue (Leaf (universal 4) (der (Leaf (universal 4) secret))) NoValues)))
+    (FirstMember (Leaf (universal 2) (0 ∷ []))
+    (FirstMember (Sequence (universal 16) (FirstMember (Leaf (universal 6) (identifier_contents algorithm)) NoMembers))
+    (FirstMember (Leaf (universal 4) (der (Leaf (universal 4) secret))) NoMembers)))
 
 -- The octets are those of the three fields, each of definite length, one behind the other.
 pub record SpellsFields (algorithm : Algorithm) (secret octets : List ℕ) : Type 0 where
