@@ -5,3 +5,4 @@ pub mod Identifier
 pub mod Length
 pub mod Limits
 pub mod Reasons
+pub mod Sources

@@ -10,4 +10,5 @@ pub mod fault;
 pub mod header;
 pub mod limits;
 pub mod reason;
+pub mod source;
 pub mod tag;
