@@ -1,2 +1,3 @@
 pub mod Digits
 pub mod Headers
+pub mod Puts

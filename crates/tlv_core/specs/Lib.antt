@@ -5,4 +5,6 @@ pub mod Identifier
 pub mod Length
 pub mod Limits
 pub mod Reasons
+pub mod Sinks
 pub mod Sources
+pub mod Targets

@@ -10,5 +10,7 @@ pub mod fault;
 pub mod header;
 pub mod limits;
 pub mod reason;
+pub mod sink;
 pub mod source;
 pub mod tag;
+pub mod target;
