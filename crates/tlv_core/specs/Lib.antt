@@ -4,6 +4,7 @@ pub mod Header
 pub mod Identifier
 pub mod Length
 pub mod Limits
+pub mod ObjectIdentifier
 pub mod Reasons
 pub mod Sinks
 pub mod Sources
