@@ -1,5 +1,5 @@
 -- What several calls of a sink put, one after the other.
-use Rattle.std.proofs.Common.{◌≡◌, refl, sym, ap, subst, ◌∙◌, ◌+◌, ◌-◌, ◌≤◌, ℕ, Bool, true, false, Option, Result, Ok, Err, List, [], ◌++◌, take, drop, length, length-append, arith, rules, OnOk, IfErr}
+use Rattle.std.proofs.Common.{◌≡◌, sym, ap, subst, ◌∙◌, ◌+◌, ◌-◌, ℕ, true, false, Option, Result, Ok, Err, List, ◌++◌, take, drop, length, length-append, arith, OnOk}
 use Rattle.std.proofs.Math.Seq.{take-add, take-append-add}
 use Rattle.std.proofs.lemmas.List.{take-append-le, take_all, length-drop}
 use Rattle.std.proofs.KnownBytes.{Appends-trans}

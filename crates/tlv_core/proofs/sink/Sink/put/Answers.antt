@@ -1,4 +1,4 @@
-use Rattle.std.proofs.Common.{rules, arith, take}
+use Rattle.std.proofs.Common.{rules, arith}
 use Rattle.tlv_core.proofs.Puts.{Appends-next}
 use Rattle.tlv_core.proofs.sink.Sink.put.Goals as goal
 
