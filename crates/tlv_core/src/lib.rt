@@ -16,3 +16,5 @@ pub mod source;
 mod subidentifier;
 pub mod tag;
 pub mod target;
+#[cfg(test)]
+mod tests;
