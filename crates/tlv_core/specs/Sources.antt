@@ -15,7 +15,7 @@ abbrev pub octets_left : Pieces → List ℕ
 octets_left source = source.left.now
 
 abbrev pub pieces_failed : Pieces → Bool
-pieces_failed source = source.failed
+pieces_failed source = source.broken
 
 -- as many octets are given per read, at most
 abbrev pub piece_size : Pieces → ℕ

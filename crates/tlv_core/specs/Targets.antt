@@ -23,4 +23,4 @@ abbrev pub piece_taken : Stops → ℕ
 piece_taken target = target.piece
 
 abbrev pub stops_failed : Stops → Bool
-stops_failed target = target.failed
+stops_failed target = target.broken

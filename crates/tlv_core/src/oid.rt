@@ -129,7 +129,8 @@ fn leading_subidentifier(arcs: &[u128]) -> Option<u128>
     if arcs.len() < 2 || arcs[0] > 2 {
         return None;
     }
-    if arcs[0] < 2 && arcs[1] > 39 {
+    let last = if arcs[0] < 2 { 39 } else { u128::MAX };
+    if arcs[1] > last {
         return None;
     }
     arcs[1].checked_add(40 * arcs[0])

@@ -105,7 +105,7 @@ pub struct Pieces<'a> {
     left: &'a [u8],
     piece: usize,
     fails: bool,
-    failed: bool,
+    broken: bool,
     ghost some: { 0 < piece },
 }
 
@@ -124,7 +124,7 @@ impl<'a> Pieces<'a> {
             left: octets,
             piece,
             fails,
-            failed: false,
+            broken: false,
         }
     }
 }
@@ -138,7 +138,7 @@ impl Source for Pieces<'_> {
 
     fn read(&mut self, room: &mut [u8]) -> Result<usize, Failed> {
         if self.left.is_empty() && self.fails {
-            self.failed = true;
+            self.broken = true;
             return Err(Failed);
         }
         let most = room.len().min(self.piece);
@@ -149,6 +149,6 @@ impl Source for Pieces<'_> {
     }
 
     fn failed(&self) -> bool {
-        self.failed
+        self.broken
     }
 }

@@ -86,7 +86,7 @@ pub struct Stops {
     room: Vec<u8>,
     used: usize,
     piece: usize,
-    failed: bool,
+    broken: bool,
     ghost within: { used ≤ length room.items },
     ghost some: { 0 < piece },
 }
@@ -106,7 +106,7 @@ impl Stops {
             room: vec![in alloc; 0; room]?,
             used: 0,
             piece,
-            failed: false,
+            broken: false,
         })
     }
 
@@ -129,7 +129,7 @@ impl Target for Stops {
         let left = self.room.len() - self.used;
         let count = piece.len().min(self.piece).min(left);
         if count == 0 && !piece.is_empty() {
-            self.failed = true;
+            self.broken = true;
             return Err(Failed);
         }
         self.room[self.used..self.used + count].copy_from_slice(&piece[..count]);
@@ -138,6 +138,6 @@ impl Target for Stops {
     }
 
     fn failed(&self) -> bool {
-        self.failed
+        self.broken
     }
 }
