@@ -1,5 +1,5 @@
 //! Readers that say what they still tell, and whether they have failed.
-ghost use Rattle.std.specs.Prelude.{◌≡◌, ◌<◌, ◌↔◌, ℕ, Bool, true, false, Option, Some, List, IsErr};
+ghost use Rattle.std.specs.Prelude.{◌≡◌, ◌<◌, ◌↔◌, ℕ, Bool, true, false, Option, Some, List, [], IsErr};
 ghost use Rattle.std.specs.Io.{ReadsAtMost};
 ghost use Rattle.std.specs.Io.KnownBytes.{ReadConsumes};
 
@@ -107,6 +107,7 @@ pub struct Pieces<'a> {
     fails: bool,
     broken: bool,
     ghost some: { 0 < piece },
+    ghost at_its_end: { broken ≡ true → (left.now ≡ []) × (fails ≡ true) },
 }
 
 impl<'a> Pieces<'a> {

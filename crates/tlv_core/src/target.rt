@@ -89,6 +89,7 @@ pub struct Stops {
     broken: bool,
     ghost within: { used ≤ length room.items },
     ghost some: { 0 < piece },
+    ghost full: { broken ≡ true → used ≡ length room.items },
 }
 
 impl Stops {
