@@ -39,7 +39,7 @@ impl Source for &[u8] {
     fn read(&mut self, room: &mut [u8]) -> Result<usize, Failed> {
         match Read::read(self, room) {
             Ok(count) => Ok(count),
-            Err(_) => Ok(0),
+            Err(_) => unreachable!(),
         }
     }
 
@@ -145,7 +145,7 @@ impl Source for Pieces<'_> {
         let most = room.len().min(self.piece);
         match Read::read(&mut self.left, &mut room[..most]) {
             Ok(count) => Ok(count),
-            Err(_) => Ok(0),
+            Err(_) => unreachable!(),
         }
     }
 

@@ -131,6 +131,7 @@ fn targets(rt: HostRuntime) -> Result<(), Fail> {
         assert_eq!(rt; target.into_inner().taken.as_slice(), &OCTETS[..3]);
     }
     let mut target = ToWrite::new(Vec::new(alloc));
+    assert_eq!(rt; target.write(&[]), Ok(0));
     assert_eq!(rt; Sink::new(&mut target).put(&OCTETS), Ok(()));
     assert!(rt; !target.failed());
     assert_eq!(rt; target.into_inner().as_slice(), OCTETS.as_slice());
