@@ -1,5 +1,5 @@
 //! Object identifiers (X.690 8.19).
-ghost use Rattle.std.specs.Prelude.{◌≡◌, ◌↔◌, ℕ, List, IfOk, IfSome, IsNone, IsTrue, ◌∷◌, drop, flat_map, length, slice_get};
+ghost use Rattle.std.specs.Prelude.{◌≡◌, ◌↔◌, ◌<◌, ◌^◌, ℕ, List, IfOk, IfSome, IsNone, IsTrue, ◌∷◌, drop, flat_map, length, slice_get};
 ghost use Rattle.tlv_core.specs.Identifier.{base128};
 ghost use Rattle.tlv_core.specs.ObjectIdentifier.{ObjectIdentifierOctets, IsObjectIdentifier};
 ghost use Rattle.tlv_core.specs.declared.oid.OidError.TheVariants.{Bad, Memory};
@@ -89,6 +89,7 @@ impl Oid {
     pub fn content(&self) -> &[u8]
         ensures value { result.now ≡ self.now }
         ensures is { IsObjectIdentifier self.now }
+        ensures short { length self.now < 2 ^ 63 }
     {
         &self.content
     }
