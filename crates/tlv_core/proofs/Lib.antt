@@ -1,2 +1,5 @@
+pub mod Base128
 pub mod Digits
 pub mod Headers
+pub mod ObjectIdentifiers
+pub mod Puts

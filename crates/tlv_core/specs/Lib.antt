@@ -4,4 +4,8 @@ pub mod Header
 pub mod Identifier
 pub mod Length
 pub mod Limits
+pub mod ObjectIdentifier
 pub mod Reasons
+pub mod Sinks
+pub mod Sources
+pub mod Targets

@@ -1,0 +1,25 @@
+-- What clauses see of the sources.
+use Rattle.std.specs.Prelude.{ℕ, Bool, List}
+use Rattle.tlv_core.specs.declared.source.FromRead.{FromRead}
+use Rattle.tlv_core.specs.declared.source.Pieces.{Pieces}
+
+-- the reader under the source
+abbrev pub reader_of : {R : Type 0} → FromRead R → R
+reader_of source = source.inner
+
+abbrev pub read_failed : {R : Type 0} → FromRead R → Bool
+read_failed source = source.failed
+
+-- the octets that are still to be given
+abbrev pub octets_left : Pieces → List ℕ
+octets_left source = source.left.now
+
+abbrev pub pieces_failed : Pieces → Bool
+pieces_failed source = source.broken
+
+-- as many octets are given per read, at most
+abbrev pub piece_size : Pieces → ℕ
+piece_size source = source.piece
+
+abbrev pub fails_at_end : Pieces → Bool
+fails_at_end source = source.fails

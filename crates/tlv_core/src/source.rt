@@ -1,0 +1,155 @@
+//! Readers that say what they still tell, and whether they have failed.
+ghost use Rattle.std.specs.Prelude.{◌≡◌, ◌<◌, ◌↔◌, ℕ, Bool, true, false, Option, Some, List, [], IsErr};
+ghost use Rattle.std.specs.Io.{ReadsAtMost};
+ghost use Rattle.std.specs.Io.KnownBytes.{ReadConsumes};
+
+use std::io::Read;
+
+/// A reader or a writer has failed.
+#[derive(Clone, Copy, Debug, PartialEq, Eq)]
+pub struct Failed;
+
+/// A reader of octets. One that has failed is asked for no more.
+pub trait Source {
+    /// The octets that it still tells, where it tells them.
+    ghost remaining: { Self → Option (List ℕ) };
+
+    /// Whether it has failed.
+    ghost has_failed: { Self → Bool };
+
+    /// Puts the next octets into `room` and answers their number: 0 only where `room` or what is left is empty.
+    /// `Failed` where it has failed; the octets that it told are then still told.
+    fn read(&mut self, room: &mut [u8]) -> Result<usize, Failed>
+        requires { has_failed self.old ≡ false }
+        ensures bound { ReadsAtMost result room.new }
+        ensures octets { ReadConsumes (remaining self.old) (remaining self.new) result room.new }
+        ensures failed { IsErr result ↔ (has_failed self.new ≡ true) };
+
+    /// Whether it has failed.
+    fn failed(&self) -> bool
+        ensures { result ≡ has_failed self.now };
+}
+
+/// A slice tells its octets and never fails.
+impl Source for &[u8] {
+    ghost remaining = { λ octets. Some octets.now };
+
+    ghost has_failed = { λ _. false };
+
+    fn read(&mut self, room: &mut [u8]) -> Result<usize, Failed> {
+        match Read::read(self, room) {
+            Ok(count) => Ok(count),
+            Err(_) => unreachable!(),
+        }
+    }
+
+    fn failed(&self) -> bool {
+        false
+    }
+}
+
+/// A source over any reader. An error of it, `Interrupted` too, makes the source failed.
+#[derive(Drop)]
+pub struct FromRead<R> {
+    inner: R,
+    failed: bool,
+}
+
+impl<R: Read> FromRead<R> {
+    ghost use Rattle.tlv_core.specs.Sources.{reader_of, read_failed};
+
+    /// The source over this reader.
+    pub fn new(inner: R) -> FromRead<R>
+        ensures over { reader_of result ≡ inner }
+        ensures fresh { read_failed result ≡ false }
+    {
+        FromRead {
+            inner,
+            failed: false,
+        }
+    }
+
+    /// The reader.
+    pub fn into_inner(self) -> R
+        ensures { result ≡ reader_of self }
+    {
+        self.inner
+    }
+}
+
+impl<R: Read> Source for FromRead<R> {
+    ghost use Rattle.tlv_core.specs.Sources.{reader_of, read_failed};
+
+    ghost remaining = { λ source. R.remaining (reader_of source) };
+
+    ghost has_failed = { λ source. read_failed source };
+
+    fn read(&mut self, room: &mut [u8]) -> Result<usize, Failed> {
+        match self.inner.read(room) {
+            Ok(count) => Ok(count),
+            Err(_) => {
+                self.failed = true;
+                Err(Failed)
+            }
+        }
+    }
+
+    fn failed(&self) -> bool {
+        self.failed
+    }
+}
+
+/// For tests: gives at most `piece` octets per read, and after the last one its end or a failure.
+#[derive(Drop)]
+pub struct Pieces<'a> {
+    left: &'a [u8],
+    piece: usize,
+    fails: bool,
+    broken: bool,
+    ghost some: { 0 < piece },
+    ghost at_its_end: { broken ≡ true → (left.now ≡ []) × (fails ≡ true) },
+}
+
+impl<'a> Pieces<'a> {
+    ghost use Rattle.tlv_core.specs.Sources.{octets_left, pieces_failed, piece_size, fails_at_end};
+
+    /// A source of `octets`, at most `piece` of them per read, that fails where they end if `fails`.
+    pub fn new(octets: &'a [u8], piece: usize, fails: bool) -> Pieces<'a>
+        requires { 0 < piece }
+        ensures tells { octets_left result ≡ octets.now }
+        ensures fresh { pieces_failed result ≡ false }
+        ensures size { piece_size result ≡ piece }
+        ensures end { fails_at_end result ≡ fails }
+    {
+        Pieces {
+            left: octets,
+            piece,
+            fails,
+            broken: false,
+        }
+    }
+}
+
+impl Source for Pieces<'_> {
+    ghost use Rattle.tlv_core.specs.Sources.{octets_left, pieces_failed};
+
+    ghost remaining = { λ source. Some (octets_left source) };
+
+    ghost has_failed = { λ source. pieces_failed source };
+
+    fn read(&mut self, room: &mut [u8]) -> Result<usize, Failed> {
+        if self.left.is_empty() && self.fails {
+            self.broken = true;
+            return Err(Failed);
+        }
+        let most = room.len().min(self.piece);
+        match Read::read(&mut self.left, &mut room[..most]) {
+            Ok(count) => Ok(count),
+            Err(_) => unreachable!(),
+        }
+    }
+
+    fn failed(&self) -> bool {
+        self.broken
+    }
+}
