@@ -1,0 +1,2 @@
+pub mod HeaderOctets
+pub mod Putting
