@@ -1,7 +1,5 @@
 -- Octets of a header and of the contents behind it.
 use Rattle.std.proofs.Common.{◌≡◌, ◌∙◌, ◌+◌, ◌-◌, ◌<◌, ◌≤◌, ℕ, zero, suc, List, [], ◌∷◌, ◌++◌, refl, ap, length, slice_get, arith, Some}
-use Rattle.asn_values.specs.Framing.{StandsAt}
-use Rattle.asn_values.specs.declared.framing.Stands.TheVariants as place
 
 pub get_after : (xs ys : List ℕ) (i : ℕ) → length xs ≤ i → slice_get (xs ++ ys) i ≡ slice_get ys (i - length xs)
 get_after [] ys i h = ap (slice_get ys) (let e : i ≡ i - 0 = omega arith in e)

@@ -38,7 +38,12 @@ pub fn element_size(tag: Tag, content: u64) -> u64
 }
 
 /// Writes the header of an element with so many contents octets.
-pub fn put_header<W: Target>(tag: Tag, constructed: bool, content: u64, sink: &mut Sink<'_, W>) -> Result<(), WriteError>
+pub fn put_header<W: Target>(
+    tag: Tag,
+    constructed: bool,
+    content: u64,
+    sink: &mut Sink<'_, W>,
+) -> Result<(), WriteError>
     requires { count sink.old + length (der_header tag constructed content) < 2 ^ 64 }
     ensures { Puts (der_header tag constructed content) sink.old sink.new result }
 {

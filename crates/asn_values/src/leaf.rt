@@ -17,7 +17,11 @@ pub fn leaf_size(tag: Tag, contents: &[u8]) -> u64
 }
 
 /// Writes a leaf's text.
-pub fn put_leaf<W: Target>(tag: Tag, contents: &[u8], sink: &mut Sink<'_, W>) -> Result<(), WriteError>
+pub fn put_leaf<W: Target>(
+    tag: Tag,
+    contents: &[u8],
+    sink: &mut Sink<'_, W>,
+) -> Result<(), WriteError>
     requires { count sink.old + length (der (Leaf tag contents.now)) < 2 ^ 64 }
     ensures { Puts (der (Leaf tag contents.now)) sink.old sink.new result }
 {

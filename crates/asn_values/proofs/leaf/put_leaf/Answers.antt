@@ -1,7 +1,4 @@
-use Rattle.std.proofs.Common.{rules, false, length, ◌≡◌, Err}
-use Rattle.tlv_core.specs.Header.{der_header}
-use Rattle.x690.specs.DerTexts.{der}
-use Rattle.x690.specs.Values.{Leaf}
+use Rattle.std.proofs.Common.{rules}
 use Rattle.x690_laws.proofs.Lengths.{der_leaf}
 use Rattle.asn_values.proofs.Putting.{contents_room, framed_put, framed_stop, header_room}
 use Rattle.asn_values.proofs.leaf.put_leaf.Goals as goal
