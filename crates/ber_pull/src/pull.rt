@@ -69,6 +69,7 @@ impl<'a, R: Source> Pull<'a, R> {
         ensures repeats { Repeats self.old self.new result }
         ensures reads { (standing self.old).error ≡ None → Answers self.old self.new (read_next (standing self.old)) (heard (next_at (place (standing self.old))) result) }
         ensures again { IfSome (standing self.old).given (λ g. IfOk result (λ next. (next ≡ Some (g.tag, g.constructed)) × Unmoved self.old self.new)) }
+        ensures given { (g : Given) → (standing self.old).error ≡ None → (standing self.old).given ≡ Some g → (result ≡ Ok (Some (g.tag, g.constructed))) × Unmoved self.old self.new }
         ensures stands { (standing self.old).given ≡ None → IfOk result (λ next. standing self.new ≡ after_next (standing self.new).taken next (standing self.old)) }
         ensures fits { IfOk result (λ next. IfSome next (λ t. IsGiven t.0 (standing self.new))) }
         ensures advances { (standing self.old).given ≡ None → IfOk result (λ next. IsSome next → (standing self.old).taken < (standing self.new).taken) }
