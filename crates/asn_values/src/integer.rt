@@ -61,8 +61,9 @@ impl Int {
 }
 
 /// Whether the octets are the contents of an INTEGER.
-fn is_integer(octets: &[u8]) -> bool
-    ensures { IsTrue result ↔ IsInteger octets.now }
+pub(crate) fn is_integer(octets: &[u8]) -> bool
+    ensures is { IsTrue result ↔ IsInteger octets.now }
+    ensures test { result ≡ is_integer_contents octets.now }
 {
     match octets {
         [] => false,

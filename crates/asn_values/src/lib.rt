@@ -8,6 +8,7 @@ pub mod der_text;
 mod framing;
 pub mod integer;
 mod leaf;
+mod leaf_reading;
 pub mod list;
 pub mod null;
 pub mod object_identifier;
