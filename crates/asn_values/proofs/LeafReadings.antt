@@ -15,7 +15,7 @@ use Rattle.ber_pull.specs.Calls.{read_bits, read_octets, read_primitive, read_se
 use Rattle.ber_pull.specs.Standing.{Standing, enclosing}
 use Rattle.ber_pull.specs.declared.state.Given.{Given}
 use Rattle.ber_pull.proofs.Runs.{bind_assoc, bind_same}
-use Rattle.asn_values.specs.Reading.{read_given_leaf}
+use Rattle.asn_values.specs.Reading.{read_given_leaf, string_kind}
 
 -- what the contents of a primitive leaf are
 abbrev pub judged : LeafKind → Tag → ℕ → List ℕ → Reading Value
@@ -113,3 +113,7 @@ octets_leaf_is own s g k o = octets_is own s.limits (enclosing s) g.at g.constru
 pub utf8_leaf_is : (own : Tag) (s : Standing) (g : Given) (k : ℕ) (o : List ℕ) → run (read_octets s g >>= octets_leaf Utf8String own g.at) k o ≡ run (read_given_leaf Utf8String own s g) k o
 unfolding read_octets read_segments
 utf8_leaf_is own s g k o = utf8_is own s.limits (enclosing s) g.at g.constructed k o
+
+pub string_leaf_is : (utf8 : Bool) (own : Tag) (s : Standing) (g : Given) (k : ℕ) (o : List ℕ) → run (read_octets s g >>= octets_leaf (string_kind utf8) own g.at) k o ≡ run (read_given_leaf (string_kind utf8) own s g) k o
+string_leaf_is true own s g k o = utf8_leaf_is own s g k o
+string_leaf_is false own s g k o = octets_leaf_is own s g k o

@@ -6,3 +6,4 @@ pub mod MappedMembers
 pub mod MemberTexts
 pub mod PaddedOrder
 pub mod Putting
+pub mod TypeReadings

@@ -1,9 +1,9 @@
 -- What readers of values read, by the plain reading at their point.
-use Rattle.std.specs.Prelude.{Bool, [], false, true}
+use Rattle.std.specs.Prelude.{Bool, List, [], false, length, true, ℕ, ◌<◌, ◌∷◌, ◌≡◌, ◌⊎◌}
 use Rattle.tlv_core.specs.Identifier.{Tag}
 use Rattle.x690.specs.Contents as kinds
 use Rattle.x690.specs.Contents.{LeafKind}
-use Rattle.x690.specs.ReadContents.{read_leaf}
+use Rattle.x690.specs.ReadContents.{is_integer_contents, read_leaf}
 use Rattle.x690.specs.ReadTypes.{read_type}
 use Rattle.x690.specs.Reading.{Reading}
 use Rattle.x690.specs.TypeTerms.{TypeTerm}
@@ -33,3 +33,12 @@ kind_of coded.Utf8String = kinds.Utf8String
 abbrev pub string_kind : Bool → LeafKind
 string_kind true = kinds.Utf8String
 string_kind false = kinds.OctetString
+
+-- what is known of a leaf's contents, whoever told them
+abbrev pub HasContents : Kind → List ℕ → Type 0
+HasContents coded.Boolean contents = (contents ≡ 0 ∷ []) ⊎ (contents ≡ 255 ∷ [])
+HasContents coded.Integer contents = is_integer_contents contents ≡ true
+HasContents coded.Null contents = contents ≡ []
+HasContents coded.BitString contents = 0 < length contents
+HasContents coded.OctetString contents = Unit {0}
+HasContents coded.Utf8String contents = Unit {0}

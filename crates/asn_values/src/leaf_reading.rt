@@ -1,16 +1,21 @@
 // Reading leaves.
 ghost use Rattle.std.specs.Prelude.{◌≡◌, None, Some, IfOk, IfErr, IsSome, OnOk, ◌<◌, length, true};
 ghost use Rattle.tlv_core.specs.Identifier.{Tag as Identified};
-ghost use Rattle.tlv_core.specs.declared.reason.Reason.TheVariants.{Inner};
+ghost use Rattle.tlv_core.specs.declared.reason.Reason.TheVariants.{Inner, WrongTag};
 ghost use Rattle.x690.specs.ReadContents as reading;
 ghost use Rattle.x690.specs.Contents.{BitString};
-ghost use Rattle.x690.specs.Values.{Leaf};
-ghost use Rattle.ber_pull.specs.Hears.{heard};
+ghost use Rattle.x690.specs.Layouts.{same_tag};
+ghost use Rattle.x690.specs.Points.{fault};
+ghost use Rattle.x690.specs.Reading.{Reading, require};
+ghost use Rattle.x690.specs.TypeTerms.{LeafType};
+ghost use Rattle.x690.specs.Values.{Leaf, Value};
+ghost use Rattle.ber_pull.specs.Hears.{heard, heard_error};
 ghost use Rattle.ber_pull.specs.View.{standing, SameSource, Repeats, Keeps, ReadsFail, Onward, Answers, Uses, Unmoved};
 ghost use Rattle.ber_pull.specs.declared.state.Given.{Given};
-ghost use Rattle.asn_values.specs.Reading.{kind_of, read_given_leaf, string_kind};
+ghost use Rattle.asn_values.specs.Reading.{HasContents, kind_of, read_given, read_given_leaf, string_kind};
 
 use crate::integer::is_integer;
+use crate::tags::is_same_tag;
 use ber_pull::pull::Pull;
 use simdutf8::is_utf8;
 use std::alloc::Global;
@@ -30,23 +35,27 @@ pub enum Kind {
     Utf8String,
 }
 
-/// The place and the tag of the element that is given.
-pub fn given<R: Source>(pull: &mut Pull<'_, R>) -> Result<(u64, Tag), ReadError>
+/// The place of the element that is given, which has to have this tag: else `WrongTag`.
+pub fn expect_tag<R: Source>(pull: &mut Pull<'_, R>, own: Tag) -> Result<u64, ReadError>
     requires { (standing pull.old).error ≡ None → IsSome (standing pull.old).given }
     ensures same_source { SameSource pull.old pull.new }
     ensures repeats { Repeats pull.old pull.new result }
-    ensures is { (g : Given) → (standing pull.old).error ≡ None → (standing pull.old).given ≡ Some g → IfOk result (λ r. (r.0 ≡ g.at) × (r.1 ≡ g.tag) × Unmoved pull.old pull.new) }
+    ensures stops { (g : Given) → (standing pull.old).error ≡ None → (standing pull.old).given ≡ Some g → IfErr result (λ e. (p : Reading Value) → Answers pull.old pull.new (require (same_tag own g.tag) (fault g.at WrongTag) p) (heard_error e)) }
+    ensures is { (g : Given) → (standing pull.old).error ≡ None → (standing pull.old).given ≡ Some g → IfOk result (λ at. (at ≡ g.at) × (same_tag own g.tag ≡ true)) }
+    ensures same { OnOk result (Unmoved pull.old pull.new) }
     ensures fine { OnOk result ((standing pull.old).error ≡ None) }
-    ensures stops { IfErr result (λ e. (standing pull.old).error ≡ Some e) }
     ensures keeps { Keeps pull.new result }
     ensures read { ReadsFail pull.old pull.new result }
     ensures onward { Onward pull.old pull.new }
 {
     let at = pull.at();
-    match pull.next_tag()? {
-        Some((tag, _)) => Ok((at, tag)),
-        None => unreachable!(),
+    let Some((tag, _)) = pull.next_tag()? else {
+        unreachable!()
+    };
+    if !is_same_tag(own, tag) {
+        return Err(pull.refuse(at, Reason::WrongTag, None));
     }
+    Ok(at)
 }
 
 /// Whether the octets are the contents of a primitive leaf of the kind.
@@ -95,6 +104,7 @@ fn read_primitive_leaf<R: Source>(alloc: Global, pull: &mut Pull<'_, R>, kind: K
     ensures same_source { SameSource pull.old pull.new }
     ensures repeats { Repeats pull.old pull.new result }
     ensures reads { (own : Identified) (g : Given) → (standing pull.old).error ≡ None → (standing pull.old).given ≡ Some g → Answers pull.old pull.new (read_given_leaf (kind_of kind) own (standing pull.old) g) (heard (λ v. Leaf own v.items) result) }
+    ensures contents { IfOk result (λ v. HasContents kind v.items) }
     ensures stands { OnOk result (Uses pull.old pull.new) }
     ensures keeps { Keeps pull.new result }
     ensures read { ReadsFail pull.old pull.new result }
@@ -127,6 +137,13 @@ fn read_bits_leaf<R: Source>(alloc: Global, pull: &mut Pull<'_, R>) -> Result<Ve
     }
 }
 
+/// Whether the octets are those of a string.
+fn is_string(utf8: bool, octets: &[u8]) -> bool
+    ensures { result ≡ reading.is_contents (string_kind utf8) octets.now }
+{
+    !utf8 || is_utf8(octets)
+}
+
 /// The octets of the string that is given, which are UTF-8 where they have to be.
 fn read_octets_leaf<R: Source>(alloc: Global, pull: &mut Pull<'_, R>, utf8: bool) -> Result<Vec<u8>, ReadError>
     requires { (standing pull.old).error ≡ None → IsSome (standing pull.old).given }
@@ -140,8 +157,45 @@ fn read_octets_leaf<R: Source>(alloc: Global, pull: &mut Pull<'_, R>, utf8: bool
 {
     let at = pull.at();
     let octets = pull.octets(alloc)?;
-    if utf8 && !is_utf8(&octets) {
+    if !is_string(utf8, &octets) {
         return Err(pull.refuse(at, Reason::BadText, None));
     }
     Ok(octets)
+}
+
+/// The DER contents of the leaf that is given, whatever its tag.
+pub fn read_leaf<R: Source>(alloc: Global, pull: &mut Pull<'_, R>, kind: Kind) -> Result<Vec<u8>, ReadError>
+    requires { (standing pull.old).error ≡ None → IsSome (standing pull.old).given }
+    ensures same_source { SameSource pull.old pull.new }
+    ensures repeats { Repeats pull.old pull.new result }
+    ensures reads { (own : Identified) (g : Given) → (standing pull.old).error ≡ None → (standing pull.old).given ≡ Some g → Answers pull.old pull.new (read_given_leaf (kind_of kind) own (standing pull.old) g) (heard (λ v. Leaf own v.items) result) }
+    ensures contents { IfOk result (λ v. HasContents kind v.items) }
+    ensures stands { OnOk result (Uses pull.old pull.new) }
+    ensures keeps { Keeps pull.new result }
+    ensures read { ReadsFail pull.old pull.new result }
+    ensures onward { Onward pull.old pull.new }
+{
+    match kind {
+        Kind::BitString => read_bits_leaf(alloc, pull),
+        Kind::OctetString => read_octets_leaf(alloc, pull, false),
+        Kind::Utf8String => read_octets_leaf(alloc, pull, true),
+        Kind::Boolean | Kind::Integer | Kind::Null => read_primitive_leaf(alloc, pull, kind),
+    }
+}
+
+/// The DER contents of the leaf that is given, of this tag and kind.
+pub fn read_leaf_as<R: Source>(alloc: Global, pull: &mut Pull<'_, R>, own: Tag, kind: Kind) -> Result<Vec<u8>, ReadError>
+    requires { (standing pull.old).error ≡ None → IsSome (standing pull.old).given }
+    ensures same_source { SameSource pull.old pull.new }
+    ensures repeats { Repeats pull.old pull.new result }
+    ensures reads { (g : Given) → (standing pull.old).error ≡ None → (standing pull.old).given ≡ Some g → Answers pull.old pull.new (read_given (LeafType own (kind_of kind)) (standing pull.old) g) (heard (λ v. Leaf own v.items) result) }
+    ensures contents { IfOk result (λ v. HasContents kind v.items) }
+    ensures stands { OnOk result (Uses pull.old pull.new) }
+    ensures keeps { Keeps pull.new result }
+    ensures read { ReadsFail pull.old pull.new result }
+    ensures onward { Onward pull.old pull.new }
+{
+    expect_tag(pull, own)?;
+    let contents = read_leaf(alloc, pull, kind)?;
+    Ok(contents)
 }
