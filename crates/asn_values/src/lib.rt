@@ -5,6 +5,7 @@ pub mod bits;
 pub mod boolean;
 pub mod build;
 pub mod der_text;
+pub mod element;
 mod framing;
 pub mod integer;
 mod leaf;
