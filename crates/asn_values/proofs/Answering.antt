@@ -1,5 +1,5 @@
 -- Answers of readers: a fault that a reader found, an error that it hands on, want of memory.
-use Rattle.std.proofs.Common.{◌≡◌, ◌∙◌, Bool, None, Some, ap, false, refl, subst, sym, true}
+use Rattle.std.proofs.Common.{◌≡◌, ◌∙◌, Bool, None, Option, Some, ap, false, refl, subst, sym, true}
 use Rattle.tlv_core.specs.Identifier.{Tag}
 use Rattle.tlv_core.specs.declared.fault.Fault.{Fault}
 use Rattle.tlv_core.specs.declared.fault.ReadError.{ReadError}
@@ -48,3 +48,8 @@ other_tag own tag h = go (same_tag own tag) refl
     go : (b : Bool) → same_tag own tag ≡ b → same_tag own tag ≡ false
     go true e = absurd (h (same_tag_is own tag e))
     go false e = e
+
+-- an option that is nothing
+pub none_by : {A : Type 0} (o : Option A) → ((a : A) → o ≡ Some a → ⊥) → o ≡ None
+none_by None h = refl
+none_by (Some a) h = absurd (h a refl)

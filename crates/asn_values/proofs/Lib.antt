@@ -3,7 +3,9 @@ pub mod ContainerTexts
 pub mod HeaderOctets
 pub mod LeafReadings
 pub mod MappedMembers
+pub mod MemberReadings
 pub mod MemberTexts
 pub mod PaddedOrder
 pub mod Putting
+pub mod ShortElements
 pub mod TypeReadings

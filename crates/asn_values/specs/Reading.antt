@@ -3,7 +3,8 @@ use Rattle.std.specs.Prelude.{Bool, List, [], false, length, true, ℕ, ◌<◌,
 use Rattle.tlv_core.specs.Identifier.{Tag}
 use Rattle.x690.specs.Contents as kinds
 use Rattle.x690.specs.Contents.{LeafKind}
-use Rattle.x690.specs.ReadContents.{is_integer_contents, read_leaf}
+use Rattle.x690.specs.ReadContents.{all_members, is_integer_contents, read_leaf}
+use Rattle.x690.specs.ReadHeaders.{Ended}
 use Rattle.x690.specs.ReadTypes.{read_type}
 use Rattle.x690.specs.Reading.{Reading}
 use Rattle.x690.specs.TypeTerms.{TypeTerm}
@@ -42,3 +43,11 @@ HasContents coded.Null contents = contents ≡ []
 HasContents coded.BitString contents = 0 < length contents
 HasContents coded.OctetString contents = Unit {0}
 HasContents coded.Utf8String contents = Unit {0}
+
+-- the members, and the place where their container ends
+abbrev pub ended : List Value → ℕ → Ended (List Value)
+ended values at = record { all = values; at = at }
+
+-- the members of the container that is given, each as the type
+abbrev pub read_given_members : TypeTerm → Standing → Given → Reading (Ended (List Value))
+read_given_members type s g = all_members s.limits (enclosing s) g.at g.constructed (read_type s.limits type [])
