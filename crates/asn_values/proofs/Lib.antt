@@ -7,5 +7,6 @@ pub mod MemberReadings
 pub mod MemberTexts
 pub mod PaddedOrder
 pub mod Putting
+pub mod SameMembers
 pub mod ShortElements
 pub mod TypeReadings

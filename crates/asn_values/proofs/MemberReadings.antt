@@ -107,6 +107,7 @@ module _ (one : Enclosing → ℕ → Tag → Bool → Reading Value) where
     pub enough : start.state.limits.octets < fuel + now.state.taken
     pub reads : Continues p start.state.taken (told start) (rest fuel start.state.limits (enclosing now.state) values) now.state.taken (told now)
     pub short : length (texts_of values) ≤ 2 * now.state.taken
+    pub below : length (texts_of values) < 4294967296
 
   pub inside_start : {R : Type 0} {s : Ghosts R} (start now : Pull R s) (g : Given) (form : LengthForm) → start.state.given ≡ Some g → now.state.error ≡ None → SameSource start now → now.state ≡ opening form (used now.state.taken start.state) → start.state.taken < now.state.taken
       → Answers start now (read_entering start.state g) (Said (enclosing now.state)) → Inside (all_members start.state.limits (enclosing start.state) g.at g.constructed one) start now []
@@ -127,6 +128,7 @@ module _ (one : Enclosing → ℕ → Tag → Bool → Reading Value) where
         enough = omega arith;
         reads = record { rest = λ h i u x. hears_same _ _ _ _ _ _ _ (enter_is start.state g (λ c. rest l.octets l c [])) (hears_then (read_entering start.state g) (λ c. rest l.octets l c []) (enclosing now.state) _ _ _ _ _ _ _ reads x) };
         short = omega arith;
+        below = omega arith;
       }
 
   pub inside_never : {R : Type 0} {s : Ghosts R} (start mid : Pull R s) (g : Given) (e : ReadError) → Answers start mid (read_entering start.state g) (heard_error e) → Answers start mid (all_members start.state.limits (enclosing start.state) g.at g.constructed one) (heard_error e)
@@ -168,8 +170,8 @@ module _ (one : Enclosing → ℕ → Tag → Bool → Reading Value) where
     inside_memory new e x k t = i.reads.rest _ _ _ (hears_then_memory (Done values) (Said values) _ e _ _ _ _ _ _ x k t (hears_done values now.state.taken (told now)))
 
     pub inside_more : (mid new : Pull R s) (place : ℕ) (tag : Tag) (form : Bool) (v : Value) → Answers now mid (read_next now.state) (Said (ElementStands place tag form)) → SameSource now mid → mid.state ≡ after_next mid.state.taken (Some (tag, form)) now.state → now.state.taken < mid.state.taken
-        → Answers mid new (one (enclosing now.state) place tag form) (Said v) → SameSource mid new → Uses mid new → new.state.error ≡ None → mid.state.taken ≤ new.state.taken → length (der v) + 2 * now.state.taken ≤ 2 * new.state.taken → Inside p start new (values ++ (v ∷ []))
-    inside_more mid new place tag form v x same stands more y same' uses fine on short =
+        → Answers mid new (one (enclosing now.state) place tag form) (Said v) → SameSource mid new → Uses mid new → new.state.error ≡ None → mid.state.taken ≤ new.state.taken → length (der v) + 2 * now.state.taken ≤ 2 * new.state.taken → start.state.limits.octets ≤ 2147483647 → Inside p start new (values ++ (v ∷ []))
+    inside_more mid new place tag form v x same stands more y same' uses fine on short most =
         let f = one_left.0 in
         let n = one_left.1 in
         let around : enclosing new.state ≡ enclosing now.state = ap enclosing uses ∙ ap enclosing stands in
@@ -187,18 +189,18 @@ module _ (one : Enclosing → ℕ → Tag → Bool → Reading Value) where
           enough = omega (arith, i.enough);
           reads = record { rest = λ h k u z. go_on h k u (rest_member f start.state.limits (enclosing now.state) values place tag form v h _ _ _ _ _ _ _ _ (hears_as _ _ _ _ _ _ _ next_here x) y (subst (λ c. Hears (rest f start.state.limits c (values ++ (v ∷ []))) new.state.taken (told new) h k u) around z)) };
           short = omega (arith, i.short);
+          below = let w = new.within in let e : new.state.limits.octets ≡ start.state.limits.octets = ap (λ z. z.limits.octets) uses ∙ (ap (λ z. z.limits.octets) stands ∙ ap (λ z. z.octets) i.limits) in omega (arith, i.short);
         }
 
 -- what a call reads of the element that was given last, by the point where its identifier began
-pub given_reads : {R : Type 0} {s : Ghosts R} (F : Limits → Enclosing → ℕ → Tag → Bool → Reading Value) (l : Limits) (now mid new : Pull R s) (tag : Tag) (form : Bool) (h : Heard Value) → now.state.given ≡ None → now.state.limits ≡ l → mid.state.error ≡ None → mid.state ≡ after_next mid.state.taken (Some (tag, form)) now.state
-    → ((g : Given) → mid.state.error ≡ None → mid.state.given ≡ Some g → Answers mid new (F mid.state.limits (enclosing mid.state) g.at g.tag g.constructed) h) → Answers mid new (F l (enclosing now.state) (place now.state) tag form) h
-given_reads F l now mid new tag form h none limits fine stands reads =
-    let g : Given = record { at = now.state.taken; tag = tag; constructed = form } in
+pub member_reads : {R : Type 0} {s : Ghosts R} (F : Limits → Enclosing → ℕ → Tag → Bool → Reading Value) (l : Limits) (now mid new : Pull R s) (tag : Tag) (form : Bool) (h : Heard Value) → now.state.given ≡ None → now.state.limits ≡ l → mid.state ≡ after_next mid.state.taken (Some (tag, form)) now.state
+    → Answers mid new (F mid.state.limits (enclosing mid.state) now.state.taken tag form) h → Answers mid new (F l (enclosing now.state) (place now.state) tag form) h
+member_reads F l now mid new tag form h none limits stands x =
     hears_as _ _ _ _ _ _ _
     (ap (λ z. F z.limits (enclosing z) now.state.taken tag form) stands
     ∙ (ap (λ z. F z (enclosing now.state) now.state.taken tag form) limits
     ∙ ap (λ p. F l (enclosing now.state) p tag form) (sym (place_taken now.state none))))
-    (reads g fine (ap (λ z. z.given) stands))
+    x
 
 -- leaving
 
@@ -219,3 +221,7 @@ pub left : (s t u : Standing) (c : Container) (cs : List Container) (k : ℕ) �
 left s t u c cs k e stands closes =
     let w = with_ended_some c cs in
     ap (λ z. z.containers) closes ∙ ap without_first (ap (λ z. z.containers) stands ∙ (ap (λ z. with_ended (first_of z) z) e ∙ w.1))
+
+-- the element is read, and all else is as it was
+pub all_used : (s t : Standing) → s.limits ≡ t.limits → s.given ≡ None → s.containers ≡ t.containers → s.error ≡ t.error → s ≡ used s.taken t
+all_used s t l g c e = λ i. record { limits = l i; taken = s.taken; given = g i; containers = c i; error = e i }

@@ -2,11 +2,10 @@
 ghost use Rattle.std.specs.Prelude.{◌≡◌, ◌++◌, ◌∷◌, ◌<◌, ◌^◌, [], None, Some, IfErr, IfOk, IsSome, OnOk, length, map};
 ghost use Rattle.tlv_core.specs.declared.fault.ReadError.TheVariants.{Memory};
 ghost use Rattle.x690.specs.DerTexts.{texts_of};
-ghost use Rattle.ber_pull.specs.Hears.{heard};
 ghost use Rattle.ber_pull.specs.Standing.{failed_with};
-ghost use Rattle.ber_pull.specs.View.{standing, source, SameSource, Repeats, Keeps, ReadsFail, Onward, Answers, Uses};
+ghost use Rattle.ber_pull.specs.View.{standing, source, SameSource, Repeats, Keeps, ReadsFail, Onward, Uses};
 ghost use Rattle.ber_pull.specs.declared.state.Given.{Given};
-ghost use Rattle.asn_values.specs.Reading.{ended, read_given_members};
+ghost use Rattle.asn_values.specs.Reading.{AnswersMembers, read_given_members};
 
 use crate::element::Element;
 use ber_pull::pull::Pull;
@@ -36,7 +35,7 @@ pub fn read_members<R: Source, T: Element>(alloc: Global, pull: &mut Pull<'_, R>
     requires { (standing pull.old).error ≡ None → IsSome (standing pull.old).given }
     ensures same_source { SameSource pull.old pull.new }
     ensures repeats { Repeats pull.old pull.new result }
-    ensures reads { (g : Given) → (standing pull.old).error ≡ None → (standing pull.old).given ≡ Some g → Answers pull.old pull.new (read_given_members T.type_term (standing pull.old) g) (heard (λ v. ended (map T.value v.0.items) v.1) result) }
+    ensures reads { (g : Given) → (standing pull.old).error ≡ None → (standing pull.old).given ≡ Some g → AnswersMembers pull.old pull.new (read_given_members T.type_term (standing pull.old) g) (λ v. map T.value v.0.items) (λ v. v.1) result }
     ensures short { IfOk result (λ v. length (texts_of (map T.value v.0.items)) < 2 ^ 63) }
     ensures stands { OnOk result (Uses pull.old pull.new) }
     ensures keeps { Keeps pull.new result }
