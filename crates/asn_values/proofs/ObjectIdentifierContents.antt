@@ -1,11 +1,11 @@
 -- The contents of object identifiers, as `tlv_core` and as `x690` say them.
 use Rattle.std.proofs.Common.{◌≡◌, ◌∙◌, ◌+◌, ◌*◌, ◌++◌, Bool, List, [], ◌∷◌, ℕ, ap, false, map, refl, sym, true}
 use Rattle.std.specs.List.{flat_map}
-use Rattle.tlv_core.specs.Identifier.{Tag, base128}
+use Rattle.tlv_core.specs.Identifier.{base128}
 use Rattle.tlv_core.specs.ObjectIdentifier.{AllBelow, IsObjectIdentifier, ObjectIdentifierOctets}
 use Rattle.x690.specs.Contents as kinds
 use Rattle.x690.specs.Contents.{LeafContents}
-use Rattle.x690.specs.Layouts.{Primitive, universal}
+use Rattle.x690.specs.Layouts.{universal}
 use Rattle.x690.specs.Lists as lists
 use Rattle.x690.specs.Lists.{join}
 use Rattle.x690.specs.ObjectIdentifiers.{ObjectIdentifierContents}
