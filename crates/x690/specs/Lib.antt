@@ -1,9 +1,11 @@
 pub mod Answers
 pub mod Contents
+pub mod ContentsFaults
 pub mod DerTexts
 pub mod DocumentTypes
 pub mod Fitting
 pub mod FurtherTypes
+pub mod HeaderFaults
 pub mod Identifiers
 pub mod Layouts
 pub mod Lists
