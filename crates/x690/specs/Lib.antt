@@ -9,7 +9,6 @@ pub mod HeaderFaults
 pub mod Identifiers
 pub mod Layouts
 pub mod Lists
-pub mod ObjectIdentifiers
 pub mod OpenValues
 pub mod Points
 pub mod Premises
