@@ -1,8 +1,8 @@
 -- The contents of leaves (X.690 8.2, 8.3, 8.4, 8.6, 8.7, 8.8, 8.19, 8.23).
 use Rattle.std.specs.Prelude.{IsUtf8, List, [], false, length, true, ℕ, ◌*◌, ◌++◌, ◌/◌, ◌<◌, ◌==◌, ◌^◌, ◌∷◌, ◌≡◌, ◌≤◌}
+use Rattle.tlv_core.specs.ObjectIdentifier.{IsObjectIdentifier}
 use Rattle.x690.specs.Layouts.{Constructed, FirstTree, NoTrees, Primitive, RawTree, RawTrees, tree_tag, universal}
 use Rattle.x690.specs.Lists.{join}
-use Rattle.x690.specs.ObjectIdentifiers.{ObjectIdentifierContents}
 
 -- What the contents of a leaf are. ENUMERATED has those of INTEGER (8.4), strings and times other than UTF8String those of OCTET STRING (8.23, 8.25).
 pub data LeafKind : Type 0 where
@@ -92,7 +92,7 @@ LeafContents Integer (Primitive tag contents) octets = IsInteger contents × (oc
 LeafContents Integer (Constructed tag trees) octets = ⊥
 LeafContents Null (Primitive tag contents) octets = (contents ≡ []) × (octets ≡ contents)
 LeafContents Null (Constructed tag trees) octets = ⊥
-LeafContents ObjectIdentifier (Primitive tag contents) octets = ((arcs : List ℕ) × ObjectIdentifierContents arcs contents) × (octets ≡ contents)
+LeafContents ObjectIdentifier (Primitive tag contents) octets = IsObjectIdentifier contents × (octets ≡ contents)
 LeafContents ObjectIdentifier (Constructed tag trees) octets = ⊥
 LeafContents BitString tree octets = BitStringContents tree octets
 LeafContents OctetString tree octets = StringContents tree octets

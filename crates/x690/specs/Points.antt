@@ -1,16 +1,11 @@
 -- Where an element stands, and faults there.
-use Rattle.std.specs.Prelude.{Bool, None, Option, Some, false, nat_le, nat_lt, true, ℕ, ◌==◌, ◌≡◌, ◌⊎◌}
+use Rattle.std.specs.Prelude.{Bool, None, Option, Some, false, nat_le, nat_lt, true, ℕ, ◌==◌}
 use Rattle.tlv_core.specs.declared.fault.Fault.{Fault}
 use Rattle.tlv_core.specs.declared.reason.Reason.{Reason}
-use Rattle.tlv_core.specs.declared.reason.Reason.TheVariants.{Inner}
 
 -- a fault at a place, with nothing inside
 abbrev pub fault : ℕ → Reason → Fault
 fault place why = record { at = place; why = why; inside = None }
-
--- What is inside a fault is there exactly where its reason is Inner.
-abbrev pub InsideWhereInner : Fault → Type 0
-InsideWhereInner found = ((found.why ≡ Inner) × (found.inside ≡ None → ⊥)) ⊎ ((found.why ≡ Inner → ⊥) × (found.inside ≡ None))
 
 -- The innermost container: none, one of definite length that ends at a place, one of indefinite length that ends with `00 00`.
 pub data Innermost : Type 0 where

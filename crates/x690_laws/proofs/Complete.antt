@@ -46,7 +46,7 @@ bits_part (a ∷ []) o [] h = (h.2, h.1)
 bits_part (a ∷ []) o (x ∷ rest) h = (h.2.0, h.1)
 bits_part (a ∷ b ∷ s) o rest h = bits_part (b ∷ s) o rest h.2
 
-next_ok : (n : ℕ) (s : List (List ℕ)) (o : List ℕ) (rest : List (List ℕ)) → (n ≡ 3 → AreBitSegments (s ++ (o ∷ rest))) → is_next_segment n s o ≡ true
+pub next_ok : (n : ℕ) (s : List (List ℕ)) (o : List ℕ) (rest : List (List ℕ)) → (n ≡ 3 → AreBitSegments (s ++ (o ∷ rest))) → is_next_segment n s o ≡ true
 next_ok n s o rest f = go (n == 3) refl
   where
     go : (b : Bool) → (n == 3) ≡ b → not b || (is_bit_segment o && (unused_bits s == 0)) ≡ true
@@ -61,14 +61,14 @@ next_ok n s o rest f = go (n == 3) refl
 fuel_enough : (l : Limits) (c : Enclosing) (k q : ℕ) (o tail : List ℕ) → 0 < k → EndsSo c k o tail q → Within l c.nearest_end q → length o < l.octets
 fuel_enough l c k q o tail h e w = let z : q ≤ l.octets = w.limit in ⊎_elim (λ a. let a2 : q ≡ k + length o = a.2 in omega arith) (λ a. let a2 : q ≡ k + length o + 2 = a.2 in omega arith) e
 
-no_depth : (x : RawTree) → tree_depth x ≤ 0 → ⊥
+pub no_depth : (x : RawTree) → tree_depth x ≤ 0 → ⊥
 no_depth (Primitive t o) h = omega arith
 no_depth (Constructed t rs) h = omega arith
 
 mutual
   unfolding read_segment segments Segmented Behind
 
-  seg_on : (x : RawTree) (deep : ℕ) (l : Limits) (n : ℕ) (c : Enclosing) (s0 rest : List (List ℕ)) → tree_depth x ≤ deep → tree_tag x ≡ universal n → Segmented n x → (n ≡ 3 → AreBitSegments (s0 ++ (segments x ++ rest))) → Gives l c (read_segment deep l n c s0) x (s0 ++ segments x)
+  pub seg_on : (x : RawTree) (deep : ℕ) (l : Limits) (n : ℕ) (c : Enclosing) (s0 rest : List (List ℕ)) → tree_depth x ≤ deep → tree_tag x ≡ universal n → Segmented n x → (n ≡ 3 → AreBitSegments (s0 ++ (segments x ++ rest))) → Gives l c (read_segment deep l n c s0) x (s0 ++ segments x)
   seg_on x zero l n c s0 rest dp tg sg bs p k y r h d w z = absurd (no_depth x dp)
   seg_on (Primitive t o) (suc deep) l n c s0 rest dp tg sg bs p k y r h d w z =
       let e : length y ≡ length (h.0 ++ o) = ap length h.2 in
@@ -195,7 +195,7 @@ bag_from t v vs ws e h = same_trans v (SetOf t vs) (SetOf t (values_of ws)) (sam
 mutual
   unfolding FitsOpen Behind
 
-  open_on : (x : RawTree) (v : Value) (deep : ℕ) (l : Limits) → tree_depth x ≤ deep → FitsOpen x v → Made l (λ c. read_open deep l c) x v
+  pub open_on : (x : RawTree) (v : Value) (deep : ℕ) (l : Limits) → tree_depth x ≤ deep → FitsOpen x v → Made l (λ c. read_open deep l c) x v
   open_on x v zero l dp h = absurd (no_depth x dp)
   open_on (Primitive t o) v (suc deep) l dp h = ⊎_elim
       (λ a. (

@@ -1,5 +1,5 @@
 -- The reading takes what lays out a tree that fits.
-use Rattle.std.proofs.Common.{◌≡◌, ℕ, zero, suc, ◌+◌, ◌-◌, ◌*◌, ◌%◌, ◌<◌, ◌≤◌, ◌≢◌, ◌⊎◌, inl, inr, ⊎_elim, ◌==◌, ◌&&◌, ◌||◌, nat_lt, nat_le, not, Bool, true, false, List, [], ◌∷◌, ◌++◌, map, length, Some, refl, sym, ◌∙◌, ap, ap₂, subst, append_assoc, append-nil, arith}
+use Rattle.std.proofs.Common.{◌≡◌, ℕ, zero, suc, ◌+◌, ◌-◌, ◌*◌, ◌%◌, ◌<◌, ◌≤◌, ◌≢◌, ◌⊎◌, inl, inr, ⊎_elim, ◌==◌, ◌&&◌, ◌||◌, nat_lt, nat_le, not, Bool, true, false, List, [], ◌∷◌, ◌++◌, flat_map, length, Some, refl, sym, ◌∙◌, ap, ap₂, subst, append_assoc, append-nil, arith}
 use Rattle.std.proofs.lemmas.Bool.Decides.{nat_tests}
 use Rattle.std.proofs.lemmas.List.{length-append}
 use Rattle.std.specs.Str.{IsUtf8}
@@ -14,8 +14,8 @@ use Rattle.tlv_core.specs.Length.{SpellsLength}
 use Rattle.tlv_core.specs.Limits.{Limits}
 use Rattle.x690.specs.Contents.{BitString, Boolean, Integer, IsBitSegment, IsInteger, LeafContents, LeafKind, Null, ObjectIdentifier, OctetString, Utf8String, segments}
 use Rattle.x690.specs.Layouts.{AllLaidOut, Constructed, FirstTree, LaidOut, NoTrees, Primitive, RawTree, RawTrees, tree_depth, tree_tag, trees_depth}
-use Rattle.x690.specs.Lists.{AllBelow, join}
-use Rattle.x690.specs.ObjectIdentifiers.{ObjectIdentifierContents}
+use Rattle.tlv_core.specs.ObjectIdentifier.{AllBelow}
+use Rattle.tlv_core.specs.ObjectIdentifier.{ObjectIdentifierOctets}
 use Rattle.x690.specs.Points.{Enclosing, EndsAt, EndsWithZeros, past_end, stands_at_end}
 use Rattle.x690.specs.ReadContents.{is_bit_segment, is_contents, is_integer_contents, is_object_identifier, is_subidentifiers}
 use Rattle.x690.specs.ReadHeaders.{ContainerEnds, DefiniteLength, ElementStands, IndefiniteLength, each_member, entered, in_container, next_tag}
@@ -242,14 +242,14 @@ empty_arcs : is_subidentifiers 0 [] ≡ true
 unfolding is_subidentifiers
 empty_arcs = refl
 
-all_arcs_on : (ns : List ℕ) → AllBelow Big ns → is_subidentifiers 0 (join (map base128 ns)) ≡ true
+all_arcs_on : (ns : List ℕ) → AllBelow Big ns → is_subidentifiers 0 (flat_map base128 ns) ≡ true
 all_arcs_on [] h = empty_arcs
-all_arcs_on (n ∷ ns) h = arcs_on 0 (base128 n) (join (map base128 ns)) n (digits_run n) (digits_fit n) (digits_value n) h.0 (all_arcs_on ns h.1)
+all_arcs_on (n ∷ ns) h = arcs_on 0 (base128 n) (flat_map base128 ns) n (digits_run n) (digits_fit n) (digits_value n) h.0 (all_arcs_on ns h.1)
 
-oid_on : (arcs o : List ℕ) → ObjectIdentifierContents arcs o → is_object_identifier o ≡ true
+oid_on : (arcs o : List ℕ) → ObjectIdentifierOctets arcs o → is_object_identifier o ≡ true
 oid_on [] o h = absurd h
 oid_on (x ∷ []) o h = absurd h
-oid_on (x ∷ y ∷ arcs) o h = not_empty o (run_some (40 * x + y) (join (map base128 arcs)) o h.3) (subst (λ v. is_subidentifiers 0 v ≡ true) (sym h.3) (all_arcs_on ((40 * x + y) ∷ arcs) h.2))
+oid_on (x ∷ y ∷ arcs) o h = not_empty o (run_some (40 * x + y) (flat_map base128 arcs) o h.3) (subst (λ v. is_subidentifiers 0 v ≡ true) (sym h.3) (all_arcs_on ((40 * x + y) ∷ arcs) h.2))
   where
     not_empty : (o : List ℕ) → o ≢ [] → is_subidentifiers 0 o ≡ true → is_object_identifier o ≡ true
     not_empty [] z g = absurd (z refl)

@@ -215,7 +215,7 @@ pub record TagNumber (l : Limits) (e : Option ℕ) (x k : ℕ) (s : List ℕ) (n
   pub within : Within l e q
   pub number : ((x % 32 ≡ n) × (n < 31) × (octets ≡ [])) ⊎ ((x % 32 ≡ 31) × (31 ≤ n) × (n < 268435456) × (octets ≡ base128 n))
 
-number_took : (l : Limits) (e : Option ℕ) (p x k : ℕ) (s : List ℕ) (n q : ℕ) (r : List ℕ) → Within l e k → run (read_tag_number l e p x) k s ≡ Took n q r → TagNumber l e x k s n q r
+pub number_took : (l : Limits) (e : Option ℕ) (p x k : ℕ) (s : List ℕ) (n q : ℕ) (r : List ℕ) → Within l e k → run (read_tag_number l e p x) k s ≡ Took n q r → TagNumber l e x k s n q r
 unfolding read_tag_number
 number_took l e p x k s n q r w h = ⊎_elim
     (λ y. let d = took_done _ _ _ _ _ _ y.1 in
@@ -254,7 +254,7 @@ unfolding identifier
 long_identifier t f h = let e : nat_lt t.number 31 ≡ false = grind (arith, nat_tests) in ap (λ b. cond b ((t.class * 64 + cond f 32 0 + t.number) ∷ []) ((t.class * 64 + cond f 32 0 + 31) ∷ base128 t.number)) e
 
 -- the identifier that an octet and the number behind it are
-identifier_is : (l : Limits) (e : Option ℕ) (x k : ℕ) (s : List ℕ) (n q : ℕ) (r : List ℕ) → x < 256 → (i : TagNumber l e x k s n q r) → identifier (record { class = x / 64; number = n }) (nat_le 32 (x % 64)) ≡ x ∷ i.octets
+pub identifier_is : (l : Limits) (e : Option ℕ) (x k : ℕ) (s : List ℕ) (n q : ℕ) (r : List ℕ) → x < 256 → (i : TagNumber l e x k s n q r) → identifier (record { class = x / 64; number = n }) (nat_le 32 (x % 64)) ≡ x ∷ i.octets
 identifier_is l e x k s n q r h i = ⊎_elim
     (λ y. short_identifier (record { class = x / 64; number = n }) (nat_le 32 (x % 64)) y.1
     ∙ ap₂ (λ a b. a ∷ b) (ap (λ m. x / 64 * 64 + cond (nat_le 32 (x % 64)) 32 0 + m) (sym y.0) ∙ sym (lead_is x h)) (sym y.2))
@@ -262,7 +262,7 @@ identifier_is l e x k s n q r h i = ⊎_elim
     ∙ ap₂ (λ a b. a ∷ b) (ap (λ m. x / 64 * 64 + cond (nat_le 32 (x % 64)) 32 0 + m) (sym y.0) ∙ sym (lead_is x h)) (sym y.3))
     i.number
 
-tag_is : (l : Limits) (e : Option ℕ) (x k : ℕ) (s : List ℕ) (n q : ℕ) (r : List ℕ) → x < 256 → x ≢ 0 → x ≢ 32 → TagNumber l e x k s n q r → IsTag (record { class = x / 64; number = n })
+pub tag_is : (l : Limits) (e : Option ℕ) (x k : ℕ) (s : List ℕ) (n q : ℕ) (r : List ℕ) → x < 256 → x ≢ 0 → x ≢ 32 → TagNumber l e x k s n q r → IsTag (record { class = x / 64; number = n })
 tag_is l e x k s n q r h z z' i = ⊎_elim
     (λ y. let y0 : x % 32 ≡ n = y.0 in let y1 : n < 31 = y.1 in record { class_fits = omega arith; number_fits = omega arith; not_end = λ w. z (no_class x n h y0 w z') })
     (λ y. let y1 : 31 ≤ n = y.1 in record { class_fits = omega arith; number_fits = y.2; not_end = λ w. absurd (omega arith) })
@@ -271,7 +271,7 @@ tag_is l e x k s n q r h z z' i = ⊎_elim
     no_class : (x n : ℕ) → x < 256 → x % 32 ≡ n → x / 64 + n ≡ 0 → x ≢ 32 → x ≡ 0
     no_class x n h e w z' = omega arith
 
-in_definite : (c : Innermost) (k : ℕ) → stands_at_end c k ≡ true → c ≡ EndsAt k
+pub in_definite : (c : Innermost) (k : ℕ) → stands_at_end c k ≡ true → c ≡ EndsAt k
 in_definite NoContainer k h = cc
 in_definite (EndsAt e) k h = let h' : (e == k) ≡ true = h in let q : e ≡ k = grind (arith, nat_tests) in ap EndsAt q
 in_definite EndsWithZeros k h = cc
@@ -351,7 +351,7 @@ pub record BigNumber (l : Limits) (e : Option ℕ) (left n k : ℕ) (s : List �
   pub count : length octets ≡ left
   pub number : big_endian n octets ≡ m
 
-big_took : (l : Limits) (e : Option ℕ) (p left n k : ℕ) (s : List ℕ) (m q : ℕ) (r : List ℕ) → run (read_big_endian l e p left n) k s ≡ Took m q r → BigNumber l e left n k s m q r
+pub big_took : (l : Limits) (e : Option ℕ) (p left n k : ℕ) (s : List ℕ) (m q : ℕ) (r : List ℕ) → run (read_big_endian l e p left n) k s ≡ Took m q r → BigNumber l e left n k s m q r
 unfolding read_big_endian
 big_took l e p zero n k s m q r h =
     let d = took_done _ _ _ _ _ _ h in let d1 : k ≡ q = d.1 in record { octets = []; is = d.2; place = omega arith; count = refl; number = d.0 }
@@ -385,7 +385,7 @@ fitting_took l e p n k s m q r h =
     (d.0, d.1, d.2, subst (λ x. Within l e (q + x)) d0 (subst (λ x. Within l e (x + n)) d1 w))
 
 -- the number behind the first octet `x` of a length
-number_of_took : (l : Limits) (e : Option ℕ) (p x k : ℕ) (s : List ℕ) (m q : ℕ) (r : List ℕ) → x < 255 → x ≢ 128 → run (read_number l e p x) k s ≡ Took m q r
+pub number_of_took : (l : Limits) (e : Option ℕ) (p x k : ℕ) (s : List ℕ) (m q : ℕ) (r : List ℕ) → x < 255 → x ≢ 128 → run (read_number l e p x) k s ≡ Took m q r
     → (o : List ℕ) × (s ≡ o ++ r) × (q ≡ k + length o) × SpellsLength m (x ∷ o) × Within l e (q + m)
 unfolding read_number SpellsLength
 number_of_took l e p x k s m q r lt ne h =
@@ -438,7 +438,7 @@ extent_took l e p k s x q r h =
     (record { octets = a.value ∷ n.0; is = o.is ∙ ap (λ w. a.value ∷ w) (n.1 ∙ ap (λ w. n.0 ++ w) d.2); place = omega arith; spells = n.3; within = subst (λ w. Within l e (w + c.value)) d1 n.4 }))
     (took_pick _ _ _ _ _ _ _ _ b.1)
 
-octets_took : (n k : ℕ) (s o : List ℕ) (q : ℕ) (r : List ℕ) → run (next_octets n) k s ≡ Took o q r → (s ≡ o ++ r) × (length o ≡ n) × (q ≡ k + n)
+pub octets_took : (n k : ℕ) (s o : List ℕ) (q : ℕ) (r : List ℕ) → run (next_octets n) k s ≡ Took o q r → (s ≡ o ++ r) × (length o ≡ n) × (q ≡ k + n)
 unfolding next_octets run
 octets_took zero k s o q r h = let e : [] ≡ o = cc in let e' : k ≡ q = cc in let e'' : s ≡ r = cc in (e'' ∙ ap (λ v. v ++ r) e, ap length (sym e), omega arith)
 octets_took (suc n) k [] o q r h = cc

@@ -1,5 +1,5 @@
 -- What faults look like: Truncated stands at the end of the octets, and something is inside exactly for Inner.
-use Rattle.std.proofs.Common.{◌≡◌, ℕ, zero, suc, ◌+◌, Bool, true, false, List, [], ◌∷◌, length, Option, Some, None, inl, inr, refl, sym, ◌∙◌, ap, arith, subst}
+use Rattle.std.proofs.Common.{◌≡◌, ℕ, zero, suc, ◌+◌, Bool, true, false, List, [], ◌∷◌, length, Option, Some, None, refl, sym, ◌∙◌, ap, arith, subst}
 use Rattle.tlv_core.specs.Identifier.{Tag}
 use Rattle.tlv_core.specs.Limits.{Limits}
 use Rattle.tlv_core.specs.declared.fault.Fault.{Fault}
@@ -7,7 +7,8 @@ use Rattle.tlv_core.specs.declared.reason.Reason.{Reason}
 use Rattle.tlv_core.specs.declared.reason.Reason.TheVariants.{Inner, LeftOut, Missing, Trailing, Truncated}
 use Rattle.x690.specs.Contents.{BitString, Boolean, Integer, LeafKind, Null, ObjectIdentifier, OctetString, Utf8String}
 use Rattle.x690.specs.OpenValues.{OpenForm, OpenLeaf, OpenPlain, OpenRefused, OpenSequence, OpenSetOf, open_form}
-use Rattle.x690.specs.Points.{Enclosing, InsideWhereInner, fault}
+use Rattle.tlv_core.specs.Faults.{InsideMatches}
+use Rattle.x690.specs.Points.{Enclosing, fault}
 use Rattle.x690.specs.Premises.{Honest, HonestFields, HonestReason}
 use Rattle.x690.specs.ReadContents.{add_member, all_members, bad_contents, read_leaf, read_open, read_segment}
 use Rattle.x690.specs.ReadHeaders.{ContainerEnds, ElementStands, Ended, Next, each_member, fit_contents, header_octet, in_container, next_octets, next_tag, primitive_contents, read_big_endian, read_definite_length, read_high_number, read_length, read_number, read_tag_number}
@@ -20,7 +21,7 @@ use Rattle.x690_laws.specs.ReadingLaws.{InsideOfFaults, TruncatedAtTheEnd}
 -- Truncated is left to the end of the octets, and what is inside is there exactly for Inner.
 pub record Own (f : Fault) : Type 0 where
   pub not_truncated : f.why ≡ Truncated → ⊥
-  pub inside_fits : InsideWhereInner f
+  pub inside_fits : InsideMatches f
 
 -- each fault that the reading itself gives is its own
 unfoldable pub Plainly : {A : Type 0} → Reading A → Type 0
@@ -37,19 +38,19 @@ at_end (Where g) k s f p h w = at_end (g k) k s f (p k) h w
 at_end (Ask g) k [] f p h w = let e : fault k Truncated ≡ f = cc in let z : k ≡ k + 0 = omega arith in sym e ∙ ap (λ n. fault n Truncated) z
 at_end (Ask g) k (x ∷ s) f p h w = let z : k + 1 + length s ≡ k + length (x ∷ s) = omega arith in at_end (g x) (k + 1) s f (p x) h w ∙ ap (λ n. fault n Truncated) z
 
-inside_fits : {A : Type 0} (p : Reading A) (k : ℕ) (s : List ℕ) (f : Fault) → Plainly p → run p k s ≡ Halted f → InsideWhereInner f
+inside_fits : {A : Type 0} (p : Reading A) (k : ℕ) (s : List ℕ) (f : Fault) → Plainly p → run p k s ≡ Halted f → InsideMatches f
 unfolding Plainly run
 inside_fits (Done a) k s f p h = cc
-inside_fits (Fail g) k s f p h = let e : g ≡ f = cc in subst InsideWhereInner e p.inside_fits
+inside_fits (Fail g) k s f p h = let e : g ≡ f = cc in subst InsideMatches e p.inside_fits
 inside_fits (Where g) k s f p h = inside_fits (g k) k s f (p k) h
-inside_fits (Ask g) k [] f p h = let e : fault k Truncated ≡ f = cc in subst InsideWhereInner e (inr (λ z. cc, refl))
+inside_fits (Ask g) k [] f p h = let e : fault k Truncated ≡ f = cc in subst InsideMatches e (λ z. cc, λ z. cc)
 inside_fits (Ask g) k (x ∷ s) f p h = inside_fits (g x) (k + 1) s f (p x) h
 
 plain : (p : ℕ) (w : Reason) → HonestReason w → Own (fault p w)
-plain p w h = record { not_truncated = h.0; inside_fits = inr (h.1, refl) }
+plain p w h = record { not_truncated = h.0; inside_fits = (λ z. cc, λ z. absurd (h.1 z)) }
 
 within : (p at : ℕ) (why : Reason) → Own (record { at = p; why = Inner; inside = Some (at, why) })
-within p at why = record { not_truncated = λ z. cc; inside_fits = inl (refl, λ z. cc) }
+within p at why = record { not_truncated = λ z. cc; inside_fits = (λ z. refl, λ z. refl) }
 
 bind_h : {A B : Type 0} (p : Reading A) (f : A → Reading B) → Plainly p → ((a : A) → Plainly (f a)) → Plainly (p >>= f)
 unfolding Plainly ◌>>=◌

@@ -40,7 +40,7 @@ pub each_refl : (vs : List Value) → Each Same vs vs
 each_refl [] = tt
 each_refl (v ∷ vs) = (same_refl v, each_refl vs)
 
-not_ended : (c : Enclosing) (k n : ℕ) → Proper c → 0 < n → past_end c.nearest_end (k + n) ≡ false → stands_at_end c.innermost k ≡ false
+pub not_ended : (c : Enclosing) (k n : ℕ) → Proper c → 0 < n → past_end c.nearest_end (k + n) ≡ false → stands_at_end c.innermost k ≡ false
 not_ended c k n g p b = go c.innermost refl
   where
     past_self : (k n : ℕ) (b : Option ℕ) → b ≡ Some k → 0 < n → past_end b (k + n) ≡ false → ⊥

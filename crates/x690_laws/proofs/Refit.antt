@@ -13,7 +13,7 @@ use Rattle.x690.specs.DerTexts.{arrange, der, der_element, der_texts, insert_tex
 use Rattle.x690.specs.Fitting.{Fits, FitsFields, next_fits}
 use Rattle.x690.specs.Layouts.{Constructed, FirstTree, LaidOut, NoTrees, Primitive, RawTree, RawTrees, member_trees, same_tag, tree_depth, tree_tag}
 use Rattle.x690.specs.Lists.{Each, Paired, Picked, join}
-use Rattle.x690.specs.ObjectIdentifiers.{ObjectIdentifierContents}
+use Rattle.tlv_core.specs.ObjectIdentifier.{ObjectIdentifierOctets}
 use Rattle.x690.specs.OpenValues.{FitOpenInPlace, FitOpenPaired, FitsOpen, IsOpenLeaf}
 use Rattle.x690.specs.TypeTerms.{ContainingType, Default, DefinedByType, Distinct, DistinctFields, Fields, LeafType, EndOfFields, OpenType, Optional, RefusedType, Required, RuledType, SequenceOfType, SequenceType, SetOfType, TypeTerm, fields_fit_tag, fits_tag}
 use Rattle.x690.specs.Values.{FirstMember, Leaf, NoMembers, Sequence, SetOf, Value, Values, members}
@@ -131,7 +131,7 @@ leaf_again Integer (Primitive u c) o t h = (subst IsInteger (sym h.1) h.0, refl)
 leaf_again Integer (Constructed u rs) o t h = absurd h
 leaf_again Null (Primitive u c) o t h = (h.1 ∙ h.0, refl)
 leaf_again Null (Constructed u rs) o t h = absurd h
-leaf_again ObjectIdentifier (Primitive u c) o t h = (subst (λ x. (arcs : List ℕ) × ObjectIdentifierContents arcs x) (sym h.1) h.0, refl)
+leaf_again ObjectIdentifier (Primitive u c) o t h = (subst (λ x. (arcs : List ℕ) × ObjectIdentifierOctets arcs x) (sym h.1) h.0, refl)
 leaf_again ObjectIdentifier (Constructed u rs) o t h = absurd h
 leaf_again BitString r o t h = bits_again r o t h
 leaf_again OctetString r o t h = record { segmented = tt; is = sym (append-nil o) }

@@ -213,7 +213,7 @@ one_segment [] o h z g = g
 one_segment (a ∷ []) o h z g = (h, z, g)
 one_segment (a ∷ b ∷ s) o h z g = (h.0, h.1, one_segment (b ∷ s) o h.2 z g)
 
-next_fine : (n : ℕ) (s : List (List ℕ)) (o : List ℕ) → is_next_segment n s o ≡ true → Fine n s → Fine n (s ++ (o ∷ []))
+pub next_fine : (n : ℕ) (s : List (List ℕ)) (o : List ℕ) → is_next_segment n s o ≡ true → Fine n s → Fine n (s ++ (o ∷ []))
 next_fine n s o h f e =
     let t : (n == 3) ≡ true = grind (arith, nat_tests) in
     let a = both_true _ _ (either_true _ _ h t) in

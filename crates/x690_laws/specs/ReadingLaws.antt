@@ -3,7 +3,8 @@ use Rattle.std.specs.Prelude.{List, length, ℕ, ◌++◌, ◌+◌, ◌≡◌, �
 use Rattle.tlv_core.specs.Limits.{Limits}
 use Rattle.tlv_core.specs.declared.fault.Fault.{Fault}
 use Rattle.tlv_core.specs.declared.reason.Reason.TheVariants.{Truncated}
-use Rattle.x690.specs.Points.{Enclosing, InsideWhereInner, fault}
+use Rattle.tlv_core.specs.Faults.{InsideMatches}
+use Rattle.x690.specs.Points.{Enclosing, fault}
 use Rattle.x690.specs.Premises.{Fair, Honest}
 use Rattle.x690.specs.ReadTypes.{read_element}
 use Rattle.x690.specs.Reading.{Halted, Took, run}
@@ -45,4 +46,4 @@ TruncatedAtTheEnd = (limits : Limits) (type : TypeTerm) (earlier : List Value) (
 
 abbrev pub InsideOfFaults : Type 0
 InsideOfFaults = (limits : Limits) (type : TypeTerm) (earlier : List Value) (enclosing : Enclosing) (place : ℕ) (octets : List ℕ) (found : Fault)
-    → Honest type → run (read_element limits type earlier enclosing) place octets ≡ Halted found → InsideWhereInner found
+    → Honest type → run (read_element limits type earlier enclosing) place octets ≡ Halted found → InsideMatches found
