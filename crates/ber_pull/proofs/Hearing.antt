@@ -1,0 +1,209 @@
+-- How the answers of calls are put together: one after another, tests, single octets.
+use Rattle.std.proofs.Common.{◌≡◌, ℕ, zero, suc, ◌+◌, ◌≤◌, ◌<◌, Bool, true, false, not, List, [], ◌∷◌, ◌++◌, length, take, get_or, Option, Some, None, Result, Ok, Err, refl, sym, ◌∙◌, ap, ap₂, subst, arith, append_assoc}
+use Rattle.std.proofs.lemmas.List.{length-append}
+use Rattle.std.specs.Io.KnownBytes.{Consumes, IsAtEnd, Keeps}
+use Rattle.tlv_core.specs.declared.fault.Fault.{Fault}
+use Rattle.tlv_core.specs.declared.fault.ReadError.{ReadError}
+use Rattle.tlv_core.specs.declared.fault.ReadError.TheVariants as errors
+use Rattle.tlv_core.specs.declared.reason.Reason.TheVariants.{Truncated}
+use Rattle.x690.specs.Points.{fault}
+use Rattle.x690.specs.Reading.{Reading, Done, Fail, Where, Ask, ◌>>=◌, require, choose, Outcome, Took, Halted, run}
+use Rattle.x690.specs.Reads.{Heard, Said, Refused, ReadFailed, NoMemory, Reads}
+use Rattle.ber_pull.specs.Hears.{Continues, Hears, TakesFrom, heard, heard_error}
+use Rattle.ber_pull.proofs.Runs.{run_bind, halt_bind, Taken, taken}
+
+-- what two calls take, one after the other
+
+pub takes_both : (k j i : ℕ) (s t u : List ℕ) → TakesFrom k s j t → TakesFrom j t i u → TakesFrom k s i u
+takes_both k j i s t u x y =
+    let n = length-append x.0 y.0 in let e : j ≡ k + length x.0 = x.2 in let e' : i ≡ j + length y.0 = y.2 in
+    (x.0 ++ y.0, x.1 ∙ ap (λ w. x.0 ++ w) y.1 ∙ sym (append_assoc x.0 y.0 u), omega arith)
+
+takes_none : (k : ℕ) (s : List ℕ) → TakesFrom k s k s
+takes_none k s = ([], refl, omega arith)
+
+-- answers where the octets are told
+
+reads_then : {A B : Type 0} (p : Reading A) (f : A → Reading B) (a : A) (h : Heard B) (k j i : ℕ) (s u v : List ℕ) → Reads p k s (Said a) j u → Reads (f a) j u h i v → Reads (p >>= f) k s h i v
+unfolding Reads
+reads_then p f a (Said b) k j i s u v x y = run_bind p f k s a j u x ∙ y
+reads_then p f a (Refused g) k j i s u v x y = run_bind p f k s a j u x ∙ y
+reads_then p f a (ReadFailed at) k j i s u v x y =
+    let t = taken p k s a j u x in
+    let z = length-append t.octets y.0 in
+    let e : at ≡ j + length y.0 = y.2 in
+    let e' : j ≡ k + length t.octets = t.place in (
+      t.octets ++ y.0,
+      t.is ∙ ap (λ w. t.octets ++ w) y.1 ∙ sym (append_assoc t.octets y.0 v),
+      omega arith,
+      run_bind p f k (t.octets ++ y.0) a j y.0 (t.any_rest y.0) ∙ y.3,
+    )
+reads_then p f a NoMemory k j i s u v x y = tt
+
+reads_error : {A B : Type 0} (p : Reading A) (f : A → Reading B) (e : ReadError) (k i : ℕ) (s v : List ℕ) → Reads p k s (heard_error e) i v → Reads (p >>= f) k s (heard_error e) i v
+unfolding Reads
+reads_error p f (errors.Fault g) k i s v x = halt_bind p f k s g x
+reads_error p f (errors.Read at) k i s v x = (x.0, x.1, x.2, halt_bind p f k x.0 (fault at Truncated) x.3)
+reads_error p f errors.Memory k i s v x = tt
+
+reads_where : {A : Type 0} (f : ℕ → Reading A) (h : Heard A) (k i : ℕ) (s v : List ℕ) → Reads (f k) k s h i v → Reads (Where f) k s h i v
+unfolding Reads run
+reads_where f (Said a) k i s v x = x
+reads_where f (Refused g) k i s v x = x
+reads_where f (ReadFailed at) k i s v x = x
+reads_where f NoMemory k i s v x = tt
+
+-- One call gave a value, and the next one goes on from there.
+pub hears_then : {A B : Type 0} (p : Reading A) (f : A → Reading B) (a : A) (h : Heard B) (k j i : ℕ) (s t u : Option (List ℕ)) → Hears p k s (Said a) j t → Hears (f a) j t h i u → Hears (p >>= f) k s h i u
+unfolding Hears
+hears_then p f a h k j i None t u x y = tt
+hears_then p f a h k j i (Some s) None u x y = absurd x
+hears_then p f a h k j i (Some s) (Some t) None x y = absurd y
+hears_then p f a h k j i (Some s) (Some t) (Some u) x y = (takes_both k j i s t u x.0 y.0, reads_then p f a h k j i s t u x.1 y.1)
+
+-- An error of the first call is the answer of the two.
+pub hears_error : {A B : Type 0} (p : Reading A) (f : A → Reading B) (e : ReadError) (k i : ℕ) (s u : Option (List ℕ)) → Hears p k s (heard_error e) i u → Hears (p >>= f) k s (heard_error e) i u
+unfolding Hears
+hears_error p f e k i None u x = tt
+hears_error p f e k i (Some s) None x = absurd x
+hears_error p f e k i (Some s) (Some u) x = (x.0, reads_error p f e k i s u x.1)
+
+-- an error is heard as itself, whatever the value would be
+pub hears_err : {T A : Type 0} (p : Reading A) (g : T → A) (r : Result T ReadError) (e : ReadError) (k i : ℕ) (s u : Option (List ℕ)) → r ≡ Err e → Hears p k s (heard_error e) i u → Hears p k s (heard g r) i u
+hears_err p g r e k i s u h x = subst (λ w. Hears p k s (heard g w) i u) (sym h) x
+
+pub hears_where : {A : Type 0} (f : ℕ → Reading A) (h : Heard A) (k i : ℕ) (s u : Option (List ℕ)) → Hears (f k) k s h i u → Hears (Where f) k s h i u
+unfolding Hears
+hears_where f h k i None u x = tt
+hears_where f h k i (Some s) None x = absurd x
+hears_where f h k i (Some s) (Some u) x = (x.0, reads_where f h k i s u x.1)
+
+-- a test that holds goes on, one that doesn't is the fault
+pub hears_on : {A : Type 0} (b : Bool) (f : Fault) (p : Reading A) (h : Heard A) (k i : ℕ) (s u : Option (List ℕ)) → b ≡ true → Hears p k s h i u → Hears (require b f p) k s h i u
+unfolding require
+hears_on true f p h k i s u e x = x
+hears_on false f p h k i s u e x = cc
+
+pub hears_fail : (A : Type 0) (f : Fault) (k : ℕ) (s : Option (List ℕ)) → Hears {A = A} (Fail f) k s (Refused f) k s
+unfolding Hears Reads run
+hears_fail A f k None = tt
+hears_fail A f k (Some s) = (takes_none k s, refl)
+
+pub hears_off : {A : Type 0} (b : Bool) (f : Fault) (p : Reading A) (k : ℕ) (s : Option (List ℕ)) → b ≡ false → Hears (require b f p) k s (Refused f) k s
+unfolding require
+hears_off true f p k s e = cc
+hears_off {A} false f p k s e = hears_fail A f k s
+
+pub hears_first : {A : Type 0} (b : Bool) (p q : Reading A) (h : Heard A) (k i : ℕ) (s u : Option (List ℕ)) → b ≡ true → Hears p k s h i u → Hears (choose b p q) k s h i u
+unfolding choose
+hears_first true p q h k i s u e x = x
+hears_first false p q h k i s u e x = cc
+
+pub hears_second : {A : Type 0} (b : Bool) (p q : Reading A) (h : Heard A) (k i : ℕ) (s u : Option (List ℕ)) → b ≡ false → Hears q k s h i u → Hears (choose b p q) k s h i u
+unfolding choose
+hears_second true p q h k i s u e x = cc
+hears_second false p q h k i s u e x = x
+
+pub hears_done : {A : Type 0} (a : A) (k : ℕ) (s : Option (List ℕ)) → Hears (Done a) k s (Said a) k s
+unfolding Hears Reads run
+hears_done a k None = tt
+hears_done a k (Some s) = (takes_none k s, refl)
+
+pub hears_done_as : {A : Type 0} (a b : A) (k : ℕ) (s : Option (List ℕ)) → b ≡ a → Hears (Done a) k s (Said b) k s
+hears_done_as a b k s e = subst (λ w. Hears (Done a) k s (Said w) k s) (sym e) (hears_done a k s)
+
+pub hears_said : {A : Type 0} (p : Reading A) (a b : A) (k i : ℕ) (s u : Option (List ℕ)) → a ≡ b → Hears p k s (Said a) i u → Hears p k s (Said b) i u
+hears_said p a b k i s u e x = subst (λ w. Hears p k s (Said w) i u) e x
+
+pub no_true : (b : Bool) → not b ≡ true → b ≡ false
+no_true true h = cc
+no_true false h = refl
+
+pub no_false : (b : Bool) → not b ≡ false → b ≡ true
+no_false true h = refl
+no_false false h = cc
+
+-- readings that give the same on all octets
+reads_same : {A : Type 0} (p q : Reading A) (h : Heard A) (k i : ℕ) (s v : List ℕ) → ((k : ℕ) (s : List ℕ) → run p k s ≡ run q k s) → Reads p k s h i v → Reads q k s h i v
+unfolding Reads
+reads_same p q (Said a) k i s v e x = sym (e k s) ∙ x
+reads_same p q (Refused g) k i s v e x = sym (e k s) ∙ x
+reads_same p q (ReadFailed at) k i s v e x = (x.0, x.1, x.2, sym (e k x.0) ∙ x.3)
+reads_same p q NoMemory k i s v e x = tt
+
+pub hears_same : {A : Type 0} (p q : Reading A) (h : Heard A) (k i : ℕ) (s u : Option (List ℕ)) → ((k : ℕ) (s : List ℕ) → run p k s ≡ run q k s) → Hears p k s h i u → Hears q k s h i u
+unfolding Hears
+hears_same p q h k i None u e x = tt
+hears_same p q h k i (Some s) None e x = absurd x
+hears_same p q h k i (Some s) (Some u) e x = (x.0, reads_same p q h k i s u e x.1)
+
+-- a fault that the call itself found, nothing more being taken
+pub hears_stop : {A : Type 0} (p : Reading A) (f : Fault) (e : ReadError) (k i i' : ℕ) (s u u' : Option (List ℕ)) → e ≡ errors.Fault f → i' ≡ i → u' ≡ u → Hears p k s (Refused f) i u → Hears p k s (heard_error e) i' u'
+hears_stop p f e k i i' s u u' x y z h =
+    subst (λ w. Hears p k s (heard_error w) i' u') (sym x) (subst (λ w. Hears p k s (Refused f) w u') (sym y) (subst (λ w. Hears p k s (Refused f) i w) (sym z) h))
+
+-- the same place, said in another way
+pub hears_at : {A : Type 0} (p : Reading A) (h : Heard A) (k i i' : ℕ) (s u u' : Option (List ℕ)) → i' ≡ i → u' ≡ u → Hears p k s h i u → Hears p k s h i' u'
+hears_at p h k i i' s u u' y z x = subst (λ w. Hears p k s h w u') (sym y) (subst (λ w. Hears p k s h i w) (sym z) x)
+
+-- the same reading, said in another way
+pub hears_as : {A : Type 0} (p q : Reading A) (h : Heard A) (k i : ℕ) (s u : Option (List ℕ)) → p ≡ q → Hears p k s h i u → Hears q k s h i u
+hears_as p q h k i s u e x = subst (λ w. Hears w k s h i u) e x
+
+pub continues_here : {A : Type 0} (p : Reading A) (k : ℕ) (s : Option (List ℕ)) → Continues p k s p k s
+continues_here p k s = record { rest = λ h i u x. x }
+
+-- Single octets: it came, the input has ended, or the source failed.
+
+pub hears_octet : (x k : ℕ) (s t : Option (List ℕ)) → Consumes s t (x ∷ []) → Hears (Ask Done) k s (Said x) (k + 1) t
+unfolding Hears Reads run
+hears_octet x k None t h = tt
+hears_octet x k (Some s) None h = absurd h
+hears_octet x k (Some s) (Some t) h = ((x ∷ [], h, refl), ap (λ w. run (Ask Done) k w) h)
+
+pub hears_ended : {A : Type 0} (f : ℕ → Reading A) (k : ℕ) (s t : Option (List ℕ)) → Consumes s t [] → IsAtEnd t → Hears (Ask f) k s (Refused (fault k Truncated)) k t
+unfolding Hears Reads run
+hears_ended f k None t h e = tt
+hears_ended f k (Some s) None h e = absurd h
+hears_ended f k (Some s) (Some t) h e = (([], h, omega arith), ap (λ w. run (Ask f) k w) (h ∙ e))
+
+hears_failed : {A : Type 0} (f : ℕ → Reading A) (k : ℕ) (s t : Option (List ℕ)) → Keeps s t → Hears (Ask f) k s (ReadFailed k) k t
+unfolding Hears Reads run
+hears_failed f k None t h = tt
+hears_failed f k (Some s) None h = absurd h
+hears_failed f k (Some s) (Some t) h = (([], sym h, omega arith), ([], sym h, omega arith, refl))
+
+pub hears_failed_at : {A : Type 0} (f : ℕ → Reading A) (at k i : ℕ) (s t : Option (List ℕ)) → at ≡ k → i ≡ k → Keeps s t → Hears (Ask f) k s (ReadFailed at) i t
+hears_failed_at f at k i s t x y h = subst (λ w. Hears (Ask f) k s (ReadFailed w) i t) (sym x) (subst (λ w. Hears (Ask f) k s (ReadFailed k) w t) (sym y) (hears_failed f k s t h))
+
+-- want of memory says only what was taken
+hears_nothing : {A : Type 0} (p : Reading A) (k i : ℕ) (s u : Option (List ℕ)) (octets : List ℕ) → Consumes s u octets → i ≡ k + length octets → Hears p k s NoMemory i u
+unfolding Hears Reads
+hears_nothing p k i None u octets h e = tt
+hears_nothing p k i (Some s) None octets h e = absurd h
+hears_nothing p k i (Some s) (Some u) octets h e = ((octets, h, e), tt)
+
+only_taken : {A B : Type 0} (p : Reading A) (h : Heard A) (q : Reading B) (k j : ℕ) (s u : Option (List ℕ)) → Hears p k s h j u → Hears q k s NoMemory j u
+unfolding Hears Reads
+only_taken p h q k j None u x = tt
+only_taken p h q k j (Some s) None x = absurd x
+only_taken p h q k j (Some s) (Some u) x = (x.0, tt)
+
+pub hears_memory : {A : Type 0} (p : Reading A) (e : ReadError) (k i : ℕ) (s u u' : Option (List ℕ)) (octets : List ℕ) → e ≡ errors.Memory → u' ≡ u → Consumes s u octets → i ≡ k + length octets → Hears p k s (heard_error e) i u'
+hears_memory p e k i s u u' octets x y h z =
+    subst (λ w. Hears p k s (heard_error w) i u') (sym x) (subst (λ w. Hears p k s NoMemory i w) (sym y) (hears_nothing p k i s u octets h z))
+
+-- the same octets were taken, and then memory ran out
+pub hears_then_memory : {A B : Type 0} (p : Reading A) (h : Heard A) (q : Reading B) (e : ReadError) (k j j' : ℕ) (s u u' : Option (List ℕ)) → e ≡ errors.Memory → j' ≡ j → u' ≡ u → Hears p k s h j u → Hears q k s (heard_error e) j' u'
+hears_then_memory p h q e k j j' s u u' x y z w = subst (λ v. Hears q k s (heard_error v) j' u') (sym x) (hears_at q NoMemory k j j' s u u' y z (only_taken p h q k j s u w))
+
+-- the room for one octet, when it came
+pub one_octet : (n : ℕ) (room : List ℕ) → n ≤ length room → length room ≡ 1 → (n ≡ 0 → ⊥) → take n room ≡ get_or room 0 0 ∷ []
+one_octet zero room h l z = absurd (z refl)
+one_octet (suc n) [] h l z = absurd (omega arith)
+one_octet (suc zero) (x ∷ []) h l z = refl
+one_octet (suc (suc n)) (x ∷ []) h l z = absurd (omega arith)
+one_octet (suc n) (x ∷ y ∷ room) h l z = absurd (omega arith)
+
+pub no_octet : (n : ℕ) (s t : Option (List ℕ)) (room : List ℕ) → n ≡ 0 → Consumes s t (take n room) → Consumes s t []
+no_octet n s t room e h = subst (λ k. Consumes s t (take k room)) e h

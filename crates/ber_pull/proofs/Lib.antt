@@ -1,0 +1,10 @@
+pub mod Stack
+pub mod Runs
+pub mod Hearing
+pub mod Headers
+pub mod Nexts
+pub mod Containers
+pub mod Pieces
+pub mod Joining
+pub mod Walk
+pub mod Strings

@@ -1,0 +1,67 @@
+-- Contents that come in pieces.
+use Rattle.std.proofs.Common.{◌≡◌, ℕ, zero, suc, ◌+◌, ◌-◌, ◌≤◌, ◌<◌, List, [], ◌∷◌, ◌++◌, length, take, Option, Some, None, refl, sym, ◌∙◌, ap, ap₂, subst, arith, append_assoc}
+use Rattle.std.proofs.lemmas.List.{length-append}
+use Rattle.tlv_core.specs.declared.fault.Fault.{Fault}
+use Rattle.std.specs.Io.KnownBytes.{Consumes, IsAtEnd, Keeps}
+use Rattle.tlv_core.specs.declared.fault.ReadError.{ReadError}
+use Rattle.tlv_core.specs.declared.fault.ReadError.TheVariants as errors
+use Rattle.tlv_core.specs.declared.reason.Reason.TheVariants.{Truncated}
+use Rattle.x690.specs.Points.{fault}
+use Rattle.x690.specs.ReadHeaders.{next_octets}
+use Rattle.x690.specs.Reading.{Ask, Done, Halted, Took, run, ◌>>=◌}
+use Rattle.x690.specs.Reads.{Heard, NoMemory, ReadFailed, Reads, Refused, Said}
+use Rattle.ber_pull.specs.Hears.{Hears, TakesFrom, heard_error}
+use Rattle.ber_pull.proofs.Hearing.{hears_ended, hears_failed_at, takes_both}
+use Rattle.ber_pull.proofs.Runs.{halt_bind, run_bind}
+
+pub octets_ended : (n k : ℕ) (s t : Option (List ℕ)) → 0 < n → Consumes s t [] → IsAtEnd t → Hears (next_octets n) k s (Refused (fault k Truncated)) k t
+unfolding next_octets
+octets_ended zero k s t h c e = absurd (omega arith)
+octets_ended (suc n) k s t h c e = hears_ended _ k s t c e
+
+pub octets_failed : (n at k i : ℕ) (s t : Option (List ℕ)) → 0 < n → at ≡ k → i ≡ k → Keeps s t → Hears (next_octets n) k s (ReadFailed at) i t
+unfolding next_octets
+octets_failed zero at k i s t h x y c = absurd (omega arith)
+octets_failed (suc n) at k i s t h x y c = hears_failed_at _ at k i s t x y c
+
+-- the octets that stand there are the next ones
+octets_all : (n k : ℕ) (o r : List ℕ) → length o ≡ n → run (next_octets n) k (o ++ r) ≡ Took o (k + n) r
+unfolding next_octets run ◌>>=◌
+octets_all zero k [] r h = let e : k ≡ k + 0 = omega arith in ap (λ w. Took [] w r) e
+octets_all zero k (x ∷ o) r h = absurd (omega arith)
+octets_all (suc n) k [] r h = absurd (omega arith)
+octets_all (suc n) k (x ∷ o) r h =
+    let e : k + 1 + n ≡ k + suc n = omega arith in
+    run_bind (next_octets n) (λ w. Done (x ∷ w)) (k + 1) (o ++ r) o (k + 1 + n) r (octets_all n (k + 1) o r (omega arith)) ∙ ap (λ w. Took (x ∷ o) w r) e
+
+-- a fault behind some of them is a fault of all
+halts_behind : (m n k j : ℕ) (o s : List ℕ) (f : Fault) → j ≡ k + length o → length o + m ≡ n → run (next_octets m) j s ≡ Halted f → run (next_octets n) k (o ++ s) ≡ Halted f
+unfolding next_octets run ◌>>=◌
+halts_behind m n k j [] s f p h x =
+    let e : n ≡ m = omega arith in let e' : k ≡ j = omega arith in ap₂ (λ a b. run (next_octets a) b s) e e' ∙ x
+halts_behind m zero k j (y ∷ o) s f p h x = absurd (omega arith)
+halts_behind m (suc n) k j (y ∷ o) s f p h x =
+    halt_bind (next_octets n) (λ w. Done (y ∷ w)) (k + 1) (o ++ s) f (halts_behind m n (k + 1) j o s f (omega arith) (omega arith) x)
+
+-- an error behind some of them is an error of all
+octets_error : (m n k j i : ℕ) (e : ReadError) (o s v : List ℕ) → j ≡ k + length o → length o + m ≡ n → Reads (next_octets m) j s (heard_error e) i v → Reads (next_octets n) k (o ++ s) (heard_error e) i v
+unfolding Reads
+octets_error m n k j i (errors.Fault f) o s v p h x = halts_behind m n k j o s f p h x
+octets_error m n k j i (errors.Read at) o s v p h x =
+    let l = length-append o x.0 in let e : at ≡ j + length x.0 = x.2 in
+    (o ++ x.0, ap (λ w. o ++ w) x.1 ∙ sym (append_assoc o x.0 v), omega arith, halts_behind m n k j o x.0 (fault at Truncated) p h x.3)
+octets_error m n k j i errors.Memory o s v p h x = tt
+
+pub contents_done : (n k j : ℕ) (o : List ℕ) (s t : Option (List ℕ)) → Consumes s t o → j ≡ k + length o → length o ≡ n → Hears (next_octets n) k s (Said o) j t
+unfolding Hears Reads
+contents_done n k j o None t c e h = tt
+contents_done n k j o (Some s) None c e h = absurd c
+contents_done n k j o (Some s) (Some t) c e h =
+    ((o, c, e), ap (λ w. run (next_octets n) k w) c ∙ octets_all n k o t h ∙ ap (λ w. Took o w t) (ap (λ w. k + w) (sym h) ∙ sym e))
+
+pub contents_error : (m n k j i : ℕ) (e : ReadError) (o : List ℕ) (s t u : Option (List ℕ)) → Consumes s t o → j ≡ k + length o → length o + m ≡ n → Hears (next_octets m) j t (heard_error e) i u → Hears (next_octets n) k s (heard_error e) i u
+unfolding Hears
+contents_error m n k j i e o None t u c p h x = tt
+contents_error m n k j i e o (Some s) None u c p h x = absurd c
+contents_error m n k j i e o (Some s) (Some t) None c p h x = absurd x
+contents_error m n k j i e o (Some s) (Some t) (Some u) c p h x = (takes_both k j i s t u (o, c, p) x.0, subst (λ w. Reads (next_octets n) k w (heard_error e) i u) (sym c) (octets_error m n k j i e o t u p h x.1))

@@ -1,0 +1,47 @@
+use Rattle.std.proofs.Common.{rules, arith, ◌≡◌, ◌+◌, ◌-◌, ◌<◌, ◌≤◌, ℕ, Bool, true, false, length, take, List, [], IfSome, Option, Some, None, Ok, Err, refl, sym, ap, subst, ◌∙◌}
+use Rattle.tlv_core.specs.declared.fault.ReadError.TheVariants as errors
+use Rattle.tlv_core.specs.declared.reason.Reason.TheVariants.{Extra, Truncated, WrongForm}
+use Rattle.x690.specs.Points.{fault}
+use Rattle.x690.specs.ReadHeaders.{read_length, next_octets}
+use Rattle.x690.specs.Reads.{Refused, Said, ReadFailed}
+use Rattle.ber_pull.specs.Hears.{Hears, heard, heard_error}
+use Rattle.ber_pull.specs.Lengths.{form_of}
+use Rattle.ber_pull.specs.Standing.{enclosing, moved, opening, place, used}
+use Rattle.ber_pull.proofs.Hearing.{hears_as, hears_at, hears_done, hears_err, hears_error, hears_memory, hears_off, hears_on, hears_then, hears_said, hears_stop, no_false, no_octet, no_true}
+use Rattle.ber_pull.proofs.Containers.{enter_error, enter_opens, enter_primitive, leave_ended, leave_error, leave_extra}
+use Rattle.ber_pull.proofs.Pieces.{contents_done, contents_error, octets_ended, octets_failed}
+use Rattle.std.proofs.Common.{◌==◌, ◌||◌, ◌&&◌, not, ◌∷◌, ◌++◌}
+use Rattle.tlv_core.specs.declared.reason.Reason.TheVariants.{BadBits}
+use Rattle.x690.specs.ReadContents.{is_next_segment}
+use Rattle.x690.specs.ReadHeaders.{primitive_contents}
+use Rattle.ber_pull.specs.Segments.{AddsSegment, Joins, read_one_segment, segment_number}
+use Rattle.ber_pull.proofs.Hearing.{hears_then_memory}
+use Rattle.ber_pull.proofs.Joining.{added_error, follows, follows_bits}
+use Rattle.ber_pull.proofs.Walk.{level}
+use Rattle.ber_pull.proofs.pull.Pull.segment.Goals as goal
+
+pub returns-in_err-contents-clause-reads : goal.returns-in_err-contents-clause-reads
+unfolding read_one_segment
+returns-in_err-contents-clause-reads g c = λ s joins.
+    added_error c.args.self.now c.primitive_contents.new.self _ c.args.joined.now c.from_residual.result c.in_err-contents.field-0.0 (search rules) (hears_error _ _ _ _ _ _ _ c.in_err-contents.ensures.reads)
+
+pub returns-then-not-may_follow-clause-reads : goal.returns-then-not-may_follow-clause-reads
+unfolding read_one_segment
+returns-then-not-may_follow-clause-reads g c = λ s joins.
+    let test = subst (λ w. is_next_segment (segment_number c.args.joined.now.is_bits) s w ≡ false) c.deref.ensures.value (sym (follows c.args.joined.now.is_bits c.args.joined.now.unused s c.deref.result.now joins.unused) ∙ sym c.may_follow.ensures ∙ c.if-not-may_follow.true) in
+    hears_stop _ (fault c.args.start BadBits) _ _ _ _ _ _ _ c.stop.ensures.is (ap (λ s. s.taken) c.stop.ensures.stands) (ap g.R.Source.remaining c.stop.ensures.same)
+    (hears_then _ _ c.in_ok-contents.contents.items _ _ _ _ _ _ _ c.in_ok-contents.ensures.reads (hears_off _ _ _ _ _ test))
+
+pub returns-in-Ok-clause-reads : goal.returns-in-Ok-clause-reads
+unfolding read_one_segment
+returns-in-Ok-clause-reads g c = λ s joins.
+    let test = subst (λ w. is_next_segment (segment_number c.args.joined.now.is_bits) s w ≡ true) c.deref.ensures.value (sym (follows c.args.joined.now.is_bits c.args.joined.now.unused s c.deref.result.now joins.unused) ∙ sym c.may_follow.ensures ∙ c.if-not-may_follow.false) in (
+      s ++ (c.in_ok-contents.contents.items ∷ []),
+      c.in-Ok.ensures.more s joins,
+      hears_then _ _ c.in_ok-contents.contents.items _ _ _ _ _ _ _ c.in_ok-contents.ensures.reads (hears_on _ _ _ _ _ _ _ _ test (hears_done _ _ _)),
+    )
+
+pub returns-in-Err-clause-reads : goal.returns-in-Err-clause-reads
+returns-in-Err-clause-reads g c = λ s joins.
+    let first = c.no_memory.ensures.first (search rules) in
+    hears_then_memory _ _ _ _ _ _ _ _ _ _ first.0 (ap (λ s. s.taken) first.1) (ap g.R.Source.remaining c.no_memory.ensures.same) c.in_ok-contents.ensures.reads

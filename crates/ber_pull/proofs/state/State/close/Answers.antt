@@ -1,0 +1,12 @@
+use Rattle.std.proofs.Common.{rules, arith, ◌≡◌, ◌<◌, ◌≤◌, ◌+◌, ◌-◌, ℕ, Option, Some, None, [], ◌∷◌, length, nat_lt, not, Bool, true, false, List, refl, sym, ap, ◌∙◌}
+use Rattle.ber_pull.specs.Standing.{first_of, closing, ending, without_first, with_ended}
+use Rattle.ber_pull.specs.declared.state.Container.{Container}
+use Rattle.ber_pull.specs.declared.state.Container.TheVariants.{Definite, Indefinite, Ended}
+use Rattle.ber_pull.proofs.Stack.{depth_is, reverse_more, reverse_more_set, reverse_last}
+use Rattle.ber_pull.proofs.state.State.close.Goals as goal
+
+pub returns-then-self-gt0 : goal.returns-then-self-gt0
+returns-then-self-gt0 c =
+    let more : 0 < c.self.inside.depth = c.if-self-gt0.true in
+    let fits : c.self.inside.depth ≤ length c.self.inside.containers = omega arith in
+    rw (← c.self.view_is, reverse_last c.self.inside.depth c.self.inside.containers (Definite 0) more fits) refl

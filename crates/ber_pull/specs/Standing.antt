@@ -1,0 +1,125 @@
+-- What a pull reader stands at.
+use Rattle.std.specs.Prelude.{Bool, List, None, Option, Some, [], false, length, nat_lt, true, ℕ, ◌+◌, ◌∷◌}
+use Rattle.tlv_core.specs.Identifier.{Tag}
+use Rattle.tlv_core.specs.Limits.{Limits}
+use Rattle.tlv_core.specs.declared.fault.ReadError.{ReadError}
+use Rattle.x690.specs.Points.{Enclosing, EndsAt, EndsWithZeros, Innermost, NoContainer}
+use Rattle.x690.specs.ReadHeaders.{DefiniteLength, IndefiniteLength, LengthForm}
+use Rattle.ber_pull.specs.declared.state.Container.{Container}
+use Rattle.ber_pull.specs.declared.state.Container.TheVariants.{Definite, Ended, Indefinite}
+use Rattle.ber_pull.specs.declared.state.Given.{Given}
+
+pub record Standing : Type 0 where
+  pub limits : Limits
+  -- how many octets are taken
+  pub taken : ℕ
+  -- the identifier that is given and not used yet: its place, its tag, and whether the form is constructed
+  pub given : Option Given
+  -- the open containers, the innermost first
+  pub containers : List Container
+  -- the error, once it failed
+  pub error : Option ReadError
+
+-- at the start, with no container open
+abbrev pub started : Limits → Standing
+started limits = record { limits = limits; taken = 0; given = None; containers = []; error = None }
+
+-- the place of the identifier that is given and not used yet, or else of the next octet
+abbrev pub place : Standing → ℕ
+place s = elim s.given [ Some g ↦ g.at | None ↦ s.taken ]
+
+abbrev pub first_of : List Container → Option Container
+first_of [] = None
+first_of (c ∷ cs) = Some c
+
+-- the end of the nearest container of definite length, of the innermost container
+abbrev pub nearest_end_in : Option Container → Option ℕ
+nearest_end_in None = None
+nearest_end_in (Some (Definite end)) = Some end
+nearest_end_in (Some (Indefinite around)) = around
+nearest_end_in (Some (Ended around)) = around
+
+abbrev pub innermost_in : Option Container → Innermost
+innermost_in None = NoContainer
+innermost_in (Some (Definite end)) = EndsAt end
+innermost_in (Some (Indefinite around)) = EndsWithZeros
+innermost_in (Some (Ended around)) = EndsWithZeros
+
+-- the point inside these containers, the place apart
+abbrev pub enclosing_of : List Container → Enclosing
+enclosing_of cs = record { nearest_end = nearest_end_in (first_of cs); innermost = innermost_in (first_of cs); open_containers = length cs }
+
+abbrev pub enclosing : Standing → Enclosing
+enclosing s = enclosing_of s.containers
+
+-- its end-of-contents octets are taken
+abbrev pub is_ended : Container → Bool
+is_ended (Definite end) = false
+is_ended (Indefinite around) = false
+is_ended (Ended around) = true
+
+-- Nothing more is to come here, and no octet is needed to know it: the end-of-contents octets of the innermost container are taken,
+-- or no container is open and the outermost element is complete.
+abbrev pub is_over_in : ℕ → Option Container → Bool
+is_over_in taken None = nat_lt 0 taken
+is_over_in taken (Some c) = is_ended c
+
+abbrev pub is_over : Standing → Bool
+is_over s = is_over_in s.taken (first_of s.containers)
+
+-- the octets up to this place are taken
+abbrev pub moved : ℕ → Standing → Standing
+moved taken s = record s { taken = taken }
+
+-- it has failed
+abbrev pub failed_with : ReadError → Standing → Standing
+failed_with e s = record s { error = Some e }
+
+-- an identifier is given
+abbrev pub giving : ℕ → Tag → Bool → Standing → Standing
+giving at tag constructed s = record s { given = Some (record { at = at; tag = tag; constructed = constructed }) }
+
+-- the element that was given is read, up to this place
+abbrev pub used : ℕ → Standing → Standing
+used taken s = record s { taken = taken; given = None }
+
+-- a container with this length, whose contents begin here
+abbrev pub container_of : LengthForm → Standing → Container
+container_of (DefiniteLength n) s = Definite (s.taken + n)
+container_of IndefiniteLength s = Indefinite (nearest_end_in (first_of s.containers))
+
+-- a container is open
+abbrev pub with_container : Container → Standing → Standing
+with_container c s = record s { containers = c ∷ s.containers }
+
+-- a container is open, with this length
+abbrev pub opening : LengthForm → Standing → Standing
+opening form s = with_container (container_of form s) s
+
+abbrev pub without_first : List Container → List Container
+without_first [] = []
+without_first (c ∷ cs) = cs
+
+-- the end-of-contents octets of the innermost container are taken
+abbrev pub with_ended : Option Container → List Container → List Container
+with_ended None cs = cs
+with_ended (Some (Definite end)) cs = cs
+with_ended (Some (Indefinite around)) cs = Ended around ∷ without_first cs
+with_ended (Some (Ended around)) cs = cs
+
+-- the end of the innermost container is met
+abbrev pub ending : Standing → Standing
+ending s = record s { containers = with_ended (first_of s.containers) s.containers }
+
+-- the innermost container is no longer open
+abbrev pub closing : Standing → Standing
+closing s = record s { containers = without_first s.containers }
+
+-- where `next_tag` leaves a reader that had no identifier given
+abbrev pub after_next : ℕ → Option (Tag × Bool) → Standing → Standing
+after_next taken None s = ending (moved taken s)
+after_next taken (Some t) s = giving s.taken t.0 t.1 (moved taken s)
+
+-- the containers that are open now, no identifier being given, up to the place that is taken now; all else as it was
+abbrev pub among : Standing → Standing → Standing
+among now s = record s { taken = now.taken; given = None; containers = now.containers }

@@ -1,0 +1,117 @@
+//! Contents octets, in pieces into a buffer that grows with what came.
+ghost use Rattle.std.specs.Prelude.{◌≡◌, ◌<◌, ◌≤◌, ◌+◌, ◌-◌, None, Some, IfOk, IfSome, IsSome, OnOk, length};
+ghost use Rattle.x690.specs.ReadHeaders.{next_octets, primitive_contents};
+ghost use Rattle.ber_pull.specs.Calls.{read_primitive};
+ghost use Rattle.ber_pull.specs.Hears.{heard};
+ghost use Rattle.ber_pull.specs.declared.state.Given.{Given};
+ghost use Rattle.ber_pull.specs.Standing.{enclosing};
+
+use crate::pull::Pull;
+use std::alloc::Global;
+use tlv_core::fault::ReadError;
+use tlv_core::reason::Reason;
+use tlv_core::source::{Failed, Source};
+
+/// How many octets are asked for at once, at most.
+const PIECE: usize = 1024;
+
+impl<R: Source> Pull<'_, R> {
+    ghost use Rattle.ber_pull.specs.View.{standing, SameSource, Repeats, Keeps, ReadsFail, Onward, Answers, Moves, Uses};
+    ghost use Rattle.ber_pull.specs.Contents.{AddsPiece};
+
+    /// The contents of the primitive element that `next_tag` gave.
+    ///
+    /// Faults: `WrongForm` of a constructed element, `BadLength`, `PastEnd`, `TooLong` at the identifier; `Truncated`.
+    pub fn primitive(&mut self, alloc: Global) -> Result<Vec<u8>, ReadError>
+        requires { (standing self.old).error ≡ None → IsSome (standing self.old).given }
+        ensures same_source { SameSource self.old self.new }
+        ensures repeats { Repeats self.old self.new result }
+        ensures reads { (g : Given) → (standing self.old).error ≡ None → (standing self.old).given ≡ Some g → Answers self.old self.new (read_primitive (standing self.old) g) (heard (λ v. v.items) result) }
+        ensures stands { OnOk result (Uses self.old self.new) }
+        ensures keeps { Keeps self.new result }
+        ensures read { ReadsFail self.old self.new result }
+        ensures onward { Onward self.old self.new }
+    {
+        if let Some(error) = self.state.error() {
+            return Err(error);
+        }
+        let given = self.state.given().unwrap();
+        if given.constructed {
+            return Err(self.stop(given.at, Reason::WrongForm));
+        }
+        self.primitive_contents(alloc, given.at)
+    }
+
+    /// The length and the contents of the primitive element whose identifier at `start` is given.
+    pub(crate) fn primitive_contents(
+        &mut self,
+        alloc: Global,
+        start: u32,
+    ) -> Result<Vec<u8>, ReadError>
+        requires { (standing self.old).error ≡ None }
+        ensures same_source { SameSource self.old self.new }
+        ensures reads { Answers self.old self.new (primitive_contents (standing self.old).limits (enclosing (standing self.old)) start) (heard (λ v. v.items) result) }
+        ensures stands { OnOk result (Uses self.old self.new) }
+        ensures keeps { Keeps self.new result }
+        ensures read { ReadsFail self.old self.new result }
+        ensures onward { Onward self.old self.new }
+    {
+        let count = self.definite_length(start)?;
+        let octets = self.contents(alloc, count)?;
+        self.state.use_given();
+        Ok(octets)
+    }
+
+    /// The next `count` octets.
+    fn contents(&mut self, alloc: Global, count: u32) -> Result<Vec<u8>, ReadError>
+        requires live { (standing self.old).error ≡ None }
+        requires within { (standing self.old).taken + count ≤ (standing self.old).limits.octets }
+        ensures same_source { SameSource self.old self.new }
+        ensures reads { Answers self.old self.new (next_octets count) (heard (λ v. v.items) result) }
+        ensures stands { Moves self.old self.new result }
+        ensures read { ReadsFail self.old self.new result }
+        ensures onward { Onward self.old self.new }
+    {
+        let size = count as usize;
+        let mut octets = Vec::new(alloc);
+        while octets.len() < size {
+            let left = size - octets.len();
+            self.piece(&mut octets, left)?;
+        }
+        Ok(octets)
+    }
+
+    /// Some of the next `most` octets, at least one, behind those that came before.
+    fn piece(&mut self, octets: &mut Vec<u8>, most: usize) -> Result<(), ReadError>
+        requires live { (standing self.old).error ≡ None }
+        requires some { 0 < most }
+        requires within { (standing self.old).taken + most ≤ (standing self.old).limits.octets }
+        ensures same_source { SameSource self.old self.new }
+        ensures adds { AddsPiece self.old self.new octets.old.items octets.new.items most result }
+        ensures stands { Moves self.old self.new result }
+        ensures read { ReadsFail self.old self.new result }
+        ensures onward { Onward self.old self.new }
+    {
+        let mut room = [0u8; PIECE];
+        let size = most.min(PIECE);
+        match self.src.read(&mut room[..size]) {
+            Ok(0) => {
+                let at = self.state.taken();
+                Err(self.stop(at, Reason::Truncated))
+            }
+            Ok(count) => {
+                self.state.take(count as u32);
+                match octets.extend_from_slice(&room[..count]) {
+                    Ok(()) => Ok(()),
+                    Err(_) => Err(self.no_memory()),
+                }
+            }
+            Err(Failed) => {
+                let at = u64::from(self.state.taken());
+                let error = ReadError::Read { at };
+                self.state.fail(error);
+                Err(error)
+            }
+        }
+    }
+}

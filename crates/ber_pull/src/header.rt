@@ -1,0 +1,254 @@
+//! Header octets: identifiers, lengths and ends of contents, octet by octet (X.690 8.1.2, 8.1.3, 8.1.5).
+ghost use Rattle.std.specs.Prelude.{◌≡◌, ◌<◌, ◌≤◌, ◌+◌, ◌/◌, ◌%◌, ◌^◌, ◌*◌, None, IfOk, OnOk, ℕ};
+ghost use Rattle.x690.specs.ReadHeaders.{ContainerEnds, fit_contents, header_octet, read_big_endian, read_high_number, read_definite_length, read_length, read_number, read_tag_number};
+ghost use Rattle.ber_pull.specs.Calls.{read_end_of_contents};
+ghost use Rattle.ber_pull.specs.Hears.{heard};
+ghost use Rattle.ber_pull.specs.Standing.{enclosing, ending, moved};
+
+use crate::pull::Pull;
+use tlv_core::fault::ReadError;
+use tlv_core::reason::Reason;
+use tlv_core::source::{Failed, Source};
+use tlv_core::tag::{Class, Tag};
+
+/// What length octets say (X.690 8.1.3).
+#[derive(Clone, Copy)]
+pub enum LengthForm {
+    /// The number of contents octets.
+    Definite(u32),
+    /// The contents are ended by end-of-contents octets.
+    Indefinite,
+}
+
+impl<R: Source> Pull<'_, R> {
+    ghost use Rattle.ber_pull.specs.View.{standing, source, told, SameSource, Keeps, ReadsFail, Onward, Answers, Moves};
+    ghost use Rattle.ber_pull.specs.Lengths.{AnswersClipped, IsClipped, IsWithin, form_of};
+
+    /// The next octet of a header or of end-of-contents octets, which belongs to the identifier at `start`.
+    pub(crate) fn octet(&mut self, start: u32) -> Result<u8, ReadError>
+        requires { (standing self.old).error ≡ None }
+        ensures same_source { SameSource self.old self.new }
+        ensures reads { Answers self.old self.new (header_octet (standing self.old).limits (enclosing (standing self.old)).nearest_end start) (heard (λ x. x) result) }
+        ensures stands { Moves self.old self.new result }
+        ensures advances { OnOk result ((standing self.new).taken ≡ (standing self.old).taken + 1) }
+        ensures octet { IfOk result (λ x. x < 256) }
+        ensures read { ReadsFail self.old self.new result }
+        ensures onward { Onward self.old self.new }
+    {
+        if self.state.is_at_nearest_end() {
+            return Err(self.stop(start, Reason::PastEnd));
+        }
+        if self.state.is_full() {
+            return Err(self.stop(start, Reason::TooLong));
+        }
+        let at = self.state.taken();
+        let mut room = [0u8; 1];
+        match self.src.read(&mut room) {
+            Ok(0) => Err(self.stop(at, Reason::Truncated)),
+            Ok(_) => {
+                self.state.take(1);
+                let octet = room[0];
+                Ok(octet)
+            }
+            Err(Failed) => {
+                let error = ReadError::Read { at: u64::from(at) };
+                self.state.fail(error);
+                Err(error)
+            }
+        }
+    }
+
+    /// Ends the innermost container, behind the first of its end-of-contents octets.
+    pub(crate) fn end_of_contents(&mut self, start: u32) -> Result<(), ReadError>
+        requires { (standing self.old).error ≡ None }
+        ensures same_source { SameSource self.old self.new }
+        ensures reads { Answers self.old self.new (read_end_of_contents (standing self.old).limits (enclosing (standing self.old)) start) (heard (λ _. ContainerEnds start) result) }
+        ensures stands { OnOk result (standing self.new ≡ ending (moved (standing self.new).taken (standing self.old))) }
+        ensures keeps { Keeps self.new result }
+        ensures read { ReadsFail self.old self.new result }
+        ensures onward { Onward self.old self.new }
+    {
+        if !self.state.is_indefinite() {
+            return Err(self.stop(start, Reason::BadEnd));
+        }
+        let second = self.octet(start)?;
+        if second > 0 {
+            return Err(self.stop(start, Reason::BadEnd));
+        }
+        self.state.end();
+        Ok(())
+    }
+
+    /// The number of the tag whose first octet is taken.
+    pub(crate) fn tag_number(&mut self, start: u32, first: u8) -> Result<u32, ReadError>
+        requires { (standing self.old).error ≡ None }
+        ensures same_source { SameSource self.old self.new }
+        ensures reads { Answers self.old self.new (read_tag_number (standing self.old).limits (enclosing (standing self.old)).nearest_end start first) (heard (λ n. n) result) }
+        ensures stands { Moves self.old self.new result }
+        ensures below { IfOk result (λ n. n < 2 ^ 28) }
+        ensures low { IfOk result (λ n. n < 31 → n ≡ first % 32) }
+        ensures read { ReadsFail self.old self.new result }
+        ensures onward { Onward self.old self.new }
+    {
+        let low = first % 32;
+        if low < 31 {
+            return Ok(u32::from(low));
+        }
+        self.high_tag_number(start)
+    }
+
+    /// A tag number of 31 or more, in base 128.
+    fn high_tag_number(&mut self, start: u32) -> Result<u32, ReadError>
+        requires { (standing self.old).error ≡ None }
+        ensures same_source { SameSource self.old self.new }
+        ensures reads { Answers self.old self.new (read_high_number (standing self.old).limits (enclosing (standing self.old)).nearest_end start 4 0) (heard (λ n. n) result) }
+        ensures stands { Moves self.old self.new result }
+        ensures below { IfOk result (λ n. (n < 2 ^ 28) × (31 ≤ n)) }
+        ensures read { ReadsFail self.old self.new result }
+        ensures onward { Onward self.old self.new }
+    {
+        let mut number: u32 = 0;
+        for _ in 0..4u8 {
+            let octet = self.octet(start)?;
+            if number == 0 && octet == 128 {
+                return Err(self.stop(start, Reason::BadTag));
+            }
+            if octet < 128 {
+                number = number * 128 + u32::from(octet);
+                if number < 31 {
+                    return Err(self.stop(start, Reason::BadTag));
+                }
+                return Ok(number);
+            }
+            number = number * 128 + u32::from(octet - 128);
+        }
+        Err(self.stop(start, Reason::BadTag))
+    }
+
+    /// The length of an element that may be constructed.
+    pub(crate) fn length(&mut self, start: u32) -> Result<LengthForm, ReadError>
+        requires { (standing self.old).error ≡ None }
+        ensures same_source { SameSource self.old self.new }
+        ensures reads { Answers self.old self.new (read_length (standing self.old).limits (enclosing (standing self.old)).nearest_end start) (heard form_of result) }
+        ensures stands { Moves self.old self.new result }
+        ensures within { IfOk result (IsWithin (standing self.new)) }
+        ensures advances { OnOk result ((standing self.old).taken < (standing self.new).taken) }
+        ensures read { ReadsFail self.old self.new result }
+        ensures onward { Onward self.old self.new }
+    {
+        let first = self.octet(start)?;
+        if first == 255 {
+            return Err(self.stop(start, Reason::BadLength));
+        }
+        if first == 128 {
+            return Ok(LengthForm::Indefinite);
+        }
+        let count = self.number(start, first)?;
+        Ok(LengthForm::Definite(count))
+    }
+
+    /// The length of a primitive element.
+    pub(crate) fn definite_length(&mut self, start: u32) -> Result<u32, ReadError>
+        requires { (standing self.old).error ≡ None }
+        ensures same_source { SameSource self.old self.new }
+        ensures reads { Answers self.old self.new (read_definite_length (standing self.old).limits (enclosing (standing self.old)).nearest_end start) (heard (λ n. n) result) }
+        ensures stands { Moves self.old self.new result }
+        ensures within { IfOk result (λ n. (standing self.new).taken + n ≤ (standing self.new).limits.octets) }
+        ensures read { ReadsFail self.old self.new result }
+        ensures onward { Onward self.old self.new }
+    {
+        let first = self.octet(start)?;
+        if first == 128 || first == 255 {
+            return Err(self.stop(start, Reason::BadLength));
+        }
+        self.number(start, first)
+    }
+
+    /// The number of contents octets, behind the first length octet.
+    fn number(&mut self, start: u32, first: u8) -> Result<u32, ReadError>
+        requires { (standing self.old).error ≡ None }
+        ensures same_source { SameSource self.old self.new }
+        ensures reads { Answers self.old self.new (read_number (standing self.old).limits (enclosing (standing self.old)).nearest_end start first) (heard (λ n. n) result) }
+        ensures stands { Moves self.old self.new result }
+        ensures within { IfOk result (λ n. (standing self.new).taken + n ≤ (standing self.new).limits.octets) }
+        ensures read { ReadsFail self.old self.new result }
+        ensures onward { Onward self.old self.new }
+    {
+        if first < 128 {
+            return self.fit(start, u64::from(first));
+        }
+        let number = self.big_endian(start, first - 128)?;
+        self.fit(start, number)
+    }
+
+    /// The number of `count` big-endian octets, or some number of 2^32 or more in place of one.
+    fn big_endian(&mut self, start: u32, count: u8) -> Result<u64, ReadError>
+        requires { (standing self.old).error ≡ None }
+        ensures same_source { SameSource self.old self.new }
+        ensures reads { AnswersClipped self.old self.new (read_big_endian (standing self.old).limits (enclosing (standing self.old)).nearest_end start count 0) result }
+        ensures stands { Moves self.old self.new result }
+        ensures below { IfOk result (λ m. m < 2 ^ 40) }
+        ensures read { ReadsFail self.old self.new result }
+        ensures onward { Onward self.old self.new }
+    {
+        let mut number: u64 = 0;
+        for _ in 0..count {
+            let octet = self.octet(start)?;
+            number = with_octet(number, octet);
+        }
+        Ok(number)
+    }
+
+    /// The number, where so many octets from here on stay within the container and the limit.
+    fn fit(&mut self, start: u32, number: u64) -> Result<u32, ReadError>
+        requires live { (standing self.old).error ≡ None }
+        requires below { number < 2 ^ 40 }
+        ensures same_source { SameSource self.old self.new }
+        ensures reads { (n : ℕ) → IsClipped n number → Answers self.old self.new (fit_contents (standing self.old).limits (enclosing (standing self.old)).nearest_end start n) (heard (λ m. m) result) }
+        ensures stands { Moves self.old self.new result }
+        ensures within { IfOk result (λ n. (standing self.new).taken + n ≤ (standing self.new).limits.octets) }
+        ensures read { ReadsFail self.old self.new result }
+        ensures onward { Onward self.old self.new }
+    {
+        let end = u64::from(self.state.taken()) + number;
+        if self.state.is_past_nearest_end(end) {
+            return Err(self.stop(start, Reason::PastEnd));
+        }
+        if end > u64::from(self.state.limits().octets()) {
+            return Err(self.stop(start, Reason::TooLong));
+        }
+        Ok(number as u32)
+    }
+}
+
+ghost use Rattle.ber_pull.specs.Lengths.{IsClipped};
+
+/// The number with one octet more; a number of 2^32 or more stays as it is.
+fn with_octet(number: u64, octet: u8) -> u64
+    requires { number < 2 ^ 40 }
+    ensures clipped { (n : ℕ) → IsClipped n number → IsClipped (n * 256 + octet) result }
+    ensures below { result < 2 ^ 40 }
+{
+    if number >= 1 << 32 {
+        return number;
+    }
+    number * 256 + u64::from(octet)
+}
+
+/// The tag of an identifier with this first octet.
+pub(crate) fn tag_of(first: u8, number: u32) -> Tag
+    requires small { number < 2 ^ 28 }
+    requires not_end { number ≡ 0 → 64 ≤ first }
+    ensures { result ≡ record { class = first / 64; number = number } }
+{
+    let class = match first / 64 {
+        0 => Class::Universal,
+        1 => Class::Application,
+        2 => Class::Context,
+        _ => Class::Private,
+    };
+    match Tag::new(class, number) {
+        Some(tag) => tag,
+        None => unreachable!(),
+    }
+}

@@ -1,0 +1,219 @@
+//! The reader: one element after another, with a stack of the open containers in itself.
+ghost use Rattle.std.specs.Prelude.{◌≡◌, ◌<◌, ◌≤◌, ◌↔◌, None, Some, Ok, IfOk, IfSome, IsSome, OnOk, false, ℕ, [], length};
+ghost use Rattle.tlv_core.specs.declared.fault.ReadError.{ReadError};
+ghost use Rattle.tlv_core.specs.declared.fault.ReadError.TheVariants.{Fault as refused, Memory};
+ghost use Rattle.tlv_core.specs.declared.reason.Reason.TheVariants.{Inner};
+ghost use Rattle.ber_pull.specs.Calls.{read_next, read_entering, read_leaving};
+ghost use Rattle.ber_pull.specs.Hears.{heard, next_at};
+ghost use Rattle.x690.specs.Points.{fault};
+ghost use Rattle.ber_pull.specs.declared.state.Given.{Given};
+ghost use Rattle.ber_pull.specs.Standing.{started, place, failed_with, enclosing, after_next, closing, moved, opening};
+
+use crate::header::{LengthForm, tag_of};
+use crate::state::{Container, State};
+use tlv_core::fault::{Fault, ReadError};
+use tlv_core::limits::Limits;
+use tlv_core::reason::Reason;
+use tlv_core::source::Source;
+use tlv_core::tag::Tag;
+
+/// A reader of elements from a source that it borrows.
+#[derive(Drop)]
+pub struct Pull<'a, R: Source> {
+    pub(crate) src: &'a mut R,
+    pub(crate) state: State,
+    /// No more octets are taken than the limit.
+    pub ghost within: { state.taken ≤ state.limits.octets },
+    ghost live: { state.error ≡ None → R.has_failed src.now ≡ false },
+}
+
+impl<'a, R: Source> Pull<'a, R> {
+    ghost use Rattle.ber_pull.specs.View.{standing, source, SameSource, Unmoved, Repeats, Keeps, ReadsFail, Onward, Answers, Opens};
+    ghost use Rattle.ber_pull.specs.Lengths.{IsWithin, form_of};
+
+    /// A reader at place 0, with no container open.
+    pub fn new(src: &'a mut R, limits: Limits) -> Pull<'a, R>
+        requires { R.has_failed src.old ≡ false }
+        ensures same_source { result.src.ghost_name ≡ src.entry.ghost_name }
+        ensures same { source result ≡ src.old }
+        ensures start { standing result ≡ started limits }
+    {
+        let state = State::new(limits);
+        Pull { src, state }
+    }
+
+    /// The limits that it was made with.
+    pub fn limits(&self) -> Limits
+        ensures { result ≡ (standing self.now).limits }
+    {
+        self.state.limits()
+    }
+
+    /// The place of the identifier that `next_tag` gave and whose element isn't used yet, else of the next octet.
+    pub fn at(&self) -> u64
+        ensures value { result ≡ place (standing self.now) }
+    {
+        match self.state.given() {
+            Some(given) => u64::from(given.at),
+            None => u64::from(self.state.taken()),
+        }
+    }
+
+    /// The tag of the next element and whether its form is constructed. `None` where the innermost open container has
+    /// nothing left (of an indefinite one the end-of-contents octets are then taken), and after the outermost element.
+    /// Asked again before the element is used, it answers the same and takes nothing.
+    ///
+    /// Faults, at the identifier: `BadEnd`, `BadTag`, `TooDeep`, and `PastEnd`, `TooLong` or `Truncated` by its octets.
+    pub fn next_tag(&mut self) -> Result<Option<(Tag, bool)>, ReadError>
+        ensures same_source { SameSource self.old self.new }
+        ensures repeats { Repeats self.old self.new result }
+        ensures reads { (standing self.old).error ≡ None → Answers self.old self.new (read_next (standing self.old)) (heard (next_at (place (standing self.old))) result) }
+        ensures again { IfSome (standing self.old).given (λ g. IfOk result (λ next. (next ≡ Some (g.tag, g.constructed)) × Unmoved self.old self.new)) }
+        ensures stands { (standing self.old).given ≡ None → IfOk result (λ next. standing self.new ≡ after_next (standing self.new).taken next (standing self.old)) }
+        ensures advances { (standing self.old).given ≡ None → IfOk result (λ next. IsSome next → (standing self.old).taken < (standing self.new).taken) }
+        ensures keeps { Keeps self.new result }
+        ensures read { ReadsFail self.old self.new result }
+        ensures onward { Onward self.old self.new }
+    {
+        if let Some(error) = self.state.error() {
+            return Err(error);
+        }
+        if let Some(given) = self.state.given() {
+            return Ok(Some((given.tag, given.constructed)));
+        }
+        if self.state.is_over() || self.state.is_at_end() {
+            return Ok(None);
+        }
+        let start = self.state.taken();
+        let first = self.octet(start)?;
+        if first == 0 {
+            self.end_of_contents(start)?;
+            return Ok(None);
+        }
+        if first == 32 {
+            return Err(self.stop(start, Reason::BadTag));
+        }
+        let number = self.tag_number(start, first)?;
+        if self.state.is_deep() {
+            return Err(self.stop(start, Reason::TooDeep));
+        }
+        let tag = tag_of(first, number);
+        let constructed = first % 64 >= 32;
+        self.state.give(start, tag, constructed);
+        Ok(Some((tag, constructed)))
+    }
+
+    /// Opens the constructed element that `next_tag` gave, behind its length.
+    ///
+    /// Faults, at the identifier: `WrongForm` of a primitive element, `BadLength`, `PastEnd`, `TooLong`, `Truncated`.
+    pub fn enter(&mut self) -> Result<(), ReadError>
+        requires { (standing self.old).error ≡ None → IsSome (standing self.old).given }
+        ensures same_source { SameSource self.old self.new }
+        ensures repeats { Repeats self.old self.new result }
+        ensures reads { (g : Given) → (standing self.old).error ≡ None → (standing self.old).given ≡ Some g → Answers self.old self.new (read_entering (standing self.old) g) (heard (λ _. enclosing (standing self.new)) result) }
+        ensures stands { OnOk result (Opens self.old self.new) }
+        ensures advances { OnOk result ((standing self.old).taken < (standing self.new).taken) }
+        ensures keeps { Keeps self.new result }
+        ensures read { ReadsFail self.old self.new result }
+        ensures onward { Onward self.old self.new }
+    {
+        if let Some(error) = self.state.error() {
+            return Err(error);
+        }
+        let given = self.state.given().unwrap();
+        if !given.constructed {
+            return Err(self.stop(given.at, Reason::WrongForm));
+        }
+        let form = self.length(given.at)?;
+        self.state.use_given();
+        self.open(form);
+        Ok(())
+    }
+
+    /// Closes the innermost container, which has nothing left.
+    ///
+    /// Faults, at the identifier that stands there: `Extra`, and those of `next_tag`.
+    pub fn leave(&mut self) -> Result<(), ReadError>
+        requires { (standing self.old).error ≡ None → (standing self.old).containers ≡ [] → ⊥ }
+        ensures same_source { SameSource self.old self.new }
+        ensures repeats { Repeats self.old self.new result }
+        ensures reads { (standing self.old).error ≡ None → Answers self.old self.new (read_leaving (standing self.old)) (heard (λ u. u) result) }
+        ensures stands { OnOk result (standing self.new ≡ closing (moved (standing self.new).taken (standing self.old))) }
+        ensures keeps { Keeps self.new result }
+        ensures read { ReadsFail self.old self.new result }
+        ensures onward { Onward self.old self.new }
+    {
+        if let Some(error) = self.state.error() {
+            return Err(error);
+        }
+        let at = self.at();
+        if let Some(_) = self.next_tag()? {
+            return Err(self.refuse(at, Reason::Extra, None));
+        }
+        self.state.close();
+        Ok(())
+    }
+
+    /// A fault that a layer above found: the reader fails with it, or answers its first error again.
+    pub fn refuse(&mut self, at: u64, why: Reason, inside: Option<(u64, Reason)>) -> ReadError
+        requires { IsSome inside ↔ (why ≡ Inner) }
+        ensures same_source { SameSource self.old self.new }
+        ensures same { source self.new ≡ source self.old }
+        ensures first { (standing self.old).error ≡ None → (result ≡ refused (record { at = at; why = why; inside = inside })) × (standing self.new ≡ failed_with result (standing self.old)) }
+        ensures again { (error : ReadError) → (standing self.old).error ≡ Some error → (result ≡ error) × (standing self.new ≡ standing self.old) }
+    {
+        if let Some(error) = self.state.error() {
+            return error;
+        }
+        let error = ReadError::Fault(Fault { at, why, inside });
+        self.state.fail(error);
+        error
+    }
+
+    /// A growth of memory was refused in a layer above: the reader fails with it, or answers its first error again.
+    pub fn no_memory(&mut self) -> ReadError
+        ensures same_source { SameSource self.old self.new }
+        ensures same { source self.new ≡ source self.old }
+        ensures first { (standing self.old).error ≡ None → (result ≡ Memory) × (standing self.new ≡ failed_with Memory (standing self.old)) }
+        ensures again { (error : ReadError) → (standing self.old).error ≡ Some error → (result ≡ error) × (standing self.new ≡ standing self.old) }
+    {
+        if let Some(error) = self.state.error() {
+            return error;
+        }
+        self.state.fail(ReadError::Memory);
+        ReadError::Memory
+    }
+
+    /// A fault with nothing inside.
+    pub(crate) fn stop(&mut self, at: u32, why: Reason) -> ReadError
+        requires { (standing self.old).error ≡ None }
+        ensures same_source { SameSource self.old self.new }
+        ensures same { source self.new ≡ source self.old }
+        ensures is { result ≡ refused (fault at why) }
+        ensures stands { standing self.new ≡ failed_with result (standing self.old) }
+    {
+        let error = ReadError::Fault(Fault {
+            at: u64::from(at),
+            why,
+            inside: None,
+        });
+        self.state.fail(error);
+        error
+    }
+
+    /// Opens a container of this length, whose contents begin here.
+    fn open(&mut self, form: LengthForm)
+        requires depth { length (standing self.old).containers < (standing self.old).limits.depth }
+        requires used { (standing self.old).given ≡ None }
+        requires within { IsWithin (standing self.old) form }
+        ensures same_source { SameSource self.old self.new }
+        ensures same { source self.new ≡ source self.old }
+        ensures stands { standing self.new ≡ opening (form_of form) (standing self.old) }
+    {
+        let container = match form {
+            LengthForm::Definite(count) => Container::Definite(self.state.taken() + count),
+            LengthForm::Indefinite => Container::Indefinite(self.state.nearest_end()),
+        };
+        self.state.open(container);
+    }
+}

@@ -1,0 +1,258 @@
+//! What a pull reader stands at, apart from its source.
+use std::marker::Model;
+use tlv_core::fault::ReadError;
+use tlv_core::limits::Limits;
+use tlv_core::tag::Tag;
+
+/// An open container.
+#[derive(Clone, Copy)]
+pub enum Container {
+    /// Its length is definite: the place behind its contents.
+    Definite(u32),
+    /// Its length is indefinite, and its end is still to come: the end of the nearest container of definite length around it.
+    Indefinite(Option<u32>),
+    /// Its length is indefinite, and its end-of-contents octets are taken.
+    Ended(Option<u32>),
+}
+
+/// An identifier that was given, and whose element isn't used yet.
+#[derive(Clone, Copy)]
+pub struct Given {
+    pub at: u32,
+    pub tag: Tag,
+    pub constructed: bool,
+}
+
+/// How many containers can be open at once.
+const MOST: usize = 64;
+
+/// The octets taken, the identifier given, the open containers and the error of a pull reader.
+#[derive(Drop)]
+pub struct State {
+    limits: Limits,
+    taken: u32,
+    given: Option<Given>,
+    containers: [Container; MOST],
+    depth: usize,
+    error: Option<ReadError>,
+}
+
+impl Model for State {
+    ghost use Rattle.ber_pull.specs.Standing.{Standing};
+
+    ghost Value = { Standing };
+
+    ghost use Rattle.std.specs.Prelude.{take, reverse, length, IfSome, ◌≡◌, ◌<◌, ◌≤◌};
+
+    ghost view = { λ s. record { limits = s.limits; taken = s.taken; given = s.given; containers = reverse (take s.depth s.containers); error = s.error } };
+
+    ghost invariant = { λ s. (s.depth ≤ s.limits.depth) × (s.limits.depth ≤ 64) × (s.taken ≤ s.limits.octets) × (s.limits.octets ≤ 2147483647) × IfSome s.given (λ _. s.depth < s.limits.depth) × (length s.containers ≡ 64) };
+}
+
+ghost use Rattle.std.specs.Prelude.{◌≡◌, ◌<◌, ◌≤◌, ◌^◌, ◌+◌, IfSome, None, length, nat_lt, not};
+ghost use Rattle.ber_pull.specs.Standing.{started, failed_with, moved, used, giving, enclosing, first_of, is_over, ending, closing, with_container};
+ghost use Rattle.x690.specs.Points.{at_end, ends_with_zeros, past_end, stands_at_end};
+
+impl State {
+    pub fn new(limits: Limits) -> State
+        ensures { result ≡ started limits }
+    {
+        let _depth = limits.depth();
+        State {
+            limits,
+            taken: 0,
+            given: None,
+            containers: [Container::Definite(0); MOST],
+            depth: 0,
+            error: None,
+        }
+    }
+
+    pub fn limits(&self) -> Limits
+        ensures { result ≡ self.now.limits }
+    {
+        self.limits
+    }
+
+    pub fn error(&self) -> Option<ReadError>
+        ensures { result ≡ self.now.error }
+    {
+        self.error
+    }
+
+    /// How many octets are taken.
+    pub fn taken(&self) -> u32
+        ensures value { result ≡ self.now.taken }
+        ensures within { result ≤ self.now.limits.octets }
+        ensures bound { self.now.limits.octets ≤ 2147483647 }
+    {
+        self.taken
+    }
+
+    /// No octet may be taken any more.
+    pub fn is_full(&self) -> bool
+        ensures { result ≡ not (nat_lt self.now.taken self.now.limits.octets) }
+    {
+        self.taken >= self.limits.octets()
+    }
+
+    /// So many octets more are taken.
+    pub fn take(&mut self, count: u32)
+        requires { self.old.taken + count ≤ self.old.limits.octets }
+        ensures { self.new ≡ moved (self.old.taken + count) self.old }
+    {
+        self.taken += count;
+    }
+
+    pub fn fail(&mut self, error: ReadError)
+        ensures { self.new ≡ failed_with error self.old }
+    {
+        self.error = Some(error);
+    }
+
+    /// The identifier that is given and not used yet.
+    pub fn given(&self) -> Option<Given>
+        ensures value { result ≡ self.now.given }
+        ensures depth { IfSome result (λ _. length self.now.containers < self.now.limits.depth) }
+    {
+        self.given
+    }
+
+    /// An identifier is given.
+    pub fn give(&mut self, at: u32, tag: Tag, constructed: bool)
+        requires { length self.old.containers < self.old.limits.depth }
+        ensures { self.new ≡ giving at tag constructed self.old }
+    {
+        self.given = Some(Given {
+            at,
+            tag,
+            constructed,
+        });
+    }
+
+    /// The element that was given is read.
+    pub fn use_given(&mut self)
+        ensures { self.new ≡ used self.old.taken self.old }
+    {
+        self.given = None;
+    }
+
+    /// How many containers are open.
+    pub fn depth(&self) -> usize
+        ensures value { result ≡ length self.now.containers }
+        ensures within { result ≤ self.now.limits.depth }
+    {
+        self.depth
+    }
+
+    /// The innermost open container.
+    fn innermost(&self) -> Option<Container>
+        ensures { result ≡ first_of self.now.containers }
+    {
+        if self.depth == 0 {
+            return None;
+        }
+        Some(self.containers[self.depth - 1])
+    }
+
+    /// The end of the nearest container of definite length.
+    pub fn nearest_end(&self) -> Option<u32>
+        ensures value { result ≡ (enclosing self.now).nearest_end }
+        ensures bound { IfSome result (λ end. end < 2 ^ 32) }
+    {
+        match self.innermost() {
+            None => None,
+            Some(Container::Definite(end)) => Some(end),
+            Some(Container::Indefinite(around)) => around,
+            Some(Container::Ended(around)) => around,
+        }
+    }
+
+    /// The nearest container of definite length ends here.
+    pub fn is_at_nearest_end(&self) -> bool
+        ensures { result ≡ at_end (enclosing self.now).nearest_end self.now.taken }
+    {
+        match self.nearest_end() {
+            None => false,
+            Some(end) => end <= self.taken,
+        }
+    }
+
+    /// A place is behind the end of the nearest container of definite length.
+    pub fn is_past_nearest_end(&self, place: u64) -> bool
+        ensures value { result ≡ past_end (enclosing self.now).nearest_end place }
+        ensures small { IfSome (enclosing self.now).nearest_end (λ end. end < 2 ^ 32) }
+    {
+        match self.nearest_end() {
+            None => false,
+            Some(end) => u64::from(end) < place,
+        }
+    }
+
+    /// The innermost container ends with end-of-contents octets.
+    pub fn is_indefinite(&self) -> bool
+        ensures { result ≡ ends_with_zeros (enclosing self.now).innermost }
+    {
+        match self.innermost() {
+            None => false,
+            Some(Container::Definite(_)) => false,
+            Some(_) => true,
+        }
+    }
+
+    /// No element and no end can stand here: the container's end is taken, or the outermost element is complete.
+    pub fn is_over(&self) -> bool
+        ensures { result ≡ is_over self.now }
+    {
+        match self.innermost() {
+            None => self.taken > 0,
+            Some(Container::Ended(_)) => true,
+            Some(_) => false,
+        }
+    }
+
+    /// The innermost container has definite length, and this is its end.
+    pub fn is_at_end(&self) -> bool
+        ensures { result ≡ stands_at_end (enclosing self.now).innermost self.now.taken }
+    {
+        match self.innermost() {
+            Some(Container::Definite(end)) => end == self.taken,
+            _ => false,
+        }
+    }
+
+    /// No further container may be open.
+    pub fn is_deep(&self) -> bool
+        ensures { result ≡ not (nat_lt (length self.now.containers) self.now.limits.depth) }
+    {
+        self.depth() >= usize::from(self.limits.depth())
+    }
+
+    /// A container is open.
+    pub fn open(&mut self, container: Container)
+        requires depth { length self.old.containers < self.old.limits.depth }
+        requires used { self.old.given ≡ None }
+        ensures { self.new ≡ with_container container self.old }
+    {
+        self.containers[self.depth] = container;
+        self.depth += 1;
+    }
+
+    /// The innermost container is no longer open.
+    pub fn close(&mut self)
+        ensures { self.new ≡ closing self.old }
+    {
+        if self.depth > 0 {
+            self.depth -= 1;
+        }
+    }
+
+    /// The end of the innermost container is met.
+    pub fn end(&mut self)
+        ensures { self.new ≡ ending self.old }
+    {
+        if let Some(Container::Indefinite(around)) = self.innermost() {
+            self.containers[self.depth - 1] = Container::Ended(around);
+        }
+    }
+}
