@@ -70,6 +70,7 @@ impl<'a, R: Source> Pull<'a, R> {
         ensures reads { (standing self.old).error ≡ None → Answers self.old self.new (read_next (standing self.old)) (heard (next_at (place (standing self.old))) result) }
         ensures again { IfSome (standing self.old).given (λ g. IfOk result (λ next. (next ≡ Some (g.tag, g.constructed)) × Unmoved self.old self.new)) }
         ensures stands { (standing self.old).given ≡ None → IfOk result (λ next. standing self.new ≡ after_next (standing self.new).taken next (standing self.old)) }
+        ensures gives { IfOk result (λ next. IsSome next → IsSome (standing self.new).given) }
         ensures advances { (standing self.old).given ≡ None → IfOk result (λ next. IsSome next → (standing self.old).taken < (standing self.new).taken) }
         ensures keeps { Keeps self.new result }
         ensures read { ReadsFail self.old self.new result }
