@@ -1,5 +1,5 @@
 -- How the answers of calls are put together: one after another, tests, single octets.
-use Rattle.std.proofs.Common.{◌≡◌, ℕ, zero, suc, ◌+◌, ◌≤◌, ◌<◌, Bool, true, false, not, List, [], ◌∷◌, ◌++◌, length, take, get_or, Option, Some, None, Result, Ok, Err, refl, sym, ◌∙◌, ap, ap₂, subst, arith, append_assoc}
+use Rattle.std.proofs.Common.{◌≡◌, ℕ, zero, suc, ◌+◌, ◌≤◌, ◌<◌, Bool, true, false, not, List, [], ◌∷◌, ◌++◌, length, take, get_or, Option, Some, None, Result, Ok, Err, refl, sym, ◌∙◌, ap, ap₂, subst, arith, append_assoc, append-nil}
 use Rattle.std.proofs.lemmas.List.{length-append}
 use Rattle.std.specs.Io.KnownBytes.{Consumes, IsAtEnd, Keeps}
 use Rattle.tlv_core.specs.declared.fault.Fault.{Fault}
@@ -9,7 +9,7 @@ use Rattle.tlv_core.specs.declared.reason.Reason.TheVariants.{Truncated}
 use Rattle.x690.specs.Points.{fault}
 use Rattle.x690.specs.Reading.{Reading, Done, Fail, Where, Ask, ◌>>=◌, require, choose, Outcome, Took, Halted, run}
 use Rattle.x690.specs.Reads.{Heard, Said, Refused, ReadFailed, NoMemory, Reads}
-use Rattle.ber_pull.specs.Hears.{Continues, Hears, TakesFrom, heard, heard_error}
+use Rattle.ber_pull.specs.Hears.{Continues, Gives, Hears, TakesFrom, heard, heard_error}
 use Rattle.ber_pull.proofs.Runs.{run_bind, halt_bind, Taken, taken}
 
 -- what two calls take, one after the other
@@ -53,10 +53,44 @@ reads_where f (Refused g) k i s v x = x
 reads_where f (ReadFailed at) k i s v x = x
 reads_where f NoMemory k i s v x = tt
 
+-- an error gives no value
+pub gives_error : {A : Type 0} (p : Reading A) (e : ReadError) (k i : ℕ) → Gives p k (heard_error e) i
+gives_error p (errors.Fault f) k i = tt
+gives_error p (errors.Read at) k i = tt
+gives_error p errors.Memory k i = tt
+
+-- a value was given for some octets, told or not
+pub hears_given : {A : Type 0} (p : Reading A) (a : A) (k i : ℕ) (s u : Option (List ℕ)) → Hears p k s (Said a) i u → Gives p k (Said a) i
+unfolding Hears Reads
+hears_given p a k i None u x = x
+hears_given p a k i (Some s) None x = absurd x
+hears_given p a k i (Some s) (Some u) x =
+    let t = taken p k s a i u x.1 in
+    (t.octets, t.place, ap (λ w. run p k w) (sym (append-nil t.octets)) ∙ t.any_rest [])
+
+gives_then : {A B : Type 0} (p : Reading A) (f : A → Reading B) (a : A) (h : Heard B) (k j i : ℕ) → Gives p k (Said a) j → Gives (f a) j h i → Gives (p >>= f) k h i
+gives_then p f a (Said b) k j i x y =
+    let t = taken p k x.0 a j [] x.2 in
+    let n = length-append x.0 y.0 in
+    let e : j ≡ k + length x.0 = x.1 in
+    let e' : i ≡ j + length y.0 = y.1 in
+    let w : t.octets ≡ x.0 = sym (append-nil t.octets) ∙ sym t.is in
+    (x.0 ++ y.0, omega arith, run_bind p f k (x.0 ++ y.0) a j y.0 (ap (λ z. run p k (z ++ y.0)) (sym w) ∙ t.any_rest y.0) ∙ y.2)
+gives_then p f a (Refused g) k j i x y = tt
+gives_then p f a (ReadFailed at) k j i x y = tt
+gives_then p f a NoMemory k j i x y = tt
+
+-- what the next call answered, from octets told or not
+hears_gives : {A : Type 0} (p : Reading A) (h : Heard A) (k i : ℕ) (s u : Option (List ℕ)) → Hears p k s h i u → Gives p k h i
+hears_gives p (Said a) k i s u x = hears_given p a k i s u x
+hears_gives p (Refused g) k i s u x = tt
+hears_gives p (ReadFailed at) k i s u x = tt
+hears_gives p NoMemory k i s u x = tt
+
 -- One call gave a value, and the next one goes on from there.
 pub hears_then : {A B : Type 0} (p : Reading A) (f : A → Reading B) (a : A) (h : Heard B) (k j i : ℕ) (s t u : Option (List ℕ)) → Hears p k s (Said a) j t → Hears (f a) j t h i u → Hears (p >>= f) k s h i u
 unfolding Hears
-hears_then p f a h k j i None t u x y = tt
+hears_then p f a h k j i None t u x y = gives_then p f a h k j i x (hears_gives (f a) h j i t u y)
 hears_then p f a h k j i (Some s) None u x y = absurd x
 hears_then p f a h k j i (Some s) (Some t) None x y = absurd y
 hears_then p f a h k j i (Some s) (Some t) (Some u) x y = (takes_both k j i s t u x.0 y.0, reads_then p f a h k j i s t u x.1 y.1)
@@ -64,7 +98,7 @@ hears_then p f a h k j i (Some s) (Some t) (Some u) x y = (takes_both k j i s t 
 -- An error of the first call is the answer of the two.
 pub hears_error : {A B : Type 0} (p : Reading A) (f : A → Reading B) (e : ReadError) (k i : ℕ) (s u : Option (List ℕ)) → Hears p k s (heard_error e) i u → Hears (p >>= f) k s (heard_error e) i u
 unfolding Hears
-hears_error p f e k i None u x = tt
+hears_error p f e k i None u x = gives_error (p >>= f) e k i
 hears_error p f e k i (Some s) None x = absurd x
 hears_error p f e k i (Some s) (Some u) x = (x.0, reads_error p f e k i s u x.1)
 
@@ -72,9 +106,16 @@ hears_error p f e k i (Some s) (Some u) x = (x.0, reads_error p f e k i s u x.1)
 pub hears_err : {T A : Type 0} (p : Reading A) (g : T → A) (r : Result T ReadError) (e : ReadError) (k i : ℕ) (s u : Option (List ℕ)) → r ≡ Err e → Hears p k s (heard_error e) i u → Hears p k s (heard g r) i u
 hears_err p g r e k i s u h x = subst (λ w. Hears p k s (heard g w) i u) (sym h) x
 
+gives_where : {A : Type 0} (f : ℕ → Reading A) (h : Heard A) (k i : ℕ) → Gives (f k) k h i → Gives (Where f) k h i
+unfolding run
+gives_where f (Said a) k i x = x
+gives_where f (Refused g) k i x = tt
+gives_where f (ReadFailed at) k i x = tt
+gives_where f NoMemory k i x = tt
+
 pub hears_where : {A : Type 0} (f : ℕ → Reading A) (h : Heard A) (k i : ℕ) (s u : Option (List ℕ)) → Hears (f k) k s h i u → Hears (Where f) k s h i u
 unfolding Hears
-hears_where f h k i None u x = tt
+hears_where f h k i None u x = gives_where f h k i x
 hears_where f h k i (Some s) None x = absurd x
 hears_where f h k i (Some s) (Some u) x = (x.0, reads_where f h k i s u x.1)
 
@@ -106,7 +147,7 @@ hears_second false p q h k i s u e x = x
 
 pub hears_done : {A : Type 0} (a : A) (k : ℕ) (s : Option (List ℕ)) → Hears (Done a) k s (Said a) k s
 unfolding Hears Reads run
-hears_done a k None = tt
+hears_done a k None = ([], (let e : k ≡ k + 0 = omega arith in e), refl)
 hears_done a k (Some s) = (takes_none k s, refl)
 
 pub hears_done_as : {A : Type 0} (a b : A) (k : ℕ) (s : Option (List ℕ)) → b ≡ a → Hears (Done a) k s (Said b) k s
@@ -131,9 +172,15 @@ reads_same p q (Refused g) k i s v e x = sym (e k s) ∙ x
 reads_same p q (ReadFailed at) k i s v e x = (x.0, x.1, x.2, sym (e k x.0) ∙ x.3)
 reads_same p q NoMemory k i s v e x = tt
 
+gives_same : {A : Type 0} (p q : Reading A) (h : Heard A) (k i : ℕ) → ((k : ℕ) (s : List ℕ) → run p k s ≡ run q k s) → Gives p k h i → Gives q k h i
+gives_same p q (Said a) k i e x = (x.0, x.1, sym (e k x.0) ∙ x.2)
+gives_same p q (Refused g) k i e x = tt
+gives_same p q (ReadFailed at) k i e x = tt
+gives_same p q NoMemory k i e x = tt
+
 pub hears_same : {A : Type 0} (p q : Reading A) (h : Heard A) (k i : ℕ) (s u : Option (List ℕ)) → ((k : ℕ) (s : List ℕ) → run p k s ≡ run q k s) → Hears p k s h i u → Hears q k s h i u
 unfolding Hears
-hears_same p q h k i None u e x = tt
+hears_same p q h k i None u e x = gives_same p q h k i e x
 hears_same p q h k i (Some s) None e x = absurd x
 hears_same p q h k i (Some s) (Some u) e x = (x.0, reads_same p q h k i s u e x.1)
 
@@ -157,7 +204,7 @@ continues_here p k s = record { rest = λ h i u x. x }
 
 pub hears_octet : (x k : ℕ) (s t : Option (List ℕ)) → Consumes s t (x ∷ []) → Hears (Ask Done) k s (Said x) (k + 1) t
 unfolding Hears Reads run
-hears_octet x k None t h = tt
+hears_octet x k None t h = (x ∷ [], refl, refl)
 hears_octet x k (Some s) None h = absurd h
 hears_octet x k (Some s) (Some t) h = ((x ∷ [], h, refl), ap (λ w. run (Ask Done) k w) h)
 

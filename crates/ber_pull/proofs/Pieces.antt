@@ -1,5 +1,5 @@
 -- Contents that come in pieces.
-use Rattle.std.proofs.Common.{◌≡◌, ℕ, zero, suc, ◌+◌, ◌-◌, ◌≤◌, ◌<◌, List, [], ◌∷◌, ◌++◌, length, take, Option, Some, None, refl, sym, ◌∙◌, ap, ap₂, subst, arith, append_assoc}
+use Rattle.std.proofs.Common.{◌≡◌, ℕ, zero, suc, ◌+◌, ◌-◌, ◌≤◌, ◌<◌, List, [], ◌∷◌, ◌++◌, length, take, Option, Some, None, refl, sym, ◌∙◌, ap, ap₂, subst, arith, append_assoc, append-nil}
 use Rattle.std.proofs.lemmas.List.{length-append}
 use Rattle.tlv_core.specs.declared.fault.Fault.{Fault}
 use Rattle.std.specs.Io.KnownBytes.{Consumes, IsAtEnd, Keeps}
@@ -11,7 +11,7 @@ use Rattle.x690.specs.ReadHeaders.{next_octets}
 use Rattle.x690.specs.Reading.{Ask, Done, Halted, Took, run, ◌>>=◌}
 use Rattle.x690.specs.Reads.{Heard, NoMemory, ReadFailed, Reads, Refused, Said}
 use Rattle.ber_pull.specs.Hears.{Hears, TakesFrom, heard_error}
-use Rattle.ber_pull.proofs.Hearing.{hears_ended, hears_failed_at, takes_both}
+use Rattle.ber_pull.proofs.Hearing.{gives_error, hears_ended, hears_failed_at, takes_both}
 use Rattle.ber_pull.proofs.Runs.{halt_bind, run_bind}
 
 pub octets_ended : (n k : ℕ) (s t : Option (List ℕ)) → 0 < n → Consumes s t [] → IsAtEnd t → Hears (next_octets n) k s (Refused (fault k Truncated)) k t
@@ -54,14 +54,14 @@ octets_error m n k j i errors.Memory o s v p h x = tt
 
 pub contents_done : (n k j : ℕ) (o : List ℕ) (s t : Option (List ℕ)) → Consumes s t o → j ≡ k + length o → length o ≡ n → Hears (next_octets n) k s (Said o) j t
 unfolding Hears Reads
-contents_done n k j o None t c e h = tt
+contents_done n k j o None t c e h = (o, e, ap (λ w. run (next_octets n) k w) (sym (append-nil o)) ∙ octets_all n k o [] h ∙ ap (λ w. Took o w []) (ap (λ w. k + w) (sym h) ∙ sym e))
 contents_done n k j o (Some s) None c e h = absurd c
 contents_done n k j o (Some s) (Some t) c e h =
     ((o, c, e), ap (λ w. run (next_octets n) k w) c ∙ octets_all n k o t h ∙ ap (λ w. Took o w t) (ap (λ w. k + w) (sym h) ∙ sym e))
 
 pub contents_error : (m n k j i : ℕ) (e : ReadError) (o : List ℕ) (s t u : Option (List ℕ)) → Consumes s t o → j ≡ k + length o → length o + m ≡ n → Hears (next_octets m) j t (heard_error e) i u → Hears (next_octets n) k s (heard_error e) i u
 unfolding Hears
-contents_error m n k j i e o None t u c p h x = tt
+contents_error m n k j i e o None t u c p h x = gives_error (next_octets n) e k i
 contents_error m n k j i e o (Some s) None u c p h x = absurd c
 contents_error m n k j i e o (Some s) (Some t) None c p h x = absurd x
 contents_error m n k j i e o (Some s) (Some t) (Some u) c p h x = (takes_both k j i s t u (o, c, p) x.0, subst (λ w. Reads (next_octets n) k w (heard_error e) i u) (sym c) (octets_error m n k j i e o t u p h x.1))

@@ -1,10 +1,10 @@
 -- What a call answers over a source that may tell its octets, against a plain reading.
-use Rattle.std.specs.Prelude.{Bool, Err, List, None, Ok, Option, Result, Some, length, ℕ, ◌++◌, ◌+◌, ◌≡◌}
+use Rattle.std.specs.Prelude.{Bool, Err, List, None, Ok, Option, Result, Some, [], length, ℕ, ◌++◌, ◌+◌, ◌≡◌}
 use Rattle.tlv_core.specs.declared.fault.ReadError.{ReadError}
 use Rattle.tlv_core.specs.declared.fault.ReadError.TheVariants as errors
 use Rattle.tlv_core.specs.Identifier.{Tag}
 use Rattle.x690.specs.ReadHeaders.{ContainerEnds, ElementStands, Next}
-use Rattle.x690.specs.Reading.{Reading}
+use Rattle.x690.specs.Reading.{Reading, Took, run}
 use Rattle.x690.specs.Reads.{Heard, NoMemory, ReadFailed, Reads, Refused, Said}
 
 abbrev pub heard_error : {A : Type 0} → ReadError → Heard A
@@ -26,10 +26,17 @@ next_at p (Some t) = ElementStands p t.0 t.1
 abbrev pub TakesFrom : ℕ → List ℕ → ℕ → List ℕ → Type 0
 TakesFrom k s k' s' = (octets : List ℕ) × (s ≡ octets ++ s') × (k' ≡ k + length octets)
 
+-- Of a source that doesn't tell its octets: where a value was answered, some octets were taken, and it is what the reading gives for them.
+abbrev pub Gives : {A : Type 0} → Reading A → ℕ → Heard A → ℕ → Type 0
+Gives p k (Said value) k' = (octets : List ℕ) × (k' ≡ k + length octets) × (run p k octets ≡ Took value k' [])
+Gives p k (Refused f) k' = Unit {0}
+Gives p k (ReadFailed at) k' = Unit {0}
+Gives p k NoMemory k' = Unit {0}
+
 -- From place `k` to place `k'`: what was taken is what the source told before and no longer tells, and what was answered is
--- what the reading gives for the octets told. Of a source that doesn't tell its octets nothing is said.
+-- what the reading gives for the octets told.
 unfoldable pub Hears : {A : Type 0} → Reading A → ℕ → Option (List ℕ) → Heard A → ℕ → Option (List ℕ) → Type 0
-Hears p k None h k' t = Unit {0}
+Hears p k None h k' t = Gives p k h k'
 Hears p k (Some s) h k' None = ⊥
 Hears p k (Some s) h k' (Some s') = TakesFrom k s k' s' × Reads p k s h k' s'
 

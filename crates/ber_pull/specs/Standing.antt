@@ -1,6 +1,6 @@
 -- What a pull reader stands at.
-use Rattle.std.specs.Prelude.{Bool, List, None, Option, Some, [], false, length, nat_lt, true, ℕ, ◌+◌, ◌∷◌}
-use Rattle.tlv_core.specs.Identifier.{Tag}
+use Rattle.std.specs.Prelude.{Bool, List, None, Option, Some, [], false, length, nat_lt, true, ℕ, ◌+◌, ◌<◌, ◌∷◌, ◌≤◌}
+use Rattle.tlv_core.specs.Identifier.{IsTag, Tag}
 use Rattle.tlv_core.specs.Limits.{Limits}
 use Rattle.tlv_core.specs.declared.fault.ReadError.{ReadError}
 use Rattle.x690.specs.Points.{Enclosing, EndsAt, EndsWithZeros, Innermost, NoContainer}
@@ -19,6 +19,12 @@ pub record Standing : Type 0 where
   pub containers : List Container
   -- the error, once it failed
   pub error : Option ReadError
+
+-- An element of this tag may stand here: the tag is one, its depth is within the limit, and the limit of octets is one.
+pub record IsGiven (tag : Tag) (s : Standing) : Type 0 where
+  pub is_tag : IsTag tag
+  pub depth_fits : length s.containers < s.limits.depth
+  pub octets_fit : s.limits.octets ≤ 2147483647
 
 -- at the start, with no container open
 abbrev pub started : Limits → Standing

@@ -1,5 +1,6 @@
 //! Header octets: identifiers, lengths and ends of contents, octet by octet (X.690 8.1.2, 8.1.3, 8.1.5).
 ghost use Rattle.std.specs.Prelude.{◌≡◌, ◌<◌, ◌≤◌, ◌+◌, ◌/◌, ◌%◌, ◌^◌, ◌*◌, None, IfOk, OnOk, ℕ};
+ghost use Rattle.tlv_core.specs.Identifier.{IsTag};
 ghost use Rattle.x690.specs.ReadHeaders.{ContainerEnds, fit_contents, header_octet, read_big_endian, read_high_number, read_definite_length, read_length, read_number, read_tag_number};
 ghost use Rattle.ber_pull.specs.Calls.{read_end_of_contents};
 ghost use Rattle.ber_pull.specs.Hears.{heard};
@@ -239,7 +240,8 @@ fn with_octet(number: u64, octet: u8) -> u64
 pub(crate) fn tag_of(first: u8, number: u32) -> Tag
     requires small { number < 2 ^ 28 }
     requires not_end { number ≡ 0 → 64 ≤ first }
-    ensures { result ≡ record { class = first / 64; number = number } }
+    ensures is { result ≡ record { class = first / 64; number = number } }
+    ensures tag { IsTag result }
 {
     let class = match first / 64 {
         0 => Class::Universal,

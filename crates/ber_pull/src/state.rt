@@ -43,14 +43,16 @@ impl Model for State {
     ghost Value = { Standing };
 
     ghost use Rattle.std.specs.Prelude.{take, reverse, length, IfSome, ◌≡◌, ◌<◌, ◌≤◌};
+    ghost use Rattle.tlv_core.specs.Identifier.{IsTag};
 
     ghost view = { λ s. record { limits = s.limits; taken = s.taken; given = s.given; containers = reverse (take s.depth s.containers); error = s.error } };
 
-    ghost invariant = { λ s. (s.depth ≤ s.limits.depth) × (s.limits.depth ≤ 64) × (s.taken ≤ s.limits.octets) × (s.limits.octets ≤ 2147483647) × IfSome s.given (λ _. s.depth < s.limits.depth) × (length s.containers ≡ 64) };
+    ghost invariant = { λ s. (s.depth ≤ s.limits.depth) × (s.limits.depth ≤ 64) × (s.taken ≤ s.limits.octets) × (s.limits.octets ≤ 2147483647) × IfSome s.given (λ g. (s.depth < s.limits.depth) × IsTag g.tag) × (length s.containers ≡ 64) };
 }
 
 ghost use Rattle.std.specs.Prelude.{◌≡◌, ◌<◌, ◌≤◌, ◌^◌, ◌+◌, IfSome, None, length, nat_lt, not};
 ghost use Rattle.ber_pull.specs.Standing.{started, failed_with, moved, used, giving, enclosing, first_of, is_over, ending, closing, with_container};
+ghost use Rattle.tlv_core.specs.Identifier.{IsTag};
 ghost use Rattle.x690.specs.Points.{at_end, ends_with_zeros, past_end, stands_at_end};
 
 impl State {
@@ -114,13 +116,16 @@ impl State {
     pub fn given(&self) -> Option<Given>
         ensures value { result ≡ self.now.given }
         ensures depth { IfSome result (λ _. length self.now.containers < self.now.limits.depth) }
+        ensures tag { IfSome result (λ g. IsTag g.tag) }
+        ensures bound { self.now.limits.octets ≤ 2147483647 }
     {
         self.given
     }
 
     /// An identifier is given.
     pub fn give(&mut self, at: u32, tag: Tag, constructed: bool)
-        requires { length self.old.containers < self.old.limits.depth }
+        requires depth { length self.old.containers < self.old.limits.depth }
+        requires tag { IsTag tag }
         ensures { self.new ≡ giving at tag constructed self.old }
     {
         self.given = Some(Given {

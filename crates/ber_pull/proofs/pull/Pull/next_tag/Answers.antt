@@ -59,4 +59,4 @@ pub returns-clause-reads : goal.returns-clause-reads
 returns-clause-reads g c = λ fine.
     hears_at _ _ _ _ _ _ _ _ (ap (λ s. s.taken) c.give.ensures) refl
     (next_element c.args.self.now.state _ _ _ c.in_ok-first.first _ _ c.in_ok-number.number c.tag_of-tag.result (record { came = record { asks = record { none_given = sym c.given.ensures.value ∙ c.in_default-given.is; not_over = sym c.is_over.ensures ∙ c.if-is_over.false; not_at_end = sym c.is_at_end.ensures ∙ c.if-is_at_end.false }; first = hears_as _ _ _ _ _ _ _ (ap (header_octet c.args.self.now.state.limits (enclosing c.args.self.now.state).nearest_end) c.taken-start.ensures.value) c.in_ok-first.ensures.reads }; octet = c.in_ok-first.ensures.octet; no_end = c.if-first-eq0.false; no_bad_tag = c.if-first-eq32.false }) (hears_as _ _ _ _ _ _ _ (ap (λ s. read_tag_number s.limits (enclosing s).nearest_end c.taken-start.result c.in_ok-first.first) c.in_ok-first.ensures.stands ∙ ap (λ p. read_tag_number c.args.self.now.state.limits (enclosing c.args.self.now.state).nearest_end p c.in_ok-first.first) c.taken-start.ensures.value) c.in_ok-number.ensures.reads)
-    (sym (ap (λ s. nat_lt (length s.containers) s.limits.depth) c.in_ok-number.ensures.stands ∙ ap (λ s. nat_lt (length s.containers) s.limits.depth) c.in_ok-first.ensures.stands) ∙ not_opposite _ _ c.is_deep.ensures c.if-is_deep.false) c.tag_of-tag.ensures)
+    (sym (ap (λ s. nat_lt (length s.containers) s.limits.depth) c.in_ok-number.ensures.stands ∙ ap (λ s. nat_lt (length s.containers) s.limits.depth) c.in_ok-first.ensures.stands) ∙ not_opposite _ _ c.is_deep.ensures c.if-is_deep.false) c.tag_of-tag.ensures.is)

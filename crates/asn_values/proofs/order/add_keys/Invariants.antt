@@ -1,0 +1,5 @@
+use Rattle.std.proofs.Common.{◌≡◌, map}
+use Rattle.asn_values.proofs.order.add_keys.Given as goal
+
+abbrev pub invariant-loop-item : goal.invariant-loop-item
+invariant-loop-item g l = map (λ k. k.item) l.keys.items ≡ l.yielded

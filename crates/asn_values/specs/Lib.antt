@@ -1,0 +1,4 @@
+pub mod Containers
+pub mod Framing
+pub mod Leaves
+pub mod Members

@@ -1,0 +1,87 @@
+//! BIT STRING (X.690 8.6, 11.2).
+ghost use Rattle.std.specs.Prelude.{◌≡◌, ◌↔◌, ◌+◌, ◌<◌, ◌^◌, ◌∷◌, IsTrue, drop, get_or, length, slice_get};
+ghost use Rattle.tlv_core.specs.Sinks.{count, Puts};
+ghost use Rattle.x690.specs.DerTexts.{der};
+ghost use Rattle.x690.specs.Layouts.{universal};
+ghost use Rattle.x690.specs.Values.{Leaf};
+
+use crate::der_text::DerText;
+use crate::leaf::{leaf_octet, leaf_size, put_leaf};
+use crate::tags::universal_tag;
+use tlv_core::sink::{Sink, WriteError};
+use tlv_core::tag::Tag;
+use tlv_core::target::Target;
+
+/// A BIT STRING.
+#[derive(Drop)]
+pub struct Bits {
+    /// The number of unused bits, and behind it the octets, in which these bits are 0.
+    content: Vec<u8>,
+    ghost some: { 0 < length content.items },
+}
+
+impl Bits {
+    ghost use Rattle.asn_values.specs.Leaves.{bit_string_of};
+
+    /// The number of unused bits in the last octet (X.690 8.6.2.2).
+    pub fn unused(&self) -> u8
+        ensures { result ≡ get_or (bit_string_of self.now) 0 0 }
+    {
+        self.content[0]
+    }
+
+    /// The octets of the bits, the first bit leading; unused bits are 0 (X.690 8.6.2.1, 11.2.1).
+    pub fn octets(&self) -> &[u8]
+        ensures octets { result.now ≡ drop 1 (bit_string_of self.now) }
+        ensures contents { bit_string_of self.now ≡ get_or (bit_string_of self.now) 0 0 ∷ result.now }
+    {
+        &self.content[1..]
+    }
+
+    /// Whether the two have the same bits.
+    pub fn same(&self, other: &Bits) -> bool
+        ensures { IsTrue result ↔ (bit_string_of self.now ≡ bit_string_of other.now) }
+    {
+        self.content == other.content
+    }
+
+    /// The length of its text under an implicit tag.
+    pub fn size_as(&self, tag: Tag) -> u64
+        ensures { result ≡ length (der (Leaf tag (bit_string_of self.now))) }
+    {
+        leaf_size(tag, &self.content)
+    }
+
+    /// Writes its text under an implicit tag.
+    pub fn put_as<W: Target>(&self, sink: &mut Sink<'_, W>, tag: Tag) -> Result<(), WriteError>
+        requires { count sink.old + length (der (Leaf tag (bit_string_of self.now))) < 2 ^ 64 }
+        ensures { Puts (der (Leaf tag (bit_string_of self.now))) sink.old sink.new result }
+    {
+        put_leaf(tag, &self.content, sink)
+    }
+
+    /// Octet `i` of its text under an implicit tag.
+    pub fn octet_as(&self, i: u64, tag: Tag) -> Option<u8>
+        ensures { result ≡ slice_get (der (Leaf tag (bit_string_of self.now))) i }
+    {
+        leaf_octet(tag, &self.content, i)
+    }
+}
+
+impl DerText for Bits {
+    ghost use Rattle.asn_values.specs.Leaves.{bit_string_of};
+
+    ghost value = { λ bits. Leaf (universal 3) (bit_string_of bits) };
+
+    fn size(&self) -> u64 {
+        self.size_as(universal_tag(3))
+    }
+
+    fn put<W: Target>(&self, sink: &mut Sink<'_, W>) -> Result<(), WriteError> {
+        self.put_as(sink, universal_tag(3))
+    }
+
+    fn octet(&self, i: u64) -> Option<u8> {
+        self.octet_as(i, universal_tag(3))
+    }
+}

@@ -1,0 +1,122 @@
+//! SET OF (X.690 8.12, 11.6).
+ghost use Rattle.std.specs.Prelude.{◌≡◌, ◌↔◌, ◌+◌, ◌<◌, ◌^◌, Err, IfOk, IsPermutation, IsTrue, length, map, slice_get, true};
+ghost use Rattle.std.specs.Option.{option_map};
+ghost use Rattle.tlv_core.specs.Sinks.{count, Puts};
+ghost use Rattle.x690.specs.DerTexts.{Ascends, der};
+ghost use Rattle.x690.specs.Layouts.{universal};
+ghost use Rattle.x690.specs.Values.{SetOf as SetValue, values_of};
+ghost use Rattle.asn_values.specs.Members.{ascends};
+ghost use Rattle.asn_values.specs.declared.build.BuildError.TheVariants.{TooBig};
+
+use crate::build::BuildError;
+use crate::der_text::DerText;
+use crate::framing::element_size;
+use crate::order::in_order;
+use crate::row::{LONGEST, Row, contents_length};
+use crate::tags::universal_tag;
+use std::alloc::Global;
+use tlv_core::sink::{Sink, WriteError};
+use tlv_core::tag::Tag;
+use tlv_core::target::Target;
+
+/// A SET OF, its members in the order of their texts (X.690 11.6). Equal members stay, each as often as it came.
+#[derive(Drop)]
+pub struct SetOf<T: DerText> {
+    row: Row<T>,
+    ghost in_order: { ascends (map der (map T.value row.items.items)) ≡ true },
+}
+
+/// Whether the text of the SET OF of these items is longer than 2^40 octets.
+fn is_long<T: DerText>(items: &[T]) -> bool
+    ensures { IsTrue result ↔ (2 ^ 40 < length (der (SetValue (universal 17) (values_of (map T.value items.now))))) }
+{
+    match contents_length(items) {
+        Some(content) => element_size(universal_tag(17), content) > LONGEST,
+        None => true,
+    }
+}
+
+impl<T: DerText> SetOf<T> {
+    ghost use Rattle.asn_values.specs.Containers.{set_items};
+
+    /// The SET OF with these members. They are dropped where it is refused.
+    ///
+    /// Errors: `TooBig` where its text would be longer than 2^40 octets, `Memory`.
+    pub fn from_items(alloc: Global, items: Vec<T>) -> Result<SetOf<T>, BuildError>
+        ensures made { IfOk result (λ set. IsPermutation items.items (set_items set)) }
+        ensures too_big { (result ≡ Err TooBig) ↔ (2 ^ 40 < length (der (SetValue (universal 17) (values_of (map T.value items.items))))) }
+    {
+        if is_long(&items) {
+            return Err(BuildError::TooBig);
+        }
+        let sorted = in_order(alloc, items)?;
+        let row = Row::new(alloc, sorted)?;
+        Ok(SetOf { row })
+    }
+
+    /// The number of members.
+    pub fn len(&self) -> usize
+        ensures { result ≡ length (set_items self.now) }
+    {
+        self.row.items.len()
+    }
+
+    /// Whether it has no members.
+    pub fn is_empty(&self) -> bool
+        ensures { IsTrue result ↔ (length (set_items self.now) ≡ 0) }
+    {
+        self.row.items.is_empty()
+    }
+
+    /// The member at this place, counted from 0, in the order of their texts.
+    pub fn get(&self, i: usize) -> Option<&T>
+        ensures member { option_map (λ r. r.now) result ≡ slice_get (set_items self.now) i }
+        ensures in_order { Ascends (map der (map T.value (set_items self.now))) }
+    {
+        if i < self.row.items.len() {
+            Some(&self.row.items[i])
+        } else {
+            None
+        }
+    }
+
+    /// The length of its text under an implicit tag.
+    pub fn size_as(&self, tag: Tag) -> u64
+        ensures { result ≡ length (der (SetValue tag (values_of (map T.value (set_items self.now))))) }
+    {
+        self.row.size(tag)
+    }
+
+    /// Writes its text under an implicit tag.
+    pub fn put_as<W: Target>(&self, sink: &mut Sink<'_, W>, tag: Tag) -> Result<(), WriteError>
+        requires { count sink.old + length (der (SetValue tag (values_of (map T.value (set_items self.now))))) < 2 ^ 64 }
+        ensures { Puts (der (SetValue tag (values_of (map T.value (set_items self.now))))) sink.old sink.new result }
+    {
+        self.row.put(tag, sink)
+    }
+
+    /// Octet `i` of its text under an implicit tag.
+    pub fn octet_as(&self, i: u64, tag: Tag) -> Option<u8>
+        ensures { result ≡ slice_get (der (SetValue tag (values_of (map T.value (set_items self.now))))) i }
+    {
+        self.row.octet(tag, i)
+    }
+}
+
+impl<T: DerText> DerText for SetOf<T> {
+    ghost use Rattle.asn_values.specs.Containers.{set_items};
+
+    ghost value = { λ set. SetValue (universal 17) (values_of (map T.value (set_items set))) };
+
+    fn size(&self) -> u64 {
+        self.size_as(universal_tag(17))
+    }
+
+    fn put<W: Target>(&self, sink: &mut Sink<'_, W>) -> Result<(), WriteError> {
+        self.put_as(sink, universal_tag(17))
+    }
+
+    fn octet(&self, i: u64) -> Option<u8> {
+        self.octet_as(i, universal_tag(17))
+    }
+}
