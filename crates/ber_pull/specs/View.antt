@@ -1,5 +1,5 @@
 -- What clauses see of a pull reader.
-use Rattle.std.specs.Prelude.{Bool, Err, List, MatchResult, None, Ok, OnOk, IfErr, IfOk, Option, Result, Some, IsSome, false, true, ℕ, ◌<◌, ◌≡◌, ◌≤◌}
+use Rattle.std.specs.Prelude.{Bool, Err, List, MatchResult, None, IfErr, Option, Result, Some, false, true, ℕ, ◌≡◌, ◌≤◌}
 use Rattle.tlv_core.specs.declared.fault.ReadError.{ReadError}
 use Rattle.tlv_core.specs.declared.fault.ReadError.TheVariants as errors
 use Rattle.tlv_core.specs.declared.source.Source.{Ghosts}
