@@ -35,8 +35,9 @@ use Rattle.x690_laws.proofs.Runs.{halt_bind, halted_bind, run_bind, took_bind, t
 use Rattle.x690_laws.proofs.Sames.{same_sym, same_trans}
 use Rattle.x690_laws.proofs.Sound.{same_tag_is}
 use Rattle.x690_laws.proofs.Soundness.{judge_took}
-use Rattle.x690_laws.proofs.Stopping.{Counted, stands_later, took_type}
-use Rattle.x690_laws.specs.FaultLaws.{OneFault, StopIsFault}
+use Rattle.x690_laws.proofs.Stopping.{Counted, behind_stops, stands_later, took_type}
+use Rattle.x690_laws.specs.FaultLaws.{BehindStops, OneFault, StopIsFault}
+use Rattle.x690_laws.specs.ReadingLaws.{BehindIsTaken, TakenIsBehind}
 
 -- an element that is taken: its identifier, and what is behind
 record Both (l : Limits) (T : TypeTerm) (earlier : List Value) (c : Enclosing) (k : ℕ) (s : List ℕ) (w : Value) (q : ℕ) (r : List ℕ) : Type 0 where
@@ -343,4 +344,22 @@ pub one_fault : OneFault
 one_fault = record {
   single = λ l T earlier c k s f g fr pr a b. one_halt (run (read_element l T earlier c) k s) f g (exact l T earlier c k s f fr pr a) (exact l T earlier c k s g fr pr b);
   apart = λ l T earlier c k s f v n rest fr pr a b. exclusive l T earlier c k s f fr pr (exact l T earlier c k s f fr pr a) v n rest b;
+}
+
+-- behind an identifier that stands
+
+pub behind_is_taken : BehindIsTaken
+behind_is_taken l T earlier c k s t form j u v q r st h = let w = took_type l T earlier c k s t form j u v q r st h in (w.count, w.place, w.takes)
+
+pub taken_is_behind : TakenIsBehind
+taken_is_behind l T earlier c k s t form j u v n r fr pr st h =
+    let x = complete l T earlier c k s v n r fr pr h in
+    let b = both_of l T earlier c k s x.0 (k + n) r x.2 in
+    let sm = same_stands l c k s b.tag t b.form form b.behind j b.rest u b.stands st in
+    (x.0, x.1, sm (λ t' form' j' u'. run (read_type l T earlier c k t' form') j' u' ≡ Took x.0 (k + n) r) b.judged)
+
+pub behind_is_exact : BehindStops
+behind_is_exact = record {
+  fault_stops = λ l T earlier c k s t form j u f st h. behind_stops l T earlier c k s t form j u f st h;
+  stop_is_fault = λ l T earlier c k s t form j u f fr pr st h. behind_halts l T earlier earlier c fr (each_refl earlier) pr k t form j u f (stands_later l c k s t form j u st) h;
 }
