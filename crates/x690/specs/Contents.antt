@@ -28,7 +28,7 @@ unfoldable mutual
   AllSegmented number NoTrees = Unit {0}
   AllSegmented number (FirstTree tree trees) = (tree_tag tree ≡ universal number) × Segmented number tree × AllSegmented number trees
 
--- The octets of a string: its segments are OCTET STRINGs, joined in order (8.7, 8.23.6).
+-- The octets of a string: its segments are OCTET STRINGs, joined in order (8.7, 8.23).
 pub record StringContents (tree : RawTree) (octets : List ℕ) : Type 0 where
   pub segmented : Segmented 4 tree
   pub is : octets ≡ join (segments tree)
@@ -45,7 +45,7 @@ unused_bits ([] ∷ []) = 0
 unused_bits ((unused ∷ octets) ∷ []) = unused
 unused_bits (segment ∷ next ∷ more) = unused_bits (next ∷ more)
 
--- Each is the contents of a BIT STRING, and all but the last have no unused bits (8.6.4.1).
+-- Each is the contents of a BIT STRING, and all but the last have no unused bits (8.6.4).
 abbrev pub AreBitSegments : List (List ℕ) → Type 0
 AreBitSegments [] = Unit {0}
 AreBitSegments (segment ∷ []) = IsBitSegment segment

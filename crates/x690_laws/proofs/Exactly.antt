@@ -27,7 +27,7 @@ use Rattle.x690_laws.proofs.Complete.{leaf_test, leaf_untest}
 use Rattle.x690_laws.proofs.ContentsFaulting.{leaf_halts, open_halts, opens_later, opens_within, proper_inside}
 use Rattle.x690_laws.proofs.HeaderFaulting.{ends_run, fail_on, guard_off, stands_of, stands_run, tag_halts}
 use Rattle.x690_laws.proofs.HeaderGives.{done_on, guard_on, pick_first, pick_second}
-use Rattle.x690_laws.proofs.Judging.{complete, complete_env, each_refl, exclusive}
+use Rattle.x690_laws.proofs.Judging.{complete, complete_with, each_refl, exclusive}
 use Rattle.x690_laws.proofs.Members.{GivesOne, form_halts, members_ended, members_halt, opened_on}
 use Rattle.x690_laws.proofs.OneValue.{each_snoc, leaf_at_same}
 use Rattle.x690_laws.proofs.Refit.{begins_fits}
@@ -35,8 +35,9 @@ use Rattle.x690_laws.proofs.Runs.{halt_bind, halted_bind, run_bind, took_bind, t
 use Rattle.x690_laws.proofs.Sames.{same_sym, same_trans}
 use Rattle.x690_laws.proofs.Sound.{same_tag_is}
 use Rattle.x690_laws.proofs.Soundness.{judge_took}
-use Rattle.x690_laws.proofs.Stopping.{Counted, stands_later, took_type}
-use Rattle.x690_laws.specs.FaultLaws.{OneFault, StopIsFault}
+use Rattle.x690_laws.proofs.Stopping.{Counted, behind_stops, stands_later, took_type}
+use Rattle.x690_laws.specs.FaultLaws.{BehindStops, OneFault, StopIsFault}
+use Rattle.x690_laws.specs.ReadingLaws.{BehindIsTaken, TakenIsBehind}
 
 -- an element that is taken: its identifier, and what is behind
 record Both (l : Limits) (T : TypeTerm) (earlier : List Value) (c : Enclosing) (k : ℕ) (s : List ℕ) (w : Value) (q : ℕ) (r : List ℕ) : Type 0 where
@@ -81,7 +82,7 @@ Back l T i f = (p : ℕ) (t : Tag) (form : Bool) (k : ℕ) (s : List ℕ) → 0 
 member_gives : (l : Limits) (T : TypeTerm) (i : Enclosing) → Fair T → Proper i → GivesOne {A = Unit {0}} l i (add_member (read_type l T [] i)) (λ s. tt) (MemberStands l T i) Counted
 unfolding add_member
 member_gives l T i fr pr number s0 k s a n r ok (v, h) =
-    let x = complete_env l T [] [] i k s v n r fr pr tt h in
+    let x = complete_with l T [] [] i k s v n r fr pr tt h in
     let b = both_of l T [] i k s x.0 (k + n) r x.2 in
     let w = took_type l T [] i k s b.tag b.form b.behind b.rest x.0 (k + n) r b.stands b.judged in
     let lon : k < k + n = w.longer in
@@ -241,10 +242,10 @@ mutual
       (λ g. halt_bind _ _ (p + a.3) a.4 f (inside_halted p (run (read_element l T earlier' outermost) 0 a.2) g.0 (p + a.3) a.4
       (here_halts l T earlier earlier' outermost 0 a.2 g.0 (behind_halts l T earlier earlier' outermost fr.1 es none_around) g.1) ∙ ap Halted (sym g.2)))
       (λ d. ⊎_elim
-      (λ g. let x = complete_env l T earlier earlier' outermost 0 a.2 g.0 g.1 (g.2 ∷ g.3) fr.1 none_around es g.4 in
+      (λ g. let x = complete_with l T earlier earlier' outermost 0 a.2 g.0 g.1 (g.2 ∷ g.3) fr.1 none_around es g.4 in
       let e : 0 + g.1 ≡ g.1 = omega arith in
       halt_bind _ _ (p + a.3) a.4 f (inside_more p (run (read_element l T earlier' outermost) 0 a.2) x.0 g.1 g.2 g.3 (p + a.3) a.4 (x.2 ∙ ap (λ u. Took x.0 u (g.2 ∷ g.3)) e) ∙ ap Halted (sym g.5)))
-      (λ g. let x = complete_env l T earlier earlier' outermost 0 a.2 g.0 g.1 [] fr.1 none_around es g.3 in
+      (λ g. let x = complete_with l T earlier earlier' outermost 0 a.2 g.0 g.1 [] fr.1 none_around es g.3 in
       run_bind _ _ (p + a.3) a.4 x.0 (p + a.3) a.4 (inside_good p (run (read_element l T earlier' outermost) 0 a.2) x.0 (0 + g.1) (p + a.3) a.4 x.2)
       ∙ ruled_off p (q earlier' x.0) g.2 (Leaf w (der x.0)) (p + a.3) a.4 f (sym (fr.0 earlier earlier' g.0 x.0 es x.1) ∙ g.4) g.5)
       d)
@@ -253,7 +254,7 @@ mutual
       h
   behind_halts l (RuledType q T) earlier earlier' c fr es pr p t form k s f z h = ⊎_elim
       (λ a. halt_bind (read_type l T earlier' c p t form) _ k s f (behind_halts l T earlier earlier' c fr.1 es pr p t form k s f z a))
-      (λ a. let x = complete_env l T earlier earlier' c p a.0 a.1 a.2 a.3 fr.1 pr es a.6 in
+      (λ a. let x = complete_with l T earlier earlier' c p a.0 a.1 a.2 a.3 fr.1 pr es a.6 in
       let b = both_of l T earlier' c p a.0 x.0 (p + a.2) a.3 x.2 in
       let sm = same_stands l c p a.0 b.tag t b.form form b.behind k b.rest s b.stands a.5 in
       let jd : run (read_type l T earlier' c p t form) k s ≡ Took x.0 (p + a.2) a.3 = sm (λ t' form' k' s'. run (read_type l T earlier' c p t' form') k' s' ≡ Took x.0 (p + a.2) a.3) b.judged in
@@ -283,7 +284,7 @@ mutual
       (λ b. guard_off _ _ _ a.2 a.3 f b.0 b.1)
       (λ b. guard_on _ _ _ a.2 a.3 b.0 ∙ halt_bind (read_type l T earlier' c k a.0 a.1) _ a.2 a.3 f (behind_halts l T earlier earlier' c fr.0 es pr k a.0 a.1 a.2 a.3 f (stands_later l c k s a.0 a.1 a.2 a.3 a.4) b.1))
       a.5)
-      (λ a. let x = complete_env l T earlier earlier' c k s a.0 a.1 a.2 fr.0 pr es a.3 in
+      (λ a. let x = complete_with l T earlier earlier' c k s a.0 a.1 a.2 fr.0 pr es a.3 in
       let b = both_of l T earlier' c k s x.0 (k + a.1) a.2 x.2 in
       run_bind (next_tag l c) _ k s (ElementStands k b.tag b.form) b.behind b.rest (stands_run l c k s b.tag b.form b.behind b.rest b.stands)
       ∙ guard_on _ _ _ b.behind b.rest (begins_took l T earlier' c k s b.tag b.form b.behind b.rest x.0 (k + a.1) a.2 b.stands b.judged)
@@ -301,7 +302,7 @@ mutual
       (λ b. passed l fs (Optional T fs) earlier' c k s (ElementStands k a.0 a.1) a.2 a.3 f n (pick_second _ _ _ a.2 a.3 b.0) (fields_halt l fs earlier earlier' c k s f fr.1 es pr b.1))
       (λ b. run_bind (next_tag l c) _ k s (ElementStands k a.0 a.1) a.2 a.3 n ∙ pick_first _ _ _ a.2 a.3 b.0 ∙ halt_bind (read_type l T earlier' c k a.0 a.1) _ a.2 a.3 f (behind_halts l T earlier earlier' c fr.0 es pr k a.0 a.1 a.2 a.3 f (stands_later l c k s a.0 a.1 a.2 a.3 a.4) b.1))
       a.5)
-      (λ a. let x = complete_env l T earlier earlier' c k s a.0 a.1 a.2 fr.0 pr es a.3 in
+      (λ a. let x = complete_with l T earlier earlier' c k s a.0 a.1 a.2 fr.0 pr es a.3 in
       let b = both_of l T earlier' c k s x.0 (k + a.1) a.2 x.2 in
       run_bind (next_tag l c) _ k s (ElementStands k b.tag b.form) b.behind b.rest (stands_run l c k s b.tag b.form b.behind b.rest b.stands)
       ∙ pick_first _ _ _ b.behind b.rest (begins_took l T earlier' c k s b.tag b.form b.behind b.rest x.0 (k + a.1) a.2 b.stands b.judged)
@@ -319,7 +320,7 @@ mutual
       (λ b. passed l fs (Default i io T fs) earlier' c k s (ElementStands k a.0 a.1) a.2 a.3 f n (pick_second _ _ _ a.2 a.3 b.0) (fields_halt l fs earlier earlier' c k s f fr.1 es pr b.1))
       (λ b. run_bind (next_tag l c) _ k s (ElementStands k a.0 a.1) a.2 a.3 n ∙ pick_first _ _ _ a.2 a.3 b.0 ∙ halt_bind (read_type l T earlier' c k a.0 a.1) _ a.2 a.3 f (behind_halts l T earlier earlier' c fr.0 es pr k a.0 a.1 a.2 a.3 f (stands_later l c k s a.0 a.1 a.2 a.3 a.4) b.1))
       a.5)
-      (λ a. let x = complete_env l T earlier earlier' c k s a.0 a.1 a.2 fr.0 pr es a.3 in
+      (λ a. let x = complete_with l T earlier earlier' c k s a.0 a.1 a.2 fr.0 pr es a.3 in
       let b = both_of l T earlier' c k s x.0 (k + a.1) a.2 x.2 in
       run_bind (next_tag l c) _ k s (ElementStands k b.tag b.form) b.behind b.rest (stands_run l c k s b.tag b.form b.behind b.rest b.stands)
       ∙ pick_first _ _ _ b.behind b.rest (begins_took l T earlier' c k s b.tag b.form b.behind b.rest x.0 (k + a.1) a.2 b.stands b.judged)
@@ -343,4 +344,22 @@ pub one_fault : OneFault
 one_fault = record {
   single = λ l T earlier c k s f g fr pr a b. one_halt (run (read_element l T earlier c) k s) f g (exact l T earlier c k s f fr pr a) (exact l T earlier c k s g fr pr b);
   apart = λ l T earlier c k s f v n rest fr pr a b. exclusive l T earlier c k s f fr pr (exact l T earlier c k s f fr pr a) v n rest b;
+}
+
+-- behind an identifier that stands
+
+pub behind_is_taken : BehindIsTaken
+behind_is_taken l T earlier c k s t form j u v q r st h = let w = took_type l T earlier c k s t form j u v q r st h in (w.count, w.place, w.takes)
+
+pub taken_is_behind : TakenIsBehind
+taken_is_behind l T earlier c k s t form j u v n r fr pr st h =
+    let x = complete l T earlier c k s v n r fr pr h in
+    let b = both_of l T earlier c k s x.0 (k + n) r x.2 in
+    let sm = same_stands l c k s b.tag t b.form form b.behind j b.rest u b.stands st in
+    (x.0, x.1, sm (λ t' form' j' u'. run (read_type l T earlier c k t' form') j' u' ≡ Took x.0 (k + n) r) b.judged)
+
+pub behind_is_exact : BehindStops
+behind_is_exact = record {
+  fault_stops = λ l T earlier c k s t form j u f st h. behind_stops l T earlier c k s t form j u f st h;
+  stop_is_fault = λ l T earlier c k s t form j u f fr pr st h. behind_halts l T earlier earlier c fr (each_refl earlier) pr k t form j u f (stands_later l c k s t form j u st) h;
 }

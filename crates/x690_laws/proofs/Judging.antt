@@ -55,9 +55,9 @@ not_ended c k n g p b = go c.innermost refl
     go (EndsAt e) i = inner_at e (e == k) refl i
     go EndsWithZeros i = refl
 
-pub complete_env : (l : Limits) (T : TypeTerm) (earlier' earlier : List Value) (c : Enclosing) (k : ℕ) (s : List ℕ) (v : Value) (n : ℕ) (rest : List ℕ) → Fair T → Proper c → Each Same earlier' earlier
+pub complete_with : (l : Limits) (T : TypeTerm) (earlier' earlier : List Value) (c : Enclosing) (k : ℕ) (s : List ℕ) (v : Value) (n : ℕ) (rest : List ℕ) → Fair T → Proper c → Each Same earlier' earlier
     → Takes l T earlier' c k s v n rest → (w : Value) × Same v w × (run (read_element l T earlier c) k s ≡ Took w (k + n) rest)
-complete_env l T earlier' earlier c k s v n rest fr pr es h =
+complete_with l T earlier' earlier c k s v n rest fr pr es h =
     let i = judge_on l T earlier' earlier h.tree v fr es h.fits in
     let sp = split_lay h.tree h.octets h.laid_out in
     let some = id_some (tree_tag h.tree) (form_of h.tree) sp.tag in
@@ -74,7 +74,7 @@ complete_env l T earlier' earlier c k s v n rest fr pr es h =
     )
 
 pub complete : TakenIsRead
-complete l T earlier c k s v n rest fr pr h = complete_env l T earlier earlier c k s v n rest fr pr (each_refl earlier) h
+complete l T earlier c k s v n rest fr pr h = complete_with l T earlier earlier c k s v n rest fr pr (each_refl earlier) h
 
 pub exclusive : FaultTakesNothing
 exclusive l T earlier c k s f fr pr h v n rest t = let x = complete l T earlier c k s v n rest fr pr t in clash (run (read_element l T earlier c) k s) f x.0 (k + n) rest h x.2

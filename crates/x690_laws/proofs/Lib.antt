@@ -1,5 +1,6 @@
 pub mod Answering
 pub mod Complete
+pub mod Composing
 pub mod Computed
 pub mod ContentLengths
 pub mod ContentsFaulting

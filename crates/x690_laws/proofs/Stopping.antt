@@ -102,10 +102,10 @@ inside_given p (Took x e []) w k s q r h = let y = took_done _ _ _ _ _ _ h in (e
 inside_given p (Took x e (b ∷ bs)) w k s q r h = absurd (took_fail _ _ _ _ _ _ h)
 
 -- an element due here stops; an outermost one never meets an end
-abbrev pub BehindStops : Limits → TypeTerm → List Value → Enclosing → Type 0
-BehindStops l T earlier c = (b : ℕ) (a : List ℕ) (t : Tag) (form : Bool) (k : ℕ) (s : List ℕ) (f : Fault) → Stands l c b a t form k s → run (read_type l T earlier c b t form) k s ≡ Halted f → StopsBehind l T earlier c b t form k s f
+abbrev pub StopsBehindIt : Limits → TypeTerm → List Value → Enclosing → Type 0
+StopsBehindIt l T earlier c = (b : ℕ) (a : List ℕ) (t : Tag) (form : Bool) (k : ℕ) (s : List ℕ) (f : Fault) → Stands l c b a t form k s → run (read_type l T earlier c b t form) k s ≡ Halted f → StopsBehind l T earlier c b t form k s f
 
-here_stops : (l : Limits) (T : TypeTerm) (earlier : List Value) (c : Enclosing) (k : ℕ) (s : List ℕ) (f : Fault) → BehindStops l T earlier c → run (read_element l T earlier c) k s ≡ Halted f → Stops l T earlier c k s f
+here_stops : (l : Limits) (T : TypeTerm) (earlier : List Value) (c : Enclosing) (k : ℕ) (s : List ℕ) (f : Fault) → StopsBehindIt l T earlier c → run (read_element l T earlier c) k s ≡ Halted f → Stops l T earlier c k s f
 unfolding due_element
 here_stops l T earlier c k s f o h = ⊎_elim (λ x. inl (inl (tag_stops l c k s f x))) (λ x. go x.0 x.1 x.2 x.3 x.4) (halted_bind (next_tag l c) _ k s f h)
   where
@@ -120,7 +120,7 @@ no_end l k s (inl e) = let x : NoContainer ≡ EndsAt k = e in cc
 no_end l k s (inr e) = let x : NoContainer ≡ EndsWithZeros = e.0 in cc
 
 -- all members of a container, or too few of them
-values_stop : (l : Limits) (T : TypeTerm) (c : Enclosing) (p : ℕ) (form : Bool) (k : ℕ) (s : List ℕ) (f : Fault) → 0 < k → ((i : Enclosing) → BehindStops l T [] i) → run (all_members l c p form (read_type l T [])) k s ≡ Halted f
+values_stop : (l : Limits) (T : TypeTerm) (c : Enclosing) (p : ℕ) (form : Bool) (k : ℕ) (s : List ℕ) (f : Fault) → 0 < k → ((i : Enclosing) → StopsBehindIt l T [] i) → run (all_members l c p form (read_type l T [])) k s ≡ Halted f
     → StopsInForm l c p form k s f ⊎ ((i : Enclosing) × (j : ℕ) × (u : List ℕ) × Opens l c form k s i j u × ((m : ℕ) × After (MemberStands l T i) (λ b k' s'. StopsHere l i (StopsBehind l T [] i) k' s' f) m tt j u))
 unfolding all_members add_member
 values_stop l T c p form k s f z o h = ⊎_elim
@@ -147,7 +147,7 @@ values_few l T c p form k s n e q r f few g fe h =
     let y1 : length e.all ≡ y.0 + 0 = y.1 in
     (x.0, x.1, x.2, x.3, (y.0, omega arith, y.2))
 
-members_or_few : (l : Limits) (T : TypeTerm) (c : Enclosing) (p : ℕ) (form : Bool) (k : ℕ) (s : List ℕ) (n : ℕ) (f : Fault) (few : ℕ → Fault) (made : Ended (List Value) → Value) → 0 < k → ((i : Enclosing) → BehindStops l T [] i)
+members_or_few : (l : Limits) (T : TypeTerm) (c : Enclosing) (p : ℕ) (form : Bool) (k : ℕ) (s : List ℕ) (n : ℕ) (f : Fault) (few : ℕ → Fault) (made : Ended (List Value) → Value) → 0 < k → ((i : Enclosing) → StopsBehindIt l T [] i)
     → run (all_members l c p form (read_type l T []) >>= λ e. require (nat_le n (length e.all)) (few e.at) (Done (made e))) k s ≡ Halted f
     → MembersStop l T n c p form k s (λ inside. StopsBehind l T [] inside) few f
 members_or_few l T c p form k s n f few made z o h = ⊎_elim
@@ -196,7 +196,7 @@ leaf_at l c w kind b a t form k s f st e h = leaf_stops l c kind b t form k s f 
 mutual
   unfolding read_type StopsBehind
 
-  behind_stops : (l : Limits) (T : TypeTerm) (earlier : List Value) (c : Enclosing) → BehindStops l T earlier c
+  pub behind_stops : (l : Limits) (T : TypeTerm) (earlier : List Value) (c : Enclosing) → StopsBehindIt l T earlier c
   behind_stops l (LeafType w kind) earlier c b a t form k s f st h = ⊎_elim
       inl
       (λ x. inr (x.0, leaf_at l c w kind b a t form k s f st x.0 x.1))
