@@ -1,9 +1,9 @@
 -- What a pull reader stands at.
-use Rattle.std.specs.Prelude.{Bool, List, None, Option, Some, [], false, length, nat_lt, true, ℕ, ◌+◌, ◌<◌, ◌∷◌, ◌≤◌}
+use Rattle.std.specs.Prelude.{Bool, List, None, Option, Some, [], false, length, nat_lt, true, ℕ, ◌+◌, ◌<◌, ◌||◌, ◌∷◌, ◌≤◌}
 use Rattle.tlv_core.specs.Identifier.{IsTag, Tag}
 use Rattle.tlv_core.specs.Limits.{Limits}
 use Rattle.tlv_core.specs.declared.fault.ReadError.{ReadError}
-use Rattle.x690.specs.Points.{Enclosing, EndsAt, EndsWithZeros, Innermost, NoContainer}
+use Rattle.x690.specs.Points.{Enclosing, EndsAt, EndsWithZeros, Innermost, NoContainer, stands_at_end}
 use Rattle.x690.specs.ReadHeaders.{DefiniteLength, IndefiniteLength, LengthForm}
 use Rattle.ber_pull.specs.declared.state.Container.{Container}
 use Rattle.ber_pull.specs.declared.state.Container.TheVariants.{Definite, Ended, Indefinite}
@@ -72,6 +72,10 @@ is_over_in taken (Some c) = is_ended c
 
 abbrev pub is_over : Standing → Bool
 is_over s = is_over_in s.taken (first_of s.containers)
+
+-- the innermost container has nothing left here, and no octet is needed to know it
+abbrev pub is_ended_here : Standing → Bool
+is_ended_here s = is_over s || stands_at_end (enclosing s).innermost s.taken
 
 -- the octets up to this place are taken
 abbrev pub moved : ℕ → Standing → Standing

@@ -1,5 +1,5 @@
 //! The reader: one element after another, with a stack of the open containers in itself.
-ghost use Rattle.std.specs.Prelude.{◌≡◌, ◌<◌, ◌≤◌, ◌↔◌, None, Some, Ok, IfOk, IfSome, IsSome, OnOk, false, ℕ, [], length};
+ghost use Rattle.std.specs.Prelude.{◌≡◌, ◌<◌, ◌≤◌, ◌↔◌, None, Some, Ok, IfOk, IfSome, IsSome, OnOk, false, true, ℕ, [], length};
 ghost use Rattle.tlv_core.specs.declared.fault.ReadError.{ReadError};
 ghost use Rattle.tlv_core.specs.declared.fault.ReadError.TheVariants.{Fault as refused, Memory};
 ghost use Rattle.tlv_core.specs.declared.reason.Reason.TheVariants.{Inner};
@@ -7,7 +7,7 @@ ghost use Rattle.ber_pull.specs.Calls.{read_next, read_entering, read_leaving};
 ghost use Rattle.ber_pull.specs.Hears.{heard, next_at};
 ghost use Rattle.x690.specs.Points.{fault};
 ghost use Rattle.ber_pull.specs.declared.state.Given.{Given};
-ghost use Rattle.ber_pull.specs.Standing.{IsGiven, started, place, failed_with, enclosing, after_next, closing, moved, opening};
+ghost use Rattle.ber_pull.specs.Standing.{IsGiven, started, place, failed_with, enclosing, after_next, closing, is_ended_here, moved, opening};
 
 use crate::header::{LengthForm, tag_of};
 use crate::state::{Container, State};
@@ -72,6 +72,7 @@ impl<'a, R: Source> Pull<'a, R> {
         ensures stands { (standing self.old).given ≡ None → IfOk result (λ next. standing self.new ≡ after_next (standing self.new).taken next (standing self.old)) }
         ensures gives { IfOk result (λ next. IsSome next → IsSome (standing self.new).given) }
         ensures fits { IfOk result (λ next. IfSome next (λ t. IsGiven t.0 (standing self.new))) }
+        ensures ends { IfOk result (λ next. next ≡ None → is_ended_here (standing self.new) ≡ true) }
         ensures advances { (standing self.old).given ≡ None → IfOk result (λ next. IsSome next → (standing self.old).taken < (standing self.new).taken) }
         ensures keeps { Keeps self.new result }
         ensures read { ReadsFail self.old self.new result }
