@@ -7,7 +7,7 @@ ghost use Rattle.ber_pull.specs.Calls.{read_next, read_entering, read_leaving};
 ghost use Rattle.ber_pull.specs.Hears.{heard, next_at};
 ghost use Rattle.x690.specs.Points.{fault};
 ghost use Rattle.ber_pull.specs.declared.state.Given.{Given};
-ghost use Rattle.ber_pull.specs.Standing.{IsGiven, started, place, failed_with, enclosing, after_next, closing, is_ended_here, moved, opening};
+ghost use Rattle.ber_pull.specs.Standing.{IsGiven, TellsInside, started, place, failed_with, enclosing, after_next, closing, is_ended_here, moved, opening};
 
 use crate::header::{LengthForm, tag_of};
 use crate::state::{Container, State};
@@ -24,6 +24,8 @@ pub struct Pull<'a, R: Source> {
     pub(crate) state: State,
     /// No more octets are taken than the limit.
     pub ghost within: { state.taken ≤ state.limits.octets },
+    /// What is inside a fault is there exactly where its reason is `Inner`.
+    pub ghost inside: { TellsInside state },
     ghost live: { state.error ≡ None → R.has_failed src.now ≡ false },
 }
 
@@ -189,7 +191,8 @@ impl<'a, R: Source> Pull<'a, R> {
 
     /// A fault with nothing inside.
     pub(crate) fn stop(&mut self, at: u32, why: Reason) -> ReadError
-        requires { (standing self.old).error ≡ None }
+        requires live { (standing self.old).error ≡ None }
+        requires why { why ≡ Inner → ⊥ }
         ensures same_source { SameSource self.old self.new }
         ensures same { source self.new ≡ source self.old }
         ensures is { result ≡ refused (fault at why) }
