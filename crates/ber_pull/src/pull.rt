@@ -188,6 +188,7 @@ impl<'a, R: Source> Pull<'a, R> {
     }
 
     /// A fault with nothing inside.
+    #[cold]
     pub(crate) fn stop(&mut self, at: u32, why: Reason) -> ReadError
         requires { (standing self.old).error ≡ None }
         ensures same_source { SameSource self.old self.new }
