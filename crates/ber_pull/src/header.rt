@@ -26,6 +26,7 @@ impl<R: Source> Pull<'_, R> {
     ghost use Rattle.ber_pull.specs.Lengths.{AnswersClipped, IsClipped, IsWithin, form_of};
 
     /// The next octet of a header or of end-of-contents octets, which belongs to the identifier at `start`.
+    #[inline(always)]
     pub(crate) fn octet(&mut self, start: u32) -> Result<u8, ReadError>
         requires { (standing self.old).error ≡ None }
         ensures same_source { SameSource self.old self.new }
@@ -82,6 +83,7 @@ impl<R: Source> Pull<'_, R> {
     }
 
     /// The number of the tag whose first octet is taken.
+    #[inline]
     pub(crate) fn tag_number(&mut self, start: u32, first: u8) -> Result<u32, ReadError>
         requires { (standing self.old).error ≡ None }
         ensures same_source { SameSource self.old self.new }
@@ -167,6 +169,7 @@ impl<R: Source> Pull<'_, R> {
     }
 
     /// The number of contents octets, behind the first length octet.
+    #[inline]
     fn number(&mut self, start: u32, first: u8) -> Result<u32, ReadError>
         requires { (standing self.old).error ≡ None }
         ensures same_source { SameSource self.old self.new }

@@ -190,6 +190,7 @@ impl<'a, R: Source> Pull<'a, R> {
     }
 
     /// A fault with nothing inside.
+    #[cold]
     pub(crate) fn stop(&mut self, at: u32, why: Reason) -> ReadError
         requires live { (standing self.old).error ≡ None }
         requires why { why ≡ Inner → ⊥ }
