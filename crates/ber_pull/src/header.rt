@@ -22,7 +22,7 @@ pub enum LengthForm {
 }
 
 impl<R: Source> Pull<'_, R> {
-    ghost use Rattle.ber_pull.specs.View.{standing, source, told, SameSource, Keeps, ReadsFail, Onward, Answers, Moves};
+    ghost use Rattle.ber_pull.specs.View.{AsksNoMemory, standing, source, told, SameSource, Keeps, ReadsFail, Onward, Answers, Moves};
     ghost use Rattle.ber_pull.specs.Lengths.{AnswersClipped, IsClipped, IsWithin, form_of};
 
     /// The next octet of a header or of end-of-contents octets, which belongs to the identifier at `start`.
@@ -35,6 +35,7 @@ impl<R: Source> Pull<'_, R> {
         ensures advances { OnOk result ((standing self.new).taken ≡ (standing self.old).taken + 1) }
         ensures octet { IfOk result (λ x. x < 256) }
         ensures read { ReadsFail self.old self.new result }
+        ensures memory { AsksNoMemory self.old result }
         ensures onward { Onward self.old self.new }
     {
         if self.state.is_at_nearest_end() {
@@ -69,6 +70,7 @@ impl<R: Source> Pull<'_, R> {
         ensures ends { OnOk result (is_over (standing self.new) ≡ true) }
         ensures keeps { Keeps self.new result }
         ensures read { ReadsFail self.old self.new result }
+        ensures memory { AsksNoMemory self.old result }
         ensures onward { Onward self.old self.new }
     {
         if !self.state.is_indefinite() {
@@ -92,6 +94,7 @@ impl<R: Source> Pull<'_, R> {
         ensures below { IfOk result (λ n. n < 2 ^ 28) }
         ensures low { IfOk result (λ n. n < 31 → n ≡ first % 32) }
         ensures read { ReadsFail self.old self.new result }
+        ensures memory { AsksNoMemory self.old result }
         ensures onward { Onward self.old self.new }
     {
         let low = first % 32;
@@ -109,6 +112,7 @@ impl<R: Source> Pull<'_, R> {
         ensures stands { Moves self.old self.new result }
         ensures below { IfOk result (λ n. (n < 2 ^ 28) × (31 ≤ n)) }
         ensures read { ReadsFail self.old self.new result }
+        ensures memory { AsksNoMemory self.old result }
         ensures onward { Onward self.old self.new }
     {
         let mut number: u32 = 0;
@@ -138,6 +142,7 @@ impl<R: Source> Pull<'_, R> {
         ensures within { IfOk result (IsWithin (standing self.new)) }
         ensures advances { OnOk result ((standing self.old).taken < (standing self.new).taken) }
         ensures read { ReadsFail self.old self.new result }
+        ensures memory { AsksNoMemory self.old result }
         ensures onward { Onward self.old self.new }
     {
         let first = self.octet(start)?;
@@ -159,6 +164,7 @@ impl<R: Source> Pull<'_, R> {
         ensures stands { Moves self.old self.new result }
         ensures within { IfOk result (λ n. (standing self.new).taken + n ≤ (standing self.new).limits.octets) }
         ensures read { ReadsFail self.old self.new result }
+        ensures memory { AsksNoMemory self.old result }
         ensures onward { Onward self.old self.new }
     {
         let first = self.octet(start)?;
@@ -177,6 +183,7 @@ impl<R: Source> Pull<'_, R> {
         ensures stands { Moves self.old self.new result }
         ensures within { IfOk result (λ n. (standing self.new).taken + n ≤ (standing self.new).limits.octets) }
         ensures read { ReadsFail self.old self.new result }
+        ensures memory { AsksNoMemory self.old result }
         ensures onward { Onward self.old self.new }
     {
         if first < 128 {
@@ -194,6 +201,7 @@ impl<R: Source> Pull<'_, R> {
         ensures stands { Moves self.old self.new result }
         ensures below { IfOk result (λ m. m < 2 ^ 40) }
         ensures read { ReadsFail self.old self.new result }
+        ensures memory { AsksNoMemory self.old result }
         ensures onward { Onward self.old self.new }
     {
         let mut number: u64 = 0;
@@ -213,6 +221,7 @@ impl<R: Source> Pull<'_, R> {
         ensures stands { Moves self.old self.new result }
         ensures within { IfOk result (λ n. (standing self.new).taken + n ≤ (standing self.new).limits.octets) }
         ensures read { ReadsFail self.old self.new result }
+        ensures memory { AsksNoMemory self.old result }
         ensures onward { Onward self.old self.new }
     {
         let end = u64::from(self.state.taken()) + number;

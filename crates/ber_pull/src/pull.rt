@@ -30,7 +30,7 @@ pub struct Pull<'a, R: Source> {
 }
 
 impl<'a, R: Source> Pull<'a, R> {
-    ghost use Rattle.ber_pull.specs.View.{standing, source, SameSource, Unmoved, Repeats, Keeps, ReadsFail, Onward, Answers, Opens};
+    ghost use Rattle.ber_pull.specs.View.{AsksNoMemory, standing, source, SameSource, Unmoved, Repeats, Keeps, ReadsFail, Onward, Answers, Opens};
     ghost use Rattle.ber_pull.specs.Lengths.{IsWithin, form_of};
 
     /// A reader at place 0, with no container open.
@@ -78,6 +78,7 @@ impl<'a, R: Source> Pull<'a, R> {
         ensures advances { (standing self.old).given ≡ None → IfOk result (λ next. IsSome next → (standing self.old).taken < (standing self.new).taken) }
         ensures keeps { Keeps self.new result }
         ensures read { ReadsFail self.old self.new result }
+        ensures memory { AsksNoMemory self.old result }
         ensures onward { Onward self.old self.new }
     {
         if let Some(error) = self.state.error() {
@@ -120,6 +121,7 @@ impl<'a, R: Source> Pull<'a, R> {
         ensures advances { OnOk result ((standing self.old).taken < (standing self.new).taken) }
         ensures keeps { Keeps self.new result }
         ensures read { ReadsFail self.old self.new result }
+        ensures memory { AsksNoMemory self.old result }
         ensures onward { Onward self.old self.new }
     {
         if let Some(error) = self.state.error() {
@@ -146,6 +148,7 @@ impl<'a, R: Source> Pull<'a, R> {
         ensures stands { OnOk result (standing self.new ≡ closing (moved (standing self.new).taken (standing self.old))) }
         ensures keeps { Keeps self.new result }
         ensures read { ReadsFail self.old self.new result }
+        ensures memory { AsksNoMemory self.old result }
         ensures onward { Onward self.old self.new }
     {
         if let Some(error) = self.state.error() {
