@@ -4,13 +4,12 @@ use Rattle.tlv_core.specs.Identifier.{Tag}
 use Rattle.tlv_core.specs.Limits.{Limits}
 use Rattle.tlv_core.specs.declared.fault.Fault.{Fault}
 use Rattle.tlv_core.specs.declared.reason.Reason.TheVariants.{BadBits, BadText, LeftOut, Truncated, WrongForm, WrongTag}
-use Rattle.x690.specs.Contents.{AreBitSegments, LeafContents, LeafKind, Segmented, Utf8String, segments}
+use Rattle.x690.specs.Contents.{bad_contents, segment_tag, AreBitSegments, LeafContents, LeafKind, Segmented, Utf8String, segments}
 use Rattle.x690.specs.HeaderFaults.{EndsHere, LengthStands, Opens, Stands, StopsInForm, StopsInLength, StopsInTag}
 use Rattle.x690.specs.Layouts.{LaidOut, Primitive, RawTree, tree_depth, tree_tag, universal}
 use Rattle.x690.specs.Lists.{join}
 use Rattle.x690.specs.OpenValues.{OpenLeaf, OpenPlain, OpenRefused, OpenSequence, OpenSetOf, open_form}
 use Rattle.x690.specs.Points.{Enclosing, fault, past_end}
-use Rattle.x690.specs.ReadContents.{bad_contents, segment_tag}
 use Rattle.x690.specs.Takes.{Takes}
 use Rattle.x690.specs.TypeTerms.{OpenType}
 use Rattle.x690.specs.Values.{Value}

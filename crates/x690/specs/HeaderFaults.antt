@@ -6,8 +6,7 @@ use Rattle.tlv_core.specs.Length.{SpellsLength}
 use Rattle.tlv_core.specs.Limits.{Limits}
 use Rattle.tlv_core.specs.declared.fault.Fault.{Fault}
 use Rattle.tlv_core.specs.declared.reason.Reason.TheVariants.{BadEnd, BadLength, BadTag, PastEnd, TooDeep, TooLong, Truncated, WrongForm}
-use Rattle.x690.specs.Points.{Enclosing, EndsAt, EndsWithZeros, at_end, ends_with_zeros, fault, past_end, stands_at_end}
-use Rattle.x690.specs.ReadHeaders.{DefiniteLength, IndefiniteLength, LengthForm, entered}
+use Rattle.x690.specs.Points.{DefiniteLength, IndefiniteLength, LengthForm, entered, Enclosing, EndsAt, EndsWithZeros, at_end, ends_with_zeros, fault, past_end, stands_at_end}
 
 -- An octet of a header may stand at the place: within the nearest container of definite length, and within the limit.
 pub record MayStand (limits : Limits) (end : Option ℕ) (here : ℕ) : Type 0 where
