@@ -11,7 +11,7 @@ use Rattle.tlv_core.specs.declared.reason.Reason.TheVariants.{BadText, LeftOut, 
 use Rattle.x690.specs.Contents.{AreBitSegments, BitString, Boolean, Integer, LeafContents, LeafKind, Null, ObjectIdentifier, OctetString, Utf8String, segments}
 use Rattle.x690.specs.ContentsFaults.{After, LeafStops, OpenStands, OpenStops, PrimitiveStops, SegmentStands, SegmentStops, SegmentsStop, StopsHere}
 use Rattle.x690.specs.Fitting.{Fits}
-use Rattle.x690.specs.HeaderFaults.{EndsHere, LengthStands, Opens, Stands, StopsInForm}
+use Rattle.x690.specs.HeaderFaults.{EndsHere, LengthStands, Opens, OpensThen, Stands, StopsInForm}
 use Rattle.x690.specs.Layouts.{Primitive, RawTree, same_tag, tree_depth, tree_tag, universal}
 use Rattle.x690.specs.Lists.{join}
 use Rattle.x690.specs.OpenValues.{FitsOpen, OpenForm, OpenLeaf, OpenPlain, OpenRefused, OpenSequence, OpenSetOf, open_form}
@@ -255,7 +255,7 @@ leaf_stops l c kind p t true k s f z h = go (segment_tag kind) refl h
         let x = container_takes l c p true (λ c'. each_member (read_segment l.depth l n c') l.octets l c' []) k s a.0 a.1 a.2 a.3 in
         let m = members_end (read_segment l.depth l n x.0) (λ s. s) (SegmentStands l x.0 n) (λ m s. Fine n s) (λ all k' s'. EndsHere l x.0 k' s' × (IsUtf8 (join all) → ⊥)) l x.0 a.0
         (segment_takes l.depth l n x.0) (λ k' s' g w. (w, y.1)) l.octets 0 [] x.1 x.2 a.1 a.2 (no_segments n) x.5 in
-        inr (inr (refl, n, e, inr (y.0, x.0, x.1, x.2, x.3, (m.0, m.2), b.1))))
+        inr (inr (refl, n, e, inr (y.0, (x.0, x.1, x.2, x.3, ((m.0, m.2), b.1))))))
         (λ b. absurd (halted_done _ _ _ f b.1))
         (halted_guard _ _ _ a.1 a.2 f a.4))
         (halted_bind _ _ k s f h)
@@ -370,9 +370,8 @@ leaf_halts l c kind p t true k s f z (inr (inr (w, n, e, h))) = go (segment_tag 
 
     go : (o : Option ℕ) → o ≡ Some n
         → (SegmentsStop (λ inside before. SegmentStops l.depth l n inside before) l n c [] p k s f
-        ⊎ ((kind ≡ Utf8String) × (inside : Enclosing) × (behind : ℕ) × (rest : List ℕ) × Opens l c true k s inside behind rest
-        × ((many : ℕ) × After (SegmentStands l inside n) (λ all place' octets'. EndsHere l inside place' octets' × (IsUtf8 (join all) → ⊥)) many [] behind rest)
-        × (f ≡ fault p BadText)))
+        ⊎ ((kind ≡ Utf8String) × OpensThen l c true k s (λ inside behind rest.
+        ((many : ℕ) × After (SegmentStands l inside n) (λ all place' octets'. EndsHere l inside place' octets' × (IsUtf8 (join all) → ⊥)) many [] behind rest) × (f ≡ fault p BadText))))
         → run (elim o [
           | None ↦ Fail (fault p WrongForm)
           | Some n ↦ in_container l c p true (λ c'. each_member (read_segment l.depth l n c') l.octets l c' [])
@@ -383,7 +382,7 @@ leaf_halts l c kind p t true k s f z (inr (inr (w, n, e, h))) = go (segment_tag 
         let e' : n ≡ n' = cc in
         subst (λ v. run (in_container l c p true (λ c'. each_member (read_segment l.depth l v c') l.octets l c' []) >>= λ e. require (is_joined_contents kind e.all) (fault p BadText) (Done (Leaf t (joined_contents kind e.all)))) k s ≡ Halted f) e'
         (halt_bind _ _ k s f (string_halts l.depth l n c [] p k s f (segment_halts l.depth l n f) (omega arith) (no_segments n) z h))
-    go (Some n') e (inr (y, i, j, u, op, (m, a), g)) =
+    go (Some n') e (inr (y, (i, j, u, op, ((m, a), g)))) =
         let e' : n ≡ n' = cc in
         subst (λ v. run (in_container l c p true (λ c'. each_member (read_segment l.depth l v c') l.octets l c' []) >>= λ e. require (is_joined_contents kind e.all) (fault p BadText) (Done (Leaf t (joined_contents kind e.all)))) k s ≡ Halted f) e'
         (from_end i j u op m y g a)

@@ -228,29 +228,29 @@ mutual
       h
   behind_halts l (SequenceType w fs) earlier earlier' c fr es pr p t form k s f z h = ⊎_elim
       (λ a. guard_off _ _ _ k s f a.0 a.1)
-      (λ b. ⊎_elim
-      (λ a. guard_on _ _ _ k s a.0 ∙ halt_bind _ _ k s f (form_halts l c p form (λ c'. next_tag l c' >>= λ d. read_fields l fs [] c' d) k s f a.1))
-      (λ a. guard_on _ _ _ k s a.0 ∙ halt_bind _ _ k s f (opened_on l c p form (λ c'. next_tag l c' >>= λ d. read_fields l fs [] c' d) k s a.1 a.2 a.3 a.4
-      ∙ fields_halt l fs [] [] a.1 a.2 a.3 f fr tt (proper_inside c a.1 a.2 a.4.1 a.4.3) a.5))
-      b)
+      (λ b. guard_on _ _ _ k s b.0 ∙ ⊎_elim
+      (λ a. halt_bind _ _ k s f (form_halts l c p form (λ c'. next_tag l c' >>= λ d. read_fields l fs [] c' d) k s f a))
+      (λ a. halt_bind _ _ k s f (opened_on l c p form (λ c'. next_tag l c' >>= λ d. read_fields l fs [] c' d) k s a.0 a.1 a.2 a.3
+      ∙ fields_halt l fs [] [] a.0 a.1 a.2 f fr tt (proper_inside c a.0 a.1 a.3.1 a.3.3) a.4))
+      b.1)
       h
   behind_halts l (ContainingType w q T) earlier earlier' c fr es pr p t form k s f z h = ⊎_elim
       (λ a. guard_off _ _ _ k s f a.0 a.1)
-      (λ b. ⊎_elim
-      (λ a. guard_on _ _ _ k s a.0 ∙ halt_bind (read_leaf l c OctetString p w form) _ k s f (leaf_off l c w OctetString p t form k s f z a.0 a.1))
-      (λ a. guard_on _ _ _ k s a.0 ∙ run_bind (read_leaf l c OctetString p w form) _ k s (Leaf w a.2) (p + a.3) a.4 (octets_on l c w p a.1 t form k s a.2 a.3 a.4 pr a.5 a.6) ∙ ⊎_elim
-      (λ g. halt_bind _ _ (p + a.3) a.4 f (inside_halted p (run (read_element l T earlier' outermost) 0 a.2) g.0 (p + a.3) a.4
-      (here_halts l T earlier earlier' outermost 0 a.2 g.0 (behind_halts l T earlier earlier' outermost fr.1 es none_around) g.1) ∙ ap Halted (sym g.2)))
+      (λ b. guard_on _ _ _ k s b.0 ∙ ⊎_elim
+      (λ a. halt_bind (read_leaf l c OctetString p w form) _ k s f (leaf_off l c w OctetString p t form k s f z b.0 a))
+      (λ a. run_bind (read_leaf l c OctetString p w form) _ k s (Leaf w a.1) (p + a.2) a.3 (octets_on l c w p a.0 t form k s a.1 a.2 a.3 pr a.4 a.5) ∙ ⊎_elim
+      (λ g. halt_bind _ _ (p + a.2) a.3 f (inside_halted p (run (read_element l T earlier' outermost) 0 a.1) g.0 (p + a.2) a.3
+      (here_halts l T earlier earlier' outermost 0 a.1 g.0 (behind_halts l T earlier earlier' outermost fr.1 es none_around) g.1) ∙ ap Halted (sym g.2)))
       (λ d. ⊎_elim
-      (λ g. let x = complete_with l T earlier earlier' outermost 0 a.2 g.0 g.1 (g.2 ∷ g.3) fr.1 none_around es g.4 in
+      (λ g. let x = complete_with l T earlier earlier' outermost 0 a.1 g.0 g.1 (g.2 ∷ g.3) fr.1 none_around es g.4 in
       let e : 0 + g.1 ≡ g.1 = omega arith in
-      halt_bind _ _ (p + a.3) a.4 f (inside_more p (run (read_element l T earlier' outermost) 0 a.2) x.0 g.1 g.2 g.3 (p + a.3) a.4 (x.2 ∙ ap (λ u. Took x.0 u (g.2 ∷ g.3)) e) ∙ ap Halted (sym g.5)))
-      (λ g. let x = complete_with l T earlier earlier' outermost 0 a.2 g.0 g.1 [] fr.1 none_around es g.3 in
-      run_bind _ _ (p + a.3) a.4 x.0 (p + a.3) a.4 (inside_good p (run (read_element l T earlier' outermost) 0 a.2) x.0 (0 + g.1) (p + a.3) a.4 x.2)
-      ∙ ruled_off p (q earlier' x.0) g.2 (Leaf w (der x.0)) (p + a.3) a.4 f (sym (fr.0 earlier earlier' g.0 x.0 es x.1) ∙ g.4) g.5)
+      halt_bind _ _ (p + a.2) a.3 f (inside_more p (run (read_element l T earlier' outermost) 0 a.1) x.0 g.1 g.2 g.3 (p + a.2) a.3 (x.2 ∙ ap (λ u. Took x.0 u (g.2 ∷ g.3)) e) ∙ ap Halted (sym g.5)))
+      (λ g. let x = complete_with l T earlier earlier' outermost 0 a.1 g.0 g.1 [] fr.1 none_around es g.3 in
+      run_bind _ _ (p + a.2) a.3 x.0 (p + a.2) a.3 (inside_good p (run (read_element l T earlier' outermost) 0 a.1) x.0 (0 + g.1) (p + a.2) a.3 x.2)
+      ∙ ruled_off p (q earlier' x.0) g.2 (Leaf w (der x.0)) (p + a.2) a.3 f (sym (fr.0 earlier earlier' g.0 x.0 es x.1) ∙ g.4) g.5)
       d)
-      a.7)
-      b)
+      a.6)
+      b.1)
       h
   behind_halts l (RuledType q T) earlier earlier' c fr es pr p t form k s f z h = ⊎_elim
       (λ a. halt_bind (read_type l T earlier' c p t form) _ k s f (behind_halts l T earlier earlier' c fr.1 es pr p t form k s f z a))

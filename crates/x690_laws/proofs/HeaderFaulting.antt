@@ -295,7 +295,7 @@ high_number_stops : (l : Limits) (e : Option ℕ) (p k : ℕ) (s : List ℕ) (f 
 high_number_stops l e p k s f h =
     let x = high_halts l e p 4 0 k s f (omega arith) h in
     let few : length x.before + 1 ≤ 4 = x.few in
-    (x.before, x.rest, x.begin, omega arith, x.continue, x.lead refl, ⊎_elim inl (λ a. inr (a.0, a.1, a.2, bad x.before a.0 a.3, a.4)) x.stops)
+    (x.before, x.rest, x.begin, omega arith, x.continue, x.lead refl, ⊎_elim inl (λ a. inr (a.0, a.1, a.2, (bad x.before a.0 a.3, a.4))) x.stops)
   where
     bad : (before : List ℕ) (y : ℕ) → BadFrom 4 0 before y → BadTagOctet before y
     bad before y (inl w) = inl (w.1, w.2)
@@ -304,7 +304,7 @@ high_number_stops l e p k s f h =
 
 high_number_halts : (l : Limits) (e : Option ℕ) (p k : ℕ) (s : List ℕ) (f : Fault) → HighNumberStops l e p k s f → run (read_high_number l e p 4 0) k s ≡ Halted f
 high_number_halts l e p k s f (before, rest, b, few, c, z, h) =
-    high_stops l e p 4 0 k s f before rest b (omega arith) c (λ w. z) (⊎_elim inl (λ a. inr (a.0, a.1, a.2, bad before a.0 a.3, a.4)) h)
+    high_stops l e p 4 0 k s f before rest b (omega arith) c (λ w. z) (⊎_elim inl (λ a. inr (a.0, a.1, a.2, bad before a.0 a.3.0, a.3.1)) h)
   where
     bad : (before : List ℕ) (y : ℕ) → BadTagOctet before y → BadFrom 4 0 before y
     bad before y (inl w) = inl (refl, w.0, w.1)
@@ -374,7 +374,7 @@ tag_stops l c k s f h = ⊎_elim
         (λ a. ⊎_elim
         (λ b. inr (inl (a.0, subst (λ w. NoOctet l c.nearest_end k w r f) q (no_octet l c.nearest_end k j r f b))))
         (λ b. let o = octet_begins l c.nearest_end k j r b.0 b.1 b.2 b.3 in ⊎_elim
-        (λ d. let d0 : (b.0 == 0) ≡ false = d.0 in inr (inr (a.0, b.0, b.2, subst (λ w. Begin l c.nearest_end w r (b.0 ∷ []) b.2) q o.0, grind (arith, nat_tests), d.1)))
+        (λ d. let d0 : (b.0 == 0) ≡ false = d.0 in inr (inr (a.0, (b.0, b.2, subst (λ w. Begin l c.nearest_end w r (b.0 ∷ []) b.2) q o.0, (grind (arith, nat_tests), d.1)))))
         (λ d. absurd (halted_done _ _ _ f d.1))
         (halted_guard _ _ _ b.1 b.2 f b.4))
         (halted_bind _ _ j r f a.1))
@@ -438,7 +438,7 @@ tag_halts l c k s f (a, inr (x, r, b, inl (z, h))) =
     ending : EndStops l c k r f → run (require (ends_with_zeros c.innermost) (fault k BadEnd) (header_octet l c.nearest_end k >>= λ y. require (y == 0) (fault k BadEnd) (Done (ContainerEnds k)))) (k + 1) r ≡ Halted f
     ending (inl (e, g)) = guard_off _ _ _ (k + 1) r f e g
     ending (inr (inl (e, g))) = guard_on _ _ _ (k + 1) r e ∙ halt_bind (header_octet l c.nearest_end k) _ (k + 1) r f (no_octet_halts l c.nearest_end k (k + 1) r f g)
-    ending (inr (inr (e, y, r', b', n, g))) =
+    ending (inr (inr (e, (y, r', b', (n, g))))) =
         let u : (y == 0) ≡ false = grind (arith, nat_tests) in
         guard_on _ _ _ (k + 1) r e ∙ run_bind _ _ (k + 1) r y (k + 1 + 1) r' (begins_octet l c.nearest_end k (k + 1) r y r' b') ∙ guard_off _ _ _ (k + 1 + 1) r' f u g
 tag_halts l c k s f (a, inr (x, r, b, inr (n, inl (w, g)))) =
@@ -568,7 +568,7 @@ unfolding read_length
 length_stops l e p k s f h = ⊎_elim
     (λ a. inl (no_octet l e p k s f a))
     (λ a. let o = octet_begins l e p k s a.0 a.1 a.2 a.3 in ⊎_elim
-    (λ b. let b0 : nat_lt a.0 255 ≡ false = b.0 in inr (inl (a.0, a.2, o.0, inl (grind (arith, nat_tests)), b.1)))
+    (λ b. let b0 : nat_lt a.0 255 ≡ false = b.0 in inr (inl (a.0, a.2, o.0, (inl (grind (arith, nat_tests)), b.1))))
     (λ b. let b0 : nat_lt a.0 255 ≡ true = b.0 in let lt : a.0 < 255 = grind (arith, nat_tests) in ⊎_elim
     (λ d. absurd (halted_done _ _ _ f d.1))
     (λ d. let d0 : (a.0 == 128) ≡ false = d.0 in let ne : a.0 ≢ 128 = grind (arith, nat_tests) in ⊎_elim
@@ -584,7 +584,7 @@ unfolding read_definite_length
 definite_stops l e p k s f h = ⊎_elim
     (λ a. inl (no_octet l e p k s f a))
     (λ a. let o = octet_begins l e p k s a.0 a.1 a.2 a.3 in ⊎_elim
-    (λ b. inr (inl (a.0, a.2, o.0, which a.0 b.0, b.1)))
+    (λ b. inr (inl (a.0, a.2, o.0, (which a.0 b.0, b.1))))
     (λ b. let b0 = both_true _ _ b.0 in
     let t0 : nat_lt a.0 255 ≡ true = b0.0 in let lt : a.0 < 255 = grind (arith, nat_tests) in
     let t1 : (a.0 == 128) ≡ false = not_true _ b0.1 in let ne : a.0 ≢ 128 = grind (arith, nat_tests) in
@@ -654,14 +654,14 @@ late_halts reading l e p k s f go (inr (m, header, rest, b, sp, h)) =
 pub length_halts : (l : Limits) (e : Option ℕ) (p k : ℕ) (s : List ℕ) (f : Fault) → StopsInLength l e p true k s f → run (read_length l e p) k s ≡ Halted f
 unfolding read_length
 length_halts l e p k s f (inl h) = halt_bind (header_octet l e p) _ k s f (no_octet_halts l e p k s f h)
-length_halts l e p k s f (inr (inl (x, r, b, inl ge, g))) = run_bind _ _ k s x (k + 1) r (begins_octet l e p k s x r b) ∙ guard_off _ _ _ (k + 1) r f (grind (arith, nat_tests)) g
-length_halts l e p k s f (inr (inl (x, r, b, inr w, g))) = let z : true ≡ false = w.0 in cc
+length_halts l e p k s f (inr (inl (x, r, b, (inl ge, g)))) = run_bind _ _ k s x (k + 1) r (begins_octet l e p k s x r b) ∙ guard_off _ _ _ (k + 1) r f (grind (arith, nat_tests)) g
+length_halts l e p k s f (inr (inl (x, r, b, (inr w, g)))) = let z : true ≡ false = w.0 in cc
 length_halts l e p k s f (inr (inr h)) = late_halts (read_length l e p) l e p k s f (λ x r b lt ne g. length_next l e p k s x r f b lt ne g) h
 
 pub definite_halts : (l : Limits) (e : Option ℕ) (p k : ℕ) (s : List ℕ) (f : Fault) → StopsInLength l e p false k s f → run (read_definite_length l e p) k s ≡ Halted f
 unfolding read_definite_length
 definite_halts l e p k s f (inl h) = halt_bind (header_octet l e p) _ k s f (no_octet_halts l e p k s f h)
-definite_halts l e p k s f (inr (inl (x, r, b, w, g))) = run_bind _ _ k s x (k + 1) r (begins_octet l e p k s x r b) ∙ guard_off _ _ _ (k + 1) r f (off w) g
+definite_halts l e p k s f (inr (inl (x, r, b, (w, g)))) = run_bind _ _ k s x (k + 1) r (begins_octet l e p k s x r b) ∙ guard_off _ _ _ (k + 1) r f (off w) g
   where
     either : (a b : Bool) → (a ≡ false) ⊎ (b ≡ true) → a && not b ≡ false
     either false b h = refl

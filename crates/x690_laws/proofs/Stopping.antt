@@ -214,18 +214,20 @@ mutual
       inl
       (λ x. ⊎_elim
       (λ y. ⊎_elim
-      (λ z. inr (inl (x.0, z)))
-      (λ z. inr (inr (
+      (λ z. inr (x.0, inl z))
+      (λ z. inr (
         x.0,
-        z.0,
-        z.1,
-        z.2,
-        z.3,
-        ⊎_elim
-            (λ e. next_stops l fs [] z.0 z.1 z.2 f e)
-            (λ e. fields_stop l fs [] z.0 z.1 z.2 e.0 e.1 e.2 f e.3 e.4)
-            (halted_bind (next_tag l z.0) _ z.1 z.2 f z.5),
-      )))
+        inr (
+          z.0,
+          z.1,
+          z.2,
+          z.3,
+          ⊎_elim
+              (λ e. next_stops l fs [] z.0 z.1 z.2 f e)
+              (λ e. fields_stop l fs [] z.0 z.1 z.2 e.0 e.1 e.2 f e.3 e.4)
+              (halted_bind (next_tag l z.0) _ z.1 z.2 f z.5),
+        ),
+      ))
       (container_halts l c b form (λ c'. next_tag l c' >>= λ d. read_fields l fs [] c' d) k s f y))
       (λ y. absurd (halted_done _ _ _ f y.4))
       (halted_bind _ _ k s f x.1))
@@ -233,30 +235,32 @@ mutual
   behind_stops l (ContainingType w q T) earlier c b a t form k s f st h = ⊎_elim
       inl
       (λ x. ⊎_elim
-      (λ y. inr (inl (x.0, leaf_at l c w OctetString b a t form k s f st x.0 y)))
+      (λ y. inr (x.0, inl (leaf_at l c w OctetString b a t form k s f st x.0 y)))
       (λ y. let tk = took_type l (LeafType w OctetString) [] c b a t form k s y.0 y.1 y.2 st (guard_on _ _ _ k s x.0 ∙ y.3) in
-      inr (inr (
+      inr (
         x.0,
-        a,
-        leaf_contents y.0,
-        tk.count,
-        y.2,
-        st,
-        leaf_value l w c b a y.0 tk.count y.2 tk.takes,
-        ⊎_elim
-            (λ z. ⊎_elim
-            (λ g. inl (g.0, ⊎_elim (λ e. e) (λ e. absurd (no_end l 0 (leaf_contents y.0) e.0)) (here_stops l T earlier outermost 0 (leaf_contents y.0) g.0 (behind_stops l T earlier outermost) g.1), g.2))
-            (λ g. let e = sound l T earlier outermost 0 (leaf_contents y.0) g.0 g.1 (g.2 ∷ g.3) g.4 in
-            let e1 : g.1 ≡ 0 + e.0 = e.1 in
-            let e2 : g.1 ≡ e.0 = omega arith in
-            inr (inl (g.0, e.0, g.2, g.3, e.2, g.5 ∙ ap (λ u. record { at = b; why = Inner; inside = Some (u, Trailing) }) e2)))
-            (inside_refused b (run (read_element l T earlier outermost) 0 (leaf_contents y.0)) y.1 y.2 f z))
-            (λ z. let g = inside_given b (run (read_element l T earlier outermost) 0 (leaf_contents y.0)) z.0 y.1 y.2 z.1 z.2 z.3 in
-            let e = sound l T earlier outermost 0 (leaf_contents y.0) z.0 g.0 [] g.1 in
-            let r = ruled_halts b (q earlier z.0) (Leaf w (der z.0)) z.1 z.2 f z.4 in
-            inr (inr (z.0, e.0, r.0, e.2, r.1, r.2)))
-            (halted_bind _ _ y.1 y.2 f y.4),
-      )))
+        inr (
+          a,
+          leaf_contents y.0,
+          tk.count,
+          y.2,
+          st,
+          leaf_value l w c b a y.0 tk.count y.2 tk.takes,
+          ⊎_elim
+              (λ z. ⊎_elim
+              (λ g. inl (g.0, ⊎_elim (λ e. e) (λ e. absurd (no_end l 0 (leaf_contents y.0) e.0)) (here_stops l T earlier outermost 0 (leaf_contents y.0) g.0 (behind_stops l T earlier outermost) g.1), g.2))
+              (λ g. let e = sound l T earlier outermost 0 (leaf_contents y.0) g.0 g.1 (g.2 ∷ g.3) g.4 in
+              let e1 : g.1 ≡ 0 + e.0 = e.1 in
+              let e2 : g.1 ≡ e.0 = omega arith in
+              inr (inl (g.0, e.0, g.2, g.3, e.2, g.5 ∙ ap (λ u. record { at = b; why = Inner; inside = Some (u, Trailing) }) e2)))
+              (inside_refused b (run (read_element l T earlier outermost) 0 (leaf_contents y.0)) y.1 y.2 f z))
+              (λ z. let g = inside_given b (run (read_element l T earlier outermost) 0 (leaf_contents y.0)) z.0 y.1 y.2 z.1 z.2 z.3 in
+              let e = sound l T earlier outermost 0 (leaf_contents y.0) z.0 g.0 [] g.1 in
+              let r = ruled_halts b (q earlier z.0) (Leaf w (der z.0)) z.1 z.2 f z.4 in
+              inr (inr (z.0, e.0, r.0, e.2, r.1, r.2)))
+              (halted_bind _ _ y.1 y.2 f y.4),
+        ),
+      ))
       (halted_bind _ _ k s f x.1))
       (halted_guard _ _ _ k s f h)
   behind_stops l (RuledType q T) earlier c b a t form k s f st h = ⊎_elim
