@@ -262,5 +262,9 @@ mutual
       k)
       h
 
+each_same_refl : (vs : List Value) → Each Same vs vs
+each_same_refl [] = tt
+each_same_refl (v ∷ vs) = (same_refl v, each_same_refl vs)
+
 pub one_value : OneValue
-one_value d T r v w h k = fits_same d T [] [] r v w tt h k
+one_value d T earlier r v w h k = fits_same d T earlier earlier r v w (each_same_refl earlier) h k
