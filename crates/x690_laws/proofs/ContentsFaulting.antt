@@ -21,15 +21,15 @@ use Rattle.x690.specs.ReadHeaders.{DefiniteLength, Ended, IndefiniteLength, Leng
 use Rattle.x690.specs.Reading.{Done, Fail, Halted, Reading, Took, require, run, ◌>>=◌}
 use Rattle.x690.specs.Takes.{Proper}
 use Rattle.x690.specs.Values.{Leaf, Sequence, SetOf, Value, values_of}
-use Rattle.x690_laws.proofs.Complete.{next_ok, open_on, seg_on}
+use Rattle.x690_laws.proofs.Complete.{next_ok, open_on, segment_on}
 use Rattle.x690_laws.proofs.Gives.{contents_on, depth_some, form_of, id_some, split_lay}
-use Rattle.x690_laws.proofs.HeaderFaulting.{all_may, definite_halts, definite_run, definite_stands, definite_stops, fail_on, guard_off}
-use Rattle.x690_laws.proofs.HeaderGives.{done_on, guard_on, octets_on, within_less}
+use Rattle.x690_laws.proofs.HeaderFaulting.{all_may, definite_halts, definite_run, definite_stands, definite_stops, fail_on, require_off}
+use Rattle.x690_laws.proofs.HeaderGives.{done_on, require_on, octets_on, within_less}
 use Rattle.x690_laws.proofs.HeaderSound.{Within, octets_took}
 use Rattle.x690_laws.proofs.Judging.{not_ended}
 use Rattle.x690_laws.proofs.LeafSound.{contents_fit}
 use Rattle.x690_laws.proofs.Members.{GivesOne, TakesOne, container_halts, container_takes, form_halts, members_end, members_ended, members_halt, members_stop, opened_on}
-use Rattle.x690_laws.proofs.Runs.{halt_bind, halted_bind, halted_done, halted_fail, halted_guard, run_bind, took_bind, took_done}
+use Rattle.x690_laws.proofs.Runs.{halt_bind, halted_bind, halted_done, halted_fail, halted_require, run_bind, took_bind, took_done}
 use Rattle.x690_laws.proofs.Sound.{Fine, Laid, Segs, next_fine, same_tag_is, segment_took}
 use Rattle.x690_laws.proofs.Soundness.{equal_tag, open_took}
 
@@ -184,16 +184,16 @@ segment_stops (suc deep) l n f i s0 k s t false j u dp fn z st h = ⊎_elim
       same_tag_is t (universal n) a.0,
       refl,
       primitive_stop l i k j u f _ _
-          (λ o q r g. ⊎_elim (λ b. let y = next_bad n s0 o b.0 in (y.0, y.1, b.1)) (λ b. absurd (halted_done _ q r f b.1)) (halted_guard _ _ _ q r f g)) a.1,
+          (λ o q r g. ⊎_elim (λ b. let y = next_bad n s0 o b.0 in (y.0, y.1, b.1)) (λ b. absurd (halted_done _ q r f b.1)) (halted_require _ _ _ q r f g)) a.1,
     )))
-    (halted_guard _ _ _ j u f h)
+    (halted_require _ _ _ j u f h)
 segment_stops (suc deep) l n f i s0 k s t true j u dp fn z st h = ⊎_elim
     (λ a. inl (tags_differ t (universal n) a.0, a.1))
     (λ a. ⊎_elim
     (λ b. inr (inr (same_tag_is t (universal n) a.0, refl, string_stops deep l n i s0 k j u f (segment_stops deep l n f) (omega arith) fn z b)))
     (λ b. absurd (halted_done _ _ _ f b.4))
     (halted_bind _ _ j u f a.1))
-    (halted_guard _ _ _ j u f h)
+    (halted_require _ _ _ j u f h)
 
 -- leaves
 
@@ -237,7 +237,7 @@ unfolding read_leaf
 leaf_stops l c kind p t false k s f z h = inl (
   refl,
   primitive_stop l c p k s f _ _
-      (λ o q r g. ⊎_elim (λ b. (not_contents kind t o b.0, b.1)) (λ b. absurd (halted_done _ q r f b.1)) (halted_guard _ _ _ q r f g)) h,
+      (λ o q r g. ⊎_elim (λ b. (not_contents kind t o b.0, b.1)) (λ b. absurd (halted_done _ q r f b.1)) (halted_require _ _ _ q r f g)) h,
 )
 leaf_stops l c kind p t true k s f z h = go (segment_tag kind) refl h
   where
@@ -257,7 +257,7 @@ leaf_stops l c kind p t true k s f z h = go (segment_tag kind) refl h
         (segment_takes l.depth l n x.0) (λ k' s' g w. (w, y.1)) l.octets 0 [] x.1 x.2 a.1 a.2 (no_segments n) x.5 in
         inr (inr (refl, n, e, inr (y.0, (x.0, x.1, x.2, x.3, ((m.0, m.2), b.1))))))
         (λ b. absurd (halted_done _ _ _ f b.1))
-        (halted_guard _ _ _ a.1 a.2 f a.4))
+        (halted_require _ _ _ a.1 a.2 f a.4))
         (halted_bind _ _ k s f h)
 
 -- a segment that stands is read
@@ -293,7 +293,7 @@ segment_gives deep l n i pr dp number s0 k s a m r ok h =
         behind_is = refl;
         depth_fits = omega arith;
       };
-      takes = seg_on h.tree deep l n i s0 [] (omega arith) h.tagged h.segmented fine k (k + length (identifier t form)) sp.octets r sp.behind d (subst (Within l i.nearest_end) (sym q) w) (omega arith)
+      takes = segment_on h.tree deep l n i s0 [] (omega arith) h.tagged h.segmented fine k (k + length (identifier t form)) sp.octets r sp.behind d (subst (Within l i.nearest_end) (sym q) w) (omega arith)
           ∙ ap (λ v. Took (s0 ++ segments h.tree) v r) q;
       viewed = sym h.after_is;
       ok = λ e. subst AreBitSegments h.after_is (h.bits e);
@@ -330,19 +330,19 @@ string_halts deep l n c s0 p k s f one dp fn z (inr (i, j, u, op, (m, h))) =
 segment_halts : (deep : ℕ) (l : Limits) (n : ℕ) (f : Fault) → BackSegment deep l n f
 unfolding read_segment SegmentStops
 segment_halts zero l n f i s0 k s t form j u dp fn z st h = absurd h
-segment_halts (suc deep) l n f i s0 k s t form j u dp fn z st (inl h) = guard_off _ _ _ j u f (differ_tags t (universal n) h.0) h.1
+segment_halts (suc deep) l n f i s0 k s t form j u dp fn z st (inl h) = require_off _ _ _ j u f (differ_tags t (universal n) h.0) h.1
 segment_halts (suc deep) l n f i s0 k s t true j u dp fn z st (inr (inl h)) = let w : true ≡ false = h.1 in cc
 segment_halts (suc deep) l n f i s0 k s t false j u dp fn z st (inr (inl h)) =
-    guard_on _ _ _ j u (equal_tag t (universal n) h.0)
-    ∙ primitive_halt l i k j u f _ _ (λ o q r b. guard_off _ _ _ q r f (bad_next n s0 o b.0 fn b.1) b.2) h.2
+    require_on _ _ _ j u (equal_tag t (universal n) h.0)
+    ∙ primitive_halt l i k j u f _ _ (λ o q r b. require_off _ _ _ q r f (bad_next n s0 o b.0 fn b.1) b.2) h.2
 segment_halts (suc deep) l n f i s0 k s t false j u dp fn z st (inr (inr h)) = let w : false ≡ true = h.1 in cc
 segment_halts (suc deep) l n f i s0 k s t true j u dp fn z st (inr (inr h)) =
-    guard_on _ _ _ j u (equal_tag t (universal n) h.0) ∙ halt_bind _ _ j u f (string_halts deep l n i s0 k j u f (segment_halts deep l n f) (omega arith) fn z h.2)
+    require_on _ _ _ j u (equal_tag t (universal n) h.0) ∙ halt_bind _ _ j u f (string_halts deep l n i s0 k j u f (segment_halts deep l n f) (omega arith) fn z h.2)
 
 pub leaf_halts : (l : Limits) (c : Enclosing) (kind : LeafKind) (p : ℕ) (t : Tag) (form : Bool) (k : ℕ) (s : List ℕ) (f : Fault) → 0 < k → LeafStops l c kind p t form k s f → run (read_leaf l c kind p t form) k s ≡ Halted f
 unfolding read_leaf
 leaf_halts l c kind p t true k s f z (inl h) = let w : true ≡ false = h.0 in cc
-leaf_halts l c kind p t false k s f z (inl h) = primitive_halt l c p k s f _ _ (λ o q r b. guard_off _ _ _ q r f (contents_not kind t o b.0) b.1) h.1
+leaf_halts l c kind p t false k s f z (inl h) = primitive_halt l c p k s f _ _ (λ o q r b. require_off _ _ _ q r f (contents_not kind t o b.0) b.1) h.1
 leaf_halts l c kind p t false k s f z (inr (inl h)) = let w : false ≡ true = h.0 in cc
 leaf_halts l c kind p t true k s f z (inr (inl h)) = go (segment_tag kind) h.1
   where
@@ -366,7 +366,7 @@ leaf_halts l c kind p t true k s f z (inr (inr (w, n, e, h))) = go (segment_tag 
         let x = members_ended (read_segment l.depth l n i) (λ s. s) (SegmentStands l i n) (λ m s. Fine n s) (λ all k' s'. EndsHere l i k' s' × (IsUtf8 (join all) → ⊥)) (λ all k'. IsUtf8 (join all) → ⊥) l i
         (segment_gives l.depth l n i (proper_inside c i j op.1 op.3) (omega arith)) (λ a k' s' b. b) m l.octets 0 [] j u (opens_within l c true k s i j u op) (omega arith) (no_segments n) a in
         run_bind _ _ k s (record { all = x.all; at = x.at }) x.place x.rest (opened_on l c p true (λ c'. each_member (read_segment l.depth l n c') l.octets l c' []) k s i j u op ∙ x.is)
-        ∙ guard_off _ _ _ x.place x.rest f (joined_not kind x.all y x.holds) g
+        ∙ require_off _ _ _ x.place x.rest f (joined_not kind x.all y x.holds) g
 
     go : (o : Option ℕ) → o ≡ Some n
         → (SegmentsStop (λ inside before. SegmentStops l.depth l n inside before) l n c [] p k s f

@@ -1,4 +1,4 @@
--- DER texts are layouts, so none begins another, and a bag's texts have one arrangement.
+-- DER texts are layouts, so none begins another, and the texts of a SET OF have one arrangement.
 use Rattle.std.proofs.Common.{◌≡◌, ◌||◌, ◌&&◌, ℕ, zero, suc, ◌+◌, ◌*◌, ◌/◌, ◌%◌, ◌^◌, ◌⊎◌, ◌<◌, ◌≤◌, ◌==◌, nat_lt, Bool, true, false, inl, inr, ⊎_elim, List, [], ◌∷◌, ◌++◌, map, length, refl, sym, ◌∙◌, ap, ap₂, subst, arith, pow-suc, lit<, append_assoc, append-nil}
 use Rattle.std.proofs.lemmas.Bool.Decides.{nat_tests}
 use Rattle.x690_laws.proofs.Headers.{identifier_alone, split_alone, along, branch}
