@@ -11,7 +11,7 @@ use Rattle.x690.specs.Lists.{join}
 use Rattle.x690.specs.OpenValues.{OpenLeaf, OpenPlain, OpenRefused, OpenSequence, OpenSetOf, open_form}
 use Rattle.x690.specs.Points.{Enclosing, fault, past_end}
 use Rattle.x690.specs.Takes.{Takes}
-use Rattle.x690.specs.TypeTerms.{OpenType}
+use Rattle.x690.specs.TypeTerms.{OpenType, TypeTerm}
 use Rattle.x690.specs.Values.{Value}
 
 -- Elements stand one after another, so many of them, each going on from the state that those before left; and then this holds.
@@ -77,9 +77,9 @@ LeafStops limits enclosing kind place tag constructed here octets found =
     ⊎ ((kind ≡ Utf8String) × OpensThen limits enclosing true here octets (λ inside behind rest.
     ((many : ℕ) × After (SegmentStands limits inside number) (λ all place' octets'. EndsHere limits inside place' octets' × (IsUtf8 (join all) → ⊥)) many [] behind rest) × (found ≡ fault place BadText)))))
 
--- an open value stands in a container
-abbrev pub OpenStands : Limits → Enclosing → Unit {0} → ℕ → List ℕ → Unit {0} → ℕ → List ℕ → Type 0
-OpenStands limits enclosing before place octets after taken rest = (value : Value) × Takes limits OpenType [] enclosing place octets value taken rest
+-- A member of the type stands in a container.
+abbrev pub MemberStands : Limits → TypeTerm → Enclosing → Unit {0} → ℕ → List ℕ → Unit {0} → ℕ → List ℕ → Type 0
+MemberStands limits type enclosing before place octets after taken rest = (value : Value) × Takes limits type [] enclosing place octets value taken rest
 
 -- An open value whose identifier is taken stops behind it: its tag is left out, it stops as the leaf that its tag says, or an open value in it stops. It is nested at most `deep` deep, as the limit of depth has it.
 unfoldable pub OpenStops : ℕ → Limits → Enclosing → ℕ → Tag → Bool → ℕ → List ℕ → Fault → Type 0
@@ -91,4 +91,4 @@ OpenStops (suc deep) limits enclosing place tag constructed here octets found =
     ⊎ ((((open_form tag ≡ OpenPlain) × (constructed ≡ true)) ⊎ (open_form tag ≡ OpenSequence) ⊎ (open_form tag ≡ OpenSetOf))
     × (StopsInForm limits enclosing place constructed here octets found
     ⊎ OpensThen limits enclosing constructed here octets (λ inside behind rest.
-    (many : ℕ) × After (OpenStands limits inside) (λ before place' octets'. StopsHere limits inside (OpenStops deep limits inside) place' octets' found) many tt behind rest)))
+    (many : ℕ) × After (MemberStands limits OpenType inside) (λ before place' octets'. StopsHere limits inside (OpenStops deep limits inside) place' octets' found) many tt behind rest)))

@@ -6,7 +6,7 @@ use Rattle.tlv_core.specs.declared.fault.Fault.{Fault}
 use Rattle.tlv_core.specs.declared.reason.Reason.{Reason}
 use Rattle.tlv_core.specs.declared.reason.Reason.TheVariants.{EmptySet, Extra, Inner, Missing, Trailing, WrongTag}
 use Rattle.x690.specs.Contents.{OctetString}
-use Rattle.x690.specs.ContentsFaults.{After, LeafStops, OpenStops, StopsHere}
+use Rattle.x690.specs.ContentsFaults.{After, LeafStops, MemberStands, OpenStops, StopsHere}
 use Rattle.x690.specs.HeaderFaults.{EndsHere, OpensThen, Stands, StandsThen, StopsInForm, StopsInTag}
 use Rattle.x690.specs.Layouts.{same_tag}
 use Rattle.x690.specs.Lists.{one_of}
@@ -14,10 +14,6 @@ use Rattle.x690.specs.Points.{Enclosing, fault, outermost}
 use Rattle.x690.specs.Takes.{Takes, TakesThen}
 use Rattle.x690.specs.TypeTerms.{ContainingType, Default, DefinedByType, EndOfFields, Fields, LeafType, OpenType, Optional, RefusedType, Required, RuledType, SequenceOfType, SequenceType, SetOfType, TypeTerm, fits_tag}
 use Rattle.x690.specs.Values.{Leaf, Same, Value, leaf_at}
-
--- a member of the type stands in a container
-abbrev pub MemberStands : Limits → TypeTerm → Enclosing → Unit {0} → ℕ → List ℕ → Unit {0} → ℕ → List ℕ → Type 0
-MemberStands limits type enclosing before place octets after taken rest = (value : Value) × Takes limits type [] enclosing place octets value taken rest
 
 -- A container of members stops: it is primitive, its length stops, or behind some of its members the next one stops, or the container ends with too few.
 abbrev pub MembersStop : Limits → TypeTerm → ℕ → Enclosing → ℕ → Bool → ℕ → List ℕ → (Enclosing → ℕ → Tag → Bool → ℕ → List ℕ → Fault → Type 0) → (ℕ → Fault) → Fault → Type 0

@@ -9,7 +9,7 @@ use Rattle.tlv_core.specs.Limits.{Limits}
 use Rattle.tlv_core.specs.declared.fault.Fault.{Fault}
 use Rattle.tlv_core.specs.declared.reason.Reason.TheVariants.{BadText, LeftOut, Truncated, WrongForm}
 use Rattle.x690.specs.Contents.{AreBitSegments, BitString, Boolean, Integer, LeafContents, LeafKind, Null, ObjectIdentifier, OctetString, Utf8String, segments}
-use Rattle.x690.specs.ContentsFaults.{After, LeafStops, OpenStands, OpenStops, PrimitiveStops, SegmentStands, SegmentStops, SegmentsStop, StopsHere}
+use Rattle.x690.specs.ContentsFaults.{After, LeafStops, MemberStands, OpenStops, PrimitiveStops, SegmentStands, SegmentStops, SegmentsStop, StopsHere}
 use Rattle.x690.specs.Fitting.{Fits}
 use Rattle.x690.specs.HeaderFaults.{EndsHere, LengthStands, Opens, OpensThen, Stands, StopsInForm}
 use Rattle.x690.specs.Layouts.{Primitive, RawTree, same_tag, tree_depth, tree_tag, universal}
@@ -19,6 +19,7 @@ use Rattle.x690.specs.Points.{Enclosing, EndsAt, EndsWithZeros, fault, past_end}
 use Rattle.x690.specs.ReadContents.{add_member, all_members, der_contents, is_contents, is_joined_contents, is_next_segment, joined_contents, read_leaf, read_open, read_segment, segment_tag}
 use Rattle.x690.specs.ReadHeaders.{DefiniteLength, Ended, IndefiniteLength, LengthForm, each_member, entered, in_container, next_octets, primitive_contents, read_definite_length}
 use Rattle.x690.specs.Reading.{Done, Fail, Halted, Reading, Took, require, run, ◌>>=◌}
+use Rattle.x690.specs.TypeTerms.{OpenType}
 use Rattle.x690.specs.Takes.{Proper}
 use Rattle.x690.specs.Values.{Leaf, Sequence, SetOf, Value, values_of}
 use Rattle.x690_laws.proofs.Complete.{next_ok, open_on, segment_on}
@@ -389,7 +390,7 @@ leaf_halts l c kind p t true k s f z (inr (inr (w, n, e, h))) = go (segment_tag 
 
 -- open values
 
-pub open_takes : (deep : ℕ) (l : Limits) (i : Enclosing) → TakesOne {A = Unit {0}} l i (add_member (read_open deep l i)) (λ s. tt) (OpenStands l i) (λ m s. Unit {0})
+pub open_takes : (deep : ℕ) (l : Limits) (i : Enclosing) → TakesOne {A = Unit {0}} l i (add_member (read_open deep l i)) (λ s. tt) (MemberStands l OpenType i) (λ m s. Unit {0})
 unfolding add_member Fits
 open_takes deep l i number s0 s1 k s t form j u q r ok st h =
     let x = took_bind _ _ _ _ _ _ _ h in
@@ -422,7 +423,7 @@ open_takes deep l i number s0 s1 k s t form j u q r ok st h =
       limit = omega arith;
     }
 
-open_gives : (deep : ℕ) (l : Limits) (i : Enclosing) → Proper i → l.depth ≤ deep + i.open_containers → GivesOne {A = Unit {0}} l i (add_member (read_open deep l i)) (λ s. tt) (OpenStands l i) (λ m s. Unit {0})
+open_gives : (deep : ℕ) (l : Limits) (i : Enclosing) → Proper i → l.depth ≤ deep + i.open_containers → GivesOne {A = Unit {0}} l i (add_member (read_open deep l i)) (λ s. tt) (MemberStands l OpenType i) (λ m s. Unit {0})
 unfolding add_member Fits
 open_gives deep l i pr dp number s0 k s a m r ok (v, h) =
     let sp = split_lay h.tree h.octets h.laid_out in
@@ -469,7 +470,7 @@ abbrev OpenMembersStop : ℕ → Limits → Enclosing → ℕ → Bool → ℕ �
 OpenMembersStop deep l c p form k s f =
     StopsInForm l c p form k s f
     ⊎ ((inside : Enclosing) × (behind : ℕ) × (rest : List ℕ) × Opens l c form k s inside behind rest
-    × ((many : ℕ) × After (OpenStands l inside) (λ before place' octets'. StopsHere l inside (OpenStops deep l inside) place' octets' f) many tt behind rest))
+    × ((many : ℕ) × After (MemberStands l OpenType inside) (λ before place' octets'. StopsHere l inside (OpenStops deep l inside) place' octets' f) many tt behind rest))
 
 stands_later : (l : Limits) (c : Enclosing) (k : ℕ) (s : List ℕ) (t : Tag) (form : Bool) (j : ℕ) (u : List ℕ) → Stands l c k s t form j u → 0 < j
 stands_later l c k s t form j u st = let z = id_some t form st.is_tag in let e : j ≡ k + length (identifier t form) = st.behind_is in omega arith
@@ -487,7 +488,7 @@ open_members_stop deep l c p form k s f one dp z h = ⊎_elim
       a.1,
       a.2,
       op,
-      members_stop {A = Unit {0}} (add_member (read_open deep l a.0)) (λ s. tt) (OpenStands l a.0) (λ b. OpenStops deep l a.0) (λ m s. Unit {0}) l a.0 f (open_takes deep l a.0)
+      members_stop {A = Unit {0}} (add_member (read_open deep l a.0)) (λ s. tt) (MemberStands l OpenType a.0) (λ b. OpenStops deep l a.0) (λ m s. Unit {0}) l a.0 f (open_takes deep l a.0)
           (λ number s1 k' s' t form' j u ok st g. ⊎_elim (λ b. one a.0 k' s' t form' j u (omega arith) (stands_later l a.0 k' s' t form' j u st) st b) (λ b. absurd (halted_done _ _ _ f b.4)) (halted_bind _ _ j u f g))
           l.octets 0 [] a.1 a.2 (opens_within l c form k s a.0 a.1 a.2 op) (omega arith) tt a.5,
     ))
@@ -530,7 +531,7 @@ open_members_halt deep l c p form k s f one dp z (inr (i, j, u, op, (m, h))) =
     let oc : i.open_containers ≡ c.open_containers + 1 = opens_count c i j op.1 op.3 in
     let le = opens_later l c form k s i j u op in
     opened_on l c p form (λ c'. each_member (add_member (read_open deep l c')) l.octets l c' []) k s i j u op
-    ∙ members_halt {A = Unit {0}} (add_member (read_open deep l i)) (λ s. tt) (OpenStands l i) (λ b. OpenStops deep l i) (λ m s. Unit {0}) l i f (open_gives deep l i (proper_inside c i j op.1 op.3) (omega arith))
+    ∙ members_halt {A = Unit {0}} (add_member (read_open deep l i)) (λ s. tt) (MemberStands l OpenType i) (λ b. OpenStops deep l i) (λ m s. Unit {0}) l i f (open_gives deep l i (proper_inside c i j op.1 op.3) (omega arith))
     (λ number s1 k' s' t form' j' u' ok st g. halt_bind _ _ j' u' f (one i k' t form' j' u' (omega arith) (stands_later l i k' s' t form' j' u' st) g))
     m l.octets 0 [] j u (opens_within l c form k s i j u op) (omega arith) tt h
 

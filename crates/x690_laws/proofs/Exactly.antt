@@ -8,7 +8,7 @@ use Rattle.tlv_core.specs.declared.fault.Fault.{Fault}
 use Rattle.tlv_core.specs.declared.reason.Reason.{Reason}
 use Rattle.tlv_core.specs.declared.reason.Reason.TheVariants.{EmptySet, Extra, Inner, Missing, Trailing}
 use Rattle.x690.specs.Contents.{LeafKind, OctetString}
-use Rattle.x690.specs.ContentsFaults.{LeafStops, StopsHere}
+use Rattle.x690.specs.ContentsFaults.{LeafStops, MemberStands, StopsHere}
 use Rattle.x690.specs.DerTexts.{der}
 use Rattle.x690.specs.HeaderFaults.{EndsHere, Stands}
 use Rattle.x690.specs.Layouts.{same_tag}
@@ -19,7 +19,7 @@ use Rattle.x690.specs.ReadContents.{add_member, all_members, read_leaf}
 use Rattle.x690.specs.ReadHeaders.{ContainerEnds, ElementStands, Ended, Next, each_member, in_container, next_tag}
 use Rattle.x690.specs.ReadTypes.{apply_rule, due_element, from_inside, is_this_leaf, read_element, read_fields, read_type}
 use Rattle.x690.specs.Reading.{Done, Fail, Halted, Outcome, Took, choose, require, run, ◌>>=◌}
-use Rattle.x690.specs.Stops.{MemberStands, MembersStop, StopsBehind, StopsFields}
+use Rattle.x690.specs.Stops.{MembersStop, StopsBehind, StopsFields}
 use Rattle.x690.specs.Takes.{Proper, Takes}
 use Rattle.x690.specs.TypeTerms.{ContainingType, Default, DefinedByType, EndOfFields, Fields, LeafType, OpenType, Optional, RefusedType, Required, RuledType, SequenceOfType, SequenceType, SetOfType, TypeTerm, fits_tag}
 use Rattle.x690.specs.Values.{Leaf, Same, Sequence, SetOf, Value}

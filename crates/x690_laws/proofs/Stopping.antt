@@ -8,7 +8,7 @@ use Rattle.tlv_core.specs.declared.fault.Fault.{Fault}
 use Rattle.tlv_core.specs.declared.reason.Reason.{Reason}
 use Rattle.tlv_core.specs.declared.reason.Reason.TheVariants.{EmptySet, Extra, Inner, Missing, Trailing, WrongTag}
 use Rattle.x690.specs.Contents.{LeafKind, OctetString}
-use Rattle.x690.specs.ContentsFaults.{After, LeafStops, StopsHere}
+use Rattle.x690.specs.ContentsFaults.{After, LeafStops, MemberStands, StopsHere}
 use Rattle.x690.specs.DerTexts.{der}
 use Rattle.x690.specs.Fitting.{Fits}
 use Rattle.x690.specs.HeaderFaults.{EndsHere, Opens, Stands, StopsInForm}
@@ -18,7 +18,7 @@ use Rattle.x690.specs.ReadContents.{add_member, all_members, read_leaf}
 use Rattle.x690.specs.ReadHeaders.{ContainerEnds, ElementStands, Ended, Next, each_member, next_tag}
 use Rattle.x690.specs.ReadTypes.{apply_rule, due_element, from_inside, is_this_leaf, read_element, read_fields, read_type}
 use Rattle.x690.specs.Reading.{Done, Fail, Halted, Outcome, Took, require, run, ◌>>=◌}
-use Rattle.x690.specs.Stops.{MemberStands, MembersStop, Stops, StopsBehind, StopsFields}
+use Rattle.x690.specs.Stops.{MembersStop, Stops, StopsBehind, StopsFields}
 use Rattle.x690.specs.Takes.{Takes}
 use Rattle.x690.specs.TypeTerms.{ContainingType, Default, DefinedByType, EndOfFields, Fields, LeafType, OpenType, Optional, RefusedType, Required, RuledType, SequenceOfType, SequenceType, SetOfType, TypeTerm}
 use Rattle.x690.specs.Values.{Leaf, Same, Value, leaf_contents}
