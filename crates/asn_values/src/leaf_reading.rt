@@ -98,7 +98,11 @@ fn der_contents(kind: Kind, mut contents: Vec<u8>) -> Vec<u8>
 }
 
 /// The DER contents of the leaf that is given, of a kind that is always primitive.
-fn read_primitive_leaf<R: Source>(alloc: Global, pull: &mut Pull<'_, R>, kind: Kind) -> Result<Vec<u8>, ReadError>
+fn read_primitive_leaf<R: Source>(
+    alloc: Global,
+    pull: &mut Pull<'_, R>,
+    kind: Kind,
+) -> Result<Vec<u8>, ReadError>
     requires primitive { reading.segment_tag (kind_of kind) ≡ None }
     requires given { (standing pull.old).error ≡ None → IsSome (standing pull.old).given }
     ensures same_source { SameSource pull.old pull.new }
@@ -145,7 +149,11 @@ fn is_string(utf8: bool, octets: &[u8]) -> bool
 }
 
 /// The octets of the string that is given, which are UTF-8 where they have to be.
-fn read_octets_leaf<R: Source>(alloc: Global, pull: &mut Pull<'_, R>, utf8: bool) -> Result<Vec<u8>, ReadError>
+fn read_octets_leaf<R: Source>(
+    alloc: Global,
+    pull: &mut Pull<'_, R>,
+    utf8: bool,
+) -> Result<Vec<u8>, ReadError>
     requires { (standing pull.old).error ≡ None → IsSome (standing pull.old).given }
     ensures same_source { SameSource pull.old pull.new }
     ensures repeats { Repeats pull.old pull.new result }
@@ -164,7 +172,11 @@ fn read_octets_leaf<R: Source>(alloc: Global, pull: &mut Pull<'_, R>, utf8: bool
 }
 
 /// The DER contents of the leaf that is given, whatever its tag.
-pub fn read_leaf<R: Source>(alloc: Global, pull: &mut Pull<'_, R>, kind: Kind) -> Result<Vec<u8>, ReadError>
+pub fn read_leaf<R: Source>(
+    alloc: Global,
+    pull: &mut Pull<'_, R>,
+    kind: Kind,
+) -> Result<Vec<u8>, ReadError>
     requires { (standing pull.old).error ≡ None → IsSome (standing pull.old).given }
     ensures same_source { SameSource pull.old pull.new }
     ensures repeats { Repeats pull.old pull.new result }
@@ -184,7 +196,12 @@ pub fn read_leaf<R: Source>(alloc: Global, pull: &mut Pull<'_, R>, kind: Kind) -
 }
 
 /// The DER contents of the leaf that is given, of this tag and kind.
-pub fn read_leaf_as<R: Source>(alloc: Global, pull: &mut Pull<'_, R>, own: Tag, kind: Kind) -> Result<Vec<u8>, ReadError>
+pub fn read_leaf_as<R: Source>(
+    alloc: Global,
+    pull: &mut Pull<'_, R>,
+    own: Tag,
+    kind: Kind,
+) -> Result<Vec<u8>, ReadError>
     requires { (standing pull.old).error ≡ None → IsSome (standing pull.old).given }
     ensures same_source { SameSource pull.old pull.new }
     ensures repeats { Repeats pull.old pull.new result }

@@ -19,3 +19,5 @@ mod row;
 pub mod set_of;
 pub mod tagged;
 pub mod tags;
+#[cfg(test)]
+mod tests;
