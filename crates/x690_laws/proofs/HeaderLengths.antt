@@ -8,7 +8,7 @@ use Rattle.tlv_core.specs.Identifier.{Tag, identifier}
 use Rattle.tlv_core.specs.Length.{SpellsLength, big_endian, number_octets, shortest_length}
 use Rattle.x690.specs.DerTexts.{der_element}
 use Rattle.x690.specs.Layouts.{Definite, Indefinite}
-use Rattle.x690.specs.Lists.{AllBelow}
+use Rattle.tlv_core.specs.ObjectIdentifier.{AllBelow}
 
 -- identifiers
 

@@ -13,7 +13,7 @@ use Rattle.x690.specs.DerTexts.{arrange, der, der_element, der_texts, insert_tex
 use Rattle.x690.specs.Fitting.{Fits, FitsFields, next_fits}
 use Rattle.x690.specs.Layouts.{Constructed, FirstTree, LaidOut, NoTrees, Primitive, RawTree, RawTrees, member_trees, same_tag, tree_depth, tree_tag}
 use Rattle.x690.specs.Lists.{Each, Paired, Picked, join}
-use Rattle.x690.specs.ObjectIdentifiers.{ObjectIdentifierContents}
+use Rattle.tlv_core.specs.ObjectIdentifier.{ObjectIdentifierOctets}
 use Rattle.x690.specs.OpenValues.{FitOpenInPlace, FitOpenPaired, FitsOpen, IsOpenLeaf}
 use Rattle.x690.specs.TypeTerms.{ContainingType, Default, DefinedByType, Distinct, DistinctFields, Fields, LeafType, EndOfFields, OpenType, Optional, RefusedType, Required, RuledType, SequenceOfType, SequenceType, SetOfType, TypeTerm, fields_fit_tag, fits_tag}
 use Rattle.x690.specs.Values.{FirstMember, Leaf, NoMembers, Sequence, SetOf, Value, Values, members}
@@ -131,7 +131,7 @@ leaf_again Integer (Primitive u c) o t h = (subst IsInteger (sym h.1) h.0, refl)
 leaf_again Integer (Constructed u rs) o t h = absurd h
 leaf_again Null (Primitive u c) o t h = (h.1 ∙ h.0, refl)
 leaf_again Null (Constructed u rs) o t h = absurd h
-leaf_again ObjectIdentifier (Primitive u c) o t h = (subst (λ x. (arcs : List ℕ) × ObjectIdentifierContents arcs x) (sym h.1) h.0, refl)
+leaf_again ObjectIdentifier (Primitive u c) o t h = (subst (λ x. (arcs : List ℕ) × ObjectIdentifierOctets arcs x) (sym h.1) h.0, refl)
 leaf_again ObjectIdentifier (Constructed u rs) o t h = absurd h
 leaf_again BitString r o t h = bits_again r o t h
 leaf_again OctetString r o t h = record { segmented = tt; is = sym (append-nil o) }
@@ -285,17 +285,17 @@ octets_prim t o = record { segmented = tt; is = sym (append-nil o) }
 
 -- open values
 
-pub open_row_is : (rs : RawTrees) (vs : List Value) → Each FitsOpen (member_trees rs) vs → FitOpenInPlace rs vs
+pub open_sequence_is : (rs : RawTrees) (vs : List Value) → Each FitsOpen (member_trees rs) vs → FitOpenInPlace rs vs
 unfolding FitsOpen
-open_row_is NoTrees [] h = refl
-open_row_is NoTrees (v ∷ vs) h = absurd h
-open_row_is (FirstTree r rs) [] h = absurd h
-open_row_is (FirstTree r rs) (v ∷ vs) h = (v, vs, refl, h.0, open_row_is rs vs h.1)
+open_sequence_is NoTrees [] h = refl
+open_sequence_is NoTrees (v ∷ vs) h = absurd h
+open_sequence_is (FirstTree r rs) [] h = absurd h
+open_sequence_is (FirstTree r rs) (v ∷ vs) h = (v, vs, refl, h.0, open_sequence_is rs vs h.1)
 
-pub open_bag_is : (rs : RawTrees) (vs : List Value) → Paired FitsOpen (member_trees rs) vs → FitOpenPaired rs vs
+pub open_set_is : (rs : RawTrees) (vs : List Value) → Paired FitsOpen (member_trees rs) vs → FitOpenPaired rs vs
 unfolding FitsOpen
-open_bag_is NoTrees vs h = h
-open_bag_is (FirstTree r rs) vs h = (h.0, h.1, h.2, h.3, open_bag_is rs h.1 h.4)
+open_set_is NoTrees vs h = h
+open_set_is (FirstTree r rs) vs h = (h.0, h.1, h.2, h.3, open_set_is rs h.1 h.4)
 
 open_leaf : (t : Tag) (o : List ℕ) (v : Value) → IsOpenLeaf t (Primitive t o) v → FitsOpen (Primitive t o) v
 unfolding FitsOpen
@@ -320,11 +320,11 @@ mutual
       (λ a.
       let c = open_row_canon rs (members a.0) (every_short a.0 (subst Short a.2 s)) a.3 in
       row_canon FitsOpen (Each FitsOpen) (Constructed t rs) v t rs a.0 refl a.2 c
-      (inr (inl (a.0, a.1, a.2, open_row_is (raws_of c.trees) (members a.0) (subst (λ x. Each FitsOpen x (members a.0)) (sym (members_raws c.trees)) c.fits)))))
+      (inr (inl (a.0, a.1, a.2, open_sequence_is (raws_of c.trees) (members a.0) (subst (λ x. Each FitsOpen x (members a.0)) (sym (members_raws c.trees)) c.fits)))))
       (λ a.
       let c = open_bag_canon rs (members a.0) (every_short a.0 (subst Short a.2 s)) a.3 in
       bag_canon FitsOpen FitsOpen (Constructed t rs) v t rs a.0 refl a.2 c
-      (inr (inr (a.0, a.1, a.2, open_bag_is (raws_of (arrange_trees c.trees)) (members a.0) (subst (λ x. Paired FitsOpen x (members a.0)) (sym (members_raws (arrange_trees c.trees))) (arrange_paired FitsOpen c.trees (members a.0) c.fits))))))
+      (inr (inr (a.0, a.1, a.2, open_set_is (raws_of (arrange_trees c.trees)) (members a.0) (subst (λ x. Paired FitsOpen x (members a.0)) (sym (members_raws (arrange_trees c.trees))) (arrange_paired FitsOpen c.trees (members a.0) c.fits))))))
       b)
       h
 
