@@ -58,7 +58,11 @@ impl Bits {
     }
 
     /// Reads the BIT STRING that is given, under an implicit tag.
-    pub fn read_as<R: Source>(alloc: Global, pull: &mut Pull<'_, R>, tag: Tag) -> Result<Bits, ReadError>
+    pub fn read_as<R: Source>(
+        alloc: Global,
+        pull: &mut Pull<'_, R>,
+        tag: Tag,
+    ) -> Result<Bits, ReadError>
         requires { (standing pull.old).error ≡ None → IsSome (standing pull.old).given }
         ensures same_source { SameSource pull.old pull.new }
         ensures repeats { Repeats pull.old pull.new result }

@@ -43,6 +43,10 @@ unfolding choose
 choose_then true p p' f q q' e e' k s = e k s
 choose_then false p p' f q q' e e' k s = e' k s
 
+done_then : {A B : Type 0} (a : A) (f : A → Reading B) → Alike (Done a >>= f) (f a)
+unfolding ◌>>=◌
+done_then a f k s = refl
+
 -- An element and what stands behind it, and then the rest.
 behind : {A B X Z : Type 0} (p : Reading A) (q : A → Reading B) (w : A → B → Reading X) (f : X → Reading Z) → Alike ((p >>= λ a. q a >>= λ b. w a b) >>= f) (p >>= λ a. q a >>= λ b. w a b >>= f)
 behind p q w f k s =
@@ -305,9 +309,11 @@ end_here p (Some t) h k i s u e x = cc
 
 -- Into the container, by the tag.
 
-pub begin_wrong : (l : Limits) (own : Tag) (c : Enclosing) (p : ℕ) (tag : Tag) (constructed : Bool) (k : ℕ) (s : Option (List ℕ)) → same_tag own tag ≡ false → Hears (read_begin l own c p tag constructed) k s (Refused (fault p WrongTag)) k s
+pub begin_wrong : (l : Limits) (own : Tag) (c : Enclosing) (p : ℕ) (tag : Tag) (constructed : Bool) (e : ReadError) (k i : ℕ) (s u : Option (List ℕ)) → Hears (require (same_tag own tag) (fault p WrongTag) (Done (tt {0}))) k s (heard_error e) i u → Hears (read_begin l own c p tag constructed) k s (heard_error e) i u
 unfolding read_begin
-begin_wrong l own c p tag constructed k s e = hears_off _ _ _ k s e
+begin_wrong l own c p tag constructed e k i s u x =
+    let inside : Unit {0} → Reading (Enclosing × Next) = λ w. in_container l c p constructed Done >>= λ inside. next_tag l inside >>= λ next. Done (inside, next) in
+    hears_same _ _ (heard_error e) k i s u (require_then (same_tag own tag) (fault p WrongTag) (Done tt) inside (inside tt) (done_then tt inside)) (hears_error _ inside e k i s u x)
 
 pub begin_in : (l : Limits) (own : Tag) (c : Enclosing) (p : ℕ) (tag : Tag) (constructed : Bool) (h : Heard (Enclosing × Next)) (k i : ℕ) (s u : Option (List ℕ)) → same_tag own tag ≡ true → Hears (in_container l c p constructed Done >>= λ inside. next_tag l inside >>= λ next. Done (inside, next)) k s h i u → Hears (read_begin l own c p tag constructed) k s h i u
 unfolding read_begin

@@ -24,4 +24,4 @@ pub returns-clause-stands : goal.returns-clause-stands
 returns-clause-stands g c = λ outer inside w.
     let s = c.next_tag.new.self.state in
     subst (λ k. Inside outer inside s (next_at k c.in_ok-tag.tag)) (sym c.at-at.ensures.value)
-    (next_inside outer inside c.args.pull.now.state c.in_ok-tag.tag s w (c.in_ok-tag.ensures.stands (within_none outer inside c.args.pull.now.state w)) c.in_ok-tag.ensures.ends)
+    (next_inside outer inside c.args.pull.now.state c.in_ok-tag.tag s w (c.in_ok-tag.ensures.stands (within_none outer inside c.args.pull.now.state w)) (c.in_ok-tag.ensures.ends (within_none outer inside c.args.pull.now.state w)))

@@ -21,19 +21,19 @@ pub returns-in_err-field-clause-reads : goal.returns-in_err-field-clause-reads
 returns-in_err-field-clause-reads g c = λ outer inside a.
     hears_err _ _ c.from_residual.result c.in_err-field.field-0.0 _ _ _ _ (search rules)
     (optional_read outer.limits _ [] inside c.args.next.now.at c.args.next.now.tag (c.in-Some.tag, c.in-Some.field-0-1) _ _ _ _ _ c.in-Some.is (sym c.fits-fits.ensures ∙ c.if-not-fits.false)
-    (hears_error _ _ _ _ _ _ _ (field_reads outer inside c.args.pull.now.state c.args.next.now.at c.args.next.now.tag (c.in-Some.tag, c.in-Some.field-0-1) _ _ _ _ _ _ a c.in-Some.is c.requires.fine c.in_err-field.ensures.reads)))
+    (hears_error _ _ _ _ _ _ _ (field_reads [] outer inside c.args.pull.now.state c.args.next.now.at c.args.next.now.tag (c.in-Some.tag, c.in-Some.field-0-1) _ _ _ _ _ _ a c.in-Some.is c.requires.fine c.in_err-field.ensures.reads)))
 
 pub returns-in_err-next-clause-reads : goal.returns-in_err-next-clause-reads
 returns-in_err-next-clause-reads g c = λ outer inside a.
     let some = stands_some c.args.next.now.at c.args.next.now.tag (c.in-Some.tag, c.in-Some.field-0-1) c.in-Some.is in
     hears_err _ _ c.from_residual-in_err-next.result c.in_err-next.field-0.0 _ _ _ _ (search rules)
     (optional_read outer.limits _ [] inside c.args.next.now.at c.args.next.now.tag (c.in-Some.tag, c.in-Some.field-0-1) _ _ _ _ _ c.in-Some.is (sym c.fits-fits.ensures ∙ c.if-not-fits.false)
-    (hears_then _ _ (g.T.Element.value c.in_ok-field.field) _ _ _ _ _ _ _ (field_reads outer inside c.args.pull.now.state c.args.next.now.at c.args.next.now.tag (c.in-Some.tag, c.in-Some.field-0-1) _ _ _ _ _ _ a c.in-Some.is c.requires.fine c.in_ok-field.ensures.reads)
+    (hears_then _ _ _ _ _ _ _ _ _ _ (field_reads [] outer inside c.args.pull.now.state c.args.next.now.at c.args.next.now.tag (c.in-Some.tag, c.in-Some.field-0-1) _ _ _ _ _ _ a c.in-Some.is c.requires.fine c.in_ok-field.ensures.reads)
     (hears_error _ _ _ _ _ _ _ (c.in_err-next.ensures.reads outer inside (used_within outer inside _ _ _ a some c.in_ok-field.ensures.stands)))))
 
 pub returns-clause-reads : goal.returns-clause-reads
 returns-clause-reads g c = λ outer inside a.
     let some = stands_some c.args.next.now.at c.args.next.now.tag (c.in-Some.tag, c.in-Some.field-0-1) c.in-Some.is in
     optional_read outer.limits _ [] inside c.args.next.now.at c.args.next.now.tag (c.in-Some.tag, c.in-Some.field-0-1) _ _ _ _ _ c.in-Some.is (sym c.fits-fits.ensures ∙ c.if-not-fits.false)
-    (hears_then _ _ (g.T.Element.value c.in_ok-field.field) _ _ _ _ _ _ _ (field_reads outer inside c.args.pull.now.state c.args.next.now.at c.args.next.now.tag (c.in-Some.tag, c.in-Some.field-0-1) _ _ _ _ _ _ a c.in-Some.is c.requires.fine c.in_ok-field.ensures.reads)
+    (hears_then _ _ _ _ _ _ _ _ _ _ (field_reads [] outer inside c.args.pull.now.state c.args.next.now.at c.args.next.now.tag (c.in-Some.tag, c.in-Some.field-0-1) _ _ _ _ _ _ a c.in-Some.is c.requires.fine c.in_ok-field.ensures.reads)
     (hears_then _ _ (next_of c.in_ok-next.field-0) _ _ _ _ _ _ _ (c.in_ok-next.ensures.reads outer inside (used_within outer inside _ _ _ a some c.in_ok-field.ensures.stands)) (hears_done _ _ _)))
