@@ -9,7 +9,7 @@ pub mod element;
 mod framing;
 pub mod integer;
 mod leaf;
-mod leaf_reading;
+pub mod leaf_reading;
 pub mod list;
 mod members;
 pub mod null;
