@@ -6,6 +6,7 @@ pub mod MappedMembers
 pub mod MemberReadings
 pub mod MemberTexts
 pub mod PaddedOrder
+pub mod PairedMembers
 pub mod Putting
 pub mod SameMembers
 pub mod ShortElements
