@@ -1,5 +1,5 @@
 -- Answers of readers: a fault that a reader found, an error that it hands on, want of memory.
-use Rattle.std.proofs.Common.{◌≡◌, ◌∙◌, Bool, None, Some, ap, false, refl, subst, sym, true}
+use Rattle.std.proofs.Common.{◌≡◌, ◌∙◌, Bool, Err, IsSome, List, None, Option, Result, Some, ℕ, ap, false, refl, subst, sym, true}
 use Rattle.tlv_core.specs.Identifier.{Tag}
 use Rattle.tlv_core.specs.declared.fault.Fault.{Fault}
 use Rattle.tlv_core.specs.declared.fault.ReadError.{ReadError}
@@ -7,12 +7,15 @@ use Rattle.tlv_core.specs.declared.fault.ReadError.TheVariants as errors
 use Rattle.tlv_core.specs.declared.source.Source.{Ghosts}
 use Rattle.x690.specs.Layouts.{same_tag}
 use Rattle.x690.specs.Reading.{Reading}
+use Rattle.x690.specs.ReadHeaders.{Ended}
 use Rattle.x690.specs.Reads.{Heard, Refused}
+use Rattle.x690.specs.Values.{Value}
 use Rattle.ber_pull.specs.Hears.{Hears, heard, heard_error}
 use Rattle.ber_pull.specs.Standing.{Standing, failed_with, place}
 use Rattle.ber_pull.specs.View.{Answers, Unmoved, source, standing}
 use Rattle.ber_pull.specs.declared.pull.Pull.{Pull}
 use Rattle.ber_pull.specs.declared.state.Given.{Given}
+use Rattle.asn_values.specs.Reading.{AnswersMembers, AnswersValue}
 use Rattle.x690_laws.proofs.Sound.{same_tag_is}
 use Rattle.ber_pull.proofs.Hearing.{hears_stop}
 
@@ -48,3 +51,19 @@ other_tag own tag h = go (same_tag own tag) refl
     go : (b : Bool) → same_tag own tag ≡ b → same_tag own tag ≡ false
     go true e = absurd (h (same_tag_is own tag e))
     go false e = e
+
+-- an option that is nothing
+pub none_by : {A : Type 0} (o : Option A) → ((a : A) → o ≡ Some a → ⊥) → o ≡ None
+none_by None h = refl
+none_by (Some a) h = absurd (h a refl)
+
+-- an error that is handed on
+pub value_err : {R : Type 0} {s : Ghosts R} {A : Type 0} (old new : Pull R s) (p : Reading Value) (value : A → Value) (r : Result A ReadError) (e : ReadError) → r ≡ Err e → Answers old new p (heard_error e) → AnswersValue old new p value r
+value_err old new p value r e h x = subst (AnswersValue old new p value) (sym h) x
+
+pub members_err : {R : Type 0} {s : Ghosts R} {A : Type 0} (old new : Pull R s) (p : Reading (Ended (List Value))) (values : A → List Value) (at : A → ℕ) (r : Result A ReadError) (e : ReadError) → r ≡ Err e → Answers old new p (heard_error e) → AnswersMembers old new p values at r
+members_err old new p values at r e h x = subst (AnswersMembers old new p values at) (sym h) x
+
+pub some_given : {A : Type 0} (o : Option A) → IsSome o → (a : A) × (o ≡ Some a)
+some_given None h = cc
+some_given (Some a) h = (a, refl)

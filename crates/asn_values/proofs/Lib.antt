@@ -3,7 +3,11 @@ pub mod ContainerTexts
 pub mod HeaderOctets
 pub mod LeafReadings
 pub mod MappedMembers
+pub mod MemberReadings
 pub mod MemberTexts
 pub mod PaddedOrder
+pub mod PairedMembers
 pub mod Putting
+pub mod SameMembers
+pub mod ShortElements
 pub mod TypeReadings

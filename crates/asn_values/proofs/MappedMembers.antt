@@ -50,3 +50,7 @@ members_put h vs i a b e p = subst (λ z. Puts (h ++ texts_of z) a b (Ok tt)) (t
 pub map_thrice : {A B C D : Type 0} (f : C → D) (g : B → C) (h : A → B) (xs : List A) → map f (map g (map h xs)) ≡ map (λ x. f (g (h x))) xs
 map_thrice f g h [] = refl
 map_thrice f g h (x ∷ xs) = ap (λ z. f (g (h x)) ∷ z) (map_thrice f g h xs)
+
+pub map_last : {A B : Type 0} (f : A → B) (xs : List A) (x : A) → map f (xs ++ x ∷ []) ≡ map f xs ++ f x ∷ []
+map_last f [] x = refl
+map_last f (y ∷ xs) x = ap (λ z. f y ∷ z) (map_last f xs x)

@@ -5,10 +5,9 @@ ghost use Rattle.x690.specs.DerTexts.{der};
 ghost use Rattle.x690.specs.Layouts.{universal};
 ghost use Rattle.x690.specs.Contents.{BitString};
 ghost use Rattle.x690.specs.TypeTerms.{LeafType};
-ghost use Rattle.ber_pull.specs.Hears.{heard};
-ghost use Rattle.ber_pull.specs.View.{standing, SameSource, Repeats, Keeps, ReadsFail, Onward, Answers, Uses};
+ghost use Rattle.ber_pull.specs.View.{standing, SameSource, Repeats, Keeps, ReadsFail, Onward, Uses};
 ghost use Rattle.ber_pull.specs.declared.state.Given.{Given};
-ghost use Rattle.asn_values.specs.Reading.{read_given};
+ghost use Rattle.asn_values.specs.Reading.{AnswersValue, read_given};
 ghost use Rattle.x690.specs.Values.{Leaf};
 
 use crate::der_text::DerText;
@@ -66,7 +65,7 @@ impl Bits {
         requires { (standing pull.old).error ≡ None → IsSome (standing pull.old).given }
         ensures same_source { SameSource pull.old pull.new }
         ensures repeats { Repeats pull.old pull.new result }
-        ensures reads { (g : Given) → (standing pull.old).error ≡ None → (standing pull.old).given ≡ Some g → Answers pull.old pull.new (read_given (LeafType tag BitString) (standing pull.old) g) (heard (λ bits. Leaf tag (bit_string_of bits)) result) }
+        ensures reads { (g : Given) → (standing pull.old).error ≡ None → (standing pull.old).given ≡ Some g → AnswersValue pull.old pull.new (read_given (LeafType tag BitString) (standing pull.old) g) (λ bits. Leaf tag (bit_string_of bits)) result }
         ensures stands { OnOk result (Uses pull.old pull.new) }
         ensures keeps { Keeps pull.new result }
         ensures read { ReadsFail pull.old pull.new result }

@@ -1,10 +1,9 @@
 //! What can be read, and has one text in DER.
 ghost use Rattle.std.specs.Prelude.{◌≡◌, None, Some, IsSome, OnOk};
 ghost use Rattle.x690.specs.TypeTerms.{TypeTerm, fits_tag};
-ghost use Rattle.ber_pull.specs.Hears.{heard};
-ghost use Rattle.ber_pull.specs.View.{standing, SameSource, Repeats, Keeps, ReadsFail, Onward, Answers, Uses};
+ghost use Rattle.ber_pull.specs.View.{standing, SameSource, Repeats, Keeps, ReadsFail, Onward, Uses};
 ghost use Rattle.ber_pull.specs.declared.state.Given.{Given};
-ghost use Rattle.asn_values.specs.Reading.{read_given};
+ghost use Rattle.asn_values.specs.Reading.{AnswersValue, read_given};
 
 use crate::der_text::DerText;
 use ber_pull::pull::Pull;
@@ -28,7 +27,7 @@ pub trait Element: DerText {
         requires { (standing pull.old).error ≡ None → IsSome (standing pull.old).given }
         ensures same_source { SameSource pull.old pull.new }
         ensures repeats { Repeats pull.old pull.new result }
-        ensures reads { (g : Given) → (standing pull.old).error ≡ None → (standing pull.old).given ≡ Some g → Answers pull.old pull.new (read_given type_term (standing pull.old) g) (heard Self.value result) }
+        ensures reads { (g : Given) → (standing pull.old).error ≡ None → (standing pull.old).given ≡ Some g → AnswersValue pull.old pull.new (read_given type_term (standing pull.old) g) Self.value result }
         ensures stands { OnOk result (Uses pull.old pull.new) }
         ensures keeps { Keeps pull.new result }
         ensures read { ReadsFail pull.old pull.new result }

@@ -12,7 +12,7 @@ ghost use Rattle.x690.specs.Values.{Leaf, Value};
 ghost use Rattle.ber_pull.specs.Hears.{heard, heard_error};
 ghost use Rattle.ber_pull.specs.View.{standing, SameSource, Repeats, Keeps, ReadsFail, Onward, Answers, Uses, Unmoved};
 ghost use Rattle.ber_pull.specs.declared.state.Given.{Given};
-ghost use Rattle.asn_values.specs.Reading.{HasContents, kind_of, read_given, read_given_leaf, string_kind};
+ghost use Rattle.asn_values.specs.Reading.{AnswersValue, HasContents, kind_of, read_given, read_given_leaf, string_kind};
 
 use crate::integer::is_integer;
 use crate::tags::is_same_tag;
@@ -206,7 +206,7 @@ pub fn read_leaf_as<R: Source>(
     requires { (standing pull.old).error ≡ None → IsSome (standing pull.old).given }
     ensures same_source { SameSource pull.old pull.new }
     ensures repeats { Repeats pull.old pull.new result }
-    ensures reads { (g : Given) → (standing pull.old).error ≡ None → (standing pull.old).given ≡ Some g → Answers pull.old pull.new (read_given (LeafType own (kind_of kind)) (standing pull.old) g) (heard (λ v. Leaf own v.items) result) }
+    ensures reads { (g : Given) → (standing pull.old).error ≡ None → (standing pull.old).given ≡ Some g → AnswersValue pull.old pull.new (read_given (LeafType own (kind_of kind)) (standing pull.old) g) (λ v. Leaf own v.items) result }
     ensures contents { IfOk result (λ v. HasContents kind v.items) }
     ensures stands { OnOk result (Uses pull.old pull.new) }
     ensures keeps { Keeps pull.new result }

@@ -11,6 +11,7 @@ pub mod integer;
 mod leaf;
 pub mod leaf_reading;
 pub mod list;
+mod members;
 pub mod null;
 pub mod object_identifier;
 pub mod octets;

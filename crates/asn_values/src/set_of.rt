@@ -1,21 +1,34 @@
 //! SET OF (X.690 8.12, 11.6).
-ghost use Rattle.std.specs.Prelude.{◌≡◌, ◌↔◌, ◌+◌, ◌<◌, ◌^◌, Err, IfOk, IsPermutation, IsTrue, length, map, slice_get, true};
+ghost use Rattle.std.specs.Prelude.{◌≡◌, ◌↔◌, ◌+◌, ◌<◌, ◌^◌, Err, IfErr, IfOk, None, Some, IsSome, OnOk, IsPermutation, IsTrue, length, map, slice_get, true};
 ghost use Rattle.std.specs.Option.{option_map};
 ghost use Rattle.tlv_core.specs.Sinks.{count, Puts};
 ghost use Rattle.x690.specs.DerTexts.{Ascends, der};
 ghost use Rattle.x690.specs.Layouts.{universal};
+ghost use Rattle.x690.specs.TypeTerms.{SetOfType};
+ghost use Rattle.ber_pull.specs.View.{standing, source, SameSource, Repeats, Keeps, ReadsFail, Onward, Uses};
+ghost use Rattle.ber_pull.specs.Standing.{failed_with};
+ghost use Rattle.ber_pull.specs.declared.state.Given.{Given};
+ghost use Rattle.tlv_core.specs.declared.fault.ReadError.TheVariants.{Memory};
+ghost use Rattle.asn_values.specs.Reading.{AnswersValue, read_given};
 ghost use Rattle.x690.specs.Values.{SetOf as SetValue, values_of};
 ghost use Rattle.asn_values.specs.Members.{ascends};
 ghost use Rattle.asn_values.specs.declared.build.BuildError.TheVariants.{TooBig};
 
 use crate::build::BuildError;
 use crate::der_text::DerText;
+use crate::element::Element;
 use crate::framing::element_size;
+use crate::leaf_reading::expect_tag;
+use crate::members::{read_members, row_of};
 use crate::order::in_order;
 use crate::row::{LONGEST, Row, contents_length};
-use crate::tags::universal_tag;
+use crate::tags::{is_same_tag, universal_tag};
+use ber_pull::pull::Pull;
 use std::alloc::Global;
+use tlv_core::fault::ReadError;
+use tlv_core::reason::Reason;
 use tlv_core::sink::{Sink, WriteError};
+use tlv_core::source::Source;
 use tlv_core::tag::Tag;
 use tlv_core::target::Target;
 
@@ -118,5 +131,89 @@ impl<T: DerText> DerText for SetOf<T> {
 
     fn octet(&self, i: u64) -> Option<u8> {
         self.octet_as(i, universal_tag(17))
+    }
+}
+
+impl<T: Element> SetOf<T> {
+    ghost use Rattle.asn_values.specs.Containers.{set_items};
+
+    /// Reads the SET OF that is given, under an implicit tag.
+    pub fn read_as<R: Source>(alloc: Global, pull: &mut Pull<'_, R>, tag: Tag) -> Result<SetOf<T>, ReadError>
+        requires { (standing pull.old).error ≡ None → IsSome (standing pull.old).given }
+        ensures same_source { SameSource pull.old pull.new }
+        ensures repeats { Repeats pull.old pull.new result }
+        ensures reads { (g : Given) → (standing pull.old).error ≡ None → (standing pull.old).given ≡ Some g → AnswersValue pull.old pull.new (read_given (SetOfType tag 0 T.type_term) (standing pull.old) g) (λ set. SetValue tag (values_of (map T.value (set_items set)))) result }
+        ensures stands { OnOk result (Uses pull.old pull.new) }
+        ensures keeps { Keeps pull.new result }
+        ensures read { ReadsFail pull.old pull.new result }
+        ensures onward { Onward pull.old pull.new }
+    {
+        SetOf::read_set(alloc, pull, tag, 0)
+    }
+
+    /// Reads the SET OF that is given, which has at least one member: an empty one is `EmptySet`.
+    pub fn read_some<R: Source>(alloc: Global, pull: &mut Pull<'_, R>) -> Result<SetOf<T>, ReadError>
+        requires { (standing pull.old).error ≡ None → IsSome (standing pull.old).given }
+        ensures same_source { SameSource pull.old pull.new }
+        ensures repeats { Repeats pull.old pull.new result }
+        ensures reads { (g : Given) → (standing pull.old).error ≡ None → (standing pull.old).given ≡ Some g → AnswersValue pull.old pull.new (read_given (SetOfType (universal 17) 1 T.type_term) (standing pull.old) g) (λ set. SetValue (universal 17) (values_of (map T.value (set_items set)))) result }
+        ensures stands { OnOk result (Uses pull.old pull.new) }
+        ensures keeps { Keeps pull.new result }
+        ensures read { ReadsFail pull.old pull.new result }
+        ensures onward { Onward pull.old pull.new }
+    {
+        SetOf::read_set(alloc, pull, universal_tag(17), 1)
+    }
+
+    /// Reads the SET OF that is given, under this tag, with at least so many members.
+    fn read_set<R: Source>(alloc: Global, pull: &mut Pull<'_, R>, tag: Tag, least: usize) -> Result<SetOf<T>, ReadError>
+        requires { (standing pull.old).error ≡ None → IsSome (standing pull.old).given }
+        ensures same_source { SameSource pull.old pull.new }
+        ensures repeats { Repeats pull.old pull.new result }
+        ensures reads { (g : Given) → (standing pull.old).error ≡ None → (standing pull.old).given ≡ Some g → AnswersValue pull.old pull.new (read_given (SetOfType tag least T.type_term) (standing pull.old) g) (λ set. SetValue tag (values_of (map T.value (set_items set)))) result }
+        ensures stands { OnOk result (Uses pull.old pull.new) }
+        ensures keeps { Keeps pull.new result }
+        ensures read { ReadsFail pull.old pull.new result }
+        ensures onward { Onward pull.old pull.new }
+    {
+        let at = expect_tag(pull, tag)?;
+        let (items, _end) = read_members(alloc, pull)?;
+        if items.len() < least {
+            return Err(pull.refuse(at, Reason::EmptySet, None));
+        }
+        let sorted = put_in_order(alloc, pull, items)?;
+        let row = row_of(alloc, pull, sorted)?;
+        Ok(SetOf { row })
+    }
+}
+
+/// The items in the order of their texts; the reader fails where it finds no memory.
+fn put_in_order<R: Source, T: DerText>(alloc: Global, pull: &mut Pull<'_, R>, items: Vec<T>) -> Result<Vec<T>, ReadError>
+    requires { (standing pull.old).error ≡ None }
+    ensures same_source { SameSource pull.old pull.new }
+    ensures same { IfOk result (λ sorted. IsPermutation items.items sorted.items) }
+    ensures in_order { IfOk result (λ sorted. ascends (map der (map T.value sorted.items)) ≡ true) }
+    ensures still { OnOk result (pull.new ≡ pull.old) }
+    ensures stops { IfErr result (λ e. (e ≡ Memory) × (source pull.new ≡ source pull.old) × (standing pull.new ≡ failed_with e (standing pull.old))) }
+    ensures keeps { Keeps pull.new result }
+    ensures read { ReadsFail pull.old pull.new result }
+    ensures onward { Onward pull.old pull.new }
+{
+    match in_order(alloc, items) {
+        Ok(sorted) => Ok(sorted),
+        Err(_) => Err(pull.no_memory()),
+    }
+}
+
+impl<T: Element> Element for SetOf<T> {
+    ghost type_term = { SetOfType (universal 17) 0 T.type_term };
+
+    #[tactic(auto, unfolding(x690::specs::TypeTerms::fits_tag))]
+    fn fits(tag: Tag) -> bool {
+        is_same_tag(universal_tag(17), tag)
+    }
+
+    fn read<R: Source>(alloc: Global, pull: &mut Pull<'_, R>) -> Result<SetOf<T>, ReadError> {
+        SetOf::read_set(alloc, pull, universal_tag(17), 0)
     }
 }
