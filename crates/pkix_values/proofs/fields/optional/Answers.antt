@@ -59,7 +59,10 @@ returns-clause-reads g c = λ outer inside a.
     let is = field_given outer inside c.args.pull.now.state at n t a c.in-Some.is in
     let on = sym c.fits-fits.ensures ∙ c.if-not-fits.false in
     let read = c.in_ok-field.ensures.reads given c.requires.fine is in
-    let within = used_within outer inside c.args.pull.now.state (next_of c.args.next.now) c.read.new.pull.state a (stands_some at n t c.in-Some.is) c.in_ok-field.ensures.stands in
-    (Some read.0, read.1, optional_read outer.limits g.T.Element.type_term [] inside at n t _ _ _ _ _ c.in-Some.is on
-    (hears_then _ _ read.0 _ _ _ _ _ _ _ (field_as outer inside c.args.pull.now.state (next_of c.args.next.now) g.T.Element.type_term [] at c.in-Some.tag c.in-Some.field-0-1 _ _ _ _ _ a read.2)
-    (hears_then _ _ (next_of c.in_ok-next.field-0) _ _ _ _ _ _ _ (c.in_ok-next.ensures.reads outer inside within) (hears_done _ _ _))))
+    let within = used_within outer inside c.args.pull.now.state (next_of c.args.next.now) c.read.new.pull.state a (stands_some at n t c.in-Some.is) c.in_ok-field.ensures.stands in (
+      Some read.0,
+      read.1,
+      optional_read outer.limits g.T.Element.type_term [] inside at n t _ _ _ _ _ c.in-Some.is on
+          (hears_then _ _ read.0 _ _ _ _ _ _ _ (field_as outer inside c.args.pull.now.state (next_of c.args.next.now) g.T.Element.type_term [] at c.in-Some.tag c.in-Some.field-0-1 _ _ _ _ _ a read.2)
+          (hears_then _ _ (next_of c.in_ok-next.field-0) _ _ _ _ _ _ _ (c.in_ok-next.ensures.reads outer inside within) (hears_done _ _ _))),
+    )
