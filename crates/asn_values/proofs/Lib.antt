@@ -5,6 +5,7 @@ pub mod LeafReadings
 pub mod MappedMembers
 pub mod MemberReadings
 pub mod MemberTexts
+pub mod ObjectIdentifierContents
 pub mod PaddedOrder
 pub mod PairedMembers
 pub mod Putting

@@ -1,5 +1,5 @@
 //! BOOLEAN (X.690 8.2, 11.1).
-ghost use Rattle.std.specs.Prelude.{◌≡◌, ◌∷◌, [], cond};
+ghost use Rattle.std.specs.Prelude.{◌≡◌, ◌↔◌, ◌∷◌, [], IsTrue, cond};
 ghost use Rattle.x690.specs.Layouts.{universal};
 ghost use Rattle.x690.specs.Contents.{Boolean};
 ghost use Rattle.x690.specs.TypeTerms.{LeafType};
@@ -32,6 +32,13 @@ impl Bool {
         ensures { result ≡ truth self.now }
     {
         self.value
+    }
+
+    /// Whether the two are the same.
+    pub fn same(&self, other: &Bool) -> bool
+        ensures { IsTrue result ↔ (truth self.now ≡ truth other.now) }
+    {
+        self.value == other.value
     }
 
     /// Its contents: FF for TRUE, 00 for FALSE (X.690 8.2.2, 11.1).

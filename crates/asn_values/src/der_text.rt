@@ -4,6 +4,7 @@ ghost use Rattle.tlv_core.specs.Sinks.{count, Puts};
 ghost use Rattle.x690.specs.DerTexts.{der};
 ghost use Rattle.x690.specs.Values.{Value};
 
+use std::alloc::{AllocError, Global};
 use tlv_core::sink::{Sink, WriteError};
 use tlv_core::target::Target;
 
@@ -24,4 +25,35 @@ pub trait DerText: Sized + Drop {
     /// Octet `i` of its text, counted from 0; `None` from `size` on.
     fn octet(&self, i: u64) -> Option<u8>
         ensures { result ≡ slice_get (der (value self.now)) i };
+}
+
+/// The text of a value. Its whole length is asked of the memory first.
+pub fn der_text<T: DerText>(alloc: Global, value: &T) -> Result<Vec<u8>, AllocError>
+    ensures { IfOk result (λ text. text.items ≡ der (T.value value.now)) }
+{
+    let size = value.size();
+    let mut text = Vec::with_capacity(alloc, size as usize)?;
+    for i in 0..size {
+        let octet = value.octet(i).unwrap_or(0);
+        text.push(octet)?;
+    }
+    Ok(text)
+}
+
+/// Whether the two have one text.
+pub(crate) fn same_text<T: DerText>(value: &T, other: &T) -> bool
+    ensures { IsTrue result ↔ (der (T.value value.now) ≡ der (T.value other.now)) }
+{
+    let size = value.size();
+    if size != other.size() {
+        return false;
+    }
+    for i in 0..size {
+        let octet = value.octet(i).unwrap_or(0);
+        let other_octet = other.octet(i).unwrap_or(0);
+        if octet != other_octet {
+            return false;
+        }
+    }
+    true
 }

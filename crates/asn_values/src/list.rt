@@ -10,7 +10,7 @@ ghost use Rattle.ber_pull.specs.declared.state.Given.{Given};
 ghost use Rattle.asn_values.specs.Reading.{AnswersValue, read_given};
 ghost use Rattle.x690.specs.Values.{Sequence, values_of};
 
-use crate::der_text::DerText;
+use crate::der_text::{DerText, same_text};
 use crate::element::Element;
 use crate::leaf_reading::expect_tag;
 use crate::members::{read_members, row_of};
@@ -57,6 +57,13 @@ impl<T: DerText> List<T> {
         } else {
             None
         }
+    }
+
+    /// Whether the two have one text, and so are the same.
+    pub fn same(&self, other: &List<T>) -> bool
+        ensures { IsTrue result ↔ (der (Sequence (universal 16) (values_of (map T.value (list_items self.now)))) ≡ der (Sequence (universal 16) (values_of (map T.value (list_items other.now))))) }
+    {
+        same_text(self, other)
     }
 
     fn size_as(&self, tag: Tag) -> u64

@@ -15,7 +15,7 @@ ghost use Rattle.asn_values.specs.Members.{ascends};
 ghost use Rattle.asn_values.specs.declared.build.BuildError.TheVariants.{TooBig};
 
 use crate::build::BuildError;
-use crate::der_text::DerText;
+use crate::der_text::{DerText, same_text};
 use crate::element::Element;
 use crate::framing::element_size;
 use crate::leaf_reading::expect_tag;
@@ -91,6 +91,13 @@ impl<T: DerText> SetOf<T> {
         } else {
             None
         }
+    }
+
+    /// Whether the two have one text, and so are the same.
+    pub fn same(&self, other: &SetOf<T>) -> bool
+        ensures { IsTrue result ↔ (der (SetValue (universal 17) (values_of (map T.value (set_items self.now)))) ≡ der (SetValue (universal 17) (values_of (map T.value (set_items other.now))))) }
+    {
+        same_text(self, other)
     }
 
     /// The length of its text under an implicit tag.

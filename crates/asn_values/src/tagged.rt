@@ -1,11 +1,11 @@
 //! Explicit tags (X.690 8.14).
-ghost use Rattle.std.specs.Prelude.{◌≡◌, ◌+◌, ◌<◌, ◌^◌, ◌∷◌, [], length, slice_get};
+ghost use Rattle.std.specs.Prelude.{◌≡◌, ◌↔◌, ◌+◌, ◌<◌, ◌^◌, ◌∷◌, [], IsTrue, length, slice_get};
 ghost use Rattle.tlv_core.specs.Sinks.{count, Puts};
 ghost use Rattle.x690.specs.DerTexts.{der};
 ghost use Rattle.x690.specs.Layouts.{context_specific};
 ghost use Rattle.x690.specs.Values.{Sequence, values_of};
 
-use crate::der_text::DerText;
+use crate::der_text::{DerText, same_text};
 use crate::framing::{Stands, element_size, find_octet, put_header};
 use crate::tags::context_tag;
 use tlv_core::sink::{Sink, WriteError};
@@ -25,6 +25,13 @@ impl<const N: u8, T: DerText> Tagged<N, T> {
         ensures { result.now ≡ self.now.inner }
     {
         &self.inner
+    }
+
+    /// Whether the two have one text, and so are the same.
+    pub fn same(&self, other: &Tagged<N, T>) -> bool
+        ensures { IsTrue result ↔ (der (Sequence (context_specific N) (values_of (T.value self.now.inner ∷ []))) ≡ der (Sequence (context_specific N) (values_of (T.value other.now.inner ∷ [])))) }
+    {
+        same_text(self, other)
     }
 
     fn size_as(&self, tag: Tag) -> u64

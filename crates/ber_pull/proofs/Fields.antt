@@ -18,7 +18,7 @@ use Rattle.x690.specs.Reading.{Done, Fail, Reading, Where, choose, require, run,
 use Rattle.x690.specs.Reads.{Heard, Refused, Said}
 use Rattle.x690.specs.TypeTerms.{Default, DefinedByType, EndOfFields, Fields, LeafType, OpenType, Optional, Required, Rule, RuledType, SequenceOfType, SequenceType, SetOfType, TypeTerm, fits_tag}
 use Rattle.x690.specs.Values.{Sequence, Value, leaf_at, values_of}
-use Rattle.ber_pull.specs.Fields.{but_default, read_begin, read_due, read_end, read_optional, with_field}
+use Rattle.ber_pull.specs.Fields.{IsClosed, but_default, read_begin, read_due, read_end, read_optional, with_field}
 use Rattle.ber_pull.specs.Hears.{Hears, heard_error, next_at}
 use Rattle.ber_pull.proofs.Hearing.{hears_done, hears_error, hears_fail, hears_first, hears_off, hears_on, hears_same, hears_second, hears_then}
 use Rattle.ber_pull.proofs.Runs.{bind_assoc, bind_same}
@@ -148,13 +148,15 @@ end_alike l earlier c (ElementStands p tag constructed) then' = λ k s. refl
 
 -- The rules. Each ends in what is heard of the whole: of a call that answered a value by what is heard of the rest, of one that failed by its error.
 
-pub begins : (l : Limits) (own : Tag) (fields : Fields) (earlier : List Value) (c : Enclosing) (p : ℕ) (tag : Tag) (constructed : Bool) (inside : Enclosing) (next : Next) (h : Heard Value) (k j i : ℕ) (s t u : Option (List ℕ)) → Hears (read_begin l own c p tag constructed) k s (Said (inside, next)) j t → Hears (read_fields l fields [] inside next >>= λ vs. Done (Sequence own (values_of vs))) j t h i u → Hears (read_type l (SequenceType own fields) earlier c p tag constructed) k s h i u
-begins l own fields earlier c p tag constructed inside next h k j i s t u x y =
-    hears_same _ _ h k i s u (begin_alike l own fields earlier c p tag constructed) (hears_then _ (then_begin l fields own) (inside, next) h k j i s t u x y)
+pub begins : (l : Limits) (own own' : Tag) (fields : Fields) (earlier : List Value) (c : Enclosing) (p : ℕ) (tag : Tag) (constructed : Bool) (inside : Enclosing) (next : Next) (h : Heard Value) (k j i : ℕ) (s t u : Option (List ℕ)) → own' ≡ own → Hears (read_begin l own' c p tag constructed) k s (Said (inside, next)) j t → Hears (read_fields l fields [] inside next >>= λ vs. Done (Sequence own (values_of vs))) j t h i u → Hears (read_type l (SequenceType own fields) earlier c p tag constructed) k s h i u
+begins l own own' fields earlier c p tag constructed inside next h k j i s t u is x y =
+    hears_same _ _ h k i s u (begin_alike l own fields earlier c p tag constructed)
+    (hears_then _ (then_begin l fields own) (inside, next) h k j i s t u (subst (λ w. Hears (read_begin l w c p tag constructed) k s (Said (inside, next)) j t) is x) y)
 
-pub begins_error : (l : Limits) (own : Tag) (fields : Fields) (earlier : List Value) (c : Enclosing) (p : ℕ) (tag : Tag) (constructed : Bool) (e : ReadError) (k i : ℕ) (s u : Option (List ℕ)) → Hears (read_begin l own c p tag constructed) k s (heard_error e) i u → Hears (read_type l (SequenceType own fields) earlier c p tag constructed) k s (heard_error e) i u
-begins_error l own fields earlier c p tag constructed e k i s u x =
-    hears_same _ _ (heard_error e) k i s u (begin_alike l own fields earlier c p tag constructed) (hears_error _ (then_begin l fields own) e k i s u x)
+pub begins_error : (l : Limits) (own own' : Tag) (fields : Fields) (earlier : List Value) (c : Enclosing) (p : ℕ) (tag : Tag) (constructed : Bool) (e : ReadError) (k i : ℕ) (s u : Option (List ℕ)) → own' ≡ own → Hears (read_begin l own' c p tag constructed) k s (heard_error e) i u → Hears (read_type l (SequenceType own fields) earlier c p tag constructed) k s (heard_error e) i u
+begins_error l own own' fields earlier c p tag constructed e k i s u is x =
+    hears_same _ _ (heard_error e) k i s u (begin_alike l own fields earlier c p tag constructed)
+    (hears_error _ (then_begin l fields own) e k i s u (subst (λ w. Hears (read_begin l w c p tag constructed) k s (heard_error e) i u) is x))
 
 pub due : {B : Type 0} (l : Limits) (T : TypeTerm) (rest : Fields) (earlier : List Value) (c : Enclosing) (next : Next) (then' : List Value → Reading B) (value : Value) (next' : Next) (h : Heard B) (k j i : ℕ) (s t u : Option (List ℕ)) → Hears (read_due l T earlier c next) k s (Said (value, next')) j t → Hears (read_fields l rest (earlier ++ (value ∷ [])) c next' >>= λ vs. then' (value ∷ vs)) j t h i u → Hears (read_fields l (Required T rest) earlier c next >>= then') k s h i u
 due l T rest earlier c next then' value next' h k j i s t u x y =
@@ -189,9 +191,6 @@ ends_error l earlier c next then' e k i s u x =
     hears_same _ _ (heard_error e) k i s u (end_alike l earlier c next then') (hears_error _ (λ v. then' []) e k i s u x)
 
 -- A type that doesn't look at the earlier fields of its container reads the same behind any.
-
-abbrev pub IsClosed : TypeTerm → Type 0
-IsClosed T = (l : Limits) (earlier : List Value) (c : Enclosing) (p : ℕ) (tag : Tag) (constructed : Bool) → read_type l T earlier c p tag constructed ≡ read_type l T [] c p tag constructed
 
 pub leaf_closed : (own : Tag) (kind : LeafKind) → IsClosed (LeafType own kind)
 unfolding read_type

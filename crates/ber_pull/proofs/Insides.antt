@@ -92,9 +92,12 @@ stands_none p (Some t) e = cc
 pub stands_some : (p : ℕ) (n : Option (Tag × Bool)) (t : Tag × Bool) → n ≡ Some t → IsSome (given_by (next_at p n))
 stands_some p n t e = rw e refl
 
--- what the element that stands next gives, by what stands next
-pub field_reads : (earlier : List Value) (outer : Standing) (inside : Enclosing) (s : Standing) (p : ℕ) (n : Option (Tag × Bool)) (t : Tag × Bool) (T : TypeTerm) (h : Heard Value) (k i : ℕ) (o u : Option (List ℕ)) → Inside outer inside s (next_at p n) → n ≡ Some t → s.error ≡ None → ((given : Given) → s.error ≡ None → s.given ≡ Some given → Hears (read_type s.limits T earlier (enclosing s) given.at given.tag given.constructed) k o h i u) → Hears (read_type outer.limits T earlier inside p t.0 t.1) k o h i u
-field_reads earlier outer inside s p n t T h k i o u a e fine x =
+-- the element that stands next is given
+pub field_given : (outer : Standing) (inside : Enclosing) (s : Standing) (p : ℕ) (n : Option (Tag × Bool)) (t : Tag × Bool) → Inside outer inside s (next_at p n) → n ≡ Some t → s.given ≡ Some (record { at = p; tag = t.0; constructed = t.1 })
+field_given outer inside s p n t a e = inside_given outer inside s (next_at p n) a ∙ ap (λ w. given_by (next_at p w)) e
+
+-- and is read at the point inside
+pub field_as : (outer : Standing) (inside : Enclosing) (s : Standing) (next : Next) (T : TypeTerm) (earlier : List Value) (p : ℕ) (tag : Tag) (constructed : Bool) (h : Heard Value) (k i : ℕ) (o u : Option (List ℕ)) → Inside outer inside s next → Hears (read_type s.limits T earlier (enclosing s) p tag constructed) k o h i u → Hears (read_type outer.limits T earlier inside p tag constructed) k o h i u
+field_as outer inside s next T earlier p tag constructed h k i o u a x =
     hears_as _ _ h k i o u
-    (ap (λ l. read_type l T earlier (enclosing s) p t.0 t.1) (inside_limits outer inside s (next_at p n) a) ∙ ap (λ c. read_type outer.limits T earlier c p t.0 t.1) a.point)
-    (x (record { at = p; tag = t.0; constructed = t.1 }) fine (inside_given outer inside s (next_at p n) a ∙ ap (λ w. given_by (next_at p w)) e))
+    (ap (λ l. read_type l T earlier (enclosing s) p tag constructed) (inside_limits outer inside s next a) ∙ ap (λ c. read_type outer.limits T earlier c p tag constructed) a.point) x

@@ -50,6 +50,12 @@ abbrev pub but_default : Tag → List ℕ → Option Value → Option Value
 but_default own octets None = None
 but_default own octets (Some value) = elim (is_this_leaf own octets value) [ true ↦ None | false ↦ Some value ]
 
+-- a type that doesn't look at the earlier fields of its container reads the same behind any
+abbrev pub IsClosed : TypeTerm → Type 0
+IsClosed type =
+    (limits : Limits) (earlier : List Value) (enclosing : Enclosing) (place : ℕ) (tag : Tag) (constructed : Bool)
+    → read_type limits type earlier enclosing place tag constructed ≡ read_type limits type [] enclosing place tag constructed
+
 -- the identifier that is given where this stands next
 abbrev pub given_by : Next → Option Given
 given_by (ContainerEnds place) = None

@@ -3,12 +3,13 @@ ghost use Rattle.std.specs.Prelude.{◌≡◌, IfOk, IsSome, None, OnOk, Some, [
 ghost use Rattle.std.specs.Option.{option_map};
 ghost use Rattle.x690.specs.Points.{Enclosing};
 ghost use Rattle.x690.specs.ReadHeaders.{next_tag};
+ghost use Rattle.x690.specs.Values.{Same};
 ghost use Rattle.ber_pull.specs.Fields.{Inside, Within, read_begin, read_due, read_end, read_optional};
 ghost use Rattle.ber_pull.specs.Hears.{heard};
 ghost use Rattle.ber_pull.specs.Standing.{Standing, enclosing, used};
 ghost use Rattle.ber_pull.specs.View.{standing, SameSource, Repeats, Keeps, ReadsFail, Onward, Answers};
 ghost use Rattle.ber_pull.specs.declared.state.Given.{Given};
-ghost use Rattle.pkix_values.specs.Fields.{AnswersInside, IsInside, StaysInside, next_of};
+ghost use Rattle.pkix_values.specs.Fields.{AnswersField, AnswersInside, IsInside, SameField, StaysInside, next_of};
 
 use asn_values::element::Element;
 use asn_values::leaf_reading::expect_tag;
@@ -73,7 +74,7 @@ pub fn due<R: Source, T: Element>(
     requires fine { (standing pull.old).error ≡ None }
     requires inside { IsInside pull.old next.old }
     ensures same_source { SameSource pull.old pull.new }
-    ensures reads { AnswersInside pull.old pull.new next.old (λ outer inside. read_due outer.limits T.type_term [] inside (next_of next.old)) (heard (λ field. (T.value field, next_of next.new)) result) }
+    ensures reads { AnswersField pull.old pull.new next.old (λ outer inside. read_due outer.limits T.type_term [] inside (next_of next.old)) Same T.value (next_of next.new) result }
     ensures stands { OnOk result (StaysInside pull.old pull.new next.old next.new) }
     ensures keeps { Keeps pull.new result }
     ensures read { ReadsFail pull.old pull.new result }
@@ -102,7 +103,7 @@ pub fn optional<R: Source, T: Element>(
     requires fine { (standing pull.old).error ≡ None }
     requires inside { IsInside pull.old next.old }
     ensures same_source { SameSource pull.old pull.new }
-    ensures reads { AnswersInside pull.old pull.new next.old (λ outer inside. read_optional outer.limits T.type_term [] inside (next_of next.old)) (heard (λ field. (option_map T.value field, next_of next.new)) result) }
+    ensures reads { AnswersField pull.old pull.new next.old (λ outer inside. read_optional outer.limits T.type_term [] inside (next_of next.old)) SameField (option_map T.value) (next_of next.new) result }
     ensures stands { OnOk result (StaysInside pull.old pull.new next.old next.new) }
     ensures keeps { Keeps pull.new result }
     ensures read { ReadsFail pull.old pull.new result }
