@@ -12,7 +12,7 @@ use Rattle.x690.specs.Contents.{LeafKind}
 use Rattle.x690.specs.Layouts.{same_tag}
 use Rattle.x690.specs.Lists.{one_of}
 use Rattle.x690.specs.Points.{Enclosing, fault}
-use Rattle.x690.specs.ReadHeaders.{ContainerEnds, ElementStands, Next, entered, in_container, next_tag, read_length}
+use Rattle.x690.specs.ReadHeaders.{ContainerEnds, ElementStands, LengthForm, Next, entered, in_container, next_tag, read_length}
 use Rattle.x690.specs.ReadTypes.{apply_rule, is_this_leaf, read_fields, read_type}
 use Rattle.x690.specs.Reading.{Done, Fail, Reading, Where, choose, require, run, ◌>>=◌}
 use Rattle.x690.specs.Reads.{Heard, Refused, Said}
