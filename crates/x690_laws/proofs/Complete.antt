@@ -4,6 +4,7 @@ use Rattle.std.proofs.lemmas.Bool.Decides.{nat_tests}
 use Rattle.std.proofs.lemmas.List.{length-append}
 use Rattle.std.specs.Str.{IsUtf8}
 use Rattle.std.proofs.lemmas.Str.{is_utf8-from_IsUtf8}
+use Rattle.x690_laws.proofs.ContentLengths.{segments_within}
 use Rattle.x690_laws.proofs.Runs.{run_bind}
 use Rattle.x690_laws.proofs.OneValue.{leaf_one}
 use Rattle.x690_laws.proofs.HeaderSound.{Within}
@@ -347,35 +348,11 @@ open_limit l x v h = go (nat_le (tree_depth x) l.depth) refl
 append-length : (o : List ℕ) → length (o ++ []) ≡ length o
 append-length o = ap length (append-nil o)
 
-joined_length : (s t : List (List ℕ)) → length (join (s ++ t)) ≡ length (join s) + length (join t)
-joined_length [] t = omega arith
-joined_length (x ∷ s) t = let i = joined_length s t in omega (arith, length-append x (join (s ++ t)), length-append x (join s))
-
-mutual
-  unfolding LaidOut segments Behind
-
-  lay_length : (x : RawTree) (b : List ℕ) → LaidOut x b → length (join (segments x)) ≤ length b
-  lay_length (Primitive t o) b h = let e = ap length h.1.is in omega (arith, e, append-length o, length-append (identifier t false) (h.1.length_octets ++ o), length-append h.1.length_octets o)
-  lay_length (Constructed t rs) b h =
-      let i = lays_length rs h.1.0 h.1.1 in
-      ⊎_elim
-      (λ a. let e = ap length a.is in omega (arith, e, length-append (identifier t true) (a.length_octets ++ h.1.0), length-append a.length_octets h.1.0))
-      (λ a. let e = ap length a.is in omega (arith, e, length-append (identifier t true) (128 ∷ (h.1.0 ++ (0 ∷ 0 ∷ []))), length-append h.1.0 (0 ∷ 0 ∷ [])))
-      h.1.2
-
-  lays_length : (rs : RawTrees) (o : List ℕ) → AllLaidOut rs o → length (join (all_segments rs)) ≤ length o
-  lays_length NoTrees o h = omega arith
-  lays_length (FirstTree x xs) o h =
-      let a = lay_length x h.0 h.2 in
-      let b = lays_length xs h.1 h.3 in
-      let e = ap length h.4 in
-      omega (arith, e, joined_length (segments x) (all_segments xs), length-append h.0 h.1)
-
 behind_length : (x : RawTree) (y c : List ℕ) → Behind x y → LeafContents OctetString x c → length c ≤ length y
 unfolding LaidOut segments Behind LeafContents
 behind_length (Primitive t o) y c h g = let e = ap length h.2 in let e' = ap length g.is in omega (arith, e, e', append-length o, length-append h.0 o)
 behind_length (Constructed t rs) y c h g =
-    let i = lays_length rs h.0 h.1 in
+    let i = segments_within rs h.0 h.1 in
     let e' = ap length g.is in
     ⊎_elim
     (λ a. let e = ap length a.2 in omega (arith, e, e', length-append a.0 h.0))
