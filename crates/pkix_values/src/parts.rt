@@ -117,7 +117,11 @@ pub fn sequence_size<P: Parts>(tag: Tag, parts: &P) -> u64
 }
 
 /// Writes the text of a SEQUENCE of these fields.
-pub fn put_sequence<P: Parts, W: Target>(tag: Tag, parts: &P, sink: &mut Sink<'_, W>) -> Result<(), WriteError>
+pub fn put_sequence<P: Parts, W: Target>(
+    tag: Tag,
+    parts: &P,
+    sink: &mut Sink<'_, W>,
+) -> Result<(), WriteError>
     requires small { length (texts_of (P.values parts.now)) < 2 ^ 63 }
     requires room { count sink.old + length (der (Sequence tag (values_of (P.values parts.now)))) < 2 ^ 64 }
     ensures { Puts (der (Sequence tag (values_of (P.values parts.now)))) sink.old sink.new result }
