@@ -34,9 +34,13 @@ picked_set (y ∷ xs) (suc i) x h = inr (without xs i, refl, picked_set xs i x (
 
 -- the first member and a later one exchanged
 first_moved : {A : Type 0} (x y : A) (xs : List A) (j : ℕ) → j < length xs → y ≡ get_or xs j y → Paired Alike (x ∷ xs) (y ∷ set xs j x)
-first_moved x y xs j h e =
-    (x, y ∷ without xs j, inr (without xs j, refl, picked_set xs j x h), refl,
-    paired_add Alike y y xs (without xs j) (y ∷ without xs j) (without xs j) (picked_at xs j y h e) (inl (refl, refl)) refl (paired_self (without xs j)))
+first_moved x y xs j h e = (
+  x,
+  y ∷ without xs j,
+  inr (without xs j, refl, picked_set xs j x h),
+  refl,
+  paired_add Alike y y xs (without xs j) (y ∷ without xs j) (without xs j) (picked_at xs j y h e) (inl (refl, refl)) refl (paired_self (without xs j)),
+)
 
 exchanged : {A : Type 0} (xs : List A) (i j : ℕ) (x y : A) → i < length xs → j < length xs → x ≡ get_or xs i x → y ≡ get_or xs j y → Paired Alike xs (set (set xs i y) j x)
 exchanged [] i j x y h k e f = absurd (omega arith)

@@ -34,7 +34,6 @@ pub struct List<T: DerText> {
 ghost use Rattle.asn_values.specs.Containers.{list_items};
 
 impl<T: DerText> List<T> {
-
     /// The number of members.
     pub fn len(&self) -> usize
         ensures { result ≡ length (list_items self.now) }
@@ -120,7 +119,12 @@ impl<T: Element> List<T> {
 }
 
 /// Reads the list that is given, under this tag, with at least so many members.
-fn read_list<R: Source, T: Element>(alloc: Global, pull: &mut Pull<'_, R>, tag: Tag, least: usize) -> Result<List<T>, ReadError>
+fn read_list<R: Source, T: Element>(
+    alloc: Global,
+    pull: &mut Pull<'_, R>,
+    tag: Tag,
+    least: usize,
+) -> Result<List<T>, ReadError>
     requires { (standing pull.old).error ≡ None → IsSome (standing pull.old).given }
     ensures same_source { SameSource pull.old pull.new }
     ensures repeats { Repeats pull.old pull.new result }

@@ -16,7 +16,11 @@ use tlv_core::fault::ReadError;
 use tlv_core::source::Source;
 
 /// One more item behind the others; the reader fails where it finds no memory.
-pub fn keep<R: Source, T: Drop>(pull: &mut Pull<'_, R>, items: &mut Vec<T>, item: T) -> Result<(), ReadError>
+pub fn keep<R: Source, T: Drop>(
+    pull: &mut Pull<'_, R>,
+    items: &mut Vec<T>,
+    item: T,
+) -> Result<(), ReadError>
     requires { (standing pull.old).error ≡ None }
     ensures same_source { SameSource pull.old pull.new }
     ensures kept { OnOk result (items.new.items ≡ items.old.items ++ item ∷ []) }
@@ -33,7 +37,10 @@ pub fn keep<R: Source, T: Drop>(pull: &mut Pull<'_, R>, items: &mut Vec<T>, item
 }
 
 /// The members of the container that is given, and the place where it ends.
-pub fn read_members<R: Source, T: Element>(alloc: Global, pull: &mut Pull<'_, R>) -> Result<(Vec<T>, u64), ReadError>
+pub fn read_members<R: Source, T: Element>(
+    alloc: Global,
+    pull: &mut Pull<'_, R>,
+) -> Result<(Vec<T>, u64), ReadError>
     requires { (standing pull.old).error ≡ None → IsSome (standing pull.old).given }
     ensures same_source { SameSource pull.old pull.new }
     ensures repeats { Repeats pull.old pull.new result }
@@ -57,7 +64,11 @@ pub fn read_members<R: Source, T: Element>(alloc: Global, pull: &mut Pull<'_, R>
 }
 
 /// The row of these items; the reader fails where it finds no memory.
-pub fn row_of<R: Source, T: DerText>(alloc: Global, pull: &mut Pull<'_, R>, items: Vec<T>) -> Result<Row<T>, ReadError>
+pub fn row_of<R: Source, T: DerText>(
+    alloc: Global,
+    pull: &mut Pull<'_, R>,
+    items: Vec<T>,
+) -> Result<Row<T>, ReadError>
     requires fine { (standing pull.old).error ≡ None }
     requires short { length (texts_of (map T.value items.items)) < 2 ^ 63 }
     ensures same_source { SameSource pull.old pull.new }

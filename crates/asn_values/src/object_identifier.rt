@@ -42,7 +42,10 @@ impl DerText for Oid {
 }
 
 /// The object identifier that is given, whatever its tag.
-pub(crate) fn read_identifier<R: Source>(alloc: Global, pull: &mut Pull<'_, R>) -> Result<Oid, ReadError>
+pub(crate) fn read_identifier<R: Source>(
+    alloc: Global,
+    pull: &mut Pull<'_, R>,
+) -> Result<Oid, ReadError>
     requires { (standing pull.old).error ≡ None → IsSome (standing pull.old).given }
     ensures same_source { SameSource pull.old pull.new }
     ensures repeats { Repeats pull.old pull.new result }
@@ -62,7 +65,11 @@ pub(crate) fn read_identifier<R: Source>(alloc: Global, pull: &mut Pull<'_, R>) 
 }
 
 /// The object identifier that is given, of this tag.
-fn read_identifier_as<R: Source>(alloc: Global, pull: &mut Pull<'_, R>, own: Tag) -> Result<Oid, ReadError>
+fn read_identifier_as<R: Source>(
+    alloc: Global,
+    pull: &mut Pull<'_, R>,
+    own: Tag,
+) -> Result<Oid, ReadError>
     requires { (standing pull.old).error ≡ None → IsSome (standing pull.old).given }
     ensures same_source { SameSource pull.old pull.new }
     ensures repeats { Repeats pull.old pull.new result }

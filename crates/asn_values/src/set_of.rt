@@ -145,7 +145,11 @@ impl<T: Element> SetOf<T> {
     ghost use Rattle.asn_values.specs.Containers.{set_items};
 
     /// Reads the SET OF that is given, under an implicit tag.
-    pub fn read_as<R: Source>(alloc: Global, pull: &mut Pull<'_, R>, tag: Tag) -> Result<SetOf<T>, ReadError>
+    pub fn read_as<R: Source>(
+        alloc: Global,
+        pull: &mut Pull<'_, R>,
+        tag: Tag,
+    ) -> Result<SetOf<T>, ReadError>
         requires { (standing pull.old).error ≡ None → IsSome (standing pull.old).given }
         ensures same_source { SameSource pull.old pull.new }
         ensures repeats { Repeats pull.old pull.new result }
@@ -159,7 +163,10 @@ impl<T: Element> SetOf<T> {
     }
 
     /// Reads the SET OF that is given, which has at least one member: an empty one is `EmptySet`.
-    pub fn read_some<R: Source>(alloc: Global, pull: &mut Pull<'_, R>) -> Result<SetOf<T>, ReadError>
+    pub fn read_some<R: Source>(
+        alloc: Global,
+        pull: &mut Pull<'_, R>,
+    ) -> Result<SetOf<T>, ReadError>
         requires { (standing pull.old).error ≡ None → IsSome (standing pull.old).given }
         ensures same_source { SameSource pull.old pull.new }
         ensures repeats { Repeats pull.old pull.new result }
@@ -173,7 +180,12 @@ impl<T: Element> SetOf<T> {
     }
 
     /// Reads the SET OF that is given, under this tag, with at least so many members.
-    fn read_set<R: Source>(alloc: Global, pull: &mut Pull<'_, R>, tag: Tag, least: usize) -> Result<SetOf<T>, ReadError>
+    fn read_set<R: Source>(
+        alloc: Global,
+        pull: &mut Pull<'_, R>,
+        tag: Tag,
+        least: usize,
+    ) -> Result<SetOf<T>, ReadError>
         requires { (standing pull.old).error ≡ None → IsSome (standing pull.old).given }
         ensures same_source { SameSource pull.old pull.new }
         ensures repeats { Repeats pull.old pull.new result }
@@ -195,7 +207,11 @@ impl<T: Element> SetOf<T> {
 }
 
 /// The items in the order of their texts; the reader fails where it finds no memory.
-fn put_in_order<R: Source, T: DerText>(alloc: Global, pull: &mut Pull<'_, R>, items: Vec<T>) -> Result<Vec<T>, ReadError>
+fn put_in_order<R: Source, T: DerText>(
+    alloc: Global,
+    pull: &mut Pull<'_, R>,
+    items: Vec<T>,
+) -> Result<Vec<T>, ReadError>
     requires { (standing pull.old).error ≡ None }
     ensures same_source { SameSource pull.old pull.new }
     ensures same { IfOk result (λ sorted. IsPermutation items.items sorted.items) }

@@ -92,7 +92,10 @@ returns-clause-reads g c = λ given fine is.
     let few : least ≤ length c.in_ok-items.items.items = search rules in
     let more : least ≤ length read.0 = omega arith in
     let enough : nat_le least (length read.0) ≡ true = grind (arith, nat_tests) in
-    let made : map g.T.DerText.value c.in_ok-items.items.items ≡ map g.T.DerText.value c.in_ok-row.row.items.items = ap (λ z. map g.T.DerText.value z.items) (sym c.in_ok-row.ensures.made) in
-    (Sequence own (values_of read.0), same_lists own read.0 _ (rw (← made) read.1), subst (λ z. Answers c.args.pull.now z (read_given (SequenceOfType own least type) s given) (Said (Sequence own (values_of read.0)))) (sym c.in_ok-row.ensures.still)
-    (hears_as _ _ _ _ _ _ _ (list_type_is own least type s given) (hears_on _ _ _ _ _ _ _ _ ok.1
-    (hears_then (read_given_members type s given) (list_of own least) (ended read.0 c.in_ok-items.at) _ _ _ _ _ _ _ (unmoved_answers (λ z. read_given_members type z given) c.args.pull.now c.expect_tag.new.pull c.read_members.new.pull _ still read.2) (hears_on _ _ _ _ _ _ _ _ enough (hears_done _ _ _))))))
+    let made : map g.T.DerText.value c.in_ok-items.items.items ≡ map g.T.DerText.value c.in_ok-row.row.items.items = ap (λ z. map g.T.DerText.value z.items) (sym c.in_ok-row.ensures.made) in (
+      Sequence own (values_of read.0),
+      same_lists own read.0 _ (rw (← made) read.1),
+      subst (λ z. Answers c.args.pull.now z (read_given (SequenceOfType own least type) s given) (Said (Sequence own (values_of read.0)))) (sym c.in_ok-row.ensures.still)
+          (hears_as _ _ _ _ _ _ _ (list_type_is own least type s given) (hears_on _ _ _ _ _ _ _ _ ok.1
+          (hears_then (read_given_members type s given) (list_of own least) (ended read.0 c.in_ok-items.at) _ _ _ _ _ _ _ (unmoved_answers (λ z. read_given_members type z given) c.args.pull.now c.expect_tag.new.pull c.read_members.new.pull _ still read.2) (hears_on _ _ _ _ _ _ _ _ enough (hears_done _ _ _))))),
+    )

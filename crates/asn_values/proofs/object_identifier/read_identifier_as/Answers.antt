@@ -26,7 +26,10 @@ returns-in_err-oid-clause-reads g c = λ given fine is.
 pub returns-clause-reads : goal.returns-clause-reads
 returns-clause-reads g c = λ given fine is.
     let ok = c.in_ok-expect_tag.ensures.is given fine is in
-    let v = Leaf c.args.own c.in_ok-oid.oid in
-    (v, equivalence.same_refl v, hears_as _ _ _ _ _ _ _ (leaf_type_is c.args.own ObjectIdentifier c.args.pull.now.state given)
-    (hears_on _ _ _ _ _ _ _ _ ok.1 (unmoved_answers (λ s. read_given_leaf ObjectIdentifier c.args.own s given) c.args.pull.now c.expect_tag.new.pull c.read_identifier.new.pull _ c.in_ok-expect_tag.ensures.same
-    (c.in_ok-oid.ensures.reads c.args.own given (fine_still c.args.pull.now c.expect_tag.new.pull c.in_ok-expect_tag.ensures.same fine) (given_still c.args.pull.now c.expect_tag.new.pull given c.in_ok-expect_tag.ensures.same is)))))
+    let v = Leaf c.args.own c.in_ok-oid.oid in (
+      v,
+      equivalence.same_refl v,
+      hears_as _ _ _ _ _ _ _ (leaf_type_is c.args.own ObjectIdentifier c.args.pull.now.state given)
+          (hears_on _ _ _ _ _ _ _ _ ok.1 (unmoved_answers (λ s. read_given_leaf ObjectIdentifier c.args.own s given) c.args.pull.now c.expect_tag.new.pull c.read_identifier.new.pull _ c.in_ok-expect_tag.ensures.same
+          (c.in_ok-oid.ensures.reads c.args.own given (fine_still c.args.pull.now c.expect_tag.new.pull c.in_ok-expect_tag.ensures.same fine) (given_still c.args.pull.now c.expect_tag.new.pull given c.in_ok-expect_tag.ensures.same is)))),
+    )

@@ -116,7 +116,10 @@ returns-clause-reads g c = λ given fine is.
     let more : least ≤ length read.0 = omega arith in
     let enough : nat_le least (length read.0) ≡ true = grind (arith, nat_tests) in
     let sorted = IsPermutation-map g.T.DerText.value c.in_ok-items.items.items c.in_ok-sorted.sorted.items c.in_ok-sorted.ensures.same in
-    let made : map g.T.DerText.value c.in_ok-sorted.sorted.items ≡ map g.T.DerText.value c.in_ok-row.row.items.items = ap (λ z. map g.T.DerText.value z.items) (sym c.in_ok-row.ensures.made) in
-    (SetOf own (values_of read.0), subst (λ z. Same (SetOf own (values_of read.0)) (SetOf own (values_of z))) made (same_sets own read.0 _ _ read.1 sorted), subst (λ z. Answers c.args.pull.now z (read_given (SetOfType own least type) s given) (Said (SetOf own (values_of read.0)))) (sym (c.in_ok-row.ensures.still ∙ c.in_ok-sorted.ensures.still))
-    (hears_as _ _ _ _ _ _ _ (set_type_is own least type s given) (hears_on _ _ _ _ _ _ _ _ ok.1
-    (hears_then (read_given_members type s given) (set_of own least given.at) (ended read.0 c.in_ok-items._end) _ _ _ _ _ _ _ (unmoved_answers (λ z. read_given_members type z given) c.args.pull.now c.expect_tag.new.pull c.read_members.new.pull _ still read.2) (hears_on _ _ _ _ _ _ _ _ enough (hears_done _ _ _))))))
+    let made : map g.T.DerText.value c.in_ok-sorted.sorted.items ≡ map g.T.DerText.value c.in_ok-row.row.items.items = ap (λ z. map g.T.DerText.value z.items) (sym c.in_ok-row.ensures.made) in (
+      SetOf own (values_of read.0),
+      subst (λ z. Same (SetOf own (values_of read.0)) (SetOf own (values_of z))) made (same_sets own read.0 _ _ read.1 sorted),
+      subst (λ z. Answers c.args.pull.now z (read_given (SetOfType own least type) s given) (Said (SetOf own (values_of read.0)))) (sym (c.in_ok-row.ensures.still ∙ c.in_ok-sorted.ensures.still))
+          (hears_as _ _ _ _ _ _ _ (set_type_is own least type s given) (hears_on _ _ _ _ _ _ _ _ ok.1
+          (hears_then (read_given_members type s given) (set_of own least given.at) (ended read.0 c.in_ok-items._end) _ _ _ _ _ _ _ (unmoved_answers (λ z. read_given_members type z given) c.args.pull.now c.expect_tag.new.pull c.read_members.new.pull _ still read.2) (hears_on _ _ _ _ _ _ _ _ enough (hears_done _ _ _))))),
+    )
