@@ -1,4 +1,5 @@
 <<<<<<< HEAD
+<<<<<<< HEAD
 -- The contents of object identifiers.
 use Rattle.std.proofs.Common.{◌≡◌, Bool, List, false, refl, true, ℕ}
 use Rattle.tlv_core.specs.ObjectIdentifier.{IsObjectIdentifier}
@@ -18,6 +19,14 @@ use Rattle.x690.specs.Lists as lists
 use Rattle.x690.specs.Lists.{join}
 use Rattle.x690.specs.ObjectIdentifiers.{ObjectIdentifierContents}
 >>>>>>> 03f875485b80efc2f500a372cd03e4d04d39a8b8
+=======
+-- The contents of object identifiers.
+use Rattle.std.proofs.Common.{◌≡◌, Bool, List, false, refl, true, ℕ}
+use Rattle.tlv_core.specs.ObjectIdentifier.{IsObjectIdentifier}
+use Rattle.x690.specs.Contents as kinds
+use Rattle.x690.specs.Contents.{LeafContents}
+use Rattle.x690.specs.Layouts.{universal}
+>>>>>>> bbd787e18724a555b6bdad934be72b61d4f6e619
 use Rattle.x690.specs.ReadContents.{is_object_identifier}
 use Rattle.x690_laws.proofs.Gives.{contents_on}
 use Rattle.x690_laws.proofs.LeafSound.{contents_fit}

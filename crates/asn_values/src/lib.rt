@@ -15,7 +15,7 @@ pub mod boolean;
 pub mod build;
 pub mod der_text;
 pub mod element;
-mod framing;
+pub mod framing;
 pub mod integer;
 mod leaf;
 pub mod leaf_reading;

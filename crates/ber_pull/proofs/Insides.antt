@@ -11,7 +11,7 @@ use Rattle.x690.specs.Reads.{Heard, NoMemory, ReadFailed, Reads, Refused, Said}
 use Rattle.x690.specs.TypeTerms.{TypeTerm}
 use Rattle.x690.specs.Values.{Value}
 use Rattle.ber_pull.specs.Calls.{read_leaving, read_next}
-use Rattle.ber_pull.specs.Fields.{Inside, Within, given_by}
+use Rattle.ber_pull.specs.Fields.{BeginsBefore, Inside, Within, given_by}
 use Rattle.ber_pull.specs.Hears.{Hears, heard, next_at}
 use Rattle.ber_pull.specs.Standing.{IsAtEnd, Standing, after_next, closing, container_of, enclosing, is_ended, moved, opening, place, used}
 use Rattle.ber_pull.specs.declared.state.Container.{Container}
@@ -36,6 +36,9 @@ opens_within form k s s' e = subst (λ w. Within s (enclosing w) w) (sym e) (ope
 pub within_none : (outer : Standing) (inside : Enclosing) (s : Standing) → Within outer inside s → s.given ≡ None
 within_none outer inside s w = ap (λ x. x.given) w.is
 
+pub within_limits : (outer : Standing) (inside : Enclosing) (s : Standing) → Within outer inside s → s.limits ≡ outer.limits
+within_limits outer inside s w = ap (λ x. x.limits) w.is
+
 abbrev held : Standing → ℕ → Container → Standing
 held outer k c = record outer { taken = k; given = None; containers = c ∷ outer.containers }
 
@@ -49,20 +52,20 @@ pub within_next : (outer : Standing) (inside : Enclosing) (s : Standing) → Wit
 within_next outer inside s w =
     ap read_next w.is ∙ held_next outer s.taken w.container w.open_still ∙ ap (λ x. next_tag outer.limits (enclosing x)) (sym w.is) ∙ ap (next_tag outer.limits) w.point
 
-held_inside : (outer : Standing) (inside : Enclosing) (k : ℕ) (c : Container) (n : Option (Tag × Bool)) (s' : Standing) → is_ended c ≡ false → enclosing (held outer k c) ≡ inside → s' ≡ after_next s'.taken n (held outer k c) → (n ≡ None → IsAtEnd s') → Inside outer inside s' (next_at k n)
-held_inside outer inside k c (Some t) s' o p e f =
-    record { container = c; is = e; point = ap enclosing e ∙ p; open_still = λ x. o; ended = λ x. cc }
-held_inside outer inside k (Definite end) None s' o p e f =
-    record { container = Definite end; is = e; point = ap enclosing e ∙ p; open_still = λ x. o; ended = λ x. f refl }
-held_inside outer inside k (Indefinite around) None s' o p e f =
-    record { container = Ended around; is = e; point = ap enclosing e ∙ p; open_still = λ x. cc; ended = λ x. f refl }
-held_inside outer inside k (Ended around) None s' o p e f = cc
+held_inside : (outer : Standing) (inside : Enclosing) (k : ℕ) (c : Container) (n : Option (Tag × Bool)) (s' : Standing) → is_ended c ≡ false → enclosing (held outer k c) ≡ inside → s' ≡ after_next s'.taken n (held outer k c) → (n ≡ None → IsAtEnd s') → BeginsBefore s' (next_at k n) → Inside outer inside s' (next_at k n)
+held_inside outer inside k c (Some t) s' o p e f b =
+    record { container = c; is = e; point = ap enclosing e ∙ p; open_still = λ x. o; ended = λ x. cc; begins = b }
+held_inside outer inside k (Definite end) None s' o p e f b =
+    record { container = Definite end; is = e; point = ap enclosing e ∙ p; open_still = λ x. o; ended = λ x. f refl; begins = b }
+held_inside outer inside k (Indefinite around) None s' o p e f b =
+    record { container = Ended around; is = e; point = ap enclosing e ∙ p; open_still = λ x. cc; ended = λ x. f refl; begins = b }
+held_inside outer inside k (Ended around) None s' o p e f b = cc
 
-pub next_inside : (outer : Standing) (inside : Enclosing) (s : Standing) (n : Option (Tag × Bool)) (s' : Standing) → Within outer inside s → s' ≡ after_next s'.taken n s → (n ≡ None → IsAtEnd s') → Inside outer inside s' (next_at (place s) n)
-next_inside outer inside s n s' w e f =
+pub next_inside : (outer : Standing) (inside : Enclosing) (s : Standing) (n : Option (Tag × Bool)) (s' : Standing) → Within outer inside s → s' ≡ after_next s'.taken n s → (n ≡ None → IsAtEnd s') → BeginsBefore s' (next_at (place s) n) → Inside outer inside s' (next_at (place s) n)
+next_inside outer inside s n s' w e f b =
     let p : place s ≡ s.taken = ap place w.is in
     subst (λ k. Inside outer inside s' (next_at k n)) (sym p)
-    (held_inside outer inside s.taken w.container n s' w.open_still (ap enclosing (sym w.is) ∙ w.point) (e ∙ ap (after_next s'.taken n) w.is) f)
+    (held_inside outer inside s.taken w.container n s' w.open_still (ap enclosing (sym w.is) ∙ w.point) (e ∙ ap (after_next s'.taken n) w.is) f (subst (λ k. BeginsBefore s' (next_at k n)) p b))
 
 -- The element that stands next is read.
 

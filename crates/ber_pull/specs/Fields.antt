@@ -1,6 +1,6 @@
 -- What is read of a SEQUENCE, field by field; `next` is what stands at the point.
-use Rattle.std.specs.Prelude.{Bool, IsSome, List, None, Option, Some, [], false, true, ℕ, ◌++◌, ◌∷◌, ◌≡◌}
-use Rattle.tlv_core.specs.Identifier.{Tag}
+use Rattle.std.specs.Prelude.{Bool, IsSome, List, None, Option, Some, [], false, length, true, ℕ, ◌++◌, ◌+◌, ◌∷◌, ◌≡◌}
+use Rattle.tlv_core.specs.Identifier.{Tag, identifier}
 use Rattle.tlv_core.specs.Limits.{Limits}
 use Rattle.tlv_core.specs.declared.reason.Reason.TheVariants.{Extra, Missing, WrongTag}
 use Rattle.x690.specs.Layouts.{same_tag}
@@ -10,7 +10,7 @@ use Rattle.x690.specs.ReadTypes.{is_this_leaf, read_type}
 use Rattle.x690.specs.Reading.{Done, Fail, Reading, choose, require, ◌>>=◌}
 use Rattle.x690.specs.TypeTerms.{TypeTerm, fits_tag}
 use Rattle.x690.specs.Values.{Value}
-use Rattle.ber_pull.specs.Standing.{IsAtEnd, Standing, enclosing, is_ended}
+use Rattle.ber_pull.specs.Standing.{IsAtEnd, IsGiven, Standing, enclosing, is_ended}
 use Rattle.ber_pull.specs.declared.state.Container.{Container}
 use Rattle.ber_pull.specs.declared.state.Given.{Given}
 
@@ -68,6 +68,11 @@ pub record Within (outer : Standing) (inside : Enclosing) (now : Standing) : Typ
   pub point : enclosing now ≡ inside
   pub open_still : is_ended container ≡ false
 
+-- the identifier of the element that stands next ends here, and the element may stand there
+abbrev pub BeginsBefore : Standing → Next → Type 0
+BeginsBefore now (ContainerEnds place) = Unit {0}
+BeginsBefore now (ElementStands place tag constructed) = IsGiven tag now × (place + length (identifier tag constructed) ≡ now.taken)
+
 -- The same, with `next` standing next.
 pub record Inside (outer : Standing) (inside : Enclosing) (now : Standing) (next : Next) : Type 0 where
   pub container : Container
@@ -76,3 +81,4 @@ pub record Inside (outer : Standing) (inside : Enclosing) (now : Standing) (next
   -- with an element standing next the container isn't ended
   pub open_still : IsSome (given_by next) → is_ended container ≡ false
   pub ended : given_by next ≡ None → IsAtEnd now
+  pub begins : BeginsBefore now next

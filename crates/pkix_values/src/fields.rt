@@ -1,6 +1,7 @@
 //! The fields of a SEQUENCE, one call each (X.690 8.9).
-ghost use Rattle.std.specs.Prelude.{◌≡◌, IfOk, IsSome, None, OnOk, Some, []};
+ghost use Rattle.std.specs.Prelude.{◌≡◌, ◌<◌, ◌^◌, IfOk, IfSome, IsSome, None, OnOk, Some, [], length};
 ghost use Rattle.std.specs.Option.{option_map};
+ghost use Rattle.x690.specs.DerTexts.{der};
 ghost use Rattle.x690.specs.Points.{Enclosing};
 ghost use Rattle.x690.specs.ReadHeaders.{next_tag};
 ghost use Rattle.x690.specs.Values.{Same};
@@ -75,6 +76,7 @@ pub fn due<R: Source, T: Element>(
     requires inside { IsInside pull.old next.old }
     ensures same_source { SameSource pull.old pull.new }
     ensures reads { AnswersField pull.old pull.new next.old (λ outer inside. read_due outer.limits T.type_term [] inside (next_of next.old)) Same T.value (next_of next.new) result }
+    ensures short { IfOk result (λ field. length (der (T.value field)) < 2 ^ 32) }
     ensures stands { OnOk result (StaysInside pull.old pull.new next.old next.new) }
     ensures keeps { Keeps pull.new result }
     ensures read { ReadsFail pull.old pull.new result }
@@ -104,6 +106,7 @@ pub fn optional<R: Source, T: Element>(
     requires inside { IsInside pull.old next.old }
     ensures same_source { SameSource pull.old pull.new }
     ensures reads { AnswersField pull.old pull.new next.old (λ outer inside. read_optional outer.limits T.type_term [] inside (next_of next.old)) SameField (option_map T.value) (next_of next.new) result }
+    ensures short { IfOk result (λ field. IfSome field (λ f. length (der (T.value f)) < 2 ^ 32)) }
     ensures stands { OnOk result (StaysInside pull.old pull.new next.old next.new) }
     ensures keeps { Keeps pull.new result }
     ensures read { ReadsFail pull.old pull.new result }

@@ -3,3 +3,4 @@
 
 pub mod fields;
 pub mod pairs;
+pub mod parts;

@@ -12,6 +12,8 @@ use Rattle.x690.specs.Values.{Same}
 use Rattle.ber_pull.specs.Fields.{read_due, read_optional}
 use Rattle.ber_pull.specs.declared.state.Given.{Given}
 use Rattle.pkix_values.specs.Fields.{SameField, next_of}
+use Rattle.ber_pull.specs.Fields.{BeginsBefore}
+use Rattle.pkix_values.proofs.ShortFields.{field_short}
 use Rattle.pkix_values.proofs.Handing.{field_err}
 use Rattle.pkix_values.proofs.fields.due.Goals as goal
 
@@ -70,3 +72,15 @@ returns-clause-reads g c = λ outer inside a.
           (hears_then _ _ read.0 _ _ _ _ _ _ _ (field_as outer inside c.args.pull.now.state (next_of c.args.next.now) g.T.Element.type_term [] at c.in-Some.tag c.in-Some.field-0-1 _ _ _ _ _ a read.2)
           (hears_then _ _ (next_of c.in_ok-next.field-0) _ _ _ _ _ _ _ (c.in_ok-next.ensures.reads outer inside within) (hears_done _ _ _))),
     )
+
+pub returns-clause-short : goal.returns-clause-short
+returns-clause-short g c =
+    let outer = c.requires.inside.0 in
+    let inside = c.requires.inside.1 in
+    let a = c.requires.inside.2 in
+    let at = c.args.next.now.at in
+    let n = c.args.next.now.tag in
+    let t : Tag × Bool = (c.in-Some.tag, c.in-Some.field-0-1) in
+    let given : Given = record { at = at; tag = c.in-Some.tag; constructed = c.in-Some.field-0-1 } in
+    let read = c.in_ok-field.ensures.reads given c.requires.fine (field_given outer inside c.args.pull.now.state at n t a c.in-Some.is) in
+    field_short g.T.Element.type_term c.args.pull.now.state at c.in-Some.tag c.in-Some.field-0-1 read.0 (g.T.DerText.value c.in_ok-field.field) _ _ _ (subst (λ w. BeginsBefore c.args.pull.now.state (next_at at w)) c.in-Some.is a.begins) read.2 read.1
