@@ -2,3 +2,4 @@ pub mod Containers
 pub mod Framing
 pub mod Leaves
 pub mod Members
+pub mod Reading

@@ -1,14 +1,26 @@
 //! BIT STRING (X.690 8.6, 11.2).
-ghost use Rattle.std.specs.Prelude.{◌≡◌, ◌↔◌, ◌+◌, ◌<◌, ◌^◌, ◌∷◌, IsTrue, drop, get_or, length, slice_get};
+ghost use Rattle.std.specs.Prelude.{◌≡◌, ◌↔◌, ◌+◌, ◌<◌, ◌^◌, ◌∷◌, None, Some, IsSome, IsTrue, OnOk, drop, get_or, length, slice_get};
 ghost use Rattle.tlv_core.specs.Sinks.{count, Puts};
 ghost use Rattle.x690.specs.DerTexts.{der};
 ghost use Rattle.x690.specs.Layouts.{universal};
+ghost use Rattle.x690.specs.Contents.{BitString};
+ghost use Rattle.x690.specs.TypeTerms.{LeafType};
+ghost use Rattle.ber_pull.specs.Hears.{heard};
+ghost use Rattle.ber_pull.specs.View.{standing, SameSource, Repeats, Keeps, ReadsFail, Onward, Answers, Uses};
+ghost use Rattle.ber_pull.specs.declared.state.Given.{Given};
+ghost use Rattle.asn_values.specs.Reading.{read_given};
 ghost use Rattle.x690.specs.Values.{Leaf};
 
 use crate::der_text::DerText;
+use crate::element::Element;
 use crate::leaf::{leaf_octet, leaf_size, put_leaf};
-use crate::tags::universal_tag;
+use crate::leaf_reading::{Kind, read_leaf_as};
+use crate::tags::{is_same_tag, universal_tag};
+use ber_pull::pull::Pull;
+use std::alloc::Global;
+use tlv_core::fault::ReadError;
 use tlv_core::sink::{Sink, WriteError};
+use tlv_core::source::Source;
 use tlv_core::tag::Tag;
 use tlv_core::target::Target;
 
@@ -43,6 +55,21 @@ impl Bits {
         ensures { IsTrue result ↔ (bit_string_of self.now ≡ bit_string_of other.now) }
     {
         self.content == other.content
+    }
+
+    /// Reads the BIT STRING that is given, under an implicit tag.
+    pub fn read_as<R: Source>(alloc: Global, pull: &mut Pull<'_, R>, tag: Tag) -> Result<Bits, ReadError>
+        requires { (standing pull.old).error ≡ None → IsSome (standing pull.old).given }
+        ensures same_source { SameSource pull.old pull.new }
+        ensures repeats { Repeats pull.old pull.new result }
+        ensures reads { (g : Given) → (standing pull.old).error ≡ None → (standing pull.old).given ≡ Some g → Answers pull.old pull.new (read_given (LeafType tag BitString) (standing pull.old) g) (heard (λ bits. Leaf tag (bit_string_of bits)) result) }
+        ensures stands { OnOk result (Uses pull.old pull.new) }
+        ensures keeps { Keeps pull.new result }
+        ensures read { ReadsFail pull.old pull.new result }
+        ensures onward { Onward pull.old pull.new }
+    {
+        let content = read_leaf_as(alloc, pull, tag, Kind::BitString)?;
+        Ok(Bits { content })
     }
 
     /// The length of its text under an implicit tag.
@@ -83,5 +110,18 @@ impl DerText for Bits {
 
     fn octet(&self, i: u64) -> Option<u8> {
         self.octet_as(i, universal_tag(3))
+    }
+}
+
+impl Element for Bits {
+    ghost type_term = { LeafType (universal 3) BitString };
+
+    #[tactic(auto, unfolding(x690::specs::TypeTerms::fits_tag))]
+    fn fits(tag: Tag) -> bool {
+        is_same_tag(universal_tag(3), tag)
+    }
+
+    fn read<R: Source>(alloc: Global, pull: &mut Pull<'_, R>) -> Result<Bits, ReadError> {
+        Bits::read_as(alloc, pull, universal_tag(3))
     }
 }

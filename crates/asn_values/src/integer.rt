@@ -1,18 +1,25 @@
 //! INTEGER (X.690 8.3).
 ghost use Rattle.std.specs.Prelude.{◌≡◌, ◌↔◌, ◌≤◌, ◌<◌, ◌^◌, Err, IfOk, IsTrue, length, true};
 ghost use Rattle.asn_values.specs.declared.build.BuildError.TheVariants.{Bad, TooBig};
-ghost use Rattle.x690.specs.Contents.{IsInteger};
+ghost use Rattle.x690.specs.Contents.{Integer, IsInteger};
 ghost use Rattle.x690.specs.DerTexts.{der};
 ghost use Rattle.x690.specs.ReadContents.{is_integer_contents};
 ghost use Rattle.x690.specs.Layouts.{universal};
+ghost use Rattle.x690.specs.TypeTerms.{LeafType};
 ghost use Rattle.x690.specs.Values.{Leaf};
 
 use crate::build::BuildError;
 use crate::der_text::DerText;
+use crate::element::Element;
 use crate::leaf::{is_long_leaf, leaf_octet, leaf_size, put_leaf};
-use crate::tags::universal_tag;
+use crate::leaf_reading::{Kind, read_leaf_as};
+use crate::tags::{is_same_tag, universal_tag};
+use ber_pull::pull::Pull;
 use std::alloc::Global;
+use tlv_core::fault::ReadError;
 use tlv_core::sink::{Sink, WriteError};
+use tlv_core::source::Source;
+use tlv_core::tag::Tag;
 use tlv_core::target::Target;
 
 /// An INTEGER, by its contents: two's complement, the most significant octet first, in as few octets as hold it (X.690 8.3).
@@ -61,8 +68,9 @@ impl Int {
 }
 
 /// Whether the octets are the contents of an INTEGER.
-fn is_integer(octets: &[u8]) -> bool
-    ensures { IsTrue result ↔ IsInteger octets.now }
+pub(crate) fn is_integer(octets: &[u8]) -> bool
+    ensures is { IsTrue result ↔ IsInteger octets.now }
+    ensures test { result ≡ is_integer_contents octets.now }
 {
     match octets {
         [] => false,
@@ -86,5 +94,19 @@ impl DerText for Int {
 
     fn octet(&self, i: u64) -> Option<u8> {
         leaf_octet(universal_tag(2), &self.content, i)
+    }
+}
+
+impl Element for Int {
+    ghost type_term = { LeafType (universal 2) Integer };
+
+    #[tactic(auto, unfolding(x690::specs::TypeTerms::fits_tag))]
+    fn fits(tag: Tag) -> bool {
+        is_same_tag(universal_tag(2), tag)
+    }
+
+    fn read<R: Source>(alloc: Global, pull: &mut Pull<'_, R>) -> Result<Int, ReadError> {
+        let content = read_leaf_as(alloc, pull, universal_tag(2), Kind::Integer)?;
+        Ok(Int { content })
     }
 }

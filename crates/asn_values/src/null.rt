@@ -1,12 +1,21 @@
 //! NULL (X.690 8.8).
 ghost use Rattle.std.specs.Prelude.{◌≡◌, []};
 ghost use Rattle.x690.specs.Layouts.{universal};
+ghost use Rattle.x690.specs.Contents.{Null as NullKind};
+ghost use Rattle.x690.specs.TypeTerms.{LeafType};
 ghost use Rattle.x690.specs.Values.{Leaf};
 
 use crate::der_text::DerText;
+use crate::element::Element;
 use crate::leaf::{leaf_octet, leaf_size, put_leaf};
-use crate::tags::universal_tag;
+use crate::leaf_reading::{Kind, read_leaf_as};
+use crate::tags::{is_same_tag, universal_tag};
+use ber_pull::pull::Pull;
+use std::alloc::Global;
+use tlv_core::fault::ReadError;
 use tlv_core::sink::{Sink, WriteError};
+use tlv_core::source::Source;
+use tlv_core::tag::Tag;
 use tlv_core::target::Target;
 
 /// A NULL.
@@ -26,5 +35,19 @@ impl DerText for Null {
 
     fn octet(&self, i: u64) -> Option<u8> {
         leaf_octet(universal_tag(5), &[], i)
+    }
+}
+
+impl Element for Null {
+    ghost type_term = { LeafType (universal 5) NullKind };
+
+    #[tactic(auto, unfolding(x690::specs::TypeTerms::fits_tag))]
+    fn fits(tag: Tag) -> bool {
+        is_same_tag(universal_tag(5), tag)
+    }
+
+    fn read<R: Source>(alloc: Global, pull: &mut Pull<'_, R>) -> Result<Null, ReadError> {
+        let _contents = read_leaf_as(alloc, pull, universal_tag(5), Kind::Null)?;
+        Ok(Null)
     }
 }

@@ -3,14 +3,22 @@ ghost use Rattle.std.specs.Prelude.{◌≡◌, ◌↔◌, ◌<◌, ◌^◌, Err,
 ghost use Rattle.asn_values.specs.declared.build.BuildError.TheVariants.{TooBig};
 ghost use Rattle.x690.specs.DerTexts.{der};
 ghost use Rattle.x690.specs.Layouts.{universal};
+ghost use Rattle.x690.specs.Contents.{OctetString};
+ghost use Rattle.x690.specs.TypeTerms.{LeafType};
 ghost use Rattle.x690.specs.Values.{Leaf};
 
 use crate::build::BuildError;
 use crate::der_text::DerText;
+use crate::element::Element;
 use crate::leaf::{is_long_leaf, leaf_octet, leaf_size, put_leaf};
-use crate::tags::universal_tag;
+use crate::leaf_reading::{Kind, read_leaf_as};
+use crate::tags::{is_same_tag, universal_tag};
+use ber_pull::pull::Pull;
 use std::alloc::Global;
+use tlv_core::fault::ReadError;
 use tlv_core::sink::{Sink, WriteError};
+use tlv_core::source::Source;
+use tlv_core::tag::Tag;
 use tlv_core::target::Target;
 
 /// An OCTET STRING.
@@ -66,5 +74,19 @@ impl DerText for Octets {
 
     fn octet(&self, i: u64) -> Option<u8> {
         leaf_octet(universal_tag(4), &self.octets, i)
+    }
+}
+
+impl Element for Octets {
+    ghost type_term = { LeafType (universal 4) OctetString };
+
+    #[tactic(auto, unfolding(x690::specs::TypeTerms::fits_tag))]
+    fn fits(tag: Tag) -> bool {
+        is_same_tag(universal_tag(4), tag)
+    }
+
+    fn read<R: Source>(alloc: Global, pull: &mut Pull<'_, R>) -> Result<Octets, ReadError> {
+        let octets = read_leaf_as(alloc, pull, universal_tag(4), Kind::OctetString)?;
+        Ok(Octets { octets })
     }
 }

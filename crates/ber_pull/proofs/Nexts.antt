@@ -1,15 +1,17 @@
 -- What `next_tag` answers, by what its tests say.
-use Rattle.std.proofs.Common.{◌≡◌, ℕ, ◌/◌, ◌%◌, ◌<◌, ◌==◌, ◌&&◌, true, false, not, nat_lt, nat_le, length, List, Option, Some, None, refl, sym, subst, arith}
+use Rattle.std.proofs.Common.{◌≡◌, ℕ, ◌+◌, ◌-◌, ◌*◌, ◌/◌, ◌%◌, ◌<◌, ◌≤◌, ◌==◌, ◌&&◌, ◌||◌, Bool, true, false, not, nat_lt, nat_le, length, List, [], ◌∷◌, Option, Some, None, refl, sym, ◌∙◌, ap, subst, arith}
 use Rattle.std.proofs.lemmas.Bool.Decides.{nat_tests}
 use Rattle.tlv_core.specs.Identifier.{Tag}
 use Rattle.tlv_core.specs.declared.reason.Reason.TheVariants.{BadTag, TooDeep}
-use Rattle.x690.specs.Points.{fault, stands_at_end}
+use Rattle.x690.specs.Points.{ends_with_zeros, fault, stands_at_end}
 use Rattle.x690.specs.ReadHeaders.{ContainerEnds, ElementStands, Next, header_octet, next_tag, read_tag_number}
 use Rattle.x690.specs.Reading.{Done, Reading, choose, require, ◌>>=◌}
 use Rattle.x690.specs.Reads.{Heard, Refused, Said}
 use Rattle.ber_pull.specs.Calls.{read_end_of_contents, read_next}
 use Rattle.ber_pull.specs.Hears.{Hears, heard_error}
-use Rattle.ber_pull.specs.Standing.{Standing, enclosing, is_over, place}
+use Rattle.ber_pull.specs.Standing.{Standing, enclosing, ending, first_of, innermost_in, is_over, is_over_in, moved, place, with_ended}
+use Rattle.ber_pull.specs.declared.state.Container.{Container}
+use Rattle.ber_pull.specs.declared.state.Container.TheVariants as open'
 use Rattle.ber_pull.specs.declared.state.Given.{Given}
 use Rattle.tlv_core.specs.declared.fault.ReadError.{ReadError}
 use Rattle.ber_pull.proofs.Hearing.{hears_done, hears_error, hears_first, hears_off, hears_on, hears_second, hears_then, hears_where}
@@ -96,3 +98,17 @@ next_element s t u v x j i n tag b y d e =
     subst (λ w. Hears (read_next s) s.taken t (Said (ElementStands w tag (nat_le 32 (x % 64)))) i v) (sym (place_taken s b.came.asks.none_given))
     (subst (λ w. Hears (read_next s) s.taken t (Said (ElementStands s.taken w (nat_le 32 (x % 64)))) i v) (sym e)
     (begins s t u v x j i _ b (hears_then _ (behind_tag s x) n _ _ _ _ _ _ _ y (hears_on _ _ _ _ _ _ _ _ d (hears_done _ _ _)))))
+
+ended_in : (k : ℕ) (cs : List Container) → ends_with_zeros (innermost_in (first_of cs)) ≡ true → is_over_in k (first_of (with_ended (first_of cs) cs)) ≡ true
+ended_in k [] h = cc
+ended_in k (open'.Definite end ∷ cs) h = cc
+ended_in k (open'.Indefinite around ∷ cs) h = refl
+ended_in k (open'.Ended around ∷ cs) h = refl
+
+-- where the end-of-contents octets of the innermost container are taken, nothing is left
+pub ended_over : (s : Standing) (k : ℕ) → ends_with_zeros (enclosing s).innermost ≡ true → is_over (ending (moved k s)) ≡ true
+ended_over s k h = ended_in k s.containers h
+
+pub or_true : (a b : Bool) → a ≡ true → a || b ≡ true
+or_true true b h = refl
+or_true false b h = cc

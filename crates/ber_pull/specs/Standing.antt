@@ -80,9 +80,9 @@ is_over_in taken (Some c) = is_ended c
 abbrev pub is_over : Standing → Bool
 is_over s = is_over_in s.taken (first_of s.containers)
 
--- the innermost container has nothing left here, and no octet is needed to know it
-abbrev pub is_ended_here : Standing → Bool
-is_ended_here s = is_over s || stands_at_end (enclosing s).innermost s.taken
+-- Nothing is left here, and no octet is needed to know it.
+abbrev pub IsAtEnd : Standing → Type 0
+IsAtEnd s = (s.given ≡ None) × (is_over s || stands_at_end (enclosing s).innermost s.taken ≡ true)
 
 -- the octets up to this place are taken
 abbrev pub moved : ℕ → Standing → Standing

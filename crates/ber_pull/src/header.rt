@@ -1,6 +1,7 @@
 //! Header octets: identifiers, lengths and ends of contents, octet by octet (X.690 8.1.2, 8.1.3, 8.1.5).
 ghost use Rattle.std.specs.Prelude.{◌≡◌, ◌<◌, ◌≤◌, ◌+◌, ◌/◌, ◌%◌, ◌^◌, ◌*◌, None, IfOk, OnOk, true, ℕ};
 ghost use Rattle.tlv_core.specs.Identifier.{IsTag};
+ghost use Rattle.x690.specs.Points.{ends_with_zeros};
 ghost use Rattle.x690.specs.ReadHeaders.{ContainerEnds, fit_contents, header_octet, read_big_endian, read_high_number, read_definite_length, read_length, read_number, read_tag_number};
 ghost use Rattle.ber_pull.specs.Calls.{read_end_of_contents};
 ghost use Rattle.ber_pull.specs.Hears.{heard};
@@ -66,6 +67,7 @@ impl<R: Source> Pull<'_, R> {
         requires { (standing self.old).error ≡ None }
         ensures same_source { SameSource self.old self.new }
         ensures reads { Answers self.old self.new (read_end_of_contents (standing self.old).limits (enclosing (standing self.old)) start) (heard (λ _. ContainerEnds start) result) }
+        ensures indefinite { OnOk result (ends_with_zeros (enclosing (standing self.old)).innermost ≡ true) }
         ensures stands { OnOk result (standing self.new ≡ ending (moved (standing self.new).taken (standing self.old))) }
         ensures ends { OnOk result (is_over (standing self.new) ≡ true) }
         ensures keeps { Keeps self.new result }

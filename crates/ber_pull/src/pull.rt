@@ -7,7 +7,7 @@ ghost use Rattle.ber_pull.specs.Calls.{read_next, read_entering, read_leaving};
 ghost use Rattle.ber_pull.specs.Hears.{heard, next_at};
 ghost use Rattle.x690.specs.Points.{fault};
 ghost use Rattle.ber_pull.specs.declared.state.Given.{Given};
-ghost use Rattle.ber_pull.specs.Standing.{IsGiven, TellsInside, started, place, failed_with, enclosing, after_next, closing, is_ended_here, moved, opening};
+ghost use Rattle.ber_pull.specs.Standing.{IsAtEnd, IsGiven, TellsInside, started, place, failed_with, enclosing, after_next, closing, moved, opening};
 
 use crate::header::{LengthForm, tag_of};
 use crate::state::{Container, State};
@@ -71,10 +71,12 @@ impl<'a, R: Source> Pull<'a, R> {
         ensures repeats { Repeats self.old self.new result }
         ensures reads { (standing self.old).error ≡ None → Answers self.old self.new (read_next (standing self.old)) (heard (next_at (place (standing self.old))) result) }
         ensures again { IfSome (standing self.old).given (λ g. IfOk result (λ next. (next ≡ Some (g.tag, g.constructed)) × Unmoved self.old self.new)) }
+        ensures given { (g : Given) → (standing self.old).error ≡ None → (standing self.old).given ≡ Some g → (result ≡ Ok (Some (g.tag, g.constructed))) × Unmoved self.old self.new }
         ensures stands { (standing self.old).given ≡ None → IfOk result (λ next. standing self.new ≡ after_next (standing self.new).taken next (standing self.old)) }
         ensures gives { IfOk result (λ next. IsSome next → IsSome (standing self.new).given) }
+        ensures ended { (standing self.old).error ≡ None → IsAtEnd (standing self.old) → (result ≡ Ok None) × Unmoved self.old self.new }
+        ensures ends { (standing self.old).given ≡ None → IfOk result (λ next. next ≡ None → IsAtEnd (standing self.new)) }
         ensures fits { IfOk result (λ next. IfSome next (λ t. IsGiven t.0 (standing self.new))) }
-        ensures ends { IfOk result (λ next. next ≡ None → is_ended_here (standing self.new) ≡ true) }
         ensures advances { (standing self.old).given ≡ None → IfOk result (λ next. IsSome next → (standing self.old).taken < (standing self.new).taken) }
         ensures keeps { Keeps self.new result }
         ensures read { ReadsFail self.old self.new result }
@@ -146,6 +148,7 @@ impl<'a, R: Source> Pull<'a, R> {
         ensures repeats { Repeats self.old self.new result }
         ensures reads { (standing self.old).error ≡ None → Answers self.old self.new (read_leaving (standing self.old)) (heard (λ u. u) result) }
         ensures stands { OnOk result (standing self.new ≡ closing (moved (standing self.new).taken (standing self.old))) }
+        ensures ended { (standing self.old).error ≡ None → IsAtEnd (standing self.old) → (result ≡ Ok tt) × (source self.new ≡ source self.old) × (standing self.new ≡ closing (standing self.old)) }
         ensures keeps { Keeps self.new result }
         ensures read { ReadsFail self.old self.new result }
         ensures memory { AsksNoMemory self.old result }

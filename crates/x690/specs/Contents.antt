@@ -1,6 +1,8 @@
 -- The contents of leaves (X.690 8.2, 8.3, 8.4, 8.6, 8.7, 8.8, 8.19, 8.23).
-use Rattle.std.specs.Prelude.{IsUtf8, List, [], false, length, true, ℕ, ◌*◌, ◌++◌, ◌/◌, ◌<◌, ◌==◌, ◌^◌, ◌∷◌, ◌≡◌, ◌≤◌}
+use Rattle.std.specs.Prelude.{IsUtf8, List, None, Option, Some, [], false, length, true, ℕ, ◌*◌, ◌++◌, ◌/◌, ◌<◌, ◌==◌, ◌^◌, ◌∷◌, ◌≡◌, ◌≤◌}
 use Rattle.tlv_core.specs.ObjectIdentifier.{IsObjectIdentifier}
+use Rattle.tlv_core.specs.declared.reason.Reason.{Reason}
+use Rattle.tlv_core.specs.declared.reason.Reason.TheVariants.{BadBits, BadBoolean, BadInteger, BadNull, BadOid, BadText}
 use Rattle.x690.specs.Layouts.{Constructed, FirstTree, NoTrees, Primitive, RawTree, RawTrees, tree_tag, universal}
 use Rattle.x690.specs.Lists.{join}
 
@@ -97,3 +99,23 @@ LeafContents ObjectIdentifier (Constructed tag trees) octets = ⊥
 LeafContents BitString tree octets = BitStringContents tree octets
 LeafContents OctetString tree octets = StringContents tree octets
 LeafContents Utf8String tree octets = StringContents tree octets × IsUtf8 octets
+
+-- The reason for contents of a primitive element that are none of the kind.
+abbrev pub bad_contents : LeafKind → Reason
+bad_contents Boolean = BadBoolean
+bad_contents Integer = BadInteger
+bad_contents Null = BadNull
+bad_contents ObjectIdentifier = BadOid
+bad_contents BitString = BadBits
+bad_contents OctetString = BadText
+bad_contents Utf8String = BadText
+
+-- the universal tag that the segments of a constructed string have, none where the kind is always primitive
+abbrev pub segment_tag : LeafKind → Option ℕ
+segment_tag Boolean = None
+segment_tag Integer = None
+segment_tag Null = None
+segment_tag ObjectIdentifier = None
+segment_tag BitString = Some 3
+segment_tag OctetString = Some 4
+segment_tag Utf8String = Some 4

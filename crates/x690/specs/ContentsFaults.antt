@@ -4,15 +4,14 @@ use Rattle.tlv_core.specs.Identifier.{Tag}
 use Rattle.tlv_core.specs.Limits.{Limits}
 use Rattle.tlv_core.specs.declared.fault.Fault.{Fault}
 use Rattle.tlv_core.specs.declared.reason.Reason.TheVariants.{BadBits, BadText, LeftOut, Truncated, WrongForm, WrongTag}
-use Rattle.x690.specs.Contents.{AreBitSegments, LeafContents, LeafKind, Segmented, Utf8String, segments}
-use Rattle.x690.specs.HeaderFaults.{EndsHere, LengthStands, Opens, Stands, StopsInForm, StopsInLength, StopsInTag}
+use Rattle.x690.specs.Contents.{bad_contents, segment_tag, AreBitSegments, LeafContents, LeafKind, Segmented, Utf8String, segments}
+use Rattle.x690.specs.HeaderFaults.{EndsHere, LengthStands, OpensThen, StandsThen, StopsInForm, StopsInLength, StopsInTag}
 use Rattle.x690.specs.Layouts.{LaidOut, Primitive, RawTree, tree_depth, tree_tag, universal}
 use Rattle.x690.specs.Lists.{join}
 use Rattle.x690.specs.OpenValues.{OpenLeaf, OpenPlain, OpenRefused, OpenSequence, OpenSetOf, open_form}
 use Rattle.x690.specs.Points.{Enclosing, fault, past_end}
-use Rattle.x690.specs.ReadContents.{bad_contents, segment_tag}
 use Rattle.x690.specs.Takes.{Takes}
-use Rattle.x690.specs.TypeTerms.{OpenType}
+use Rattle.x690.specs.TypeTerms.{OpenType, TypeTerm}
 use Rattle.x690.specs.Values.{Value}
 
 -- Elements stand one after another, so many of them, each going on from the state that those before left; and then this holds.
@@ -25,7 +24,7 @@ After {State} Stand Then (suc number) state place octets =
 abbrev pub StopsHere : Limits → Enclosing → (ℕ → Tag → Bool → ℕ → List ℕ → Fault → Type 0) → ℕ → List ℕ → Fault → Type 0
 StopsHere limits enclosing Behind place octets found =
     StopsInTag limits enclosing place octets found
-    ⊎ ((tag : Tag) × (constructed : Bool) × (behind : ℕ) × (rest : List ℕ) × Stands limits enclosing place octets tag constructed behind rest × Behind place tag constructed behind rest found)
+    ⊎ StandsThen limits enclosing place octets (λ tag constructed behind rest. Behind place tag constructed behind rest found)
 
 -- A primitive element stops behind its identifier: in its length, where the octets end in its contents, or where all its contents stand and are bad.
 abbrev pub PrimitiveStops : Limits → Enclosing → ℕ → ℕ → List ℕ → (List ℕ → Type 0) → Fault → Type 0
@@ -54,8 +53,8 @@ pub record SegmentStands (limits : Limits) (enclosing : Enclosing) (number : ℕ
 abbrev pub SegmentsStop : (Enclosing → List (List ℕ) → ℕ → Tag → Bool → ℕ → List ℕ → Fault → Type 0) → Limits → ℕ → Enclosing → List (List ℕ) → ℕ → ℕ → List ℕ → Fault → Type 0
 SegmentsStop Segment limits number enclosing before place here octets found =
     StopsInLength limits enclosing.nearest_end place true here octets found
-    ⊎ ((inside : Enclosing) × (behind : ℕ) × (rest : List ℕ) × Opens limits enclosing true here octets inside behind rest
-    × ((many : ℕ) × After (SegmentStands limits inside number) (λ before' place' octets'. StopsHere limits inside (Segment inside before') place' octets' found) many before behind rest))
+    ⊎ OpensThen limits enclosing true here octets (λ inside behind rest.
+    (many : ℕ) × After (SegmentStands limits inside number) (λ before' place' octets'. StopsHere limits inside (Segment inside before') place' octets' found) many before behind rest)
 
 -- A segment whose identifier is taken stops behind it: it has another tag, its contents are bad behind those `before`, or a segment in it stops. It is nested at most `deep` deep, as the limit of depth has it.
 unfoldable pub SegmentStops : ℕ → Limits → ℕ → Enclosing → List (List ℕ) → ℕ → Tag → Bool → ℕ → List ℕ → Fault → Type 0
@@ -66,24 +65,21 @@ SegmentStops (suc deep) limits number enclosing before place tag constructed her
     × PrimitiveStops limits enclosing place here octets (λ contents. (number ≡ 3) × (AreBitSegments (before ++ (contents ∷ [])) → ⊥) × (found ≡ fault place BadBits)) found)
     ⊎ ((tag ≡ universal number) × (constructed ≡ true) × SegmentsStop (λ inside before'. SegmentStops deep limits number inside before') limits number enclosing before place here octets found)
 
--- A leaf whose identifier is taken stops behind it.
+-- A leaf whose identifier is taken stops behind it: it is primitive, and its contents are none of the kind; or constructed, where the kind is always primitive;
+-- or a constructed string that stops, or that stands whole while its joined octets aren't UTF-8.
 abbrev pub LeafStops : Limits → Enclosing → LeafKind → ℕ → Tag → Bool → ℕ → List ℕ → Fault → Type 0
 LeafStops limits enclosing kind place tag constructed here octets found =
-    -- primitive: its contents are none of the kind
     ((constructed ≡ false)
     × PrimitiveStops limits enclosing place here octets (λ contents. ((der' : List ℕ) → LeafContents kind (Primitive tag contents) der' → ⊥) × (found ≡ fault place (bad_contents kind))) found)
-    -- constructed, where the kind is always primitive
     ⊎ ((constructed ≡ true) × (segment_tag kind ≡ None) × (found ≡ fault place WrongForm))
-    -- a constructed string: it stops, or all of it stands, and the joined octets aren't UTF-8
     ⊎ ((constructed ≡ true) × (number : ℕ) × (segment_tag kind ≡ Some number)
     × (SegmentsStop (λ inside before. SegmentStops limits.depth limits number inside before) limits number enclosing [] place here octets found
-    ⊎ ((kind ≡ Utf8String) × (inside : Enclosing) × (behind : ℕ) × (rest : List ℕ) × Opens limits enclosing true here octets inside behind rest
-    × ((many : ℕ) × After (SegmentStands limits inside number) (λ all place' octets'. EndsHere limits inside place' octets' × (IsUtf8 (join all) → ⊥)) many [] behind rest)
-    × (found ≡ fault place BadText))))
+    ⊎ ((kind ≡ Utf8String) × OpensThen limits enclosing true here octets (λ inside behind rest.
+    ((many : ℕ) × After (SegmentStands limits inside number) (λ all place' octets'. EndsHere limits inside place' octets' × (IsUtf8 (join all) → ⊥)) many [] behind rest) × (found ≡ fault place BadText)))))
 
--- an open value stands in a container
-abbrev pub OpenStands : Limits → Enclosing → Unit {0} → ℕ → List ℕ → Unit {0} → ℕ → List ℕ → Type 0
-OpenStands limits enclosing before place octets after taken rest = (value : Value) × Takes limits OpenType [] enclosing place octets value taken rest
+-- A member of the type stands in a container.
+abbrev pub MemberStands : Limits → TypeTerm → Enclosing → Unit {0} → ℕ → List ℕ → Unit {0} → ℕ → List ℕ → Type 0
+MemberStands limits type enclosing before place octets after taken rest = (value : Value) × Takes limits type [] enclosing place octets value taken rest
 
 -- An open value whose identifier is taken stops behind it: its tag is left out, it stops as the leaf that its tag says, or an open value in it stops. It is nested at most `deep` deep, as the limit of depth has it.
 unfoldable pub OpenStops : ℕ → Limits → Enclosing → ℕ → Tag → Bool → ℕ → List ℕ → Fault → Type 0
@@ -94,5 +90,5 @@ OpenStops (suc deep) limits enclosing place tag constructed here octets found =
     ⊎ ((open_form tag ≡ OpenPlain) × (constructed ≡ false) × PrimitiveStops limits enclosing place here octets (λ contents. ⊥) found)
     ⊎ ((((open_form tag ≡ OpenPlain) × (constructed ≡ true)) ⊎ (open_form tag ≡ OpenSequence) ⊎ (open_form tag ≡ OpenSetOf))
     × (StopsInForm limits enclosing place constructed here octets found
-    ⊎ ((inside : Enclosing) × (behind : ℕ) × (rest : List ℕ) × Opens limits enclosing constructed here octets inside behind rest
-    × ((many : ℕ) × After (OpenStands limits inside) (λ before place' octets'. StopsHere limits inside (OpenStops deep limits inside) place' octets' found) many tt behind rest))))
+    ⊎ OpensThen limits enclosing constructed here octets (λ inside behind rest.
+    (many : ℕ) × After (MemberStands limits OpenType inside) (λ before place' octets'. StopsHere limits inside (OpenStops deep limits inside) place' octets' found) many tt behind rest)))

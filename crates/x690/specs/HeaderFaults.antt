@@ -6,8 +6,7 @@ use Rattle.tlv_core.specs.Length.{SpellsLength}
 use Rattle.tlv_core.specs.Limits.{Limits}
 use Rattle.tlv_core.specs.declared.fault.Fault.{Fault}
 use Rattle.tlv_core.specs.declared.reason.Reason.TheVariants.{BadEnd, BadLength, BadTag, PastEnd, TooDeep, TooLong, Truncated, WrongForm}
-use Rattle.x690.specs.Points.{Enclosing, EndsAt, EndsWithZeros, at_end, ends_with_zeros, fault, past_end, stands_at_end}
-use Rattle.x690.specs.ReadHeaders.{DefiniteLength, IndefiniteLength, LengthForm, entered}
+use Rattle.x690.specs.Points.{DefiniteLength, IndefiniteLength, LengthForm, entered, Enclosing, EndsAt, EndsWithZeros, at_end, ends_with_zeros, fault, past_end, stands_at_end}
 
 -- An octet of a header may stand at the place: within the nearest container of definite length, and within the limit.
 pub record MayStand (limits : Limits) (end : Option ℕ) (here : ℕ) : Type 0 where
@@ -24,6 +23,10 @@ pub record Begin (limits : Limits) (end : Option ℕ) (here : ℕ) (octets heade
   pub is : octets ≡ header ++ rest
   pub stand : AllMayStand limits end here header
 
+-- An octet of a header stands here, and this holds of it and of what follows.
+abbrev pub OctetThen : Limits → Option ℕ → ℕ → List ℕ → (ℕ → List ℕ → Type 0) → Type 0
+OctetThen limits end here octets Holds = (octet : ℕ) × (rest : List ℕ) × Begin limits end here octets (octet ∷ []) rest × Holds octet rest
+
 -- The next octet of a header isn't there.
 abbrev pub NoOctet : Limits → Option ℕ → ℕ → ℕ → List ℕ → Fault → Type 0
 NoOctet limits end place here octets found =
@@ -36,8 +39,7 @@ abbrev pub EndStops : Limits → Enclosing → ℕ → List ℕ → Fault → Ty
 EndStops limits enclosing place rest found =
     ((ends_with_zeros enclosing.innermost ≡ false) × (found ≡ fault place BadEnd))
     ⊎ ((ends_with_zeros enclosing.innermost ≡ true) × NoOctet limits enclosing.nearest_end place (place + 1) rest found)
-    ⊎ ((ends_with_zeros enclosing.innermost ≡ true) × (second : ℕ) × (rest' : List ℕ) × Begin limits enclosing.nearest_end (place + 1) rest (second ∷ []) rest'
-    × (second ≢ 0) × (found ≡ fault place BadEnd))
+    ⊎ ((ends_with_zeros enclosing.innermost ≡ true) × OctetThen limits enclosing.nearest_end (place + 1) rest (λ second rest'. (second ≢ 0) × (found ≡ fault place BadEnd)))
 
 -- the number in base 128 of octets, bit 8 apart, `high` standing before them
 abbrev pub base128_number : ℕ → List ℕ → ℕ
@@ -67,7 +69,7 @@ abbrev pub HighNumberStops : Limits → Option ℕ → ℕ → ℕ → List ℕ 
 HighNumberStops limits end place here octets found =
     (before : List ℕ) × (rest : List ℕ) × Begin limits end here octets before rest × (length before ≤ 3) × AllContinue before × NoLeadingZero before
     × (NoOctet limits end place (here + length before) rest found
-    ⊎ ((octet : ℕ) × (rest' : List ℕ) × Begin limits end (here + length before) rest (octet ∷ []) rest' × BadTagOctet before octet × (found ≡ fault place BadTag)))
+    ⊎ OctetThen limits end (here + length before) rest (λ octet rest'. BadTagOctet before octet × (found ≡ fault place BadTag)))
 
 -- An identifier stops behind its first octet, which isn't 00: the octet is 20, which would be universal 0, or no octet; its high form stops; or all of it stands, and is nested too deep.
 abbrev pub IdentifierStops : Limits → Enclosing → ℕ → List ℕ → ℕ → List ℕ → Fault → Type 0
@@ -82,8 +84,7 @@ abbrev pub StopsInTag : Limits → Enclosing → ℕ → List ℕ → Fault → 
 StopsInTag limits enclosing place octets found =
     (stands_at_end enclosing.innermost place ≡ false)
     × (NoOctet limits enclosing.nearest_end place place octets found
-    ⊎ ((first : ℕ) × (rest : List ℕ) × Begin limits enclosing.nearest_end place octets (first ∷ []) rest
-    × (((first ≡ 0) × EndStops limits enclosing place rest found) ⊎ ((first ≢ 0) × IdentifierStops limits enclosing place octets first rest found))))
+    ⊎ OctetThen limits enclosing.nearest_end place octets (λ first rest. ((first ≡ 0) × EndStops limits enclosing place rest found) ⊎ ((first ≢ 0) × IdentifierStops limits enclosing place octets first rest found)))
 
 -- An element stands at the place: `rest` follows its identifier, from `behind` on.
 pub record Stands (limits : Limits) (enclosing : Enclosing) (place : ℕ) (octets : List ℕ) (tag : Tag) (constructed : Bool) (behind : ℕ) (rest : List ℕ) : Type 0 where
@@ -92,6 +93,10 @@ pub record Stands (limits : Limits) (enclosing : Enclosing) (place : ℕ) (octet
   pub begins : Begin limits enclosing.nearest_end place octets (identifier tag constructed) rest
   pub behind_is : behind ≡ place + length (identifier tag constructed)
   pub depth_fits : enclosing.open_containers < limits.depth
+
+-- An element stands at the place, and this holds of its tag and form, and of what is behind its identifier.
+abbrev pub StandsThen : Limits → Enclosing → ℕ → List ℕ → (Tag → Bool → ℕ → List ℕ → Type 0) → Type 0
+StandsThen limits enclosing place octets Holds = (tag : Tag) × (constructed : Bool) × (behind : ℕ) × (rest : List ℕ) × Stands limits enclosing place octets tag constructed behind rest × Holds tag constructed behind rest
 
 -- The container ends at the place: here, where its length is definite, else with end-of-contents octets.
 abbrev pub EndsHere : Limits → Enclosing → ℕ → List ℕ → Type 0
@@ -109,7 +114,7 @@ EndTooFar limits end place contents_end found =
 abbrev pub StopsInLength : Limits → Option ℕ → ℕ → Bool → ℕ → List ℕ → Fault → Type 0
 StopsInLength limits end place constructed here octets found =
     NoOctet limits end place here octets found
-    ⊎ ((first : ℕ) × (rest : List ℕ) × Begin limits end here octets (first ∷ []) rest × ((255 ≤ first) ⊎ ((constructed ≡ false) × (first ≡ 128))) × (found ≡ fault place BadLength))
+    ⊎ OctetThen limits end here octets (λ first rest. ((255 ≤ first) ⊎ ((constructed ≡ false) × (first ≡ 128))) × (found ≡ fault place BadLength))
     ⊎ ((first : ℕ) × (before : List ℕ) × (rest : List ℕ) × Begin limits end here octets (first ∷ before) rest × (first < 255) × (128 + length before < first)
     × NoOctet limits end place (here + 1 + length before) rest found)
     ⊎ ((number : ℕ) × (header : List ℕ) × (rest : List ℕ) × Begin limits end here octets header rest × SpellsLength number header
@@ -139,3 +144,7 @@ FormStands limits end here octets IndefiniteLength behind rest = Begin limits en
 abbrev pub Opens : Limits → Enclosing → Bool → ℕ → List ℕ → Enclosing → ℕ → List ℕ → Type 0
 Opens limits enclosing constructed here octets inside behind rest =
     (constructed ≡ true) × (form : LengthForm) × FormStands limits enclosing.nearest_end here octets form behind rest × (inside ≡ entered enclosing behind form)
+
+-- A container opens here, and this holds of what encloses its contents, and of them.
+abbrev pub OpensThen : Limits → Enclosing → Bool → ℕ → List ℕ → (Enclosing → ℕ → List ℕ → Type 0) → Type 0
+OpensThen limits enclosing constructed here octets Holds = (inside : Enclosing) × (behind : ℕ) × (rest : List ℕ) × Opens limits enclosing constructed here octets inside behind rest × Holds inside behind rest

@@ -9,9 +9,9 @@ use Rattle.tlv_core.specs.Limits.{Limits}
 use Rattle.tlv_core.specs.declared.fault.Fault.{Fault}
 use Rattle.tlv_core.specs.declared.reason.Reason.TheVariants.{BadText, LeftOut, Truncated, WrongForm}
 use Rattle.x690.specs.Contents.{AreBitSegments, BitString, Boolean, Integer, LeafContents, LeafKind, Null, ObjectIdentifier, OctetString, Utf8String, segments}
-use Rattle.x690.specs.ContentsFaults.{After, LeafStops, OpenStands, OpenStops, PrimitiveStops, SegmentStands, SegmentStops, SegmentsStop, StopsHere}
+use Rattle.x690.specs.ContentsFaults.{After, LeafStops, MemberStands, OpenStops, PrimitiveStops, SegmentStands, SegmentStops, SegmentsStop, StopsHere}
 use Rattle.x690.specs.Fitting.{Fits}
-use Rattle.x690.specs.HeaderFaults.{EndsHere, LengthStands, Opens, Stands, StopsInForm}
+use Rattle.x690.specs.HeaderFaults.{EndsHere, LengthStands, Opens, OpensThen, Stands, StopsInForm}
 use Rattle.x690.specs.Layouts.{Primitive, RawTree, same_tag, tree_depth, tree_tag, universal}
 use Rattle.x690.specs.Lists.{join}
 use Rattle.x690.specs.OpenValues.{FitsOpen, OpenForm, OpenLeaf, OpenPlain, OpenRefused, OpenSequence, OpenSetOf, open_form}
@@ -19,17 +19,18 @@ use Rattle.x690.specs.Points.{Enclosing, EndsAt, EndsWithZeros, fault, past_end}
 use Rattle.x690.specs.ReadContents.{add_member, all_members, der_contents, is_contents, is_joined_contents, is_next_segment, joined_contents, read_leaf, read_open, read_segment, segment_tag}
 use Rattle.x690.specs.ReadHeaders.{DefiniteLength, Ended, IndefiniteLength, LengthForm, each_member, entered, in_container, next_octets, primitive_contents, read_definite_length}
 use Rattle.x690.specs.Reading.{Done, Fail, Halted, Reading, Took, require, run, ◌>>=◌}
+use Rattle.x690.specs.TypeTerms.{OpenType}
 use Rattle.x690.specs.Takes.{Proper}
 use Rattle.x690.specs.Values.{Leaf, Sequence, SetOf, Value, values_of}
-use Rattle.x690_laws.proofs.Complete.{next_ok, open_on, seg_on}
+use Rattle.x690_laws.proofs.Complete.{next_ok, open_on, segment_on}
 use Rattle.x690_laws.proofs.Gives.{contents_on, depth_some, form_of, id_some, split_lay}
-use Rattle.x690_laws.proofs.HeaderFaulting.{all_may, definite_halts, definite_run, definite_stands, definite_stops, fail_on, guard_off}
-use Rattle.x690_laws.proofs.HeaderGives.{done_on, guard_on, octets_on, within_less}
+use Rattle.x690_laws.proofs.HeaderFaulting.{all_may, definite_halts, definite_run, definite_stands, definite_stops, fail_on, require_off}
+use Rattle.x690_laws.proofs.HeaderGives.{done_on, require_on, octets_on, within_less}
 use Rattle.x690_laws.proofs.HeaderSound.{Within, octets_took}
 use Rattle.x690_laws.proofs.Judging.{not_ended}
 use Rattle.x690_laws.proofs.LeafSound.{contents_fit}
 use Rattle.x690_laws.proofs.Members.{GivesOne, TakesOne, container_halts, container_takes, form_halts, members_end, members_ended, members_halt, members_stop, opened_on}
-use Rattle.x690_laws.proofs.Runs.{halt_bind, halted_bind, halted_done, halted_fail, halted_guard, run_bind, took_bind, took_done}
+use Rattle.x690_laws.proofs.Runs.{halt_bind, halted_bind, halted_done, halted_fail, halted_require, run_bind, took_bind, took_done}
 use Rattle.x690_laws.proofs.Sound.{Fine, Laid, Segs, next_fine, same_tag_is, segment_took}
 use Rattle.x690_laws.proofs.Soundness.{equal_tag, open_took}
 
@@ -184,16 +185,16 @@ segment_stops (suc deep) l n f i s0 k s t false j u dp fn z st h = ⊎_elim
       same_tag_is t (universal n) a.0,
       refl,
       primitive_stop l i k j u f _ _
-          (λ o q r g. ⊎_elim (λ b. let y = next_bad n s0 o b.0 in (y.0, y.1, b.1)) (λ b. absurd (halted_done _ q r f b.1)) (halted_guard _ _ _ q r f g)) a.1,
+          (λ o q r g. ⊎_elim (λ b. let y = next_bad n s0 o b.0 in (y.0, y.1, b.1)) (λ b. absurd (halted_done _ q r f b.1)) (halted_require _ _ _ q r f g)) a.1,
     )))
-    (halted_guard _ _ _ j u f h)
+    (halted_require _ _ _ j u f h)
 segment_stops (suc deep) l n f i s0 k s t true j u dp fn z st h = ⊎_elim
     (λ a. inl (tags_differ t (universal n) a.0, a.1))
     (λ a. ⊎_elim
     (λ b. inr (inr (same_tag_is t (universal n) a.0, refl, string_stops deep l n i s0 k j u f (segment_stops deep l n f) (omega arith) fn z b)))
     (λ b. absurd (halted_done _ _ _ f b.4))
     (halted_bind _ _ j u f a.1))
-    (halted_guard _ _ _ j u f h)
+    (halted_require _ _ _ j u f h)
 
 -- leaves
 
@@ -237,7 +238,7 @@ unfolding read_leaf
 leaf_stops l c kind p t false k s f z h = inl (
   refl,
   primitive_stop l c p k s f _ _
-      (λ o q r g. ⊎_elim (λ b. (not_contents kind t o b.0, b.1)) (λ b. absurd (halted_done _ q r f b.1)) (halted_guard _ _ _ q r f g)) h,
+      (λ o q r g. ⊎_elim (λ b. (not_contents kind t o b.0, b.1)) (λ b. absurd (halted_done _ q r f b.1)) (halted_require _ _ _ q r f g)) h,
 )
 leaf_stops l c kind p t true k s f z h = go (segment_tag kind) refl h
   where
@@ -255,9 +256,9 @@ leaf_stops l c kind p t true k s f z h = go (segment_tag kind) refl h
         let x = container_takes l c p true (λ c'. each_member (read_segment l.depth l n c') l.octets l c' []) k s a.0 a.1 a.2 a.3 in
         let m = members_end (read_segment l.depth l n x.0) (λ s. s) (SegmentStands l x.0 n) (λ m s. Fine n s) (λ all k' s'. EndsHere l x.0 k' s' × (IsUtf8 (join all) → ⊥)) l x.0 a.0
         (segment_takes l.depth l n x.0) (λ k' s' g w. (w, y.1)) l.octets 0 [] x.1 x.2 a.1 a.2 (no_segments n) x.5 in
-        inr (inr (refl, n, e, inr (y.0, x.0, x.1, x.2, x.3, (m.0, m.2), b.1))))
+        inr (inr (refl, n, e, inr (y.0, (x.0, x.1, x.2, x.3, ((m.0, m.2), b.1))))))
         (λ b. absurd (halted_done _ _ _ f b.1))
-        (halted_guard _ _ _ a.1 a.2 f a.4))
+        (halted_require _ _ _ a.1 a.2 f a.4))
         (halted_bind _ _ k s f h)
 
 -- a segment that stands is read
@@ -293,7 +294,7 @@ segment_gives deep l n i pr dp number s0 k s a m r ok h =
         behind_is = refl;
         depth_fits = omega arith;
       };
-      takes = seg_on h.tree deep l n i s0 [] (omega arith) h.tagged h.segmented fine k (k + length (identifier t form)) sp.octets r sp.behind d (subst (Within l i.nearest_end) (sym q) w) (omega arith)
+      takes = segment_on h.tree deep l n i s0 [] (omega arith) h.tagged h.segmented fine k (k + length (identifier t form)) sp.octets r sp.behind d (subst (Within l i.nearest_end) (sym q) w) (omega arith)
           ∙ ap (λ v. Took (s0 ++ segments h.tree) v r) q;
       viewed = sym h.after_is;
       ok = λ e. subst AreBitSegments h.after_is (h.bits e);
@@ -330,19 +331,19 @@ string_halts deep l n c s0 p k s f one dp fn z (inr (i, j, u, op, (m, h))) =
 segment_halts : (deep : ℕ) (l : Limits) (n : ℕ) (f : Fault) → BackSegment deep l n f
 unfolding read_segment SegmentStops
 segment_halts zero l n f i s0 k s t form j u dp fn z st h = absurd h
-segment_halts (suc deep) l n f i s0 k s t form j u dp fn z st (inl h) = guard_off _ _ _ j u f (differ_tags t (universal n) h.0) h.1
+segment_halts (suc deep) l n f i s0 k s t form j u dp fn z st (inl h) = require_off _ _ _ j u f (differ_tags t (universal n) h.0) h.1
 segment_halts (suc deep) l n f i s0 k s t true j u dp fn z st (inr (inl h)) = let w : true ≡ false = h.1 in cc
 segment_halts (suc deep) l n f i s0 k s t false j u dp fn z st (inr (inl h)) =
-    guard_on _ _ _ j u (equal_tag t (universal n) h.0)
-    ∙ primitive_halt l i k j u f _ _ (λ o q r b. guard_off _ _ _ q r f (bad_next n s0 o b.0 fn b.1) b.2) h.2
+    require_on _ _ _ j u (equal_tag t (universal n) h.0)
+    ∙ primitive_halt l i k j u f _ _ (λ o q r b. require_off _ _ _ q r f (bad_next n s0 o b.0 fn b.1) b.2) h.2
 segment_halts (suc deep) l n f i s0 k s t false j u dp fn z st (inr (inr h)) = let w : false ≡ true = h.1 in cc
 segment_halts (suc deep) l n f i s0 k s t true j u dp fn z st (inr (inr h)) =
-    guard_on _ _ _ j u (equal_tag t (universal n) h.0) ∙ halt_bind _ _ j u f (string_halts deep l n i s0 k j u f (segment_halts deep l n f) (omega arith) fn z h.2)
+    require_on _ _ _ j u (equal_tag t (universal n) h.0) ∙ halt_bind _ _ j u f (string_halts deep l n i s0 k j u f (segment_halts deep l n f) (omega arith) fn z h.2)
 
 pub leaf_halts : (l : Limits) (c : Enclosing) (kind : LeafKind) (p : ℕ) (t : Tag) (form : Bool) (k : ℕ) (s : List ℕ) (f : Fault) → 0 < k → LeafStops l c kind p t form k s f → run (read_leaf l c kind p t form) k s ≡ Halted f
 unfolding read_leaf
 leaf_halts l c kind p t true k s f z (inl h) = let w : true ≡ false = h.0 in cc
-leaf_halts l c kind p t false k s f z (inl h) = primitive_halt l c p k s f _ _ (λ o q r b. guard_off _ _ _ q r f (contents_not kind t o b.0) b.1) h.1
+leaf_halts l c kind p t false k s f z (inl h) = primitive_halt l c p k s f _ _ (λ o q r b. require_off _ _ _ q r f (contents_not kind t o b.0) b.1) h.1
 leaf_halts l c kind p t false k s f z (inr (inl h)) = let w : false ≡ true = h.0 in cc
 leaf_halts l c kind p t true k s f z (inr (inl h)) = go (segment_tag kind) h.1
   where
@@ -366,13 +367,12 @@ leaf_halts l c kind p t true k s f z (inr (inr (w, n, e, h))) = go (segment_tag 
         let x = members_ended (read_segment l.depth l n i) (λ s. s) (SegmentStands l i n) (λ m s. Fine n s) (λ all k' s'. EndsHere l i k' s' × (IsUtf8 (join all) → ⊥)) (λ all k'. IsUtf8 (join all) → ⊥) l i
         (segment_gives l.depth l n i (proper_inside c i j op.1 op.3) (omega arith)) (λ a k' s' b. b) m l.octets 0 [] j u (opens_within l c true k s i j u op) (omega arith) (no_segments n) a in
         run_bind _ _ k s (record { all = x.all; at = x.at }) x.place x.rest (opened_on l c p true (λ c'. each_member (read_segment l.depth l n c') l.octets l c' []) k s i j u op ∙ x.is)
-        ∙ guard_off _ _ _ x.place x.rest f (joined_not kind x.all y x.holds) g
+        ∙ require_off _ _ _ x.place x.rest f (joined_not kind x.all y x.holds) g
 
     go : (o : Option ℕ) → o ≡ Some n
         → (SegmentsStop (λ inside before. SegmentStops l.depth l n inside before) l n c [] p k s f
-        ⊎ ((kind ≡ Utf8String) × (inside : Enclosing) × (behind : ℕ) × (rest : List ℕ) × Opens l c true k s inside behind rest
-        × ((many : ℕ) × After (SegmentStands l inside n) (λ all place' octets'. EndsHere l inside place' octets' × (IsUtf8 (join all) → ⊥)) many [] behind rest)
-        × (f ≡ fault p BadText)))
+        ⊎ ((kind ≡ Utf8String) × OpensThen l c true k s (λ inside behind rest.
+        ((many : ℕ) × After (SegmentStands l inside n) (λ all place' octets'. EndsHere l inside place' octets' × (IsUtf8 (join all) → ⊥)) many [] behind rest) × (f ≡ fault p BadText))))
         → run (elim o [
           | None ↦ Fail (fault p WrongForm)
           | Some n ↦ in_container l c p true (λ c'. each_member (read_segment l.depth l n c') l.octets l c' [])
@@ -383,14 +383,14 @@ leaf_halts l c kind p t true k s f z (inr (inr (w, n, e, h))) = go (segment_tag 
         let e' : n ≡ n' = cc in
         subst (λ v. run (in_container l c p true (λ c'. each_member (read_segment l.depth l v c') l.octets l c' []) >>= λ e. require (is_joined_contents kind e.all) (fault p BadText) (Done (Leaf t (joined_contents kind e.all)))) k s ≡ Halted f) e'
         (halt_bind _ _ k s f (string_halts l.depth l n c [] p k s f (segment_halts l.depth l n f) (omega arith) (no_segments n) z h))
-    go (Some n') e (inr (y, i, j, u, op, (m, a), g)) =
+    go (Some n') e (inr (y, (i, j, u, op, ((m, a), g)))) =
         let e' : n ≡ n' = cc in
         subst (λ v. run (in_container l c p true (λ c'. each_member (read_segment l.depth l v c') l.octets l c' []) >>= λ e. require (is_joined_contents kind e.all) (fault p BadText) (Done (Leaf t (joined_contents kind e.all)))) k s ≡ Halted f) e'
         (from_end i j u op m y g a)
 
 -- open values
 
-pub open_takes : (deep : ℕ) (l : Limits) (i : Enclosing) → TakesOne {A = Unit {0}} l i (add_member (read_open deep l i)) (λ s. tt) (OpenStands l i) (λ m s. Unit {0})
+pub open_takes : (deep : ℕ) (l : Limits) (i : Enclosing) → TakesOne {A = Unit {0}} l i (add_member (read_open deep l i)) (λ s. tt) (MemberStands l OpenType i) (λ m s. Unit {0})
 unfolding add_member Fits
 open_takes deep l i number s0 s1 k s t form j u q r ok st h =
     let x = took_bind _ _ _ _ _ _ _ h in
@@ -423,7 +423,7 @@ open_takes deep l i number s0 s1 k s t form j u q r ok st h =
       limit = omega arith;
     }
 
-open_gives : (deep : ℕ) (l : Limits) (i : Enclosing) → Proper i → l.depth ≤ deep + i.open_containers → GivesOne {A = Unit {0}} l i (add_member (read_open deep l i)) (λ s. tt) (OpenStands l i) (λ m s. Unit {0})
+open_gives : (deep : ℕ) (l : Limits) (i : Enclosing) → Proper i → l.depth ≤ deep + i.open_containers → GivesOne {A = Unit {0}} l i (add_member (read_open deep l i)) (λ s. tt) (MemberStands l OpenType i) (λ m s. Unit {0})
 unfolding add_member Fits
 open_gives deep l i pr dp number s0 k s a m r ok (v, h) =
     let sp = split_lay h.tree h.octets h.laid_out in
@@ -470,7 +470,7 @@ abbrev OpenMembersStop : ℕ → Limits → Enclosing → ℕ → Bool → ℕ �
 OpenMembersStop deep l c p form k s f =
     StopsInForm l c p form k s f
     ⊎ ((inside : Enclosing) × (behind : ℕ) × (rest : List ℕ) × Opens l c form k s inside behind rest
-    × ((many : ℕ) × After (OpenStands l inside) (λ before place' octets'. StopsHere l inside (OpenStops deep l inside) place' octets' f) many tt behind rest))
+    × ((many : ℕ) × After (MemberStands l OpenType inside) (λ before place' octets'. StopsHere l inside (OpenStops deep l inside) place' octets' f) many tt behind rest))
 
 stands_later : (l : Limits) (c : Enclosing) (k : ℕ) (s : List ℕ) (t : Tag) (form : Bool) (j : ℕ) (u : List ℕ) → Stands l c k s t form j u → 0 < j
 stands_later l c k s t form j u st = let z = id_some t form st.is_tag in let e : j ≡ k + length (identifier t form) = st.behind_is in omega arith
@@ -488,7 +488,7 @@ open_members_stop deep l c p form k s f one dp z h = ⊎_elim
       a.1,
       a.2,
       op,
-      members_stop {A = Unit {0}} (add_member (read_open deep l a.0)) (λ s. tt) (OpenStands l a.0) (λ b. OpenStops deep l a.0) (λ m s. Unit {0}) l a.0 f (open_takes deep l a.0)
+      members_stop {A = Unit {0}} (add_member (read_open deep l a.0)) (λ s. tt) (MemberStands l OpenType a.0) (λ b. OpenStops deep l a.0) (λ m s. Unit {0}) l a.0 f (open_takes deep l a.0)
           (λ number s1 k' s' t form' j u ok st g. ⊎_elim (λ b. one a.0 k' s' t form' j u (omega arith) (stands_later l a.0 k' s' t form' j u st) st b) (λ b. absurd (halted_done _ _ _ f b.4)) (halted_bind _ _ j u f g))
           l.octets 0 [] a.1 a.2 (opens_within l c form k s a.0 a.1 a.2 op) (omega arith) tt a.5,
     ))
@@ -531,7 +531,7 @@ open_members_halt deep l c p form k s f one dp z (inr (i, j, u, op, (m, h))) =
     let oc : i.open_containers ≡ c.open_containers + 1 = opens_count c i j op.1 op.3 in
     let le = opens_later l c form k s i j u op in
     opened_on l c p form (λ c'. each_member (add_member (read_open deep l c')) l.octets l c' []) k s i j u op
-    ∙ members_halt {A = Unit {0}} (add_member (read_open deep l i)) (λ s. tt) (OpenStands l i) (λ b. OpenStops deep l i) (λ m s. Unit {0}) l i f (open_gives deep l i (proper_inside c i j op.1 op.3) (omega arith))
+    ∙ members_halt {A = Unit {0}} (add_member (read_open deep l i)) (λ s. tt) (MemberStands l OpenType i) (λ b. OpenStops deep l i) (λ m s. Unit {0}) l i f (open_gives deep l i (proper_inside c i j op.1 op.3) (omega arith))
     (λ number s1 k' s' t form' j' u' ok st g. halt_bind _ _ j' u' f (one i k' t form' j' u' (omega arith) (stands_later l i k' s' t form' j' u' st) g))
     m l.octets 0 [] j u (opens_within l c form k s i j u op) (omega arith) tt h
 

@@ -8,7 +8,7 @@ use Rattle.tlv_core.specs.declared.fault.Fault.{Fault}
 use Rattle.tlv_core.specs.declared.reason.Reason.{Reason}
 use Rattle.tlv_core.specs.declared.reason.Reason.TheVariants.{EmptySet, Extra, Inner, Missing, Trailing}
 use Rattle.x690.specs.Contents.{LeafKind, OctetString}
-use Rattle.x690.specs.ContentsFaults.{LeafStops, StopsHere}
+use Rattle.x690.specs.ContentsFaults.{LeafStops, MemberStands, StopsHere}
 use Rattle.x690.specs.DerTexts.{der}
 use Rattle.x690.specs.HeaderFaults.{EndsHere, Stands}
 use Rattle.x690.specs.Layouts.{same_tag}
@@ -19,22 +19,22 @@ use Rattle.x690.specs.ReadContents.{add_member, all_members, read_leaf}
 use Rattle.x690.specs.ReadHeaders.{ContainerEnds, ElementStands, Ended, Next, each_member, in_container, next_tag}
 use Rattle.x690.specs.ReadTypes.{apply_rule, due_element, from_inside, is_this_leaf, read_element, read_fields, read_type}
 use Rattle.x690.specs.Reading.{Done, Fail, Halted, Outcome, Took, choose, require, run, ◌>>=◌}
-use Rattle.x690.specs.Stops.{MemberStands, MembersStop, StopsBehind, StopsFields}
+use Rattle.x690.specs.Stops.{MembersStop, StopsBehind, StopsFields}
 use Rattle.x690.specs.Takes.{Proper, Takes}
 use Rattle.x690.specs.TypeTerms.{ContainingType, Default, DefinedByType, EndOfFields, Fields, LeafType, OpenType, Optional, RefusedType, Required, RuledType, SequenceOfType, SequenceType, SetOfType, TypeTerm, fits_tag}
 use Rattle.x690.specs.Values.{Leaf, Same, Sequence, SetOf, Value}
 use Rattle.x690_laws.proofs.Complete.{leaf_test, leaf_untest}
 use Rattle.x690_laws.proofs.ContentsFaulting.{leaf_halts, open_halts, opens_later, opens_within, proper_inside}
-use Rattle.x690_laws.proofs.HeaderFaulting.{ends_run, fail_on, guard_off, stands_of, stands_run, tag_halts}
-use Rattle.x690_laws.proofs.HeaderGives.{done_on, guard_on, pick_first, pick_second}
+use Rattle.x690_laws.proofs.HeaderFaulting.{ends_run, fail_on, require_off, stands_of, stands_run, tag_halts}
+use Rattle.x690_laws.proofs.HeaderGives.{done_on, require_on, choose_first, choose_second}
 use Rattle.x690_laws.proofs.Judging.{complete, complete_with, each_refl, exclusive}
 use Rattle.x690_laws.proofs.Members.{GivesOne, form_halts, members_ended, members_halt, opened_on}
 use Rattle.x690_laws.proofs.OneValue.{each_snoc, leaf_at_same}
 use Rattle.x690_laws.proofs.Refit.{begins_fits}
-use Rattle.x690_laws.proofs.Runs.{halt_bind, halted_bind, run_bind, took_bind, took_fail, took_guard}
+use Rattle.x690_laws.proofs.Runs.{halt_bind, halted_bind, run_bind, took_bind, took_fail, took_require}
 use Rattle.x690_laws.proofs.Sames.{same_sym, same_trans}
 use Rattle.x690_laws.proofs.Sound.{same_tag_is}
-use Rattle.x690_laws.proofs.Soundness.{judge_took}
+use Rattle.x690_laws.proofs.Soundness.{type_took}
 use Rattle.x690_laws.proofs.Stopping.{Counted, behind_stops, stands_later, took_type}
 use Rattle.x690_laws.specs.FaultLaws.{BehindStops, OneFault, StopIsFault}
 use Rattle.x690_laws.specs.ReadingLaws.{BehindIsTaken, TakenIsBehind}
@@ -60,7 +60,7 @@ both_of l T earlier c k s w q r h = let x = took_bind _ _ _ _ _ _ _ h in go x.va
 
 begins_took : (l : Limits) (T : TypeTerm) (earlier : List Value) (c : Enclosing) (k : ℕ) (s : List ℕ) (t : Tag) (form : Bool) (j : ℕ) (u : List ℕ) (w : Value) (q : ℕ) (r : List ℕ) → Stands l c k s t form j u → run (read_type l T earlier c k t form) j u ≡ Took w q r → fits_tag T t ≡ true
 begins_took l T earlier c k s t form j u w q r st h =
-    let m = judge_took l T earlier c w k t form j u q r st.is_tag st.depth_fits h in
+    let m = type_took l T earlier c w k t form j u q r st.is_tag st.depth_fits h in
     sym (ap (fits_tag T) m.tagged) ∙ begins_fits l.depth T earlier m.tree w m.fact
 
 none_around : Proper outermost
@@ -129,7 +129,7 @@ members_off l T c p form k s n f few made fr z o (inr (i, j, u, op, inr (m, lt, 
     let y : length x.all < n = omega arith in
     run_bind (in_container l c p form (λ c'. each_member (add_member (read_type l T [] c')) l.octets l c' [])) (λ e. require (nat_le n (length e.all)) (few e.at) (Done (made e))) k s (record { all = x.all; at = x.at }) x.place x.rest
     (opened_on l c p form (λ c'. each_member (add_member (read_type l T [] c')) l.octets l c' []) k s i j u op ∙ x.is)
-    ∙ guard_off _ _ _ x.place x.rest f (grind (arith, nat_tests)) x.holds
+    ∙ require_off _ _ _ x.place x.rest f (grind (arith, nat_tests)) x.holds
 
 ruled_off : (p : ℕ) (why : Option Reason) (x : Reason) (w : Value) (k : ℕ) (s : List ℕ) (f : Fault) → why ≡ Some x → f ≡ fault p x → run (apply_rule p why w) k s ≡ Halted f
 unfolding apply_rule
@@ -170,11 +170,11 @@ default_front : (l : Limits) (fs : Fields) (t : Tag) (o : List ℕ) (earlier : L
 default_front l fs t o earlier c w k s f h = ⊎_elim
     (λ a. ⊎_elim
     (λ b. halt_bind (next_tag l c) _ k s f b)
-    (λ b. run_bind (next_tag l c) _ k s b.0 b.1 b.2 b.3 ∙ pick_first _ _ _ b.1 b.2 a.0 ∙ b.4)
+    (λ b. run_bind (next_tag l c) _ k s b.0 b.1 b.2 b.3 ∙ choose_first _ _ _ b.1 b.2 a.0 ∙ b.4)
     (halted_bind (next_tag l c) _ k s f a.1))
     (λ a. ⊎_elim
     (λ b. halt_bind (next_tag l c) _ k s f b)
-    (λ b. run_bind (next_tag l c) _ k s b.0 b.1 b.2 b.3 ∙ pick_second _ _ _ b.1 b.2 a.0 ∙ halt_bind (read_fields l fs (earlier ++ (w ∷ [])) c b.0) _ b.1 b.2 f b.4)
+    (λ b. run_bind (next_tag l c) _ k s b.0 b.1 b.2 b.3 ∙ choose_second _ _ _ b.1 b.2 a.0 ∙ halt_bind (read_fields l fs (earlier ++ (w ∷ [])) c b.0) _ b.1 b.2 f b.4)
     (halted_bind (next_tag l c) _ k s f a.1))
     h
 
@@ -206,7 +206,7 @@ octets_on l c w p a t form k s o n r pr st h =
     let b = both_of l (LeafType w OctetString) [] c p a x.0 (p + n) r x.2 in
     let sm = same_stands l c p a b.tag t b.form form b.behind k b.rest s b.stands st in
     let jd : run (read_type l (LeafType w OctetString) [] c p t form) k s ≡ Took x.0 (p + n) r = sm (λ t' form' k' s'. run (read_type l (LeafType w OctetString) [] c p t' form') k' s' ≡ Took x.0 (p + n) r) b.judged in
-    let g = took_guard _ _ _ _ _ _ _ _ jd in
+    let g = took_require _ _ _ _ _ _ _ _ jd in
     g.1 ∙ ap (λ v. Took v (p + n) r) (leaf_same_as w o x.0 x.1)
 
 one_halt : (o : Outcome Value) (f g : Fault) → o ≡ Halted f → o ≡ Halted g → f ≡ g
@@ -216,41 +216,41 @@ mutual
   unfolding read_type StopsBehind Fair
 
   behind_halts : (l : Limits) (T : TypeTerm) (earlier earlier' : List Value) (c : Enclosing) → Fair T → Each Same earlier earlier' → Proper c → BackIn l T earlier earlier' c
-  behind_halts l (LeafType w kind) earlier earlier' c fr es pr p t form k s f z h = ⊎_elim (λ a. guard_off _ _ _ k s f a.0 a.1) (λ a. guard_on _ _ _ k s a.0 ∙ leaf_off l c w kind p t form k s f z a.0 a.1) h
+  behind_halts l (LeafType w kind) earlier earlier' c fr es pr p t form k s f z h = ⊎_elim (λ a. require_off _ _ _ k s f a.0 a.1) (λ a. require_on _ _ _ k s a.0 ∙ leaf_off l c w kind p t form k s f z a.0 a.1) h
   behind_halts l OpenType earlier earlier' c fr es pr p t form k s f z h = open_halts l.depth l f c p t form k s (omega arith) z h
   behind_halts l (SequenceOfType w n T) earlier earlier' c fr es pr p t form k s f z h = ⊎_elim
-      (λ a. guard_off _ _ _ k s f a.0 a.1)
-      (λ a. guard_on _ _ _ k s a.0 ∙ members_off l T c p form k s n f (λ end. fault end Missing) _ fr z (λ i pr' p' t' form' k' s' z' g. behind_halts l T [] [] i fr tt pr' p' t' form' k' s' f z' g) a.1)
+      (λ a. require_off _ _ _ k s f a.0 a.1)
+      (λ a. require_on _ _ _ k s a.0 ∙ members_off l T c p form k s n f (λ end. fault end Missing) _ fr z (λ i pr' p' t' form' k' s' z' g. behind_halts l T [] [] i fr tt pr' p' t' form' k' s' f z' g) a.1)
       h
   behind_halts l (SetOfType w n T) earlier earlier' c fr es pr p t form k s f z h = ⊎_elim
-      (λ a. guard_off _ _ _ k s f a.0 a.1)
-      (λ a. guard_on _ _ _ k s a.0 ∙ members_off l T c p form k s n f (λ end. fault p EmptySet) _ fr z (λ i pr' p' t' form' k' s' z' g. behind_halts l T [] [] i fr tt pr' p' t' form' k' s' f z' g) a.1)
+      (λ a. require_off _ _ _ k s f a.0 a.1)
+      (λ a. require_on _ _ _ k s a.0 ∙ members_off l T c p form k s n f (λ end. fault p EmptySet) _ fr z (λ i pr' p' t' form' k' s' z' g. behind_halts l T [] [] i fr tt pr' p' t' form' k' s' f z' g) a.1)
       h
   behind_halts l (SequenceType w fs) earlier earlier' c fr es pr p t form k s f z h = ⊎_elim
-      (λ a. guard_off _ _ _ k s f a.0 a.1)
-      (λ b. ⊎_elim
-      (λ a. guard_on _ _ _ k s a.0 ∙ halt_bind _ _ k s f (form_halts l c p form (λ c'. next_tag l c' >>= λ d. read_fields l fs [] c' d) k s f a.1))
-      (λ a. guard_on _ _ _ k s a.0 ∙ halt_bind _ _ k s f (opened_on l c p form (λ c'. next_tag l c' >>= λ d. read_fields l fs [] c' d) k s a.1 a.2 a.3 a.4
-      ∙ fields_halt l fs [] [] a.1 a.2 a.3 f fr tt (proper_inside c a.1 a.2 a.4.1 a.4.3) a.5))
-      b)
+      (λ a. require_off _ _ _ k s f a.0 a.1)
+      (λ b. require_on _ _ _ k s b.0 ∙ ⊎_elim
+      (λ a. halt_bind _ _ k s f (form_halts l c p form (λ c'. next_tag l c' >>= λ d. read_fields l fs [] c' d) k s f a))
+      (λ a. halt_bind _ _ k s f (opened_on l c p form (λ c'. next_tag l c' >>= λ d. read_fields l fs [] c' d) k s a.0 a.1 a.2 a.3
+      ∙ fields_halt l fs [] [] a.0 a.1 a.2 f fr tt (proper_inside c a.0 a.1 a.3.1 a.3.3) a.4))
+      b.1)
       h
   behind_halts l (ContainingType w q T) earlier earlier' c fr es pr p t form k s f z h = ⊎_elim
-      (λ a. guard_off _ _ _ k s f a.0 a.1)
-      (λ b. ⊎_elim
-      (λ a. guard_on _ _ _ k s a.0 ∙ halt_bind (read_leaf l c OctetString p w form) _ k s f (leaf_off l c w OctetString p t form k s f z a.0 a.1))
-      (λ a. guard_on _ _ _ k s a.0 ∙ run_bind (read_leaf l c OctetString p w form) _ k s (Leaf w a.2) (p + a.3) a.4 (octets_on l c w p a.1 t form k s a.2 a.3 a.4 pr a.5 a.6) ∙ ⊎_elim
-      (λ g. halt_bind _ _ (p + a.3) a.4 f (inside_halted p (run (read_element l T earlier' outermost) 0 a.2) g.0 (p + a.3) a.4
-      (here_halts l T earlier earlier' outermost 0 a.2 g.0 (behind_halts l T earlier earlier' outermost fr.1 es none_around) g.1) ∙ ap Halted (sym g.2)))
+      (λ a. require_off _ _ _ k s f a.0 a.1)
+      (λ b. require_on _ _ _ k s b.0 ∙ ⊎_elim
+      (λ a. halt_bind (read_leaf l c OctetString p w form) _ k s f (leaf_off l c w OctetString p t form k s f z b.0 a))
+      (λ a. run_bind (read_leaf l c OctetString p w form) _ k s (Leaf w a.1) (p + a.2) a.3 (octets_on l c w p a.0 t form k s a.1 a.2 a.3 pr a.4 a.5) ∙ ⊎_elim
+      (λ g. halt_bind _ _ (p + a.2) a.3 f (inside_halted p (run (read_element l T earlier' outermost) 0 a.1) g.0 (p + a.2) a.3
+      (here_halts l T earlier earlier' outermost 0 a.1 g.0 (behind_halts l T earlier earlier' outermost fr.1 es none_around) g.1) ∙ ap Halted (sym g.2)))
       (λ d. ⊎_elim
-      (λ g. let x = complete_with l T earlier earlier' outermost 0 a.2 g.0 g.1 (g.2 ∷ g.3) fr.1 none_around es g.4 in
+      (λ g. let x = complete_with l T earlier earlier' outermost 0 a.1 g.0 g.1 (g.2 ∷ g.3) fr.1 none_around es g.4 in
       let e : 0 + g.1 ≡ g.1 = omega arith in
-      halt_bind _ _ (p + a.3) a.4 f (inside_more p (run (read_element l T earlier' outermost) 0 a.2) x.0 g.1 g.2 g.3 (p + a.3) a.4 (x.2 ∙ ap (λ u. Took x.0 u (g.2 ∷ g.3)) e) ∙ ap Halted (sym g.5)))
-      (λ g. let x = complete_with l T earlier earlier' outermost 0 a.2 g.0 g.1 [] fr.1 none_around es g.3 in
-      run_bind _ _ (p + a.3) a.4 x.0 (p + a.3) a.4 (inside_good p (run (read_element l T earlier' outermost) 0 a.2) x.0 (0 + g.1) (p + a.3) a.4 x.2)
-      ∙ ruled_off p (q earlier' x.0) g.2 (Leaf w (der x.0)) (p + a.3) a.4 f (sym (fr.0 earlier earlier' g.0 x.0 es x.1) ∙ g.4) g.5)
+      halt_bind _ _ (p + a.2) a.3 f (inside_more p (run (read_element l T earlier' outermost) 0 a.1) x.0 g.1 g.2 g.3 (p + a.2) a.3 (x.2 ∙ ap (λ u. Took x.0 u (g.2 ∷ g.3)) e) ∙ ap Halted (sym g.5)))
+      (λ g. let x = complete_with l T earlier earlier' outermost 0 a.1 g.0 g.1 [] fr.1 none_around es g.3 in
+      run_bind _ _ (p + a.2) a.3 x.0 (p + a.2) a.3 (inside_good p (run (read_element l T earlier' outermost) 0 a.1) x.0 (0 + g.1) (p + a.2) a.3 x.2)
+      ∙ ruled_off p (q earlier' x.0) g.2 (Leaf w (der x.0)) (p + a.2) a.3 f (sym (fr.0 earlier earlier' g.0 x.0 es x.1) ∙ g.4) g.5)
       d)
-      a.7)
-      b)
+      a.6)
+      b.1)
       h
   behind_halts l (RuledType q T) earlier earlier' c fr es pr p t form k s f z h = ⊎_elim
       (λ a. halt_bind (read_type l T earlier' c p t form) _ k s f (behind_halts l T earlier earlier' c fr.1 es pr p t form k s f z a))
@@ -262,12 +262,12 @@ mutual
       ∙ ruled_off p (q earlier' x.0) a.4 x.0 (p + a.2) a.3 f (sym (fr.0 earlier earlier' a.1 x.0 es x.1) ∙ a.7) a.8)
       h
   behind_halts l (RefusedType w why) earlier earlier' c fr es pr p t form k s f z h = ⊎_elim
-      (λ a. guard_off _ _ _ k s f a.0 a.1)
-      (λ a. guard_on _ _ _ k s a.0 ∙ fail_on Value (fault p why) k s ∙ ap Halted (sym a.1))
+      (λ a. require_off _ _ _ k s f a.0 a.1)
+      (λ a. require_on _ _ _ k s a.0 ∙ fail_on Value (fault p why) k s ∙ ap Halted (sym a.1))
       h
   behind_halts l (DefinedByType path os A B) earlier earlier' c fr es pr p t form k s f z h = ⊎_elim
-      (λ a. pick_first _ _ _ k s (ap (λ b. one_of b os) (sym (leaf_at_same path earlier earlier' es)) ∙ a.0) ∙ behind_halts l A earlier earlier' c fr.0 es pr p t form k s f z a.1)
-      (λ a. pick_second _ _ _ k s (ap (λ b. one_of b os) (sym (leaf_at_same path earlier earlier' es)) ∙ a.0) ∙ behind_halts l B earlier earlier' c fr.1 es pr p t form k s f z a.1)
+      (λ a. choose_first _ _ _ k s (ap (λ b. one_of b os) (sym (leaf_at_same path earlier earlier' es)) ∙ a.0) ∙ behind_halts l A earlier earlier' c fr.0 es pr p t form k s f z a.1)
+      (λ a. choose_second _ _ _ k s (ap (λ b. one_of b os) (sym (leaf_at_same path earlier earlier' es)) ∙ a.0) ∙ behind_halts l B earlier earlier' c fr.1 es pr p t form k s f z a.1)
       h
 
   fields_halt : (l : Limits) (fs : Fields) (earlier earlier' : List Value) (c : Enclosing) (k : ℕ) (s : List ℕ) (f : Fault) → FairFields fs → Each Same earlier earlier' → Proper c → StopsFields l fs earlier c k s f → run (next_tag l c >>= λ d. read_fields l fs earlier' c d) k s ≡ Halted f
@@ -281,13 +281,13 @@ mutual
       (λ a. let e = ends_run l c k s a.0 in run_bind (next_tag l c) _ k s (ContainerEnds k) e.0 e.1 e.2 ∙ fail_on (List Value) (fault k Missing) e.0 e.1 ∙ ap Halted (sym a.1))
       (λ g. ⊎_elim
       (λ a. run_bind (next_tag l c) _ k s (ElementStands k a.0 a.1) a.2 a.3 (stands_run l c k s a.0 a.1 a.2 a.3 a.4) ∙ ⊎_elim
-      (λ b. guard_off _ _ _ a.2 a.3 f b.0 b.1)
-      (λ b. guard_on _ _ _ a.2 a.3 b.0 ∙ halt_bind (read_type l T earlier' c k a.0 a.1) _ a.2 a.3 f (behind_halts l T earlier earlier' c fr.0 es pr k a.0 a.1 a.2 a.3 f (stands_later l c k s a.0 a.1 a.2 a.3 a.4) b.1))
+      (λ b. require_off _ _ _ a.2 a.3 f b.0 b.1)
+      (λ b. require_on _ _ _ a.2 a.3 b.0 ∙ halt_bind (read_type l T earlier' c k a.0 a.1) _ a.2 a.3 f (behind_halts l T earlier earlier' c fr.0 es pr k a.0 a.1 a.2 a.3 f (stands_later l c k s a.0 a.1 a.2 a.3 a.4) b.1))
       a.5)
       (λ a. let x = complete_with l T earlier earlier' c k s a.0 a.1 a.2 fr.0 pr es a.3 in
       let b = both_of l T earlier' c k s x.0 (k + a.1) a.2 x.2 in
       run_bind (next_tag l c) _ k s (ElementStands k b.tag b.form) b.behind b.rest (stands_run l c k s b.tag b.form b.behind b.rest b.stands)
-      ∙ guard_on _ _ _ b.behind b.rest (begins_took l T earlier' c k s b.tag b.form b.behind b.rest x.0 (k + a.1) a.2 b.stands b.judged)
+      ∙ require_on _ _ _ b.behind b.rest (begins_took l T earlier' c k s b.tag b.form b.behind b.rest x.0 (k + a.1) a.2 b.stands b.judged)
       ∙ run_bind (read_type l T earlier' c k b.tag b.form) _ b.behind b.rest x.0 (k + a.1) a.2 b.judged
       ∙ front_halts l fs (earlier' ++ (x.0 ∷ [])) c x.0 (k + a.1) a.2 f (fields_halt l fs (earlier ++ (a.0 ∷ [])) (earlier' ++ (x.0 ∷ [])) c (k + a.1) a.2 f fr.1 (each_snoc earlier earlier' a.0 x.0 es x.1) pr a.4))
       g)
@@ -299,13 +299,13 @@ mutual
       (λ a. let e = ends_run l c k s a.0 in passed l fs (Optional T fs) earlier' c k s (ContainerEnds k) e.0 e.1 f e.2 refl (fields_halt l fs earlier earlier' c k s f fr.1 es pr a.1))
       (λ g. ⊎_elim
       (λ a. let n = stands_run l c k s a.0 a.1 a.2 a.3 a.4 in ⊎_elim
-      (λ b. passed l fs (Optional T fs) earlier' c k s (ElementStands k a.0 a.1) a.2 a.3 f n (pick_second _ _ _ a.2 a.3 b.0) (fields_halt l fs earlier earlier' c k s f fr.1 es pr b.1))
-      (λ b. run_bind (next_tag l c) _ k s (ElementStands k a.0 a.1) a.2 a.3 n ∙ pick_first _ _ _ a.2 a.3 b.0 ∙ halt_bind (read_type l T earlier' c k a.0 a.1) _ a.2 a.3 f (behind_halts l T earlier earlier' c fr.0 es pr k a.0 a.1 a.2 a.3 f (stands_later l c k s a.0 a.1 a.2 a.3 a.4) b.1))
+      (λ b. passed l fs (Optional T fs) earlier' c k s (ElementStands k a.0 a.1) a.2 a.3 f n (choose_second _ _ _ a.2 a.3 b.0) (fields_halt l fs earlier earlier' c k s f fr.1 es pr b.1))
+      (λ b. run_bind (next_tag l c) _ k s (ElementStands k a.0 a.1) a.2 a.3 n ∙ choose_first _ _ _ a.2 a.3 b.0 ∙ halt_bind (read_type l T earlier' c k a.0 a.1) _ a.2 a.3 f (behind_halts l T earlier earlier' c fr.0 es pr k a.0 a.1 a.2 a.3 f (stands_later l c k s a.0 a.1 a.2 a.3 a.4) b.1))
       a.5)
       (λ a. let x = complete_with l T earlier earlier' c k s a.0 a.1 a.2 fr.0 pr es a.3 in
       let b = both_of l T earlier' c k s x.0 (k + a.1) a.2 x.2 in
       run_bind (next_tag l c) _ k s (ElementStands k b.tag b.form) b.behind b.rest (stands_run l c k s b.tag b.form b.behind b.rest b.stands)
-      ∙ pick_first _ _ _ b.behind b.rest (begins_took l T earlier' c k s b.tag b.form b.behind b.rest x.0 (k + a.1) a.2 b.stands b.judged)
+      ∙ choose_first _ _ _ b.behind b.rest (begins_took l T earlier' c k s b.tag b.form b.behind b.rest x.0 (k + a.1) a.2 b.stands b.judged)
       ∙ run_bind (read_type l T earlier' c k b.tag b.form) _ b.behind b.rest x.0 (k + a.1) a.2 b.judged
       ∙ front_halts l fs (earlier' ++ (x.0 ∷ [])) c x.0 (k + a.1) a.2 f (fields_halt l fs (earlier ++ (a.0 ∷ [])) (earlier' ++ (x.0 ∷ [])) c (k + a.1) a.2 f fr.1 (each_snoc earlier earlier' a.0 x.0 es x.1) pr a.4))
       g)
@@ -317,13 +317,13 @@ mutual
       (λ a. let e = ends_run l c k s a.0 in passed l fs (Default i io T fs) earlier' c k s (ContainerEnds k) e.0 e.1 f e.2 refl (fields_halt l fs earlier earlier' c k s f fr.1 es pr a.1))
       (λ g. ⊎_elim
       (λ a. let n = stands_run l c k s a.0 a.1 a.2 a.3 a.4 in ⊎_elim
-      (λ b. passed l fs (Default i io T fs) earlier' c k s (ElementStands k a.0 a.1) a.2 a.3 f n (pick_second _ _ _ a.2 a.3 b.0) (fields_halt l fs earlier earlier' c k s f fr.1 es pr b.1))
-      (λ b. run_bind (next_tag l c) _ k s (ElementStands k a.0 a.1) a.2 a.3 n ∙ pick_first _ _ _ a.2 a.3 b.0 ∙ halt_bind (read_type l T earlier' c k a.0 a.1) _ a.2 a.3 f (behind_halts l T earlier earlier' c fr.0 es pr k a.0 a.1 a.2 a.3 f (stands_later l c k s a.0 a.1 a.2 a.3 a.4) b.1))
+      (λ b. passed l fs (Default i io T fs) earlier' c k s (ElementStands k a.0 a.1) a.2 a.3 f n (choose_second _ _ _ a.2 a.3 b.0) (fields_halt l fs earlier earlier' c k s f fr.1 es pr b.1))
+      (λ b. run_bind (next_tag l c) _ k s (ElementStands k a.0 a.1) a.2 a.3 n ∙ choose_first _ _ _ a.2 a.3 b.0 ∙ halt_bind (read_type l T earlier' c k a.0 a.1) _ a.2 a.3 f (behind_halts l T earlier earlier' c fr.0 es pr k a.0 a.1 a.2 a.3 f (stands_later l c k s a.0 a.1 a.2 a.3 a.4) b.1))
       a.5)
       (λ a. let x = complete_with l T earlier earlier' c k s a.0 a.1 a.2 fr.0 pr es a.3 in
       let b = both_of l T earlier' c k s x.0 (k + a.1) a.2 x.2 in
       run_bind (next_tag l c) _ k s (ElementStands k b.tag b.form) b.behind b.rest (stands_run l c k s b.tag b.form b.behind b.rest b.stands)
-      ∙ pick_first _ _ _ b.behind b.rest (begins_took l T earlier' c k s b.tag b.form b.behind b.rest x.0 (k + a.1) a.2 b.stands b.judged)
+      ∙ choose_first _ _ _ b.behind b.rest (begins_took l T earlier' c k s b.tag b.form b.behind b.rest x.0 (k + a.1) a.2 b.stands b.judged)
       ∙ run_bind (read_type l T earlier' c k b.tag b.form) _ b.behind b.rest x.0 (k + a.1) a.2 b.judged
       ∙ default_front l fs i io earlier' c x.0 (k + a.1) a.2 f (⊎_elim
       (λ m. inl (leaf_test i io x.0 (same_trans x.0 a.0 (Leaf i io) (same_sym a.0 x.0 x.1) m.0), fields_halt l fs earlier earlier' c (k + a.1) a.2 f fr.1 es pr m.1))

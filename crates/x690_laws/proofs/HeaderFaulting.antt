@@ -11,9 +11,9 @@ use Rattle.x690.specs.Points.{Enclosing, at_end, ends_with_zeros, fault, past_en
 use Rattle.x690.specs.ReadHeaders.{ContainerEnds, DefiniteLength, ElementStands, IndefiniteLength, LengthForm, fit_contents, header_octet, next_tag, read_big_endian, read_definite_length, read_high_number, read_length, read_number, read_tag_number}
 use Rattle.x690.specs.Reading.{Ask, Done, Fail, Halted, Reading, Took, choose, require, run, ◌>>=◌}
 use Rattle.x690_laws.proofs.Gives.{id_some}
-use Rattle.x690_laws.proofs.HeaderGives.{both, done_on, FirstOf, big_on, ends_on, endless_on, extent_on, first_of_len, guard_on, indefinite_on, next_deep, next_on, not_at_bound, not_false, number_on, octet_on, pick_first, pick_second, where_on, within_less}
-use Rattle.x690_laws.proofs.HeaderSound.{Within, both_true, extent_took, identifier_is, next_took, not_true, number_of_took, number_took, octet_took, tag_is}
-use Rattle.x690_laws.proofs.Runs.{halt_bind, halted_bind, halted_done, halted_fail, halted_guard, halted_pick, run_bind, took_bind, took_done, took_guard, took_pick}
+use Rattle.x690_laws.proofs.HeaderGives.{both, done_on, FirstOf, big_on, ends_on, endless_on, length_on, first_of_len, require_on, indefinite_on, next_deep, next_on, not_at_bound, not_false, number_on, octet_on, choose_first, choose_second, where_on, within_less}
+use Rattle.x690_laws.proofs.HeaderSound.{Within, both_true, length_took, identifier_is, next_took, not_true, number_of_took, number_took, octet_took, tag_is}
+use Rattle.x690_laws.proofs.Runs.{halt_bind, halted_bind, halted_done, halted_fail, halted_require, halted_choose, run_bind, took_bind, took_done, took_require, took_choose}
 
 -- octets that may stand
 
@@ -60,10 +60,10 @@ pub fail_on : (A : Type 0) (f : Fault) (k : ℕ) (s : List ℕ) → run {A = A} 
 unfolding run
 fail_on A f k s = refl
 
-pub guard_off : {A : Type 0} (b : Bool) (g : Fault) (p : Reading A) (k : ℕ) (s : List ℕ) (f : Fault) → b ≡ false → f ≡ g → run (require b g p) k s ≡ Halted f
+pub require_off : {A : Type 0} (b : Bool) (g : Fault) (p : Reading A) (k : ℕ) (s : List ℕ) (f : Fault) → b ≡ false → f ≡ g → run (require b g p) k s ≡ Halted f
 unfolding require run
-guard_off true g p k s f e z = cc
-guard_off false g p k s f e z = ap Halted (sym z)
+require_off true g p k s f e z = cc
+require_off false g p k s f e z = ap Halted (sym z)
 
 pub no_octet : (l : Limits) (e : Option ℕ) (p k : ℕ) (s : List ℕ) (f : Fault) → run (header_octet l e p) k s ≡ Halted f → NoOctet l e p k s f
 unfolding header_octet
@@ -74,8 +74,8 @@ no_octet l e p k s f h = ⊎_elim
     (λ b. let b0 : nat_lt k l.octets ≡ true = b.0 in
     let z = ask_halts k s f b.1 in
     inr (inr (record { in_bound = not_true _ a.0; in_limit = grind (arith, nat_tests) }, z.0, z.1)))
-    (halted_guard _ _ _ k s f a.1))
-    (halted_guard _ _ _ k s f (sym (where_on _ k s) ∙ h))
+    (halted_require _ _ _ k s f a.1))
+    (halted_require _ _ _ k s f (sym (where_on _ k s) ∙ h))
   where
     not_not : (b : Bool) → not b ≡ false → b ≡ true
     not_not true e = refl
@@ -83,11 +83,11 @@ no_octet l e p k s f h = ⊎_elim
 
 pub no_octet_halts : (l : Limits) (e : Option ℕ) (p k : ℕ) (s : List ℕ) (f : Fault) → NoOctet l e p k s f → run (header_octet l e p) k s ≡ Halted f
 unfolding header_octet
-no_octet_halts l e p k s f (inl (a, g)) = where_on _ k s ∙ guard_off _ _ _ k s f (ap not a) g
-no_octet_halts l e p k s f (inr (inl (a, b, g))) = where_on _ k s ∙ guard_on _ _ _ k s (not_false _ a) ∙ guard_off _ _ _ k s f (grind (arith, nat_tests)) g
+no_octet_halts l e p k s f (inl (a, g)) = where_on _ k s ∙ require_off _ _ _ k s f (ap not a) g
+no_octet_halts l e p k s f (inr (inl (a, b, g))) = where_on _ k s ∙ require_on _ _ _ k s (not_false _ a) ∙ require_off _ _ _ k s f (grind (arith, nat_tests)) g
 no_octet_halts l e p k s f (inr (inr (m, z, g))) =
     let lt : k < l.octets = m.in_limit in
-    where_on _ k s ∙ guard_on _ _ _ k s (not_false _ m.in_bound) ∙ guard_on _ _ _ k s (grind (arith, nat_tests)) ∙ ap (λ w. run (Ask Done) k w) z ∙ ask_empty k ∙ ap Halted (sym g)
+    where_on _ k s ∙ require_on _ _ _ k s (not_false _ m.in_bound) ∙ require_on _ _ _ k s (grind (arith, nat_tests)) ∙ ap (λ w. run (Ask Done) k w) z ∙ ask_empty k ∙ ap Halted (sym g)
 
 pub octet_begins : (l : Limits) (e : Option ℕ) (p k : ℕ) (s : List ℕ) (x q : ℕ) (r : List ℕ) → run (header_octet l e p) k s ≡ Took x q r → Begin l e k s (x ∷ []) r × (q ≡ k + 1)
 octet_begins l e p k s x q r h = let o = octet_took l e p k s x q r h in (record { is = o.is; stand = (may_of l e k (subst (Within l e) o.place o.within), tt) }, o.place)
@@ -161,10 +161,10 @@ high_halts l e p (suc left) n k s f z h = ⊎_elim
     (λ u. let u0 : nat_lt a.0 128 ≡ true = u.0 in ⊎_elim
     (λ w. let w0 : nat_le 31 (n * 128 + a.0) ≡ false = w.0 in bad a.0 a.2 b.0 (inr (inr (inl (grind (arith, nat_tests), grind (arith, nat_tests))))) w.1)
     (λ w. absurd (halted_done _ _ _ f w.1))
-    (halted_guard _ _ _ a.1 a.2 f u.1))
+    (halted_require _ _ _ a.1 a.2 f u.1))
     (λ u. more left a.0 a.1 a.2 b.0 b.1 t0.0 t0.1 u.0 u.1 (λ w g. high_halts l e p left (n * 128 + (a.0 - 128)) a.1 a.2 f w g))
-    (halted_pick _ _ _ a.1 a.2 f t.1))
-    (halted_guard _ _ _ a.1 a.2 f a.4))
+    (halted_choose _ _ _ a.1 a.2 f t.1))
+    (halted_require _ _ _ a.1 a.2 f a.4))
     (halted_bind _ _ k s f h)
   where
     bad : (x : ℕ) (r : List ℕ) → Begin l e k s (x ∷ []) r → BadFrom (suc left) n [] x → f ≡ fault p BadTag → HighFrom l e p (suc left) n k s f
@@ -206,12 +206,12 @@ high_halts l e p (suc left) n k s f z h = ⊎_elim
 high_next : (l : Limits) (e : Option ℕ) (p left n k : ℕ) (s : List ℕ) (x : ℕ) (r : List ℕ) → Begin l e k s (x ∷ []) r → not ((n == 0) && (x == 128)) && nat_lt x 256 ≡ true
     → run (read_high_number l e p (suc left) n) k s ≡ run (choose (nat_lt x 128) (require (nat_le 31 (n * 128 + x)) (fault p BadTag) (Done (n * 128 + x))) (read_high_number l e p left (n * 128 + (x - 128)))) (k + 1) r
 unfolding read_high_number
-high_next l e p left n k s x r b t = run_bind _ _ k s x (k + 1) r (begins_octet l e p k s x r b) ∙ guard_on _ _ _ (k + 1) r t
+high_next l e p left n k s x r b t = run_bind _ _ k s x (k + 1) r (begins_octet l e p k s x r b) ∙ require_on _ _ _ (k + 1) r t
 
 high_refused : (l : Limits) (e : Option ℕ) (p left n k : ℕ) (s : List ℕ) (x : ℕ) (r : List ℕ) (f : Fault) → Begin l e k s (x ∷ []) r → not ((n == 0) && (x == 128)) && nat_lt x 256 ≡ false → f ≡ fault p BadTag
     → run (read_high_number l e p (suc left) n) k s ≡ Halted f
 unfolding read_high_number
-high_refused l e p left n k s x r f b t g = run_bind _ _ k s x (k + 1) r (begins_octet l e p k s x r b) ∙ guard_off _ _ _ (k + 1) r f t g
+high_refused l e p left n k s x r f b t g = run_bind _ _ k s x (k + 1) r (begins_octet l e p k s x r b) ∙ require_off _ _ _ (k + 1) r f t g
 
 not_last : (l : Limits) (e : Option ℕ) (p n k : ℕ) (s : List ℕ) (f : Fault) → f ≡ fault p BadTag → run (read_high_number l e p zero n) k s ≡ Halted f
 unfolding read_high_number
@@ -263,7 +263,7 @@ high_stops l e p (suc left) n k s f [] rest b c d g (inr (x, r, bx, w, z)) =
     tested true t m ge bx =
         let m' : left ≡ 0 = omega arith in
         let u : nat_lt x 128 ≡ false = grind (arith, nat_tests) in
-        high_next l e p left n k s x r bx t ∙ pick_second _ _ _ (k + 1) r u ∙ ap (λ y. run (read_high_number l e p y (n * 128 + (x - 128))) (k + 1) r) m' ∙ not_last l e p (n * 128 + (x - 128)) (k + 1) r f z
+        high_next l e p left n k s x r bx t ∙ choose_second _ _ _ (k + 1) r u ∙ ap (λ y. run (read_high_number l e p y (n * 128 + (x - 128))) (k + 1) r) m' ∙ not_last l e p (n * 128 + (x - 128)) (k + 1) r f z
     tested false t m ge bx = high_refused l e p left n k s x r f bx t z
 
     go : Begin l e k s (x ∷ []) r → BadFrom (suc left) n [] x → run (read_high_number l e p (suc left) n) k s ≡ Halted f
@@ -274,7 +274,7 @@ high_stops l e p (suc left) n k s f [] rest b c d g (inr (x, r, bx, w, z)) =
         let sm : n * 128 + x < 31 = w.1 in
         let t : not ((n == 0) && (x == 128)) ≡ true = fits_lead n x (λ a y. absurd (omega arith)) in
         let t' : nat_lt x 256 ≡ true = grind (arith, nat_tests) in
-        high_next l e p left n k s x r bx (both _ _ t t') ∙ pick_first _ _ _ (k + 1) r (grind (arith, nat_tests)) ∙ guard_off _ _ _ (k + 1) r f (grind (arith, nat_tests)) z
+        high_next l e p left n k s x r bx (both _ _ t t') ∙ choose_first _ _ _ (k + 1) r (grind (arith, nat_tests)) ∙ require_off _ _ _ (k + 1) r f (grind (arith, nat_tests)) z
     go bx (inr (inr (inr w))) = high_refused l e p left n k s x r f bx (large_fails n x w) z
 high_stops l e p (suc left) n k s f (x ∷ before) rest b c d g h =
     let ge : 128 ≤ x = d.0 in
@@ -284,7 +284,7 @@ high_stops l e p (suc left) n k s f (x ∷ before) rest b c d g h =
     let u : nat_lt x 128 ≡ false = grind (arith, nat_tests) in
     let q : k + length (x ∷ before) ≡ k + 1 + length before = omega arith in
     let nz : n * 128 + (x - 128) ≢ 0 = not_zero n x ge g in
-    high_next l e p left n k s x (before ++ rest) (begin_first l e k s x before rest b) (both _ _ t t') ∙ pick_second _ _ _ (k + 1) (before ++ rest) u
+    high_next l e p left n k s x (before ++ rest) (begin_first l e k s x before rest b) (both _ _ t t') ∙ choose_second _ _ _ (k + 1) (before ++ rest) u
     ∙ high_stops l e p left (n * 128 + (x - 128)) (k + 1) (before ++ rest) f before rest (begin_rest l e k s x before rest b) (omega arith) d.2 (λ z. absurd (nz z))
     (⊎_elim
     (λ a. inl (subst (λ y. NoOctet l e p y rest f) q a))
@@ -295,7 +295,7 @@ high_number_stops : (l : Limits) (e : Option ℕ) (p k : ℕ) (s : List ℕ) (f 
 high_number_stops l e p k s f h =
     let x = high_halts l e p 4 0 k s f (omega arith) h in
     let few : length x.before + 1 ≤ 4 = x.few in
-    (x.before, x.rest, x.begin, omega arith, x.continue, x.lead refl, ⊎_elim inl (λ a. inr (a.0, a.1, a.2, bad x.before a.0 a.3, a.4)) x.stops)
+    (x.before, x.rest, x.begin, omega arith, x.continue, x.lead refl, ⊎_elim inl (λ a. inr (a.0, a.1, a.2, (bad x.before a.0 a.3, a.4))) x.stops)
   where
     bad : (before : List ℕ) (y : ℕ) → BadFrom 4 0 before y → BadTagOctet before y
     bad before y (inl w) = inl (w.1, w.2)
@@ -304,7 +304,7 @@ high_number_stops l e p k s f h =
 
 high_number_halts : (l : Limits) (e : Option ℕ) (p k : ℕ) (s : List ℕ) (f : Fault) → HighNumberStops l e p k s f → run (read_high_number l e p 4 0) k s ≡ Halted f
 high_number_halts l e p k s f (before, rest, b, few, c, z, h) =
-    high_stops l e p 4 0 k s f before rest b (omega arith) c (λ w. z) (⊎_elim inl (λ a. inr (a.0, a.1, a.2, bad before a.0 a.3, a.4)) h)
+    high_stops l e p 4 0 k s f before rest b (omega arith) c (λ w. z) (⊎_elim inl (λ a. inr (a.0, a.1, a.2, bad before a.0 a.3.0, a.3.1)) h)
   where
     bad : (before : List ℕ) (y : ℕ) → BadTagOctet before y → BadFrom 4 0 before y
     bad before y (inl w) = inl (refl, w.0, w.1)
@@ -362,11 +362,11 @@ tag_stops l c k s f h = ⊎_elim
             ⊎_elim
                 (λ z. let z0 : (b.0 == 0) ≡ true = z.0 in inl (grind (arith, nat_tests), ending b.1 b.2 o.1 z.1))
                 (λ z. let z0 : (b.0 == 0) ≡ false = z.0 in let nz : b.0 ≢ 0 = grind (arith, nat_tests) in inr (nz, naming b.0 b.1 b.2 o.0 o.1 nz z.1))
-                (halted_pick _ _ _ b.1 b.2 f b.4),
+                (halted_choose _ _ _ b.1 b.2 f b.4),
           ))
           (halted_bind _ _ k s f a.1),
     ))
-    (halted_pick _ _ _ k s f (sym (where_on _ k s) ∙ h))
+    (halted_choose _ _ _ k s f (sym (where_on _ k s) ∙ h))
   where
     ending : (j : ℕ) (r : List ℕ) → j ≡ k + 1 → run (require (ends_with_zeros c.innermost) (fault k BadEnd) (header_octet l c.nearest_end k >>= λ y. require (y == 0) (fault k BadEnd) (Done (ContainerEnds k)))) j r ≡ Halted f → EndStops l c k r f
     ending j r q h = ⊎_elim
@@ -374,11 +374,11 @@ tag_stops l c k s f h = ⊎_elim
         (λ a. ⊎_elim
         (λ b. inr (inl (a.0, subst (λ w. NoOctet l c.nearest_end k w r f) q (no_octet l c.nearest_end k j r f b))))
         (λ b. let o = octet_begins l c.nearest_end k j r b.0 b.1 b.2 b.3 in ⊎_elim
-        (λ d. let d0 : (b.0 == 0) ≡ false = d.0 in inr (inr (a.0, b.0, b.2, subst (λ w. Begin l c.nearest_end w r (b.0 ∷ []) b.2) q o.0, grind (arith, nat_tests), d.1)))
+        (λ d. let d0 : (b.0 == 0) ≡ false = d.0 in inr (inr (a.0, (b.0, b.2, subst (λ w. Begin l c.nearest_end w r (b.0 ∷ []) b.2) q o.0, (grind (arith, nat_tests), d.1)))))
         (λ d. absurd (halted_done _ _ _ f d.1))
-        (halted_guard _ _ _ b.1 b.2 f b.4))
+        (halted_require _ _ _ b.1 b.2 f b.4))
         (halted_bind _ _ j r f a.1))
-        (halted_guard _ _ _ j r f h)
+        (halted_require _ _ _ j r f h)
 
     not_both : (x : ℕ) → not (x == 32) && nat_lt x 256 ≡ false → (x ≡ 32) ⊎ (256 ≤ x)
     not_both x h = go (x == 32) (nat_lt x 256) refl refl h
@@ -404,7 +404,7 @@ tag_stops l c k s f h = ⊎_elim
         (λ d. let d0 : nat_lt (x % 32) 31 ≡ false = d.0 in
         let ge : 31 ≤ x % 32 = grind (arith, nat_tests) in
         inr (inl (lt, omega arith, subst (λ w. HighNumberStops l c.nearest_end k w r f) q (high_number_stops l c.nearest_end k j r f d.1))))
-        (halted_pick _ _ _ j r f b))
+        (halted_choose _ _ _ j r f b))
         (λ b. ⊎_elim
         (λ d. let d0 : nat_lt c.open_containers l.depth ≡ false = d.0 in
         let w = some_within l c.nearest_end k (x ∷ []) (omega arith) o.stand in
@@ -424,26 +424,26 @@ tag_stops l c k s f h = ⊎_elim
           d.1,
         )))
         (λ d. absurd (halted_done _ _ _ f d.1))
-        (halted_guard _ _ _ b.1 b.2 f b.4))
+        (halted_require _ _ _ b.1 b.2 f b.4))
         (halted_bind _ _ j r f a.1))
-        (halted_guard _ _ _ j r f h)
+        (halted_require _ _ _ j r f h)
 
 pub tag_halts : (l : Limits) (c : Enclosing) (k : ℕ) (s : List ℕ) (f : Fault) → StopsInTag l c k s f → run (next_tag l c) k s ≡ Halted f
 unfolding next_tag read_tag_number
-tag_halts l c k s f (a, inl h) = where_on _ k s ∙ pick_second _ _ _ k s a ∙ halt_bind (header_octet l c.nearest_end k) _ k s f (no_octet_halts l c.nearest_end k k s f h)
+tag_halts l c k s f (a, inl h) = where_on _ k s ∙ choose_second _ _ _ k s a ∙ halt_bind (header_octet l c.nearest_end k) _ k s f (no_octet_halts l c.nearest_end k k s f h)
 tag_halts l c k s f (a, inr (x, r, b, inl (z, h))) =
     let t : (x == 0) ≡ true = grind (arith, nat_tests) in
-    where_on _ k s ∙ pick_second _ _ _ k s a ∙ run_bind _ _ k s x (k + 1) r (begins_octet l c.nearest_end k k s x r b) ∙ pick_first _ _ _ (k + 1) r t ∙ ending h
+    where_on _ k s ∙ choose_second _ _ _ k s a ∙ run_bind _ _ k s x (k + 1) r (begins_octet l c.nearest_end k k s x r b) ∙ choose_first _ _ _ (k + 1) r t ∙ ending h
   where
     ending : EndStops l c k r f → run (require (ends_with_zeros c.innermost) (fault k BadEnd) (header_octet l c.nearest_end k >>= λ y. require (y == 0) (fault k BadEnd) (Done (ContainerEnds k)))) (k + 1) r ≡ Halted f
-    ending (inl (e, g)) = guard_off _ _ _ (k + 1) r f e g
-    ending (inr (inl (e, g))) = guard_on _ _ _ (k + 1) r e ∙ halt_bind (header_octet l c.nearest_end k) _ (k + 1) r f (no_octet_halts l c.nearest_end k (k + 1) r f g)
-    ending (inr (inr (e, y, r', b', n, g))) =
+    ending (inl (e, g)) = require_off _ _ _ (k + 1) r f e g
+    ending (inr (inl (e, g))) = require_on _ _ _ (k + 1) r e ∙ halt_bind (header_octet l c.nearest_end k) _ (k + 1) r f (no_octet_halts l c.nearest_end k (k + 1) r f g)
+    ending (inr (inr (e, (y, r', b', (n, g))))) =
         let u : (y == 0) ≡ false = grind (arith, nat_tests) in
-        guard_on _ _ _ (k + 1) r e ∙ run_bind _ _ (k + 1) r y (k + 1 + 1) r' (begins_octet l c.nearest_end k (k + 1) r y r' b') ∙ guard_off _ _ _ (k + 1 + 1) r' f u g
+        require_on _ _ _ (k + 1) r e ∙ run_bind _ _ (k + 1) r y (k + 1 + 1) r' (begins_octet l c.nearest_end k (k + 1) r y r' b') ∙ require_off _ _ _ (k + 1 + 1) r' f u g
 tag_halts l c k s f (a, inr (x, r, b, inr (n, inl (w, g)))) =
     let t : (x == 0) ≡ false = grind (arith, nat_tests) in
-    where_on _ k s ∙ pick_second _ _ _ k s a ∙ run_bind _ _ k s x (k + 1) r (begins_octet l c.nearest_end k k s x r b) ∙ pick_second _ _ _ (k + 1) r t ∙ guard_off _ _ _ (k + 1) r f (off w) g
+    where_on _ k s ∙ choose_second _ _ _ k s a ∙ run_bind _ _ k s x (k + 1) r (begins_octet l c.nearest_end k k s x r b) ∙ choose_second _ _ _ (k + 1) r t ∙ require_off _ _ _ (k + 1) r f (off w) g
   where
     either : (a b : Bool) → (a ≡ true) ⊎ (b ≡ false) → not a && b ≡ false
     either true b h = refl
@@ -459,9 +459,9 @@ tag_halts l c k s f (a, inr (x, r, b, inr (n, inr (inl (lt, m, h))))) =
     let t1 : (x == 32) ≡ false = grind (arith, nat_tests) in
     let t2 : nat_lt x 256 ≡ true = grind (arith, nat_tests) in
     let t3 : nat_lt (x % 32) 31 ≡ false = grind (arith, nat_tests) in
-    where_on _ k s ∙ pick_second _ _ _ k s a ∙ run_bind _ _ k s x (k + 1) r (begins_octet l c.nearest_end k k s x r b) ∙ pick_second _ _ _ (k + 1) r t
-    ∙ guard_on _ _ _ (k + 1) r (both _ _ (not_false _ t1) t2)
-    ∙ halt_bind _ _ (k + 1) r f (pick_second _ _ _ (k + 1) r t3 ∙ high_number_halts l c.nearest_end k (k + 1) r f h)
+    where_on _ k s ∙ choose_second _ _ _ k s a ∙ run_bind _ _ k s x (k + 1) r (begins_octet l c.nearest_end k k s x r b) ∙ choose_second _ _ _ (k + 1) r t
+    ∙ require_on _ _ _ (k + 1) r (both _ _ (not_false _ t1) t2)
+    ∙ halt_bind _ _ (k + 1) r f (choose_second _ _ _ (k + 1) r t3 ∙ high_number_halts l c.nearest_end k (k + 1) r f h)
 tag_halts l c k s f (a, inr (x, r, b, inr (n, inr (inr (t, form, r', g, i, d, e))))) =
     ap (λ w. run (next_tag l c) k w) i.is ∙ next_deep l c k t form r' a g d (some_within l c.nearest_end k (identifier t form) (id_some t form g) i.stand) ∙ ap Halted (sym e)
 
@@ -519,8 +519,8 @@ fit_halts l e p n k s f h = ⊎_elim
     (λ a. ⊎_elim
     (λ b. let b0 : nat_le (k + n) l.octets ≡ false = b.0 in inr (not_true _ a.0, grind (arith, nat_tests), b.1))
     (λ b. absurd (halted_done _ k s f b.1))
-    (halted_guard _ _ _ k s f a.1))
-    (halted_guard _ _ _ k s f (sym (where_on _ k s) ∙ h))
+    (halted_require _ _ _ k s f a.1))
+    (halted_require _ _ _ k s f (sym (where_on _ k s) ∙ h))
   where
     not_not : (b : Bool) → not b ≡ false → b ≡ true
     not_not true e = refl
@@ -528,8 +528,8 @@ fit_halts l e p n k s f h = ⊎_elim
 
 fit_stops : (l : Limits) (e : Option ℕ) (p n k : ℕ) (s : List ℕ) (f : Fault) → EndTooFar l e p (k + n) f → run (fit_contents l e p n) k s ≡ Halted f
 unfolding fit_contents
-fit_stops l e p n k s f (inl (a, g)) = where_on _ k s ∙ guard_off _ _ _ k s f (ap not a) g
-fit_stops l e p n k s f (inr (a, b, g)) = where_on _ k s ∙ guard_on _ _ _ k s (not_false _ a) ∙ guard_off _ _ _ k s f (grind (arith, nat_tests)) g
+fit_stops l e p n k s f (inl (a, g)) = where_on _ k s ∙ require_off _ _ _ k s f (ap not a) g
+fit_stops l e p n k s f (inr (a, b, g)) = where_on _ k s ∙ require_on _ _ _ k s (not_false _ a) ∙ require_off _ _ _ k s f (grind (arith, nat_tests)) g
 
 -- the number behind the first octet of a length stops
 abbrev LateStop : Limits → Option ℕ → ℕ → ℕ → List ℕ → Fault → Type 0
@@ -545,7 +545,7 @@ number_halts l e p k s x j r f b q lt ne h = ⊎_elim
     (λ d. let i = big_halts l e p (x - 128) 0 j r f d.1 in
     let c : length i.0 < x - 128 = i.3 in
     inl (x, i.0, i.1, begin_more l e k j s x r i.0 i.1 q b i.2, lt, omega arith, subst (λ w. NoOctet l e p (w + length i.0) i.1 f) q i.4))
-    (halted_pick _ _ _ j r f a))
+    (halted_choose _ _ _ j r f a))
     (λ a. let far = fit_halts l e p a.0 a.1 a.2 f a.4 in ⊎_elim
     (λ d. let d0 : nat_lt x 128 ≡ true = d.0 in
     let y = took_done _ _ _ _ _ _ d.1 in
@@ -560,7 +560,7 @@ number_halts l e p k s x j r f b q lt ne h = ⊎_elim
     let pl : a.1 ≡ j + length i.octets = i.place in
     let w : a.1 + a.0 ≡ k + length (x ∷ i.octets) + a.0 = omega arith in
     inr (a.0, x ∷ i.octets, a.2, begin_more l e k j s x r i.octets a.2 q b i.begin, inr (omega arith, lt, omega arith, i.number), subst (λ z. EndTooFar l e p z f) w far))
-    (took_pick _ _ _ _ _ _ _ _ a.3))
+    (took_choose _ _ _ _ _ _ _ _ a.3))
     (halted_bind _ _ j r f h)
 
 pub length_stops : (l : Limits) (e : Option ℕ) (p k : ℕ) (s : List ℕ) (f : Fault) → run (read_length l e p) k s ≡ Halted f → StopsInLength l e p true k s f
@@ -568,15 +568,15 @@ unfolding read_length
 length_stops l e p k s f h = ⊎_elim
     (λ a. inl (no_octet l e p k s f a))
     (λ a. let o = octet_begins l e p k s a.0 a.1 a.2 a.3 in ⊎_elim
-    (λ b. let b0 : nat_lt a.0 255 ≡ false = b.0 in inr (inl (a.0, a.2, o.0, inl (grind (arith, nat_tests)), b.1)))
+    (λ b. let b0 : nat_lt a.0 255 ≡ false = b.0 in inr (inl (a.0, a.2, o.0, (inl (grind (arith, nat_tests)), b.1))))
     (λ b. let b0 : nat_lt a.0 255 ≡ true = b.0 in let lt : a.0 < 255 = grind (arith, nat_tests) in ⊎_elim
     (λ d. absurd (halted_done _ _ _ f d.1))
     (λ d. let d0 : (a.0 == 128) ≡ false = d.0 in let ne : a.0 ≢ 128 = grind (arith, nat_tests) in ⊎_elim
     (λ g. inr (inr (number_halts l e p k s a.0 a.1 a.2 f o.0 o.1 lt ne g)))
     (λ g. absurd (halted_done _ _ _ f g.4))
     (halted_bind _ _ a.1 a.2 f d.1))
-    (halted_pick _ _ _ a.1 a.2 f b.1))
-    (halted_guard _ _ _ a.1 a.2 f a.4))
+    (halted_choose _ _ _ a.1 a.2 f b.1))
+    (halted_require _ _ _ a.1 a.2 f a.4))
     (halted_bind _ _ k s f h)
 
 pub definite_stops : (l : Limits) (e : Option ℕ) (p k : ℕ) (s : List ℕ) (f : Fault) → run (read_definite_length l e p) k s ≡ Halted f → StopsInLength l e p false k s f
@@ -584,12 +584,12 @@ unfolding read_definite_length
 definite_stops l e p k s f h = ⊎_elim
     (λ a. inl (no_octet l e p k s f a))
     (λ a. let o = octet_begins l e p k s a.0 a.1 a.2 a.3 in ⊎_elim
-    (λ b. inr (inl (a.0, a.2, o.0, which a.0 b.0, b.1)))
+    (λ b. inr (inl (a.0, a.2, o.0, (which a.0 b.0, b.1))))
     (λ b. let b0 = both_true _ _ b.0 in
     let t0 : nat_lt a.0 255 ≡ true = b0.0 in let lt : a.0 < 255 = grind (arith, nat_tests) in
     let t1 : (a.0 == 128) ≡ false = not_true _ b0.1 in let ne : a.0 ≢ 128 = grind (arith, nat_tests) in
     inr (inr (number_halts l e p k s a.0 a.1 a.2 f o.0 o.1 lt ne b.1)))
-    (halted_guard _ _ _ a.1 a.2 f a.4))
+    (halted_require _ _ _ a.1 a.2 f a.4))
     (halted_bind _ _ k s f h)
   where
     which : (x : ℕ) → nat_lt x 255 && not (x == 128) ≡ false → (255 ≤ x) ⊎ ((false ≡ false) × (x ≡ 128))
@@ -607,10 +607,10 @@ prefix_on l e p m k header f r w = ⊎_elim
     let t : nat_lt f.first 128 ≡ true = grind (arith, nat_tests) in
     let n : length f.rest ≡ 0 = ap length a.2 in
     let q : k ≡ k + length f.rest = omega arith in
-    pick_first _ _ _ k (f.rest ++ r) t ∙ done_on f.first k (f.rest ++ r) ∙ ap₂ (λ u v. Took u k (v ++ r)) a.1 a.2 ∙ ap (λ u. Took m u r) q)
+    choose_first _ _ _ k (f.rest ++ r) t ∙ done_on f.first k (f.rest ++ r) ∙ ap₂ (λ u v. Took u k (v ++ r)) a.1 a.2 ∙ ap (λ u. Took m u r) q)
     (λ a. let a0 : 129 ≤ f.first = a.0 in
     let t : nat_lt f.first 128 ≡ false = grind (arith, nat_tests) in
-    pick_second _ _ _ k (f.rest ++ r) t ∙ ap (λ u. run (read_big_endian l e p u 0) k (f.rest ++ r)) (sym a.1)
+    choose_second _ _ _ k (f.rest ++ r) t ∙ ap (λ u. run (read_big_endian l e p u 0) k (f.rest ++ r)) (sym a.1)
     ∙ big_on l e p 0 k f.rest r w ∙ ap (λ u. Took u (k + length f.rest) r) a.2)
     f.form
 
@@ -618,7 +618,7 @@ number_late : (l : Limits) (e : Option ℕ) (p k x : ℕ) (r : List ℕ) (f : Fa
 unfolding read_number
 number_late l e p k x r f before rest is stand lt h =
     let t : nat_lt x 128 ≡ false = grind (arith, nat_tests) in
-    halt_bind _ _ (k + 1) r f (pick_second _ _ _ (k + 1) r t ∙ big_stops l e p (x - 128) 0 (k + 1) r f before rest (record { is = is; stand = stand }) (omega arith) h)
+    halt_bind _ _ (k + 1) r f (choose_second _ _ _ (k + 1) r t ∙ big_stops l e p (x - 128) 0 (k + 1) r f before rest (record { is = is; stand = stand }) (omega arith) h)
 
 number_far : (l : Limits) (e : Option ℕ) (p k m : ℕ) (header r : List ℕ) (g : Fault) (f : FirstOf m header) → Within l e (k + 1 + length f.rest) → EndTooFar l e p (k + 1 + length f.rest + m) g → run (read_number l e p f.first) (k + 1) (f.rest ++ r) ≡ Halted g
 unfolding read_number
@@ -628,7 +628,7 @@ number_far l e p k m header r g f w h = run_bind _ _ (k + 1) (f.rest ++ r) m (k 
 length_next : (l : Limits) (e : Option ℕ) (p k : ℕ) (s : List ℕ) (x : ℕ) (r : List ℕ) (f : Fault) → Begin l e k s (x ∷ []) r → x < 255 → x ≢ 128 → run (read_number l e p x) (k + 1) r ≡ Halted f → run (read_length l e p) k s ≡ Halted f
 unfolding read_length
 length_next l e p k s x r f b lt ne h =
-    run_bind _ _ k s x (k + 1) r (begins_octet l e p k s x r b) ∙ guard_on _ _ _ (k + 1) r (grind (arith, nat_tests)) ∙ pick_second _ _ _ (k + 1) r (grind (arith, nat_tests))
+    run_bind _ _ k s x (k + 1) r (begins_octet l e p k s x r b) ∙ require_on _ _ _ (k + 1) r (grind (arith, nat_tests)) ∙ choose_second _ _ _ (k + 1) r (grind (arith, nat_tests))
     ∙ halt_bind (read_number l e p x) _ (k + 1) r f h
 
 definite_next : (l : Limits) (e : Option ℕ) (p k : ℕ) (s : List ℕ) (x : ℕ) (r : List ℕ) (f : Fault) → Begin l e k s (x ∷ []) r → x < 255 → x ≢ 128 → run (read_number l e p x) (k + 1) r ≡ Halted f → run (read_definite_length l e p) k s ≡ Halted f
@@ -636,7 +636,7 @@ unfolding read_definite_length
 definite_next l e p k s x r f b lt ne h =
     let t : nat_lt x 255 ≡ true = grind (arith, nat_tests) in
     let t' : (x == 128) ≡ false = grind (arith, nat_tests) in
-    run_bind _ _ k s x (k + 1) r (begins_octet l e p k s x r b) ∙ guard_on _ _ _ (k + 1) r (both _ _ t (not_false _ t')) ∙ h
+    run_bind _ _ k s x (k + 1) r (begins_octet l e p k s x r b) ∙ require_on _ _ _ (k + 1) r (both _ _ t (not_false _ t')) ∙ h
 
 late_halts : {A : Type 0} (reading : Reading A) (l : Limits) (e : Option ℕ) (p k : ℕ) (s : List ℕ) (f : Fault) → ((x : ℕ) (r : List ℕ) → Begin l e k s (x ∷ []) r → x < 255 → x ≢ 128 → run (read_number l e p x) (k + 1) r ≡ Halted f → run reading k s ≡ Halted f)
     → LateStop l e p k s f → run reading k s ≡ Halted f
@@ -654,14 +654,14 @@ late_halts reading l e p k s f go (inr (m, header, rest, b, sp, h)) =
 pub length_halts : (l : Limits) (e : Option ℕ) (p k : ℕ) (s : List ℕ) (f : Fault) → StopsInLength l e p true k s f → run (read_length l e p) k s ≡ Halted f
 unfolding read_length
 length_halts l e p k s f (inl h) = halt_bind (header_octet l e p) _ k s f (no_octet_halts l e p k s f h)
-length_halts l e p k s f (inr (inl (x, r, b, inl ge, g))) = run_bind _ _ k s x (k + 1) r (begins_octet l e p k s x r b) ∙ guard_off _ _ _ (k + 1) r f (grind (arith, nat_tests)) g
-length_halts l e p k s f (inr (inl (x, r, b, inr w, g))) = let z : true ≡ false = w.0 in cc
+length_halts l e p k s f (inr (inl (x, r, b, (inl ge, g)))) = run_bind _ _ k s x (k + 1) r (begins_octet l e p k s x r b) ∙ require_off _ _ _ (k + 1) r f (grind (arith, nat_tests)) g
+length_halts l e p k s f (inr (inl (x, r, b, (inr w, g)))) = let z : true ≡ false = w.0 in cc
 length_halts l e p k s f (inr (inr h)) = late_halts (read_length l e p) l e p k s f (λ x r b lt ne g. length_next l e p k s x r f b lt ne g) h
 
 pub definite_halts : (l : Limits) (e : Option ℕ) (p k : ℕ) (s : List ℕ) (f : Fault) → StopsInLength l e p false k s f → run (read_definite_length l e p) k s ≡ Halted f
 unfolding read_definite_length
 definite_halts l e p k s f (inl h) = halt_bind (header_octet l e p) _ k s f (no_octet_halts l e p k s f h)
-definite_halts l e p k s f (inr (inl (x, r, b, w, g))) = run_bind _ _ k s x (k + 1) r (begins_octet l e p k s x r b) ∙ guard_off _ _ _ (k + 1) r f (off w) g
+definite_halts l e p k s f (inr (inl (x, r, b, (w, g)))) = run_bind _ _ k s x (k + 1) r (begins_octet l e p k s x r b) ∙ require_off _ _ _ (k + 1) r f (off w) g
   where
     either : (a b : Bool) → (a ≡ false) ⊎ (b ≡ true) → a && not b ≡ false
     either false b h = refl
@@ -677,15 +677,15 @@ definite_halts l e p k s f (inr (inr h)) = late_halts (read_definite_length l e 
 -- a length that stands
 
 pub form_stands : (l : Limits) (e : Option ℕ) (p k : ℕ) (s : List ℕ) (x : LengthForm) (q : ℕ) (r : List ℕ) → run (read_length l e p) k s ≡ Took x q r → FormStands l e k s x q r
-form_stands l e p k s (DefiniteLength m) q r h = let n = extent_took l e p k s (DefiniteLength m) q r h in record { header = n.octets; is = n.is; spells = n.spells; behind_is = n.place; in_bound = n.within.nearest_end; in_limit = n.within.limit }
+form_stands l e p k s (DefiniteLength m) q r h = let n = length_took l e p k s (DefiniteLength m) q r h in record { header = n.octets; is = n.is; spells = n.spells; behind_is = n.place; in_bound = n.within.nearest_end; in_limit = n.within.limit }
 form_stands l e p k s IndefiniteLength q r h =
-    let n = extent_took l e p k s IndefiniteLength q r h in
+    let n = length_took l e p k s IndefiniteLength q r h in
     (record { is = n.0; stand = (may_of l e k (subst (Within l e) n.1 n.2), tt) }, n.1)
 
 pub form_run : (l : Limits) (e : Option ℕ) (p k : ℕ) (s : List ℕ) (x : LengthForm) (q : ℕ) (r : List ℕ) → FormStands l e k s x q r → run (read_length l e p) k s ≡ Took x q r
 form_run l e p k s (DefiniteLength m) q r h =
     let w : Within l e (q + m) = record { nearest_end = h.in_bound; limit = h.in_limit } in
-    ap (λ z. run (read_length l e p) k z) h.is ∙ extent_on l e p m k h.header r h.spells (subst (λ z. Within l e (z + m)) h.behind_is w) ∙ ap (λ z. Took (DefiniteLength m) z r) (sym h.behind_is)
+    ap (λ z. run (read_length l e p) k z) h.is ∙ length_on l e p m k h.header r h.spells (subst (λ z. Within l e (z + m)) h.behind_is w) ∙ ap (λ z. Took (DefiniteLength m) z r) (sym h.behind_is)
 form_run l e p k s IndefiniteLength q r h =
     ap (λ z. run (read_length l e p) k z) h.0.is ∙ indefinite_on l e p k r (within_of l e k h.0.stand.0) ∙ ap (λ z. Took IndefiniteLength z r) (sym h.1)
 
@@ -695,7 +695,7 @@ definite_stands l e p k s m q r h =
     let a = took_bind _ _ _ _ _ _ _ h in
     let o = octet_took l e p k s a.value a.place a.rest a.first in
     let o1 : a.place ≡ k + 1 = o.place in
-    let b = took_guard _ _ _ _ _ _ _ _ a.next_tag in
+    let b = took_require _ _ _ _ _ _ _ _ a.next_tag in
     let b0 = both_true _ _ b.0 in
     let t0 : nat_lt a.value 255 ≡ true = b0.0 in let lt : a.value < 255 = grind (arith, nat_tests) in
     let t1 : (a.value == 128) ≡ false = not_true _ b0.1 in let ne : a.value ≢ 128 = grind (arith, nat_tests) in
@@ -719,4 +719,4 @@ definite_run l e p k s m q r h =
     let w' = subst (Within l e) q' w in
     ap (λ z. run (read_definite_length l e p) k z) (h.is ∙ ap (λ z. z ++ r) i.is)
     ∙ run_bind _ _ k (i.first ∷ (i.rest ++ r)) i.first (k + 1) (i.rest ++ r) (octet_on l e p k i.first (i.rest ++ r) (within_less l e (k + 1) (k + 1 + length i.rest + m) (omega arith) w'))
-    ∙ guard_on _ _ _ (k + 1) (i.rest ++ r) (both _ _ t (not_false _ t')) ∙ number_on l e p m (k + 1) h.header i r w' ∙ ap (λ z. Took m z r) q''
+    ∙ require_on _ _ _ (k + 1) (i.rest ++ r) (both _ _ t (not_false _ t')) ∙ number_on l e p m (k + 1) h.header i r w' ∙ ap (λ z. Took m z r) q''

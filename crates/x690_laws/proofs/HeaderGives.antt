@@ -14,20 +14,20 @@ use Rattle.x690.specs.Points.{Enclosing, EndsWithZeros, at_end, ends_with_zeros,
 use Rattle.x690.specs.ReadHeaders.{ContainerEnds, DefiniteLength, ElementStands, IndefiniteLength, fit_contents, header_octet, next_octets, next_tag, primitive_contents, read_big_endian, read_definite_length, read_high_number, read_length, read_number, read_tag_number}
 use Rattle.x690.specs.Reading.{Ask, Done, Halted, Reading, Took, Where, choose, require, run}
 
-pub guard_on : {A : Type 0} (b : Bool) (f : Fault) (p : Reading A) (k : ℕ) (s : List ℕ) → b ≡ true → run (require b f p) k s ≡ run p k s
+pub require_on : {A : Type 0} (b : Bool) (f : Fault) (p : Reading A) (k : ℕ) (s : List ℕ) → b ≡ true → run (require b f p) k s ≡ run p k s
 unfolding require
-guard_on true f p k s e = refl
-guard_on false f p k s e = cc
+require_on true f p k s e = refl
+require_on false f p k s e = cc
 
-pub pick_first : {A : Type 0} (b : Bool) (p p' : Reading A) (k : ℕ) (s : List ℕ) → b ≡ true → run (choose b p p') k s ≡ run p k s
+pub choose_first : {A : Type 0} (b : Bool) (p p' : Reading A) (k : ℕ) (s : List ℕ) → b ≡ true → run (choose b p p') k s ≡ run p k s
 unfolding choose
-pick_first true p p' k s e = refl
-pick_first false p p' k s e = cc
+choose_first true p p' k s e = refl
+choose_first false p p' k s e = cc
 
-pub pick_second : {A : Type 0} (b : Bool) (p p' : Reading A) (k : ℕ) (s : List ℕ) → b ≡ false → run (choose b p p') k s ≡ run p' k s
+pub choose_second : {A : Type 0} (b : Bool) (p p' : Reading A) (k : ℕ) (s : List ℕ) → b ≡ false → run (choose b p p') k s ≡ run p' k s
 unfolding choose
-pick_second true p p' k s e = cc
-pick_second false p p' k s e = refl
+choose_second true p p' k s e = cc
+choose_second false p p' k s e = refl
 
 pub where_on : {A : Type 0} (f : ℕ → Reading A) (k : ℕ) (s : List ℕ) → run (Where f) k s ≡ run (f k) k s
 unfolding run
@@ -70,7 +70,7 @@ unfolding header_octet
 octet_on l e p k x s w =
     let z : k + 1 ≤ l.octets = w.limit in
     let t : nat_lt k l.octets ≡ true = grind (arith, nat_tests) in
-    where_on _ k (x ∷ s) ∙ guard_on _ _ _ k (x ∷ s) (not_false _ (not_at_bound e k w.nearest_end)) ∙ guard_on _ _ _ k (x ∷ s) t ∙ ask_on k x s
+    where_on _ k (x ∷ s) ∙ require_on _ _ _ k (x ∷ s) (not_false _ (not_at_bound e k w.nearest_end)) ∙ require_on _ _ _ k (x ∷ s) t ∙ ask_on k x s
 
 -- tags
 
@@ -107,7 +107,7 @@ high_on l e p (suc left) n k (x ∷ []) r m h g f v z w =
     let t1 : nat_lt x 128 ≡ true = grind (arith, nat_tests) in
     let t2 : nat_le 31 (n * 128 + x) ≡ true = grind (arith, nat_tests) in
     run_bind _ _ k (x ∷ r) x (k + 1) r (octet_on l e p k x r (within_less l e (k + 1) (k + length (x ∷ [])) (omega arith) w))
-    ∙ guard_on _ _ _ (k + 1) r (both _ _ f t0) ∙ pick_first _ _ _ (k + 1) r t1 ∙ guard_on _ _ _ (k + 1) r t2 ∙ done_on (n * 128 + x) (k + 1) r
+    ∙ require_on _ _ _ (k + 1) r (both _ _ f t0) ∙ choose_first _ _ _ (k + 1) r t1 ∙ require_on _ _ _ (k + 1) r t2 ∙ done_on (n * 128 + x) (k + 1) r
     ∙ ap₂ (λ a b. Took a b r) e1 (let q : k + 1 ≡ k + length (x ∷ []) = omega arith in q)
 high_on l e p (suc left) n k (x ∷ y ∷ d) r m h g f v z w =
     let h0 : 128 ≤ x = h.0 in
@@ -118,7 +118,7 @@ high_on l e p (suc left) n k (x ∷ y ∷ d) r m h g f v z w =
     let nz : n * 128 + (x - 128) ≢ 0 = not_lead n x h0 f in
     let q : k + 1 + length (y ∷ d) ≡ k + length (x ∷ y ∷ d) = omega arith in
     run_bind _ _ k (x ∷ ((y ∷ d) ++ r)) x (k + 1) ((y ∷ d) ++ r) (octet_on l e p k x ((y ∷ d) ++ r) (within_less l e (k + 1) (k + length (x ∷ y ∷ d)) (omega arith) w))
-    ∙ guard_on _ _ _ (k + 1) ((y ∷ d) ++ r) (both _ _ f t0) ∙ pick_second _ _ _ (k + 1) ((y ∷ d) ++ r) t1
+    ∙ require_on _ _ _ (k + 1) ((y ∷ d) ++ r) (both _ _ f t0) ∙ choose_second _ _ _ (k + 1) ((y ∷ d) ++ r) t1
     ∙ high_on l e p left (n * 128 + (x - 128)) (k + 1) (y ∷ d) r m h.2 (omega arith) (lead_from (n * 128 + (x - 128)) (y ∷ d) nz) (ap (λ a. run_value a (y ∷ d)) (sym nv) ∙ v) z (subst (Within l e) (sym q) w)
     ∙ at_place m _ _ r q
 
@@ -221,10 +221,10 @@ lead_on l c k j n m t f s r a g d p z z' w h =
     let t1 : (x == 32) ≡ false = grind (arith, nat_tests) in
     let t2 : nat_lt x 256 ≡ true = let y = p.header_octet in grind (arith, nat_tests) in
     let t3 : nat_lt c.open_containers l.depth ≡ true = grind (arith, nat_tests) in
-    where_on _ k (x ∷ s) ∙ pick_second _ _ _ k (x ∷ s) a
+    where_on _ k (x ∷ s) ∙ choose_second _ _ _ k (x ∷ s) a
     ∙ run_bind _ _ k (x ∷ s) x (k + 1) s (octet_on l c.nearest_end k k x s w)
-    ∙ pick_second _ _ _ (k + 1) s t0 ∙ guard_on _ _ _ (k + 1) s (both _ _ (not_false _ t1) t2)
-    ∙ run_bind _ _ (k + 1) s t.number j r h ∙ guard_on _ _ _ j r t3 ∙ done_on _ j r
+    ∙ choose_second _ _ _ (k + 1) s t0 ∙ require_on _ _ _ (k + 1) s (both _ _ (not_false _ t1) t2)
+    ∙ run_bind _ _ (k + 1) s t.number j r h ∙ require_on _ _ _ j r t3 ∙ done_on _ j r
     ∙ ap₂ (λ (u : ℕ) (v : Bool). Took (ElementStands k (record { class = u; number = t.number }) v) j r) p.class_is p.form_is
 
 pub next_on : (l : Limits) (c : Enclosing) (k : ℕ) (t : Tag) (f : Bool) (r : List ℕ) → stands_at_end c.innermost k ≡ false → IsTag t → c.open_containers < l.depth → Within l c.nearest_end (k + length (identifier t f))
@@ -239,7 +239,7 @@ next_on l c k t f r a g d w = ⊎_elim
     let q : k + 1 ≡ k + length (identifier t f) = omega arith in
     ap (λ v. run (next_tag l c) k (v ++ r)) i.is
     ∙ lead_on l c k (k + 1) t.number t.number t f r r a g d p (not_zero t f t.number g sm) (not_thirty t f t.number g sm) (within_less l c.nearest_end (k + 1) (k + length (identifier t f)) (omega arith) w)
-    (pick_first _ _ _ (k + 1) r b ∙ done_on _ (k + 1) r ∙ ap (λ v. Took v (k + 1) r) p.number_is)
+    (choose_first _ _ _ (k + 1) r b ∙ done_on _ (k + 1) r ∙ ap (λ v. Took v (k + 1) r) p.number_is)
     ∙ at_place (ElementStands k t f) _ _ r q)
     (λ i. let n : length (identifier t f) ≡ 1 + length (base128 t.number) = ap length i.is ∙ add1 (base128 t.number) in
     let p = lead_parts t f 31 g.class_fits (lit< tt) in
@@ -247,7 +247,7 @@ next_on l c k t f r a g d w = ⊎_elim
     let q : k + 1 + length (base128 t.number) ≡ k + length (identifier t f) = omega arith in
     ap (λ v. run (next_tag l c) k (v ++ r)) i.is
     ∙ lead_on l c k (k + 1 + length (base128 t.number)) 31 t.number t f (base128 t.number ++ r) r a g d p (λ z. absurd (omega arith)) (thirty_one t f) (within_less l c.nearest_end (k + 1) (k + length (identifier t f)) (omega arith) w)
-    (pick_second _ _ _ (k + 1) (base128 t.number ++ r) b
+    (choose_second _ _ _ (k + 1) (base128 t.number ++ r) b
     ∙ high_on l c.nearest_end k 4 0 (k + 1) (base128 t.number) r t.number (digits_run t.number) (digits_length t.number g.number_fits) (digits_fit t.number) (digits_value t.number) i.large (subst (Within l c.nearest_end) (sym q) w))
     ∙ at_place (ElementStands k t f) _ _ r q)
     (identifier_cases t f)
@@ -267,9 +267,9 @@ lead_deep l c k j n m t f s r a g d p z z' w h =
     let t1 : (x == 32) ≡ false = grind (arith, nat_tests) in
     let t2 : nat_lt x 256 ≡ true = let y = p.header_octet in grind (arith, nat_tests) in
     let t3 : nat_lt c.open_containers l.depth ≡ false = grind (arith, nat_tests) in
-    where_on _ k (x ∷ s) ∙ pick_second _ _ _ k (x ∷ s) a
+    where_on _ k (x ∷ s) ∙ choose_second _ _ _ k (x ∷ s) a
     ∙ run_bind _ _ k (x ∷ s) x (k + 1) s (octet_on l c.nearest_end k k x s w)
-    ∙ pick_second _ _ _ (k + 1) s t0 ∙ guard_on _ _ _ (k + 1) s (both _ _ (not_false _ t1) t2)
+    ∙ choose_second _ _ _ (k + 1) s t0 ∙ require_on _ _ _ (k + 1) s (both _ _ (not_false _ t1) t2)
     ∙ run_bind _ _ (k + 1) s t.number j r h ∙ halts_by _ _ _ j r t3
 
 pub next_deep : (l : Limits) (c : Enclosing) (k : ℕ) (t : Tag) (f : Bool) (r : List ℕ) → stands_at_end c.innermost k ≡ false → IsTag t → l.depth ≤ c.open_containers → Within l c.nearest_end (k + length (identifier t f))
@@ -284,30 +284,30 @@ next_deep l c k t f r a g d w = ⊎_elim
     let q : k + 1 ≡ k + length (identifier t f) = omega arith in
     ap (λ v. run (next_tag l c) k (v ++ r)) i.is
     ∙ lead_deep l c k (k + 1) t.number t.number t f r r a g d p (not_zero t f t.number g sm) (not_thirty t f t.number g sm) (within_less l c.nearest_end (k + 1) (k + length (identifier t f)) (omega arith) w)
-    (pick_first _ _ _ (k + 1) r b ∙ done_on _ (k + 1) r ∙ ap (λ v. Took v (k + 1) r) p.number_is))
+    (choose_first _ _ _ (k + 1) r b ∙ done_on _ (k + 1) r ∙ ap (λ v. Took v (k + 1) r) p.number_is))
     (λ i. let n : length (identifier t f) ≡ 1 + length (base128 t.number) = ap length i.is ∙ add1 (base128 t.number) in
     let p = lead_parts t f 31 g.class_fits (lit< tt) in
     let b : nat_lt (lead_of t f 31 % 32) 31 ≡ false = let y = p.number_is in grind (arith, nat_tests) in
     let q : k + 1 + length (base128 t.number) ≡ k + length (identifier t f) = omega arith in
     ap (λ v. run (next_tag l c) k (v ++ r)) i.is
     ∙ lead_deep l c k (k + 1 + length (base128 t.number)) 31 t.number t f (base128 t.number ++ r) r a g d p (λ z. absurd (omega arith)) (thirty_one t f) (within_less l c.nearest_end (k + 1) (k + length (identifier t f)) (omega arith) w)
-    (pick_second _ _ _ (k + 1) (base128 t.number ++ r) b
+    (choose_second _ _ _ (k + 1) (base128 t.number ++ r) b
     ∙ high_on l c.nearest_end k 4 0 (k + 1) (base128 t.number) r t.number (digits_run t.number) (digits_length t.number g.number_fits) (digits_fit t.number) (digits_value t.number) i.large (subst (Within l c.nearest_end) (sym q) w)))
     (identifier_cases t f)
 
 pub ends_on : (l : Limits) (c : Enclosing) (k : ℕ) (r : List ℕ) → stands_at_end c.innermost k ≡ true → run (next_tag l c) k r ≡ Took (ContainerEnds k) k r
 unfolding next_tag
-ends_on l c k r h = where_on _ k r ∙ pick_first _ _ _ k r h ∙ done_on _ k r
+ends_on l c k r h = where_on _ k r ∙ choose_first _ _ _ k r h ∙ done_on _ k r
 
 pub endless_on : (l : Limits) (c : Enclosing) (k : ℕ) (r : List ℕ) → c.innermost ≡ EndsWithZeros → Within l c.nearest_end (k + 2) → run (next_tag l c) k (0 ∷ 0 ∷ r) ≡ Took (ContainerEnds k) (k + 2) r
 unfolding next_tag
 endless_on l c k r h w =
     let q : k + 1 + 1 ≡ k + 2 = omega arith in
-    where_on _ k (0 ∷ 0 ∷ r) ∙ pick_second _ _ _ k (0 ∷ 0 ∷ r) (ap (λ v. stands_at_end v k) h)
+    where_on _ k (0 ∷ 0 ∷ r) ∙ choose_second _ _ _ k (0 ∷ 0 ∷ r) (ap (λ v. stands_at_end v k) h)
     ∙ run_bind _ _ k (0 ∷ 0 ∷ r) 0 (k + 1) (0 ∷ r) (octet_on l c.nearest_end k k 0 (0 ∷ r) (within_less l c.nearest_end (k + 1) (k + 2) (omega arith) w))
-    ∙ pick_first _ _ _ (k + 1) (0 ∷ r) refl ∙ guard_on _ _ _ (k + 1) (0 ∷ r) (ap ends_with_zeros h)
+    ∙ choose_first _ _ _ (k + 1) (0 ∷ r) refl ∙ require_on _ _ _ (k + 1) (0 ∷ r) (ap ends_with_zeros h)
     ∙ run_bind _ _ (k + 1) (0 ∷ r) 0 (k + 1 + 1) r (octet_on l c.nearest_end k (k + 1) 0 r (subst (Within l c.nearest_end) (sym q) w))
-    ∙ guard_on _ _ _ (k + 1 + 1) r refl ∙ done_on _ (k + 1 + 1) r ∙ at_place (ContainerEnds k) _ _ r q
+    ∙ require_on _ _ _ (k + 1 + 1) r refl ∙ done_on _ (k + 1 + 1) r ∙ at_place (ContainerEnds k) _ _ r q
 
 -- lengths
 
@@ -324,7 +324,7 @@ unfolding fit_contents
 fitting_on l e p n k s w =
     let z : k + n ≤ l.octets = w.limit in
     let t : nat_le (k + n) l.octets ≡ true = grind (arith, nat_tests) in
-    where_on _ k s ∙ guard_on _ _ _ k s (not_false _ w.nearest_end) ∙ guard_on _ _ _ k s t ∙ done_on n k s
+    where_on _ k s ∙ require_on _ _ _ k s (not_false _ w.nearest_end) ∙ require_on _ _ _ k s t ∙ done_on n k s
 
 -- a length's first octet, and the number of the others
 pub record FirstOf (m : ℕ) (length_octets : List ℕ) : Type 0 where
@@ -352,19 +352,19 @@ number_on l e p m k length_octets f r w = ⊎_elim
     let n : length f.rest ≡ 0 = ap length a.2 in
     let q : k ≡ k + length f.rest = omega arith in
     let q' : k + length f.rest + m ≡ k + m = omega arith in
-    run_bind _ _ k (f.rest ++ r) m k r (pick_first _ _ _ k (f.rest ++ r) t ∙ done_on f.first k (f.rest ++ r) ∙ ap₂ (λ u v. Took u k (v ++ r)) a.1 a.2)
+    run_bind _ _ k (f.rest ++ r) m k r (choose_first _ _ _ k (f.rest ++ r) t ∙ done_on f.first k (f.rest ++ r) ∙ ap₂ (λ u v. Took u k (v ++ r)) a.1 a.2)
     ∙ fitting_on l e p m k r (subst (Within l e) q' w) ∙ at_place m _ _ r q)
     (λ a. let a0 : 129 ≤ f.first = a.0 in
     let t : nat_lt f.first 128 ≡ false = grind (arith, nat_tests) in
     run_bind _ _ k (f.rest ++ r) m (k + length f.rest) r
-    (pick_second _ _ _ k (f.rest ++ r) t ∙ ap (λ u. run (read_big_endian l e p u 0) k (f.rest ++ r)) (sym a.1)
+    (choose_second _ _ _ k (f.rest ++ r) t ∙ ap (λ u. run (read_big_endian l e p u 0) k (f.rest ++ r)) (sym a.1)
     ∙ big_on l e p 0 k f.rest r (within_less l e (k + length f.rest) (k + length f.rest + m) (omega arith) w) ∙ ap (λ u. Took u (k + length f.rest) r) a.2)
     ∙ fitting_on l e p m (k + length f.rest) r w)
     f.form
 
-pub extent_on : (l : Limits) (e : Option ℕ) (p m k : ℕ) (length_octets r : List ℕ) → SpellsLength m length_octets → Within l e (k + length length_octets + m) → run (read_length l e p) k (length_octets ++ r) ≡ Took (DefiniteLength m) (k + length length_octets) r
+pub length_on : (l : Limits) (e : Option ℕ) (p m k : ℕ) (length_octets r : List ℕ) → SpellsLength m length_octets → Within l e (k + length length_octets + m) → run (read_length l e p) k (length_octets ++ r) ≡ Took (DefiniteLength m) (k + length length_octets) r
 unfolding read_length
-extent_on l e p m k length_octets r h w =
+length_on l e p m k length_octets r h w =
     let f = first_of_len m length_octets h in
     let n : length length_octets ≡ length (f.first ∷ f.rest) = ap length f.is in
     let lt : f.first < 255 = f.below in
@@ -375,14 +375,14 @@ extent_on l e p m k length_octets r h w =
     let w' : Within l e (k + 1 + length f.rest + m) = subst (λ u. Within l e (u + m)) (sym q) w in
     ap (λ v. run (read_length l e p) k (v ++ r)) f.is
     ∙ run_bind _ _ k (f.first ∷ (f.rest ++ r)) f.first (k + 1) (f.rest ++ r) (octet_on l e p k f.first (f.rest ++ r) (within_less l e (k + 1) (k + 1 + length f.rest + m) (omega arith) w'))
-    ∙ guard_on _ _ _ (k + 1) (f.rest ++ r) t ∙ pick_second _ _ _ (k + 1) (f.rest ++ r) t'
+    ∙ require_on _ _ _ (k + 1) (f.rest ++ r) t ∙ choose_second _ _ _ (k + 1) (f.rest ++ r) t'
     ∙ run_bind _ _ (k + 1) (f.rest ++ r) m (k + 1 + length f.rest) r (number_on l e p m (k + 1) length_octets f r w')
     ∙ done_on (DefiniteLength m) (k + 1 + length f.rest) r ∙ at_place (DefiniteLength m) _ _ r q
 
 pub indefinite_on : (l : Limits) (e : Option ℕ) (p k : ℕ) (r : List ℕ) → Within l e (k + 1) → run (read_length l e p) k (128 ∷ r) ≡ Took IndefiniteLength (k + 1) r
 unfolding read_length
 indefinite_on l e p k r w =
-    run_bind _ _ k (128 ∷ r) 128 (k + 1) r (octet_on l e p k 128 r w) ∙ guard_on _ _ _ (k + 1) r refl ∙ pick_first _ _ _ (k + 1) r refl ∙ done_on IndefiniteLength (k + 1) r
+    run_bind _ _ k (128 ∷ r) 128 (k + 1) r (octet_on l e p k 128 r w) ∙ require_on _ _ _ (k + 1) r refl ∙ choose_first _ _ _ (k + 1) r refl ∙ done_on IndefiniteLength (k + 1) r
 
 pub octets_on : (o r : List ℕ) (k : ℕ) → run (next_octets (length o)) k (o ++ r) ≡ Took o (k + length o) r
 unfolding next_octets run
@@ -405,5 +405,5 @@ primitive_on l c p k length_octets o r h w =
     ap (λ v. run (primitive_contents l c p) k (v ++ (o ++ r))) f.is
     ∙ run_bind _ _ k (f.first ∷ (f.rest ++ (o ++ r))) (length o) (k + 1 + length f.rest) (o ++ r)
     (run_bind _ _ k (f.first ∷ (f.rest ++ (o ++ r))) f.first (k + 1) (f.rest ++ (o ++ r)) (octet_on l c.nearest_end p k f.first (f.rest ++ (o ++ r)) (within_less l c.nearest_end (k + 1) (k + 1 + length f.rest + length o) (omega arith) w'))
-    ∙ guard_on _ _ _ (k + 1) (f.rest ++ (o ++ r)) (both _ _ t (not_false _ t')) ∙ number_on l c.nearest_end p (length o) (k + 1) length_octets f (o ++ r) w')
+    ∙ require_on _ _ _ (k + 1) (f.rest ++ (o ++ r)) (both _ _ t (not_false _ t')) ∙ number_on l c.nearest_end p (length o) (k + 1) length_octets f (o ++ r) w')
     ∙ octets_on o r (k + 1 + length f.rest) ∙ ap (λ u. Took o (u + length o) r) q

@@ -24,7 +24,7 @@ identifier_some t f = ⊎_elim (λ a. omega (arith, ap length a.is)) (λ a. omeg
 
 -- the shortest length
 
-number_length : (steps k n : ℕ) → n < 256 ^ k → length (number_octets steps n) ≤ k
+pub number_length : (steps k n : ℕ) → n < 256 ^ k → length (number_octets steps n) ≤ k
 unfolding number_octets
 number_length zero k n h = omega arith
 number_length (suc steps) zero n h = go (n == 0) refl

@@ -92,9 +92,9 @@ some_arcs (n ∷ ns) o z b e = go (nat_lt n 40) refl (nat_lt n 80) refl
     go false c true d = let ge : 40 ≤ n = grind (arith, nat_tests) in let lt : n < 80 = grind (arith, nat_tests) in two_arcs n 1 (n - 40) ns o (omega arith) (λ z. omega arith) (omega arith) b e
     go false c false d = let ge : 80 ≤ n = grind (arith, nat_tests) in two_arcs n 2 (n - 80) ns o (omega arith) (λ z. absurd (omega arith)) (omega arith) b e
 
-oid_fits : (o : List ℕ) → is_object_identifier o ≡ true → (arcs : List ℕ) × ObjectIdentifierOctets arcs o
-oid_fits [] h = cc
-oid_fits (x ∷ s) h = let a = arcs_fit 0 (x ∷ s) h in some_arcs a.all (x ∷ s) (λ z. cc) a.below (sym (ap (λ v. v ++ (x ∷ s)) (zero_digits 0 0 refl)) ∙ a.is)
+object_identifier_fits : (o : List ℕ) → is_object_identifier o ≡ true → (arcs : List ℕ) × ObjectIdentifierOctets arcs o
+object_identifier_fits [] h = cc
+object_identifier_fits (x ∷ s) h = let a = arcs_fit 0 (x ∷ s) h in some_arcs a.all (x ∷ s) (λ z. cc) a.below (sym (ap (λ v. v ++ (x ∷ s)) (zero_digits 0 0 refl)) ∙ a.is)
 
 -- Contents that pass the test are a leaf's.
 pub contents_fit : (k : LeafKind) (t : Tag) (o : List ℕ) → is_contents k o ≡ true → LeafContents k (Primitive t o) (der_contents k o)
@@ -106,7 +106,7 @@ contents_fit Null t o h = (no_length o h, refl)
     no_length : (o : List ℕ) → (length o == 0) ≡ true → o ≡ []
     no_length [] h = refl
     no_length (x ∷ s) h = absurd (let z : length (x ∷ s) ≡ 0 = grind (arith, nat_tests) in omega arith)
-contents_fit ObjectIdentifier t o h = (oid_fits o h, refl)
+contents_fit ObjectIdentifier t o h = (object_identifier_fits o h, refl)
 contents_fit BitString t o h = record { segmented = tt; each = segment_fits o h; is = refl }
 contents_fit OctetString t o h = record { segmented = tt; is = sym (append-nil o) }
 contents_fit Utf8String t o h = (record { segmented = tt; is = sym (append-nil o) }, IsUtf8-from_is_utf8 o h)

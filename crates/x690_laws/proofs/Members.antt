@@ -8,9 +8,9 @@ use Rattle.x690.specs.HeaderFaults.{EndsHere, Opens, Stands, StopsInForm}
 use Rattle.x690.specs.Points.{Enclosing}
 use Rattle.x690.specs.ReadHeaders.{ContainerEnds, ElementStands, Ended, Next, each_member, entered, in_container, next_tag, read_length}
 use Rattle.x690.specs.Reading.{Done, Halted, Outcome, Reading, Took, Where, run, ◌>>=◌}
-use Rattle.x690_laws.proofs.HeaderFaulting.{ends_of, ends_run, form_run, form_stands, guard_off, length_halts, length_stops, stands_of, stands_run, tag_halts, tag_stops}
-use Rattle.x690_laws.proofs.HeaderGives.{done_on, guard_on, where_on}
-use Rattle.x690_laws.proofs.Runs.{halt_bind, halted_bind, halted_done, halted_guard, no_less, run_bind, took_bind, took_done, took_fail, took_guard, took_where}
+use Rattle.x690_laws.proofs.HeaderFaulting.{ends_of, ends_run, form_run, form_stands, require_off, length_halts, length_stops, stands_of, stands_run, tag_halts, tag_stops}
+use Rattle.x690_laws.proofs.HeaderGives.{done_on, require_on, where_on}
+use Rattle.x690_laws.proofs.Runs.{halt_bind, halted_bind, halted_done, halted_require, no_less, run_bind, took_bind, took_done, took_fail, took_require, took_where}
 
 -- One member was taken: it stands, and what is so of `number` members before it is so of one more.
 pub record TookOne {S A : Type 0} (l : Limits) (view : S → A) (Stand : A → ℕ → List ℕ → A → ℕ → List ℕ → Type 0) (Ok : ℕ → S → Type 0) (number : ℕ) (s0 s1 : S) (k : ℕ) (s : List ℕ) (q : ℕ) (r : List ℕ) : Type 0 where
@@ -178,13 +178,13 @@ container_halts l c p form body k s f h = ⊎_elim
     (λ b. inl (inr (a.0, length_stops l c.nearest_end p k s f b)))
     (λ b. inr (entered c b.1 b.0, b.1, b.2, (a.0, b.0, form_stands l c.nearest_end p k s b.0 b.1 b.2 b.3, refl), no_less (read_length l c.nearest_end p) k s b.0 b.1 b.2 b.3, b.4))
     (halted_bind (read_length l c.nearest_end p) (λ x. Where (λ k'. body (entered c k' x))) k s f a.1))
-    (halted_guard _ _ _ k s f h)
+    (halted_require _ _ _ k s f h)
 
 pub container_takes : {A : Type 0} (l : Limits) (c : Enclosing) (p : ℕ) (form : Bool) (body : Enclosing → Reading A) (k : ℕ) (s : List ℕ) (a : A) (q : ℕ) (r : List ℕ) → run (in_container l c p form body) k s ≡ Took a q r
     → (i : Enclosing) × (j : ℕ) × (u : List ℕ) × Opens l c form k s i j u × (k ≤ j) × (run (body i) j u ≡ Took a q r)
 unfolding in_container
 container_takes l c p form body k s a q r h =
-    let x = took_guard _ _ _ _ _ _ _ _ h in
+    let x = took_require _ _ _ _ _ _ _ _ h in
     let y = took_bind _ _ _ _ _ _ _ x.1 in (
       entered c y.place y.value,
       y.place,
@@ -196,10 +196,10 @@ container_takes l c p form body k s a q r h =
 
 pub form_halts : {A : Type 0} (l : Limits) (c : Enclosing) (p : ℕ) (form : Bool) (body : Enclosing → Reading A) (k : ℕ) (s : List ℕ) (f : Fault) → StopsInForm l c p form k s f → run (in_container l c p form body) k s ≡ Halted f
 unfolding in_container
-form_halts l c p form body k s f (inl a) = guard_off _ _ _ k s f a.0 a.1
-form_halts l c p form body k s f (inr a) = guard_on _ _ _ k s a.0 ∙ halt_bind (read_length l c.nearest_end p) _ k s f (length_halts l c.nearest_end p k s f a.1)
+form_halts l c p form body k s f (inl a) = require_off _ _ _ k s f a.0 a.1
+form_halts l c p form body k s f (inr a) = require_on _ _ _ k s a.0 ∙ halt_bind (read_length l c.nearest_end p) _ k s f (length_halts l c.nearest_end p k s f a.1)
 
 pub opened_on : {A : Type 0} (l : Limits) (c : Enclosing) (p : ℕ) (form : Bool) (body : Enclosing → Reading A) (k : ℕ) (s : List ℕ) (i : Enclosing) (j : ℕ) (u : List ℕ) → Opens l c form k s i j u → run (in_container l c p form body) k s ≡ run (body i) j u
 unfolding in_container
 opened_on l c p form body k s i j u h =
-    guard_on _ _ _ k s h.0 ∙ run_bind (read_length l c.nearest_end p) _ k s h.1 j u (form_run l c.nearest_end p k s h.1 j u h.2) ∙ where_on _ j u ∙ ap (λ w. run (body w) j u) (sym h.3)
+    require_on _ _ _ k s h.0 ∙ run_bind (read_length l c.nearest_end p) _ k s h.1 j u (form_run l c.nearest_end p k s h.1 j u h.2) ∙ where_on _ j u ∙ ap (λ w. run (body w) j u) (sym h.3)

@@ -8,7 +8,7 @@ use Rattle.tlv_core.specs.declared.fault.Fault.{Fault}
 use Rattle.tlv_core.specs.declared.reason.Reason.{Reason}
 use Rattle.tlv_core.specs.declared.reason.Reason.TheVariants.{EmptySet, Extra, Inner, Missing, Trailing, WrongTag}
 use Rattle.x690.specs.Contents.{LeafKind, OctetString}
-use Rattle.x690.specs.ContentsFaults.{After, LeafStops, StopsHere}
+use Rattle.x690.specs.ContentsFaults.{After, LeafStops, MemberStands, StopsHere}
 use Rattle.x690.specs.DerTexts.{der}
 use Rattle.x690.specs.Fitting.{Fits}
 use Rattle.x690.specs.HeaderFaults.{EndsHere, Opens, Stands, StopsInForm}
@@ -18,17 +18,17 @@ use Rattle.x690.specs.ReadContents.{add_member, all_members, read_leaf}
 use Rattle.x690.specs.ReadHeaders.{ContainerEnds, ElementStands, Ended, Next, each_member, next_tag}
 use Rattle.x690.specs.ReadTypes.{apply_rule, due_element, from_inside, is_this_leaf, read_element, read_fields, read_type}
 use Rattle.x690.specs.Reading.{Done, Fail, Halted, Outcome, Took, require, run, ◌>>=◌}
-use Rattle.x690.specs.Stops.{MemberStands, MembersStop, Stops, StopsBehind, StopsFields}
+use Rattle.x690.specs.Stops.{MembersStop, Stops, StopsBehind, StopsFields}
 use Rattle.x690.specs.Takes.{Takes}
 use Rattle.x690.specs.TypeTerms.{ContainingType, Default, DefinedByType, EndOfFields, Fields, LeafType, OpenType, Optional, RefusedType, Required, RuledType, SequenceOfType, SequenceType, SetOfType, TypeTerm}
 use Rattle.x690.specs.Values.{Leaf, Same, Value, leaf_contents}
 use Rattle.x690_laws.proofs.ContentsFaulting.{leaf_stops, open_stops, opens_within}
 use Rattle.x690_laws.proofs.Gives.{id_some}
 use Rattle.x690_laws.proofs.HeaderFaulting.{ends_of, stands_of, stands_run, tag_stops}
-use Rattle.x690_laws.proofs.HeaderGives.{guard_on}
+use Rattle.x690_laws.proofs.HeaderGives.{require_on}
 use Rattle.x690_laws.proofs.Judging.{sound}
 use Rattle.x690_laws.proofs.Members.{TakesOne, container_halts, container_takes, members_end, members_stop}
-use Rattle.x690_laws.proofs.Runs.{halted_bind, halted_done, halted_fail, halted_guard, halted_pick, no_less, run_bind, took_bind, took_done, took_fail}
+use Rattle.x690_laws.proofs.Runs.{halted_bind, halted_done, halted_fail, halted_require, halted_choose, no_less, run_bind, took_bind, took_done, took_fail}
 use Rattle.x690_laws.proofs.Sound.{same_tag_is}
 use Rattle.x690_laws.proofs.Soundness.{leaf_other, leaf_same}
 use Rattle.x690_laws.specs.FaultLaws.{FaultStops}
@@ -158,7 +158,7 @@ members_or_few l T c p form k s n f few made z o h = ⊎_elim
     let x = values_few l T c p form k s n y.0 y.1 y.2 f few lt g.1 y.3 in
     inr (x.0, x.1, x.2, x.3, inr x.4))
     (λ g. absurd (halted_done _ _ _ f g.1))
-    (halted_guard _ _ _ y.1 y.2 f y.4))
+    (halted_require _ _ _ y.1 y.2 f y.4))
     (halted_bind _ _ k s f h)
 
 leaf_whole : (d : ℕ) (w : Tag) (r : Value) (P : Value → Type 0) → ((o : List ℕ) × (r ≡ Leaf w o)) → P r → P (Leaf w (leaf_contents r))
@@ -200,65 +200,69 @@ mutual
   behind_stops l (LeafType w kind) earlier c b a t form k s f st h = ⊎_elim
       inl
       (λ x. inr (x.0, leaf_at l c w kind b a t form k s f st x.0 x.1))
-      (halted_guard _ _ _ k s f h)
+      (halted_require _ _ _ k s f h)
   behind_stops l OpenType earlier c b a t form k s f st h = open_stops l.depth l f c b a t form k s (omega arith) (stands_later l c b a t form k s st) st h
   behind_stops l (SequenceOfType w m T) earlier c b a t form k s f st h = ⊎_elim
       inl
       (λ x. inr (x.0, members_or_few l T c b form k s m f (λ end. fault end Missing) _ (stands_later l c b a t form k s st) (λ i. behind_stops l T [] i) x.1))
-      (halted_guard _ _ _ k s f h)
+      (halted_require _ _ _ k s f h)
   behind_stops l (SetOfType w m T) earlier c b a t form k s f st h = ⊎_elim
       inl
       (λ x. inr (x.0, members_or_few l T c b form k s m f (λ end. fault b EmptySet) _ (stands_later l c b a t form k s st) (λ i. behind_stops l T [] i) x.1))
-      (halted_guard _ _ _ k s f h)
+      (halted_require _ _ _ k s f h)
   behind_stops l (SequenceType w fs) earlier c b a t form k s f st h = ⊎_elim
       inl
       (λ x. ⊎_elim
       (λ y. ⊎_elim
-      (λ z. inr (inl (x.0, z)))
-      (λ z. inr (inr (
+      (λ z. inr (x.0, inl z))
+      (λ z. inr (
         x.0,
-        z.0,
-        z.1,
-        z.2,
-        z.3,
-        ⊎_elim
-            (λ e. next_stops l fs [] z.0 z.1 z.2 f e)
-            (λ e. fields_stop l fs [] z.0 z.1 z.2 e.0 e.1 e.2 f e.3 e.4)
-            (halted_bind (next_tag l z.0) _ z.1 z.2 f z.5),
-      )))
+        inr (
+          z.0,
+          z.1,
+          z.2,
+          z.3,
+          ⊎_elim
+              (λ e. next_stops l fs [] z.0 z.1 z.2 f e)
+              (λ e. fields_stop l fs [] z.0 z.1 z.2 e.0 e.1 e.2 f e.3 e.4)
+              (halted_bind (next_tag l z.0) _ z.1 z.2 f z.5),
+        ),
+      ))
       (container_halts l c b form (λ c'. next_tag l c' >>= λ d. read_fields l fs [] c' d) k s f y))
       (λ y. absurd (halted_done _ _ _ f y.4))
       (halted_bind _ _ k s f x.1))
-      (halted_guard _ _ _ k s f h)
+      (halted_require _ _ _ k s f h)
   behind_stops l (ContainingType w q T) earlier c b a t form k s f st h = ⊎_elim
       inl
       (λ x. ⊎_elim
-      (λ y. inr (inl (x.0, leaf_at l c w OctetString b a t form k s f st x.0 y)))
-      (λ y. let tk = took_type l (LeafType w OctetString) [] c b a t form k s y.0 y.1 y.2 st (guard_on _ _ _ k s x.0 ∙ y.3) in
-      inr (inr (
+      (λ y. inr (x.0, inl (leaf_at l c w OctetString b a t form k s f st x.0 y)))
+      (λ y. let tk = took_type l (LeafType w OctetString) [] c b a t form k s y.0 y.1 y.2 st (require_on _ _ _ k s x.0 ∙ y.3) in
+      inr (
         x.0,
-        a,
-        leaf_contents y.0,
-        tk.count,
-        y.2,
-        st,
-        leaf_value l w c b a y.0 tk.count y.2 tk.takes,
-        ⊎_elim
-            (λ z. ⊎_elim
-            (λ g. inl (g.0, ⊎_elim (λ e. e) (λ e. absurd (no_end l 0 (leaf_contents y.0) e.0)) (here_stops l T earlier outermost 0 (leaf_contents y.0) g.0 (behind_stops l T earlier outermost) g.1), g.2))
-            (λ g. let e = sound l T earlier outermost 0 (leaf_contents y.0) g.0 g.1 (g.2 ∷ g.3) g.4 in
-            let e1 : g.1 ≡ 0 + e.0 = e.1 in
-            let e2 : g.1 ≡ e.0 = omega arith in
-            inr (inl (g.0, e.0, g.2, g.3, e.2, g.5 ∙ ap (λ u. record { at = b; why = Inner; inside = Some (u, Trailing) }) e2)))
-            (inside_refused b (run (read_element l T earlier outermost) 0 (leaf_contents y.0)) y.1 y.2 f z))
-            (λ z. let g = inside_given b (run (read_element l T earlier outermost) 0 (leaf_contents y.0)) z.0 y.1 y.2 z.1 z.2 z.3 in
-            let e = sound l T earlier outermost 0 (leaf_contents y.0) z.0 g.0 [] g.1 in
-            let r = ruled_halts b (q earlier z.0) (Leaf w (der z.0)) z.1 z.2 f z.4 in
-            inr (inr (z.0, e.0, r.0, e.2, r.1, r.2)))
-            (halted_bind _ _ y.1 y.2 f y.4),
-      )))
+        inr (
+          a,
+          leaf_contents y.0,
+          tk.count,
+          y.2,
+          st,
+          leaf_value l w c b a y.0 tk.count y.2 tk.takes,
+          ⊎_elim
+              (λ z. ⊎_elim
+              (λ g. inl (g.0, ⊎_elim (λ e. e) (λ e. absurd (no_end l 0 (leaf_contents y.0) e.0)) (here_stops l T earlier outermost 0 (leaf_contents y.0) g.0 (behind_stops l T earlier outermost) g.1), g.2))
+              (λ g. let e = sound l T earlier outermost 0 (leaf_contents y.0) g.0 g.1 (g.2 ∷ g.3) g.4 in
+              let e1 : g.1 ≡ 0 + e.0 = e.1 in
+              let e2 : g.1 ≡ e.0 = omega arith in
+              inr (inl (g.0, e.0, g.2, g.3, e.2, g.5 ∙ ap (λ u. record { at = b; why = Inner; inside = Some (u, Trailing) }) e2)))
+              (inside_refused b (run (read_element l T earlier outermost) 0 (leaf_contents y.0)) y.1 y.2 f z))
+              (λ z. let g = inside_given b (run (read_element l T earlier outermost) 0 (leaf_contents y.0)) z.0 y.1 y.2 z.1 z.2 z.3 in
+              let e = sound l T earlier outermost 0 (leaf_contents y.0) z.0 g.0 [] g.1 in
+              let r = ruled_halts b (q earlier z.0) (Leaf w (der z.0)) z.1 z.2 f z.4 in
+              inr (inr (z.0, e.0, r.0, e.2, r.1, r.2)))
+              (halted_bind _ _ y.1 y.2 f y.4),
+        ),
+      ))
       (halted_bind _ _ k s f x.1))
-      (halted_guard _ _ _ k s f h)
+      (halted_require _ _ _ k s f h)
   behind_stops l (RuledType q T) earlier c b a t form k s f st h = ⊎_elim
       (λ y. inl (behind_stops l T earlier c b a t form k s f st y))
       (λ y. let w = took_type l T earlier c b a t form k s y.0 y.1 y.2 st y.3 in
@@ -268,11 +272,11 @@ mutual
   behind_stops l (RefusedType w why) earlier c b a t form k s f st h = ⊎_elim
       inl
       (λ x. inr (x.0, halted_fail Value (fault b why) k s f x.1))
-      (halted_guard _ _ _ k s f h)
+      (halted_require _ _ _ k s f h)
   behind_stops l (DefinedByType path os A B) earlier c b a t form k s f st h = ⊎_elim
       (λ x. inl (x.0, behind_stops l A earlier c b a t form k s f st x.1))
       (λ x. inr (x.0, behind_stops l B earlier c b a t form k s f st x.1))
-      (halted_pick _ _ _ k s f h)
+      (halted_choose _ _ _ k s f h)
 
   fields_stop : (l : Limits) (fs : Fields) (earlier : List Value) (c : Enclosing) (k : ℕ) (s : List ℕ) (d : Next) (j : ℕ) (u : List ℕ) (f : Fault) → run (next_tag l c) k s ≡ Took d j u → run (read_fields l fs earlier c d) j u ≡ Halted f → StopsFields l fs earlier c k s f
   fields_stop l EndOfFields earlier c k s (ContainerEnds p) j u f n h = absurd (halted_done _ j u f h)
@@ -299,7 +303,7 @@ mutual
             (halted_bind (next_tag l c) _ y.1 y.2 f y.4)),
       ))))
       (halted_bind (read_type l T earlier c p t form) _ j u f x.1))
-      (halted_guard _ _ _ j u f h)
+      (halted_require _ _ _ j u f h)
   fields_stop l (Optional T fs) earlier c k s (ContainerEnds p) j u f n h = inr (inl ((ends_of l c k s p j u n).1, fields_stop l fs earlier c k s (ContainerEnds p) j u f n h))
   fields_stop l (Optional T fs) earlier c k s (ElementStands p t form) j u f n h =
       let st = stands_of l c k s p t form j u n in
@@ -320,7 +324,7 @@ mutual
       ))))
       (halted_bind (read_type l T earlier c p t form) _ j u f x.1))
       (λ x. inr (inr (inl (t, form, j, u, st.1, inl (x.0, fields_stop l fs earlier c k s (ElementStands p t form) j u f n x.1)))))
-      (halted_pick _ _ _ j u f h)
+      (halted_choose _ _ _ j u f h)
   fields_stop l (Default i io T fs) earlier c k s (ContainerEnds p) j u f n h = inr (inl ((ends_of l c k s p j u n).1, fields_stop l fs earlier c k s (ContainerEnds p) j u f n h))
   fields_stop l (Default i io T fs) earlier c k s (ElementStands p t form) j u f n h =
       let st = stands_of l c k s p t form j u n in
@@ -339,12 +343,12 @@ mutual
             (λ z. ⊎_elim
             (λ e. inl (e.0, fields_stop l fs earlier c y.1 y.2 z.0 z.1 z.2 f z.3 e.1))
             (λ e. inr (e.0, ⊎_elim (λ g. fields_stop l fs (earlier ++ (y.0 ∷ [])) c y.1 y.2 z.0 z.1 z.2 f z.3 g) (λ g. absurd (halted_done _ _ _ f g.4)) (halted_bind _ _ z.1 z.2 f e.1)))
-            (halted_pick _ _ _ z.1 z.2 f z.4))
+            (halted_choose _ _ _ z.1 z.2 f z.4))
             (halted_bind (next_tag l c) _ y.1 y.2 f y.4)),
       ))))
       (halted_bind (read_type l T earlier c p t form) _ j u f x.1))
       (λ x. inr (inr (inl (t, form, j, u, st.1, inl (x.0, fields_stop l fs earlier c k s (ElementStands p t form) j u f n x.1)))))
-      (halted_pick _ _ _ j u f h)
+      (halted_choose _ _ _ j u f h)
 
 pub faithful : FaultStops
 faithful l T earlier c k s f h = here_stops l T earlier c k s f (behind_stops l T earlier c) h

@@ -4,10 +4,11 @@ use Rattle.tlv_core.specs.declared.reason.Reason.TheVariants.{BadTag, TooDeep}
 use Rattle.x690.specs.Points.{fault}
 use Rattle.x690.specs.ReadHeaders.{header_octet, read_tag_number, ContainerEnds}
 use Rattle.ber_pull.specs.Calls.{read_end_of_contents}
-use Rattle.ber_pull.specs.Standing.{enclosing}
+use Rattle.ber_pull.specs.Hears.{Hears, heard, heard_error}
+use Rattle.ber_pull.specs.Standing.{enclosing, is_over, moved, place}
 use Rattle.ber_pull.proofs.Hearing.{hears_as, hears_at, hears_err, hears_said, hears_stop}
 use Rattle.ber_pull.proofs.Headers.{not_opposite, opposite}
-use Rattle.ber_pull.proofs.Nexts.{next_at_end, next_bad_tag, next_deep, next_element, next_end, next_error, next_given, next_number_error, next_over, place_taken}
+use Rattle.ber_pull.proofs.Nexts.{Asks, Begins, Came, next_at_end, next_bad_tag, next_deep, next_element, next_end, next_error, next_given, next_number_error, next_over, ended_over, or_true, place_taken}
 use Rattle.ber_pull.proofs.pull.Pull.next_tag.Goals as goal
 use Rattle.ber_pull.proofs.pull.Pull.next_tag.Goals.{then-is_over-via-then-is_over, then-is_over-via-else-is_over+then-is_at_end}
 
@@ -58,3 +59,9 @@ returns-clause-reads g c = λ fine.
     hears_at _ _ _ _ _ _ _ _ (ap (λ s. s.taken) c.give.ensures) refl
     (next_element c.args.self.now.state _ _ _ c.in_ok-first.first _ _ c.in_ok-number.number c.tag_of-tag.result (record { came = record { asks = record { none_given = sym c.given.ensures.value ∙ c.in_default-given.is; not_over = sym c.is_over.ensures ∙ c.if-is_over.false; not_at_end = sym c.is_at_end.ensures ∙ c.if-is_at_end.false }; first = hears_as _ _ _ _ _ _ _ (ap (header_octet c.args.self.now.state.limits (enclosing c.args.self.now.state).nearest_end) c.taken-start.ensures.value) c.in_ok-first.ensures.reads }; octet = c.in_ok-first.ensures.octet; no_end = c.if-first-eq0.false; no_bad_tag = c.if-first-eq32.false }) (hears_as _ _ _ _ _ _ _ (ap (λ s. read_tag_number s.limits (enclosing s).nearest_end c.taken-start.result c.in_ok-first.first) c.in_ok-first.ensures.stands ∙ ap (λ p. read_tag_number c.args.self.now.state.limits (enclosing c.args.self.now.state).nearest_end p c.in_ok-first.first) c.taken-start.ensures.value) c.in_ok-number.ensures.reads)
     (sym (ap (λ s. nat_lt (length s.containers) s.limits.depth) c.in_ok-number.ensures.stands ∙ ap (λ s. nat_lt (length s.containers) s.limits.depth) c.in_ok-first.ensures.stands) ∙ not_opposite _ _ c.is_deep.ensures c.if-is_deep.false) c.tag_of-tag.ensures.is)
+
+pub returns-then-first-eq0-clause-ends : goal.returns-then-first-eq0-clause-ends
+returns-then-first-eq0-clause-ends g c = λ none ends.
+    let stands = c.in_ok-end_of_contents.ensures.stands in
+    let first = c.in_ok-first.ensures.stands in
+    (ap (λ z. z.given) stands ∙ (ap (λ z. z.given) first ∙ none), or_true _ _ (ap is_over stands ∙ ended_over c.octet.new.self.state _ c.in_ok-end_of_contents.ensures.indefinite))

@@ -1,0 +1,44 @@
+-- What readers of values read, by the plain reading at their point.
+use Rattle.std.specs.Prelude.{Bool, List, [], false, length, true, ℕ, ◌<◌, ◌∷◌, ◌≡◌, ◌⊎◌}
+use Rattle.tlv_core.specs.Identifier.{Tag}
+use Rattle.x690.specs.Contents as kinds
+use Rattle.x690.specs.Contents.{LeafKind}
+use Rattle.x690.specs.ReadContents.{is_integer_contents, read_leaf}
+use Rattle.x690.specs.ReadTypes.{read_type}
+use Rattle.x690.specs.Reading.{Reading}
+use Rattle.x690.specs.TypeTerms.{TypeTerm}
+use Rattle.x690.specs.Values.{Value}
+use Rattle.ber_pull.specs.Standing.{Standing, enclosing}
+use Rattle.ber_pull.specs.declared.state.Given.{Given}
+use Rattle.asn_values.specs.declared.leaf_reading.Kind.{Kind}
+use Rattle.asn_values.specs.declared.leaf_reading.Kind.TheVariants as coded
+
+-- the element that is given, as the type
+abbrev pub read_given : TypeTerm → Standing → Given → Reading Value
+read_given type s g = read_type s.limits type [] (enclosing s) g.at g.tag g.constructed
+
+-- the leaf that is given, of the kind, as one of this tag
+abbrev pub read_given_leaf : LeafKind → Tag → Standing → Given → Reading Value
+read_given_leaf kind own s g = read_leaf s.limits (enclosing s) kind g.at own g.constructed
+
+abbrev pub kind_of : Kind → LeafKind
+kind_of coded.Boolean = kinds.Boolean
+kind_of coded.Integer = kinds.Integer
+kind_of coded.Null = kinds.Null
+kind_of coded.BitString = kinds.BitString
+kind_of coded.OctetString = kinds.OctetString
+kind_of coded.Utf8String = kinds.Utf8String
+
+-- strings, which are UTF-8 or any octets
+abbrev pub string_kind : Bool → LeafKind
+string_kind true = kinds.Utf8String
+string_kind false = kinds.OctetString
+
+-- what is known of a leaf's contents, whoever told them
+abbrev pub HasContents : Kind → List ℕ → Type 0
+HasContents coded.Boolean contents = (contents ≡ 0 ∷ []) ⊎ (contents ≡ 255 ∷ [])
+HasContents coded.Integer contents = is_integer_contents contents ≡ true
+HasContents coded.Null contents = contents ≡ []
+HasContents coded.BitString contents = 0 < length contents
+HasContents coded.OctetString contents = Unit {0}
+HasContents coded.Utf8String contents = Unit {0}
