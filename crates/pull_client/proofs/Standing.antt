@@ -9,7 +9,7 @@ use Rattle.tlv_core.specs.Limits.{Limits}
 use Rattle.x690.specs.Points.{Enclosing}
 use Rattle.ber_pull.specs.Calls.{read_leaving, read_next}
 use Rattle.ber_pull.specs.Hears.{Gives, Hears}
-use Rattle.ber_pull.specs.Standing.{Standing, container_of, enclosing, first_of, is_ended, is_ended_here, is_over_in}
+use Rattle.ber_pull.specs.Standing.{IsAtEnd, Standing, container_of, enclosing, first_of, is_ended, is_over_in}
 use Rattle.pull_client.specs.Ahead.{IsOpen}
 
 -- the reading inside an open container
@@ -44,10 +44,10 @@ ends_here s true b g x y h o = ap (λ r. run r s.taken o) (ends_known s g x)
 ends_here s false true g x y h o = ap (λ r. run r s.taken o) (goes_on s g x) ∙ at_its_end s.limits (enclosing s) s.taken o y
 ends_here s false false g x y h o = cc
 
-pub leaves : (s : Standing) → s.given ≡ None → is_ended_here s ≡ true → (o : List ℕ) → run (read_leaving s) s.taken o ≡ run (Done tt) s.taken o
+pub leaves : (s : Standing) → IsAtEnd s → (o : List ℕ) → run (read_leaving s) s.taken o ≡ run (Done tt) s.taken o
 unfolding read_leaving run
-leaves s g h o =
-    run_bind (read_next s) _ s.taken o (ContainerEnds s.taken) s.taken o (ends_here s (is_over_in s.taken (first_of s.containers)) (stands_at_end (enclosing s).innermost s.taken) g refl refl h o)
+leaves s h o =
+    run_bind (read_next s) _ s.taken o (ContainerEnds s.taken) s.taken o (ends_here s (is_over_in s.taken (first_of s.containers)) (stands_at_end (enclosing s).innermost s.taken) h.0 refl refl h.1 o)
 
 same_reads : {A : Type 0} (p q : Reading A) (h : Heard A) (k i : ℕ) (s v : List ℕ) → ((o : List ℕ) → run p k o ≡ run q k o) → Reads p k s h i v → Reads q k s h i v
 unfolding Reads

@@ -1,11 +1,11 @@
 -- What a reader has given, and where it stands with that.
-use Rattle.std.specs.Prelude.{Bool, None, Option, Some, false, true, ℕ, ◌+◌, ◌≡◌}
+use Rattle.std.specs.Prelude.{Bool, None, Option, Some, false, ℕ, ◌+◌, ◌≡◌}
 use Rattle.tlv_core.specs.Identifier.{Tag}
 use Rattle.x690.specs.Layouts.{same_tag, universal}
 use Rattle.x690.specs.ReadHeaders.{Next}
-use Rattle.ber_pull.specs.Fields.{given_by}
+use Rattle.pull_client.specs.Fields.{given_by}
 use Rattle.ber_pull.specs.Hears.{next_at}
-use Rattle.ber_pull.specs.Standing.{Standing, enclosing, first_of, is_ended, is_ended_here, without_first}
+use Rattle.ber_pull.specs.Standing.{IsAtEnd, Standing, enclosing, first_of, is_ended, without_first}
 use Rattle.ber_pull.specs.declared.state.Container.{Container}
 use Rattle.pull_client.specs.declared.Ahead.{Ahead}
 
@@ -27,7 +27,7 @@ pub record Stands (s : Standing) (n : Ahead) : Type 0 where
   pub fine : s.error ≡ None
   pub given : s.given ≡ given_by (next_of n)
   pub inside : (t : Tag × Bool) → n.element ≡ Some t → IsOpen s
-  pub ends : n.element ≡ None → is_ended_here s ≡ true
+  pub ends : n.element ≡ None → IsAtEnd s
 
 -- in the same container, up to whether its end is taken
 pub record SameContainer (s t : Standing) : Type 0 where

@@ -1,8 +1,6 @@
 use Rattle.std.proofs.Common.{rules, sym, ap, ◌∙◌}
 use Rattle.tlv_core.specs.declared.reason.Reason.TheVariants.{Extra}
 use Rattle.x690.specs.Points.{fault}
-use Rattle.ber_pull.specs.Fields.{given_by}
-use Rattle.ber_pull.specs.Hears.{next_at}
 use Rattle.ber_pull.proofs.Hearing.{hears_as, hears_err, hears_stop}
 use Rattle.pull_client.proofs.Leaves.{none_of, some_of}
 use Rattle.pull_client.proofs.Standing.{hears_same_here, leaves}
@@ -19,9 +17,9 @@ pub returns-in_err-leave-clause-reads : goal.returns-in_err-leave-clause-reads
 returns-in_err-leave-clause-reads g c =
     let none = none_of _ (sym c.is_some.ensures ∙ c.if-is_some.false) in
     hears_err _ _ c.from_residual.result c.in_err-leave.field-0.0 _ _ _ _ (search rules)
-    (hears_as _ _ _ _ _ _ _ (end_nothing _ _ none) (hears_same_here _ _ _ _ _ _ _ (leaves c.args.pull.now.state (c.requires.stands.given ∙ ap (λ w. given_by (next_at c.args.next.at w)) none) (c.requires.stands.ends none)) (c.in_err-leave.ensures.reads c.requires.stands.fine)))
+    (hears_as _ _ _ _ _ _ _ (end_nothing _ _ none) (hears_same_here _ _ _ _ _ _ _ (leaves c.args.pull.now.state (c.requires.stands.ends none)) (c.in_err-leave.ensures.reads c.requires.stands.fine)))
 
 pub returns-clause-reads : goal.returns-clause-reads
 returns-clause-reads g c =
     let none = none_of _ (sym c.is_some.ensures ∙ c.if-is_some.false) in
-    hears_as _ _ _ _ _ _ _ (end_nothing _ _ none) (hears_same_here _ _ _ _ _ _ _ (leaves c.args.pull.now.state (c.requires.stands.given ∙ ap (λ w. given_by (next_at c.args.next.at w)) none) (c.requires.stands.ends none)) (c.in_ok-leave.ensures.reads c.requires.stands.fine))
+    hears_as _ _ _ _ _ _ _ (end_nothing _ _ none) (hears_same_here _ _ _ _ _ _ _ (leaves c.args.pull.now.state (c.requires.stands.ends none)) (c.in_ok-leave.ensures.reads c.requires.stands.fine))

@@ -7,7 +7,7 @@ use Rattle.pull_client.specs.Ahead.{next_of}
 use Rattle.std.proofs.Common.{[], ◌∷◌}
 use Rattle.x690.specs.TypeTerms.{EndOfFields, Required}
 use Rattle.x690.specs.Values.{Sequence, values_of}
-use Rattle.ber_pull.proofs.Fields.{begins, begins_error, due, due_error, ends, ends_error}
+use Rattle.pull_client.proofs.Fields.{begins, begins_error, due, due_error, ends, ends_error}
 use Rattle.pull_client.specs.Pair as types
 use Rattle.pull_client.proofs.Leaves.{due_here, not_out}
 use Rattle.pull_client.proofs.read_pair.Goals as goal
