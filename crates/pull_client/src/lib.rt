@@ -16,6 +16,9 @@ ghost use Rattle.tlv_core.specs.Identifier.{Tag};
 ghost use Rattle.pull_client.specs.Ahead.{Inside, IsOpen, SameContainer, Stands, is_universal, next_of};
 ghost use Rattle.pull_client.specs.Pair as types;
 
+#[cfg(test)]
+mod tests;
+
 use ber_pull::pull::Pull;
 use std::alloc::Global;
 use tlv_core::fault::ReadError;
