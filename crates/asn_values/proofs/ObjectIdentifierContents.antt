@@ -1,32 +1,9 @@
-<<<<<<< HEAD
-<<<<<<< HEAD
 -- The contents of object identifiers.
 use Rattle.std.proofs.Common.{◌≡◌, Bool, List, false, refl, true, ℕ}
 use Rattle.tlv_core.specs.ObjectIdentifier.{IsObjectIdentifier}
 use Rattle.x690.specs.Contents as kinds
 use Rattle.x690.specs.Contents.{LeafContents}
 use Rattle.x690.specs.Layouts.{universal}
-=======
--- The contents of object identifiers, as `tlv_core` and as `x690` say them.
-use Rattle.std.proofs.Common.{◌≡◌, ◌∙◌, ◌+◌, ◌*◌, ◌++◌, Bool, List, [], ◌∷◌, ℕ, ap, false, map, refl, sym, true}
-use Rattle.std.specs.List.{flat_map}
-use Rattle.tlv_core.specs.Identifier.{base128}
-use Rattle.tlv_core.specs.ObjectIdentifier.{AllBelow, IsObjectIdentifier, ObjectIdentifierOctets}
-use Rattle.x690.specs.Contents as kinds
-use Rattle.x690.specs.Contents.{LeafContents}
-use Rattle.x690.specs.Layouts.{universal}
-use Rattle.x690.specs.Lists as lists
-use Rattle.x690.specs.Lists.{join}
-use Rattle.x690.specs.ObjectIdentifiers.{ObjectIdentifierContents}
->>>>>>> 03f875485b80efc2f500a372cd03e4d04d39a8b8
-=======
--- The contents of object identifiers.
-use Rattle.std.proofs.Common.{◌≡◌, Bool, List, false, refl, true, ℕ}
-use Rattle.tlv_core.specs.ObjectIdentifier.{IsObjectIdentifier}
-use Rattle.x690.specs.Contents as kinds
-use Rattle.x690.specs.Contents.{LeafContents}
-use Rattle.x690.specs.Layouts.{universal}
->>>>>>> bbd787e18724a555b6bdad934be72b61d4f6e619
 use Rattle.x690.specs.ReadContents.{is_object_identifier}
 use Rattle.x690_laws.proofs.Gives.{contents_on}
 use Rattle.x690_laws.proofs.LeafSound.{contents_fit}

@@ -1,8 +1,4 @@
-<<<<<<< HEAD
 use Rattle.std.proofs.Common.{rules, ◌≡◌, ◌∙◌, ap, false, true, subst, sym, refl}
-=======
-use Rattle.std.proofs.Common.{rules, ◌≡◌, ◌∙◌, ap, false}
->>>>>>> 03f875485b80efc2f500a372cd03e4d04d39a8b8
 use Rattle.tlv_core.specs.declared.fault.ReadError.TheVariants as errors
 use Rattle.tlv_core.specs.declared.reason.Reason.TheVariants.{WrongTag}
 use Rattle.x690.specs.Layouts.{same_tag}
