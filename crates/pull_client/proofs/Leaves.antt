@@ -17,7 +17,7 @@ use Rattle.x690.specs.Reads.{Heard, Refused}
 use Rattle.x690.specs.TypeTerms.{LeafType, TypeTerm, fits_tag}
 use Rattle.x690.specs.Values.{Leaf, Value}
 use Rattle.ber_pull.specs.Calls.{read_entering, read_octets, read_primitive, read_segments}
-use Rattle.pull_client.specs.Fields.{read_begin, read_due, read_end}
+use Rattle.ber_pull.specs.Fields.{read_begin, read_due, read_end}
 use Rattle.ber_pull.specs.Hears.{Hears, next_at}
 use Rattle.ber_pull.specs.Standing.{Standing, enclosing}
 use Rattle.ber_pull.specs.declared.state.Given.{Given}

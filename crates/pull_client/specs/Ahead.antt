@@ -3,7 +3,7 @@ use Rattle.std.specs.Prelude.{Bool, None, Option, Some, false, ℕ, ◌+◌, ◌
 use Rattle.tlv_core.specs.Identifier.{Tag}
 use Rattle.x690.specs.Layouts.{same_tag, universal}
 use Rattle.x690.specs.ReadHeaders.{Next}
-use Rattle.pull_client.specs.Fields.{given_by}
+use Rattle.ber_pull.specs.Fields.{given_by}
 use Rattle.ber_pull.specs.Hears.{next_at}
 use Rattle.ber_pull.specs.Standing.{IsAtEnd, Standing, enclosing, first_of, is_ended, without_first}
 use Rattle.ber_pull.specs.declared.state.Container.{Container}

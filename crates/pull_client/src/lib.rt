@@ -8,7 +8,7 @@ ghost use Rattle.x690.specs.ReadHeaders.{next_tag};
 ghost use Rattle.x690.specs.ReadTypes.{read_type};
 ghost use Rattle.x690.specs.Layouts.{universal};
 ghost use Rattle.x690.specs.Values.{Value};
-ghost use Rattle.pull_client.specs.Fields.{given_by, read_begin, read_due, read_end};
+ghost use Rattle.ber_pull.specs.Fields.{given_by, read_begin, read_due, read_end};
 ghost use Rattle.ber_pull.specs.Hears.{heard};
 ghost use Rattle.ber_pull.specs.Standing.{closing, enclosing, moved};
 ghost use Rattle.ber_pull.specs.View.{standing, Answers, Keeps, ReadsFail, SameSource, Uses};

@@ -2,7 +2,7 @@ use Rattle.std.proofs.Common.{rules, sym, ap, ◌∙◌}
 use Rattle.tlv_core.specs.declared.reason.Reason.TheVariants.{WrongTag}
 use Rattle.x690.specs.Points.{fault}
 use Rattle.x690.specs.ReadHeaders.{next_tag}
-use Rattle.pull_client.specs.Fields.{given_by}
+use Rattle.ber_pull.specs.Fields.{given_by}
 use Rattle.ber_pull.specs.Hears.{next_at}
 use Rattle.ber_pull.specs.Standing.{enclosing}
 use Rattle.ber_pull.specs.declared.state.Given.{Given}

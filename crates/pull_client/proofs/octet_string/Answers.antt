@@ -4,7 +4,7 @@ use Rattle.x690.specs.Contents.{OctetString}
 use Rattle.x690.specs.Layouts.{universal}
 use Rattle.x690.specs.Points.{fault}
 use Rattle.x690.specs.ReadHeaders.{next_tag}
-use Rattle.pull_client.specs.Fields.{given_by}
+use Rattle.ber_pull.specs.Fields.{given_by}
 use Rattle.x690.specs.Reading.{Done}
 use Rattle.x690.specs.Values.{Leaf}
 use Rattle.ber_pull.specs.Hears.{next_at}
