@@ -6,7 +6,7 @@ ghost use Rattle.x690.specs.ReadContents as reading;
 ghost use Rattle.x690.specs.Contents.{BitString};
 ghost use Rattle.x690.specs.Layouts.{same_tag};
 ghost use Rattle.x690.specs.Points.{fault};
-ghost use Rattle.x690.specs.Reading.{Reading, require};
+ghost use Rattle.x690.specs.Reading.{Done, Reading, require};
 ghost use Rattle.x690.specs.TypeTerms.{LeafType};
 ghost use Rattle.x690.specs.Values.{Leaf, Value};
 ghost use Rattle.ber_pull.specs.Hears.{heard, heard_error};
@@ -40,6 +40,7 @@ pub fn expect_tag<R: Source>(pull: &mut Pull<'_, R>, own: Tag) -> Result<u64, Re
     requires { (standing pull.old).error ≡ None → IsSome (standing pull.old).given }
     ensures same_source { SameSource pull.old pull.new }
     ensures repeats { Repeats pull.old pull.new result }
+    ensures reads { (g : Given) → (standing pull.old).error ≡ None → (standing pull.old).given ≡ Some g → Answers pull.old pull.new (require (same_tag own g.tag) (fault g.at WrongTag) (Done (tt {0}))) (heard (λ _. tt {0}) result) }
     ensures stops { (g : Given) → (standing pull.old).error ≡ None → (standing pull.old).given ≡ Some g → IfErr result (λ e. (p : Reading Value) → Answers pull.old pull.new (require (same_tag own g.tag) (fault g.at WrongTag) p) (heard_error e)) }
     ensures is { (g : Given) → (standing pull.old).error ≡ None → (standing pull.old).given ≡ Some g → IfOk result (λ at. (at ≡ g.at) × (same_tag own g.tag ≡ true)) }
     ensures same { OnOk result (Unmoved pull.old pull.new) }

@@ -1,10 +1,10 @@
 -- Going into a container and out of it.
-use Rattle.std.proofs.Common.{◌≡◌, ℕ, ◌+◌, suc, length, List, [], ◌∷◌, Bool, true, false, Option, Some, None, refl, sym, ◌∙◌, ap, subst}
+use Rattle.std.proofs.Common.{◌≡◌, ℕ, ◌+◌, length, List, Bool, true, false, Option, Some, ap}
 use Rattle.std.proofs.Math.Numerals.{add-one}
 use Rattle.tlv_core.specs.Identifier.{Tag}
 use Rattle.tlv_core.specs.declared.fault.ReadError.{ReadError}
 use Rattle.tlv_core.specs.declared.reason.Reason.TheVariants.{Extra, WrongForm}
-use Rattle.x690.specs.Points.{Enclosing, EndsAt, EndsWithZeros, fault}
+use Rattle.x690.specs.Points.{EndsAt, EndsWithZeros, fault}
 use Rattle.x690.specs.ReadHeaders.{ContainerEnds, DefiniteLength, ElementStands, IndefiniteLength, LengthForm, entered, in_container, read_length}
 use Rattle.x690.specs.Reading.{Done, Where}
 use Rattle.x690.specs.Reads.{Refused, Said}

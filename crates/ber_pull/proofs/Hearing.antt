@@ -1,5 +1,5 @@
 -- How the answers of calls are put together: one after another, tests, single octets.
-use Rattle.std.proofs.Common.{◌≡◌, ℕ, zero, suc, ◌+◌, ◌≤◌, ◌<◌, Bool, true, false, not, List, [], ◌∷◌, ◌++◌, length, take, get_or, Option, Some, None, Result, Ok, Err, refl, sym, ◌∙◌, ap, ap₂, subst, arith, append_assoc, append-nil}
+use Rattle.std.proofs.Common.{◌≡◌, ℕ, zero, suc, ◌+◌, ◌≤◌, Bool, true, false, not, List, [], ◌∷◌, ◌++◌, length, take, get_or, Option, Some, None, Result, Err, refl, sym, ◌∙◌, ap, subst, arith, append_assoc, append-nil}
 use Rattle.std.proofs.lemmas.List.{length-append}
 use Rattle.std.specs.Io.KnownBytes.{Consumes, IsAtEnd, Keeps}
 use Rattle.tlv_core.specs.declared.fault.Fault.{Fault}
@@ -7,10 +7,10 @@ use Rattle.tlv_core.specs.declared.fault.ReadError.{ReadError}
 use Rattle.tlv_core.specs.declared.fault.ReadError.TheVariants as errors
 use Rattle.tlv_core.specs.declared.reason.Reason.TheVariants.{Truncated}
 use Rattle.x690.specs.Points.{fault}
-use Rattle.x690.specs.Reading.{Reading, Done, Fail, Where, Ask, ◌>>=◌, require, choose, Outcome, Took, Halted, run}
+use Rattle.x690.specs.Reading.{Reading, Done, Fail, Where, Ask, ◌>>=◌, require, choose, run}
 use Rattle.x690.specs.Reads.{Heard, Said, Refused, ReadFailed, NoMemory, Reads}
 use Rattle.ber_pull.specs.Hears.{Continues, Gives, Hears, TakesFrom, heard, heard_error}
-use Rattle.ber_pull.proofs.Runs.{run_bind, halt_bind, Taken, taken}
+use Rattle.ber_pull.proofs.Runs.{run_bind, halt_bind, taken}
 
 -- what two calls take, one after the other
 

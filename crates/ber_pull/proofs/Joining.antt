@@ -1,5 +1,5 @@
 -- Segments joined.
-use Rattle.std.proofs.Common.{◌≡◌, ℕ, zero, suc, ◌+◌, ◌-◌, ◌*◌, ◌/◌, ◌^◌, ◌==◌, ◌||◌, ◌&&◌, ◌<◌, ◌≤◌, Bool, true, false, not, List, [], ◌∷◌, ◌++◌, length, get_or, take, drop, set, Result, Err, refl, sym, ◌∙◌, ap, ap₂, subst, arith, append_assoc, append-nil, ◌%◌}
+use Rattle.std.proofs.Common.{◌≡◌, ℕ, zero, suc, ◌*◌, ◌/◌, ◌^◌, ◌==◌, ◌||◌, ◌&&◌, ◌<◌, Bool, true, false, not, List, [], ◌∷◌, ◌++◌, length, get_or, drop, set, Result, Err, refl, sym, ◌∙◌, ap, subst, arith, append_assoc, append-nil, ◌%◌}
 use Rattle.std.proofs.Math.Nat.{div-mul-le_self, mod-eq_of_lt}
 use Rattle.x690.specs.Contents.{bit_octets, clear_unused, unused_bits}
 use Rattle.x690.specs.Lists.{join}

@@ -8,3 +8,5 @@ pub mod Pieces
 pub mod Joining
 pub mod Walk
 pub mod Strings
+pub mod Fields
+pub mod Insides

@@ -1,5 +1,5 @@
 -- Contents that come in pieces.
-use Rattle.std.proofs.Common.{◌≡◌, ℕ, zero, suc, ◌+◌, ◌-◌, ◌≤◌, ◌<◌, List, [], ◌∷◌, ◌++◌, length, take, Option, Some, None, refl, sym, ◌∙◌, ap, ap₂, subst, arith, append_assoc, append-nil}
+use Rattle.std.proofs.Common.{◌≡◌, ℕ, zero, suc, ◌+◌, ◌<◌, List, [], ◌∷◌, ◌++◌, length, Option, Some, None, sym, ◌∙◌, ap, ap₂, subst, arith, append_assoc, append-nil}
 use Rattle.std.proofs.lemmas.List.{length-append}
 use Rattle.tlv_core.specs.declared.fault.Fault.{Fault}
 use Rattle.std.specs.Io.KnownBytes.{Consumes, IsAtEnd, Keeps}
@@ -8,9 +8,9 @@ use Rattle.tlv_core.specs.declared.fault.ReadError.TheVariants as errors
 use Rattle.tlv_core.specs.declared.reason.Reason.TheVariants.{Truncated}
 use Rattle.x690.specs.Points.{fault}
 use Rattle.x690.specs.ReadHeaders.{next_octets}
-use Rattle.x690.specs.Reading.{Ask, Done, Halted, Took, run, ◌>>=◌}
-use Rattle.x690.specs.Reads.{Heard, NoMemory, ReadFailed, Reads, Refused, Said}
-use Rattle.ber_pull.specs.Hears.{Hears, TakesFrom, heard_error}
+use Rattle.x690.specs.Reading.{Done, Halted, Took, run, ◌>>=◌}
+use Rattle.x690.specs.Reads.{ReadFailed, Reads, Refused, Said}
+use Rattle.ber_pull.specs.Hears.{Hears, heard_error}
 use Rattle.ber_pull.proofs.Hearing.{gives_error, hears_ended, hears_failed_at, takes_both}
 use Rattle.ber_pull.proofs.Runs.{halt_bind, run_bind}
 

@@ -1,7 +1,7 @@
 -- Plain readings one after another.
-use Rattle.std.proofs.Common.{◌≡◌, ℕ, ◌+◌, List, [], ◌∷◌, ◌++◌, length, refl, sym, ap, ap₂, ◌∙◌, arith}
+use Rattle.std.proofs.Common.{◌≡◌, ℕ, ◌+◌, List, [], ◌∷◌, ◌++◌, length, refl, ap, ap₂, arith}
 use Rattle.tlv_core.specs.declared.fault.Fault.{Fault}
-use Rattle.x690.specs.Reading.{Reading, Done, Fail, Where, Ask, ◌>>=◌, Outcome, Took, Halted, run}
+use Rattle.x690.specs.Reading.{Reading, Done, Fail, Where, Ask, ◌>>=◌, Took, Halted, run}
 
 pub run_bind : {A B : Type 0} (p : Reading A) (f : A → Reading B) (k : ℕ) (s : List ℕ) (a : A) (q : ℕ) (r : List ℕ) → run p k s ≡ Took a q r → run (p >>= f) k s ≡ run (f a) q r
 unfolding run ◌>>=◌

@@ -1,5 +1,5 @@
 -- The open containers, in an array with the innermost last, as a list with the innermost first.
-use Rattle.std.proofs.Common.{◌≡◌, ℕ, zero, suc, ◌+◌, ◌-◌, ◌<◌, ◌≤◌, List, [], ◌∷◌, ◌++◌, length, take, set, get_or, reverse, refl, sym, ap, ◌∙◌, arith, ◌⊎◌, inl, inr, Option, Some, None}
+use Rattle.std.proofs.Common.{◌≡◌, ℕ, zero, suc, ◌+◌, ◌-◌, ◌<◌, ◌≤◌, List, [], ◌∷◌, length, take, set, get_or, reverse, refl, ap, ◌∙◌, arith, Option, Some}
 use Rattle.ber_pull.specs.Standing.{first_of, with_ended}
 use Rattle.ber_pull.specs.declared.state.Container.{Container}
 use Rattle.ber_pull.specs.declared.state.Container.TheVariants.{Definite, Indefinite, Ended}

@@ -1,12 +1,12 @@
 -- Whole strings: in one piece, or the walk from its first step to its last.
-use Rattle.std.proofs.Common.{◌≡◌, ℕ, zero, suc, ◌+◌, ◌<◌, ◌≤◌, Bool, true, false, List, [], ◌∷◌, length, Option, Some, None, Result, Ok, Err, refl, sym, ◌∙◌, ap, subst, arith}
+use Rattle.std.proofs.Common.{◌≡◌, ℕ, ◌+◌, ◌<◌, ◌≤◌, true, false, List, [], ◌∷◌, length, Option, Result, Ok, Err, refl, ◌∙◌, ap, arith}
 use Rattle.tlv_core.specs.Limits.{Limits}
 use Rattle.tlv_core.specs.declared.fault.ReadError.{ReadError}
 use Rattle.tlv_core.specs.declared.source.Source.{Ghosts}
 use Rattle.x690.specs.Points.{Enclosing}
-use Rattle.x690.specs.ReadHeaders.{LengthForm, each_member, in_container}
+use Rattle.x690.specs.ReadHeaders.{LengthForm, in_container}
 use Rattle.x690.specs.Reading.{Done, Reading, ◌>>=◌, run}
-use Rattle.x690.specs.Reads.{Heard, Said}
+use Rattle.x690.specs.Reads.{Said}
 use Rattle.ber_pull.specs.Calls.{read_entering, read_segments}
 use Rattle.ber_pull.specs.Hears.{Continues, Hears, heard_error}
 use Rattle.ber_pull.specs.Segments.{GoesOn, Joins, Level, Stacked, Steps, read_one_segment, read_rest}

@@ -1,5 +1,5 @@
 -- What each call of a pull reader reads, by the plain reading at its point.
-use Rattle.std.specs.Prelude.{Bool, List, None, Option, Some, [], false, not, true, ℕ, ◌==◌, ◌∷◌}
+use Rattle.std.specs.Prelude.{List, None, Some, [], false, not, true, ℕ, ◌==◌, ◌∷◌}
 use Rattle.tlv_core.specs.Limits.{Limits}
 use Rattle.tlv_core.specs.declared.reason.Reason.TheVariants.{BadBits, BadEnd, Extra, WrongForm}
 use Rattle.x690.specs.Contents.{bit_octets, clear_unused, unused_bits}

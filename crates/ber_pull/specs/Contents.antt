@@ -1,5 +1,5 @@
 -- Contents that come in pieces.
-use Rattle.std.specs.Prelude.{List, MatchResult, Option, Result, length, ℕ, ◌+◌, ◌++◌, ◌<◌, ◌≡◌, ◌≤◌}
+use Rattle.std.specs.Prelude.{List, MatchResult, Result, length, ℕ, ◌+◌, ◌++◌, ◌<◌, ◌≡◌, ◌≤◌}
 use Rattle.std.specs.Io.KnownBytes.{Consumes}
 use Rattle.tlv_core.specs.declared.fault.ReadError.{ReadError}
 use Rattle.tlv_core.specs.declared.source.Source.{Ghosts}

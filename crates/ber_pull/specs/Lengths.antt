@@ -1,5 +1,5 @@
 -- Lengths as the reader keeps them.
-use Rattle.std.specs.Prelude.{List, MatchResult, Option, Result, ℕ, ◌+◌, ◌^◌, ◌≡◌, ◌≤◌, ◌⊎◌}
+use Rattle.std.specs.Prelude.{MatchResult, Result, ℕ, ◌+◌, ◌^◌, ◌≡◌, ◌≤◌, ◌⊎◌}
 use Rattle.tlv_core.specs.declared.fault.ReadError.{ReadError}
 use Rattle.tlv_core.specs.declared.source.Source.{Ghosts}
 use Rattle.x690.specs.ReadHeaders as headers

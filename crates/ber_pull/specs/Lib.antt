@@ -5,3 +5,4 @@ pub mod View
 pub mod Lengths
 pub mod Contents
 pub mod Segments
+pub mod Fields

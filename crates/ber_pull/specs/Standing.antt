@@ -1,8 +1,11 @@
 -- What a pull reader stands at.
-use Rattle.std.specs.Prelude.{Bool, List, None, Option, Some, [], false, length, nat_lt, true, ℕ, ◌+◌, ◌<◌, ◌∷◌, ◌≡◌, ◌≤◌, ◌||◌}
+use Rattle.std.specs.Prelude.{Bool, List, None, Option, Some, [], false, length, nat_lt, true, ℕ, ◌+◌, ◌<◌, ◌||◌, ◌∷◌, ◌≤◌, IsSome, ◌≡◌, ◌↔◌}
 use Rattle.tlv_core.specs.Identifier.{IsTag, Tag}
 use Rattle.tlv_core.specs.Limits.{Limits}
+use Rattle.tlv_core.specs.declared.fault.Fault.{Fault}
 use Rattle.tlv_core.specs.declared.fault.ReadError.{ReadError}
+use Rattle.tlv_core.specs.declared.fault.ReadError.TheVariants as errors
+use Rattle.tlv_core.specs.declared.reason.Reason.TheVariants.{Inner}
 use Rattle.x690.specs.Points.{Enclosing, EndsAt, EndsWithZeros, Innermost, NoContainer, stands_at_end}
 use Rattle.x690.specs.ReadHeaders.{DefiniteLength, IndefiniteLength, LengthForm}
 use Rattle.ber_pull.specs.declared.state.Container.{Container}
@@ -25,6 +28,10 @@ pub record IsGiven (tag : Tag) (s : Standing) : Type 0 where
   pub is_tag : IsTag tag
   pub depth_fits : length s.containers < s.limits.depth
   pub octets_fit : s.limits.octets ≤ 2147483647
+
+-- what is inside a fault is there exactly where its reason is Inner
+abbrev pub TellsInside : Standing → Type 0
+TellsInside s = (found : Fault) → s.error ≡ Some (errors.Fault found) → (IsSome found.inside ↔ (found.why ≡ Inner))
 
 -- at the start, with no container open
 abbrev pub started : Limits → Standing

@@ -1,5 +1,5 @@
 -- What clauses see of a pull reader.
-use Rattle.std.specs.Prelude.{Bool, Err, List, MatchResult, None, Ok, OnOk, IfErr, IfOk, Option, Result, Some, IsSome, false, true, ℕ, ◌<◌, ◌≡◌, ◌≤◌}
+use Rattle.std.specs.Prelude.{Bool, Err, List, MatchResult, None, IfErr, Option, Result, Some, false, true, ℕ, ◌≡◌, ◌≤◌}
 use Rattle.tlv_core.specs.declared.fault.ReadError.{ReadError}
 use Rattle.tlv_core.specs.declared.fault.ReadError.TheVariants as errors
 use Rattle.tlv_core.specs.declared.source.Source.{Ghosts}
@@ -47,6 +47,16 @@ abbrev pub IsReadFailure : Bool → ℕ → ReadError → Type 0
 IsReadFailure failed k (errors.Read at) = (failed ≡ true) × (at ≡ k)
 IsReadFailure failed k (errors.Fault f) = failed ≡ false
 IsReadFailure failed k errors.Memory = failed ≡ false
+
+-- any error but want of memory
+abbrev pub IsNotMemory : ReadError → Type 0
+IsNotMemory (errors.Fault f) = Unit {0}
+IsNotMemory (errors.Read at) = Unit {0}
+IsNotMemory errors.Memory = ⊥
+
+-- no memory is asked for: one that hadn't failed doesn't answer that it ran out
+abbrev pub AsksNoMemory : {R : Type 0} {s : Ghosts R} {A : Type 0} → Pull R s → Result A ReadError → Type 0
+AsksNoMemory old result = old.state.error ≡ None → IfErr result IsNotMemory
 
 -- of one that hadn't failed: `Read` is answered where the source failed in this call, at the octet that was needed next, and nowhere else
 abbrev pub ReadsFail : {R : Type 0} {s : Ghosts R} {A : Type 0} → Pull R s → Pull R s → Result A ReadError → Type 0

@@ -5,7 +5,7 @@ ghost use Rattle.x690.specs.Points.{ends_with_zeros};
 ghost use Rattle.x690.specs.ReadHeaders.{ContainerEnds, fit_contents, header_octet, read_big_endian, read_high_number, read_definite_length, read_length, read_number, read_tag_number};
 ghost use Rattle.ber_pull.specs.Calls.{read_end_of_contents};
 ghost use Rattle.ber_pull.specs.Hears.{heard};
-ghost use Rattle.ber_pull.specs.Standing.{enclosing, ending, moved};
+ghost use Rattle.ber_pull.specs.Standing.{enclosing, ending, is_over, moved};
 
 use crate::pull::Pull;
 use tlv_core::fault::ReadError;
@@ -23,10 +23,11 @@ pub enum LengthForm {
 }
 
 impl<R: Source> Pull<'_, R> {
-    ghost use Rattle.ber_pull.specs.View.{standing, source, told, SameSource, Keeps, ReadsFail, Onward, Answers, Moves};
+    ghost use Rattle.ber_pull.specs.View.{AsksNoMemory, standing, source, told, SameSource, Keeps, ReadsFail, Onward, Answers, Moves};
     ghost use Rattle.ber_pull.specs.Lengths.{AnswersClipped, IsClipped, IsWithin, form_of};
 
     /// The next octet of a header or of end-of-contents octets, which belongs to the identifier at `start`.
+    #[inline(always)]
     pub(crate) fn octet(&mut self, start: u32) -> Result<u8, ReadError>
         requires { (standing self.old).error ≡ None }
         ensures same_source { SameSource self.old self.new }
@@ -35,6 +36,7 @@ impl<R: Source> Pull<'_, R> {
         ensures advances { OnOk result ((standing self.new).taken ≡ (standing self.old).taken + 1) }
         ensures octet { IfOk result (λ x. x < 256) }
         ensures read { ReadsFail self.old self.new result }
+        ensures memory { AsksNoMemory self.old result }
         ensures onward { Onward self.old self.new }
     {
         if self.state.is_at_nearest_end() {
@@ -67,8 +69,10 @@ impl<R: Source> Pull<'_, R> {
         ensures reads { Answers self.old self.new (read_end_of_contents (standing self.old).limits (enclosing (standing self.old)) start) (heard (λ _. ContainerEnds start) result) }
         ensures indefinite { OnOk result (ends_with_zeros (enclosing (standing self.old)).innermost ≡ true) }
         ensures stands { OnOk result (standing self.new ≡ ending (moved (standing self.new).taken (standing self.old))) }
+        ensures ends { OnOk result (is_over (standing self.new) ≡ true) }
         ensures keeps { Keeps self.new result }
         ensures read { ReadsFail self.old self.new result }
+        ensures memory { AsksNoMemory self.old result }
         ensures onward { Onward self.old self.new }
     {
         if !self.state.is_indefinite() {
@@ -83,6 +87,7 @@ impl<R: Source> Pull<'_, R> {
     }
 
     /// The number of the tag whose first octet is taken.
+    #[inline]
     pub(crate) fn tag_number(&mut self, start: u32, first: u8) -> Result<u32, ReadError>
         requires { (standing self.old).error ≡ None }
         ensures same_source { SameSource self.old self.new }
@@ -91,6 +96,7 @@ impl<R: Source> Pull<'_, R> {
         ensures below { IfOk result (λ n. n < 2 ^ 28) }
         ensures low { IfOk result (λ n. n < 31 → n ≡ first % 32) }
         ensures read { ReadsFail self.old self.new result }
+        ensures memory { AsksNoMemory self.old result }
         ensures onward { Onward self.old self.new }
     {
         let low = first % 32;
@@ -108,6 +114,7 @@ impl<R: Source> Pull<'_, R> {
         ensures stands { Moves self.old self.new result }
         ensures below { IfOk result (λ n. (n < 2 ^ 28) × (31 ≤ n)) }
         ensures read { ReadsFail self.old self.new result }
+        ensures memory { AsksNoMemory self.old result }
         ensures onward { Onward self.old self.new }
     {
         let mut number: u32 = 0;
@@ -137,6 +144,7 @@ impl<R: Source> Pull<'_, R> {
         ensures within { IfOk result (IsWithin (standing self.new)) }
         ensures advances { OnOk result ((standing self.old).taken < (standing self.new).taken) }
         ensures read { ReadsFail self.old self.new result }
+        ensures memory { AsksNoMemory self.old result }
         ensures onward { Onward self.old self.new }
     {
         let first = self.octet(start)?;
@@ -158,6 +166,7 @@ impl<R: Source> Pull<'_, R> {
         ensures stands { Moves self.old self.new result }
         ensures within { IfOk result (λ n. (standing self.new).taken + n ≤ (standing self.new).limits.octets) }
         ensures read { ReadsFail self.old self.new result }
+        ensures memory { AsksNoMemory self.old result }
         ensures onward { Onward self.old self.new }
     {
         let first = self.octet(start)?;
@@ -168,6 +177,7 @@ impl<R: Source> Pull<'_, R> {
     }
 
     /// The number of contents octets, behind the first length octet.
+    #[inline]
     fn number(&mut self, start: u32, first: u8) -> Result<u32, ReadError>
         requires { (standing self.old).error ≡ None }
         ensures same_source { SameSource self.old self.new }
@@ -175,6 +185,7 @@ impl<R: Source> Pull<'_, R> {
         ensures stands { Moves self.old self.new result }
         ensures within { IfOk result (λ n. (standing self.new).taken + n ≤ (standing self.new).limits.octets) }
         ensures read { ReadsFail self.old self.new result }
+        ensures memory { AsksNoMemory self.old result }
         ensures onward { Onward self.old self.new }
     {
         if first < 128 {
@@ -192,6 +203,7 @@ impl<R: Source> Pull<'_, R> {
         ensures stands { Moves self.old self.new result }
         ensures below { IfOk result (λ m. m < 2 ^ 40) }
         ensures read { ReadsFail self.old self.new result }
+        ensures memory { AsksNoMemory self.old result }
         ensures onward { Onward self.old self.new }
     {
         let mut number: u64 = 0;
@@ -211,6 +223,7 @@ impl<R: Source> Pull<'_, R> {
         ensures stands { Moves self.old self.new result }
         ensures within { IfOk result (λ n. (standing self.new).taken + n ≤ (standing self.new).limits.octets) }
         ensures read { ReadsFail self.old self.new result }
+        ensures memory { AsksNoMemory self.old result }
         ensures onward { Onward self.old self.new }
     {
         let end = u64::from(self.state.taken()) + number;

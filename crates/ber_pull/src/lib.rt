@@ -11,3 +11,5 @@ mod header;
 pub mod pull;
 mod state;
 mod string;
+#[cfg(test)]
+mod tests;

@@ -1,5 +1,5 @@
 //! The reader: one element after another, with a stack of the open containers in itself.
-ghost use Rattle.std.specs.Prelude.{◌≡◌, ◌<◌, ◌≤◌, ◌↔◌, None, Some, Ok, IfOk, IfSome, IsSome, OnOk, false, ℕ, [], length};
+ghost use Rattle.std.specs.Prelude.{◌≡◌, ◌<◌, ◌≤◌, ◌↔◌, None, Some, Ok, IfOk, IfSome, IsSome, OnOk, false, true, ℕ, [], length};
 ghost use Rattle.tlv_core.specs.declared.fault.ReadError.{ReadError};
 ghost use Rattle.tlv_core.specs.declared.fault.ReadError.TheVariants.{Fault as refused, Memory};
 ghost use Rattle.tlv_core.specs.declared.reason.Reason.TheVariants.{Inner};
@@ -7,7 +7,7 @@ ghost use Rattle.ber_pull.specs.Calls.{read_next, read_entering, read_leaving};
 ghost use Rattle.ber_pull.specs.Hears.{heard, next_at};
 ghost use Rattle.x690.specs.Points.{fault};
 ghost use Rattle.ber_pull.specs.declared.state.Given.{Given};
-ghost use Rattle.ber_pull.specs.Standing.{IsAtEnd, IsGiven, started, place, failed_with, enclosing, after_next, closing, moved, opening};
+ghost use Rattle.ber_pull.specs.Standing.{IsAtEnd, IsGiven, TellsInside, started, place, failed_with, enclosing, after_next, closing, moved, opening};
 
 use crate::header::{LengthForm, tag_of};
 use crate::state::{Container, State};
@@ -24,11 +24,13 @@ pub struct Pull<'a, R: Source> {
     pub(crate) state: State,
     /// No more octets are taken than the limit.
     pub ghost within: { state.taken ≤ state.limits.octets },
+    /// What is inside a fault is there exactly where its reason is `Inner`.
+    pub ghost inside: { TellsInside state },
     ghost live: { state.error ≡ None → R.has_failed src.now ≡ false },
 }
 
 impl<'a, R: Source> Pull<'a, R> {
-    ghost use Rattle.ber_pull.specs.View.{standing, source, SameSource, Unmoved, Repeats, Keeps, ReadsFail, Onward, Answers, Opens};
+    ghost use Rattle.ber_pull.specs.View.{AsksNoMemory, standing, source, SameSource, Unmoved, Repeats, Keeps, ReadsFail, Onward, Answers, Opens};
     ghost use Rattle.ber_pull.specs.Lengths.{IsWithin, form_of};
 
     /// A reader at place 0, with no container open.
@@ -71,12 +73,14 @@ impl<'a, R: Source> Pull<'a, R> {
         ensures again { IfSome (standing self.old).given (λ g. IfOk result (λ next. (next ≡ Some (g.tag, g.constructed)) × Unmoved self.old self.new)) }
         ensures given { (g : Given) → (standing self.old).error ≡ None → (standing self.old).given ≡ Some g → (result ≡ Ok (Some (g.tag, g.constructed))) × Unmoved self.old self.new }
         ensures stands { (standing self.old).given ≡ None → IfOk result (λ next. standing self.new ≡ after_next (standing self.new).taken next (standing self.old)) }
+        ensures gives { IfOk result (λ next. IsSome next → IsSome (standing self.new).given) }
         ensures ended { (standing self.old).error ≡ None → IsAtEnd (standing self.old) → (result ≡ Ok None) × Unmoved self.old self.new }
         ensures ends { (standing self.old).given ≡ None → IfOk result (λ next. next ≡ None → IsAtEnd (standing self.new)) }
         ensures fits { IfOk result (λ next. IfSome next (λ t. IsGiven t.0 (standing self.new))) }
         ensures advances { (standing self.old).given ≡ None → IfOk result (λ next. IsSome next → (standing self.old).taken < (standing self.new).taken) }
         ensures keeps { Keeps self.new result }
         ensures read { ReadsFail self.old self.new result }
+        ensures memory { AsksNoMemory self.old result }
         ensures onward { Onward self.old self.new }
     {
         if let Some(error) = self.state.error() {
@@ -119,6 +123,7 @@ impl<'a, R: Source> Pull<'a, R> {
         ensures advances { OnOk result ((standing self.old).taken < (standing self.new).taken) }
         ensures keeps { Keeps self.new result }
         ensures read { ReadsFail self.old self.new result }
+        ensures memory { AsksNoMemory self.old result }
         ensures onward { Onward self.old self.new }
     {
         if let Some(error) = self.state.error() {
@@ -146,6 +151,7 @@ impl<'a, R: Source> Pull<'a, R> {
         ensures ended { (standing self.old).error ≡ None → IsAtEnd (standing self.old) → (result ≡ Ok tt) × (source self.new ≡ source self.old) × (standing self.new ≡ closing (standing self.old)) }
         ensures keeps { Keeps self.new result }
         ensures read { ReadsFail self.old self.new result }
+        ensures memory { AsksNoMemory self.old result }
         ensures onward { Onward self.old self.new }
     {
         if let Some(error) = self.state.error() {
@@ -190,8 +196,10 @@ impl<'a, R: Source> Pull<'a, R> {
     }
 
     /// A fault with nothing inside.
+    #[cold]
     pub(crate) fn stop(&mut self, at: u32, why: Reason) -> ReadError
-        requires { (standing self.old).error ≡ None }
+        requires live { (standing self.old).error ≡ None }
+        requires why { why ≡ Inner → ⊥ }
         ensures same_source { SameSource self.old self.new }
         ensures same { source self.new ≡ source self.old }
         ensures is { result ≡ refused (fault at why) }

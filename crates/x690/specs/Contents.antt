@@ -1,8 +1,10 @@
 -- The contents of leaves (X.690 8.2, 8.3, 8.4, 8.6, 8.7, 8.8, 8.19, 8.23).
-use Rattle.std.specs.Prelude.{IsUtf8, List, [], false, length, true, ℕ, ◌*◌, ◌++◌, ◌/◌, ◌<◌, ◌==◌, ◌^◌, ◌∷◌, ◌≡◌, ◌≤◌}
+use Rattle.std.specs.Prelude.{IsUtf8, List, None, Option, Some, [], false, length, true, ℕ, ◌*◌, ◌++◌, ◌/◌, ◌<◌, ◌==◌, ◌^◌, ◌∷◌, ◌≡◌, ◌≤◌}
+use Rattle.tlv_core.specs.ObjectIdentifier.{IsObjectIdentifier}
+use Rattle.tlv_core.specs.declared.reason.Reason.{Reason}
+use Rattle.tlv_core.specs.declared.reason.Reason.TheVariants.{BadBits, BadBoolean, BadInteger, BadNull, BadOid, BadText}
 use Rattle.x690.specs.Layouts.{Constructed, FirstTree, NoTrees, Primitive, RawTree, RawTrees, tree_tag, universal}
 use Rattle.x690.specs.Lists.{join}
-use Rattle.x690.specs.ObjectIdentifiers.{ObjectIdentifierContents}
 
 -- What the contents of a leaf are. ENUMERATED has those of INTEGER (8.4), strings and times other than UTF8String those of OCTET STRING (8.23, 8.25).
 pub data LeafKind : Type 0 where
@@ -28,7 +30,7 @@ unfoldable mutual
   AllSegmented number NoTrees = Unit {0}
   AllSegmented number (FirstTree tree trees) = (tree_tag tree ≡ universal number) × Segmented number tree × AllSegmented number trees
 
--- The octets of a string: its segments are OCTET STRINGs, joined in order (8.7, 8.23.6).
+-- The octets of a string: its segments are OCTET STRINGs, joined in order (8.7, 8.23).
 pub record StringContents (tree : RawTree) (octets : List ℕ) : Type 0 where
   pub segmented : Segmented 4 tree
   pub is : octets ≡ join (segments tree)
@@ -45,7 +47,7 @@ unused_bits ([] ∷ []) = 0
 unused_bits ((unused ∷ octets) ∷ []) = unused
 unused_bits (segment ∷ next ∷ more) = unused_bits (next ∷ more)
 
--- Each is the contents of a BIT STRING, and all but the last have no unused bits (8.6.4.1).
+-- Each is the contents of a BIT STRING, and all but the last have no unused bits (8.6.4).
 abbrev pub AreBitSegments : List (List ℕ) → Type 0
 AreBitSegments [] = Unit {0}
 AreBitSegments (segment ∷ []) = IsBitSegment segment
@@ -92,8 +94,28 @@ LeafContents Integer (Primitive tag contents) octets = IsInteger contents × (oc
 LeafContents Integer (Constructed tag trees) octets = ⊥
 LeafContents Null (Primitive tag contents) octets = (contents ≡ []) × (octets ≡ contents)
 LeafContents Null (Constructed tag trees) octets = ⊥
-LeafContents ObjectIdentifier (Primitive tag contents) octets = ((arcs : List ℕ) × ObjectIdentifierContents arcs contents) × (octets ≡ contents)
+LeafContents ObjectIdentifier (Primitive tag contents) octets = IsObjectIdentifier contents × (octets ≡ contents)
 LeafContents ObjectIdentifier (Constructed tag trees) octets = ⊥
 LeafContents BitString tree octets = BitStringContents tree octets
 LeafContents OctetString tree octets = StringContents tree octets
 LeafContents Utf8String tree octets = StringContents tree octets × IsUtf8 octets
+
+-- The reason for contents of a primitive element that are none of the kind.
+abbrev pub bad_contents : LeafKind → Reason
+bad_contents Boolean = BadBoolean
+bad_contents Integer = BadInteger
+bad_contents Null = BadNull
+bad_contents ObjectIdentifier = BadOid
+bad_contents BitString = BadBits
+bad_contents OctetString = BadText
+bad_contents Utf8String = BadText
+
+-- the universal tag that the segments of a constructed string have, none where the kind is always primitive
+abbrev pub segment_tag : LeafKind → Option ℕ
+segment_tag Boolean = None
+segment_tag Integer = None
+segment_tag Null = None
+segment_tag ObjectIdentifier = None
+segment_tag BitString = Some 3
+segment_tag OctetString = Some 4
+segment_tag Utf8String = Some 4

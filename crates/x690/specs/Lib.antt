@@ -1,13 +1,14 @@
 pub mod Answers
 pub mod Contents
+pub mod ContentsFaults
 pub mod DerTexts
 pub mod DocumentTypes
 pub mod Fitting
 pub mod FurtherTypes
+pub mod HeaderFaults
 pub mod Identifiers
 pub mod Layouts
 pub mod Lists
-pub mod ObjectIdentifiers
 pub mod OpenValues
 pub mod Points
 pub mod Premises

@@ -1,5 +1,5 @@
 -- Relations and tests on lists that the definitions share.
-use Rattle.std.specs.Prelude.{Bool, List, [], false, true, ℕ, ◌&&◌, ◌++◌, ◌<◌, ◌==◌, ◌||◌, ◌∷◌, ◌≡◌, ◌⊎◌}
+use Rattle.std.specs.Prelude.{Bool, List, [], false, true, ℕ, ◌&&◌, ◌++◌, ◌==◌, ◌||◌, ◌∷◌, ◌≡◌, ◌⊎◌}
 
 -- The member stands in the list, and `rest` is what remains of the list without it.
 abbrev pub Picked : {A : Type 0} → A → List A → List A → Type 0
@@ -22,10 +22,6 @@ Each Related (a ∷ as') (b ∷ bs) = Related a b × Each Related as' bs
 abbrev pub join : List (List ℕ) → List ℕ
 join [] = []
 join (octets ∷ more) = octets ++ join more
-
-abbrev pub AllBelow : ℕ → List ℕ → Type 0
-AllBelow bound [] = Unit {0}
-AllBelow bound (x ∷ xs) = (x < bound) × AllBelow bound xs
 
 abbrev pub same_octets : List ℕ → List ℕ → Bool
 same_octets [] [] = true

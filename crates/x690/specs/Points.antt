@@ -1,16 +1,11 @@
 -- Where an element stands, and faults there.
-use Rattle.std.specs.Prelude.{Bool, None, Option, Some, false, nat_le, nat_lt, true, ℕ, ◌==◌, ◌≡◌, ◌⊎◌}
+use Rattle.std.specs.Prelude.{Bool, None, Option, Some, false, nat_le, nat_lt, true, ℕ, ◌+◌, ◌==◌}
 use Rattle.tlv_core.specs.declared.fault.Fault.{Fault}
 use Rattle.tlv_core.specs.declared.reason.Reason.{Reason}
-use Rattle.tlv_core.specs.declared.reason.Reason.TheVariants.{Inner}
 
 -- a fault at a place, with nothing inside
 abbrev pub fault : ℕ → Reason → Fault
 fault place why = record { at = place; why = why; inside = None }
-
--- What is inside a fault is there exactly where its reason is Inner.
-abbrev pub InsideWhereInner : Fault → Type 0
-InsideWhereInner found = ((found.why ≡ Inner) × (found.inside ≡ None → ⊥)) ⊎ ((found.why ≡ Inner → ⊥) × (found.inside ≡ None))
 
 -- The innermost container: none, one of definite length that ends at a place, one of indefinite length that ends with `00 00`.
 pub data Innermost : Type 0 where
@@ -49,3 +44,13 @@ abbrev pub stands_at_end : Innermost → ℕ → Bool
 stands_at_end NoContainer place = false
 stands_at_end (EndsAt end) place = end == place
 stands_at_end EndsWithZeros place = false
+
+-- What length octets give (8.1.3).
+pub data LengthForm : Type 0 where
+  DefiniteLength : ℕ → LengthForm
+  IndefiniteLength : LengthForm
+
+-- what encloses the members of a container whose contents begin here
+abbrev pub entered : Enclosing → ℕ → LengthForm → Enclosing
+entered enclosing here (DefiniteLength number) = record { nearest_end = Some (here + number); innermost = EndsAt (here + number); open_containers = enclosing.open_containers + 1 }
+entered enclosing here IndefiniteLength = record { nearest_end = enclosing.nearest_end; innermost = EndsWithZeros; open_containers = enclosing.open_containers + 1 }

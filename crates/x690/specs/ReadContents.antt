@@ -1,11 +1,11 @@
 -- The plain reading of leaves and open values (X.690 8.2 to 8.8, 8.19, 8.23), with the first fault in each (profile).
 -- Tests on contents, each the same as the relation of its name in Contents and ObjectIdentifiers.
-use Rattle.std.specs.Prelude.{Bool, List, None, Option, Some, [], false, length, nat_le, nat_lt, not, suc, true, zero, ℕ, ◌&&◌, ◌*◌, ◌++◌, ◌+◌, ◌-◌, ◌==◌, ◌||◌, ◌∷◌}
+use Rattle.std.specs.Prelude.{Bool, List, None, Some, [], false, length, nat_le, nat_lt, not, suc, true, zero, ℕ, ◌&&◌, ◌*◌, ◌++◌, ◌+◌, ◌-◌, ◌==◌, ◌||◌, ◌∷◌}
 use Rattle.std.specs.Str.{is_utf8}
 use Rattle.tlv_core.specs.Identifier.{Tag}
 use Rattle.tlv_core.specs.Limits.{Limits}
-use Rattle.tlv_core.specs.declared.reason.Reason.{Reason}
-use Rattle.tlv_core.specs.declared.reason.Reason.TheVariants.{BadBits, BadBoolean, BadInteger, BadNull, BadOid, BadText, LeftOut, TooDeep, WrongForm, WrongTag}
+use Rattle.tlv_core.specs.declared.reason.Reason.TheVariants.{BadBits, BadText, LeftOut, TooDeep, WrongForm, WrongTag}
+pub use Rattle.x690.specs.Contents.{bad_contents, segment_tag}
 use Rattle.x690.specs.Contents.{BitString, Boolean, Integer, LeafKind, Null, ObjectIdentifier, OctetString, Utf8String, bit_contents, boolean_contents, unused_bits}
 use Rattle.x690.specs.Layouts.{same_tag, universal}
 use Rattle.x690.specs.Lists.{join}
@@ -58,26 +58,6 @@ der_contents ObjectIdentifier contents = contents
 der_contents BitString contents = bit_contents (contents ∷ [])
 der_contents OctetString contents = contents
 der_contents Utf8String contents = contents
-
--- the reason where they aren't
-abbrev pub bad_contents : LeafKind → Reason
-bad_contents Boolean = BadBoolean
-bad_contents Integer = BadInteger
-bad_contents Null = BadNull
-bad_contents ObjectIdentifier = BadOid
-bad_contents BitString = BadBits
-bad_contents OctetString = BadText
-bad_contents Utf8String = BadText
-
--- the universal tag that the segments of a constructed string have, none where the kind is always primitive
-abbrev pub segment_tag : LeafKind → Option ℕ
-segment_tag Boolean = None
-segment_tag Integer = None
-segment_tag Null = None
-segment_tag ObjectIdentifier = None
-segment_tag BitString = Some 3
-segment_tag OctetString = Some 4
-segment_tag Utf8String = Some 4
 
 -- the DER contents, of the primitive segments of a string
 abbrev pub joined_contents : LeafKind → List (List ℕ) → List ℕ

@@ -1,10 +1,11 @@
 -- The plain reading of identifier octets, length octets and contents octets (X.690 8.1.2 to 8.1.5), with the first fault in each (profile).
 -- A fault stands at `place`, where the identifier of its element begins; only Truncated stands where the octets end.
-use Rattle.std.specs.Prelude.{Bool, List, Option, Some, [], nat_le, nat_lt, not, suc, zero, ℕ, ◌%◌, ◌&&◌, ◌*◌, ◌+◌, ◌-◌, ◌/◌, ◌==◌, ◌∷◌}
+use Rattle.std.specs.Prelude.{Bool, List, Option, [], nat_le, nat_lt, not, suc, zero, ℕ, ◌%◌, ◌&&◌, ◌*◌, ◌+◌, ◌-◌, ◌/◌, ◌==◌, ◌∷◌}
 use Rattle.tlv_core.specs.Identifier.{Tag}
 use Rattle.tlv_core.specs.Limits.{Limits}
 use Rattle.tlv_core.specs.declared.reason.Reason.TheVariants.{BadEnd, BadLength, BadTag, PastEnd, TooDeep, TooLong, WrongForm}
-use Rattle.x690.specs.Points.{Enclosing, EndsAt, EndsWithZeros, at_end, ends_with_zeros, fault, past_end, stands_at_end}
+pub use Rattle.x690.specs.Points.{DefiniteLength, IndefiniteLength, LengthForm, entered}
+use Rattle.x690.specs.Points.{Enclosing, at_end, ends_with_zeros, fault, past_end, stands_at_end}
 use Rattle.x690.specs.Reading.{Ask, Done, Fail, Reading, Where, choose, require, ◌>>=◌}
 
 -- One octet of an identifier, of length octets or of end-of-contents octets: it has to stand within the nearest definite container and within the limit.
@@ -40,11 +41,6 @@ next_tag limits enclosing =
     (read_tag_number limits enclosing.nearest_end place octet >>= λ number. require (nat_lt enclosing.open_containers limits.depth) (fault place TooDeep)
     (Done (ElementStands place (record { class = octet / 64; number = number }) (nat_le 32 (octet % 64))))))))
 
--- What length octets give (8.1.3).
-pub data LengthForm : Type 0 where
-  DefiniteLength : ℕ → LengthForm
-  IndefiniteLength : LengthForm
-
 -- So many contents octets fit into the nearest definite container, and within the limit.
 unfoldable pub fit_contents : Limits → Option ℕ → ℕ → ℕ → Reading ℕ
 fit_contents limits end place number = Where (λ here. require (not (past_end end (here + number))) (fault place PastEnd) (require (nat_le (here + number) limits.octets) (fault place TooLong) (Done number)))
@@ -76,11 +72,6 @@ next_octets (suc number) = Ask (λ octet. next_octets number >>= λ octets. Done
 -- length and contents of a primitive element
 unfoldable pub primitive_contents : Limits → Enclosing → ℕ → Reading (List ℕ)
 primitive_contents limits enclosing place = read_definite_length limits enclosing.nearest_end place >>= λ number. next_octets number
-
--- what encloses the members of a container whose contents begin here
-abbrev pub entered : Enclosing → ℕ → LengthForm → Enclosing
-entered enclosing here (DefiniteLength number) = record { nearest_end = Some (here + number); innermost = EndsAt (here + number); open_containers = enclosing.open_containers + 1 }
-entered enclosing here IndefiniteLength = record { nearest_end = enclosing.nearest_end; innermost = EndsWithZeros; open_containers = enclosing.open_containers + 1 }
 
 -- A container: its form, its length, and then what stands in it.
 unfoldable pub in_container : {A : Type 0} → Limits → Enclosing → ℕ → Bool → (Enclosing → Reading A) → Reading A

@@ -54,7 +54,7 @@ unfoldable mutual
       require (same_tag own tag) (fault place WrongTag)
       (read_leaf limits enclosing OctetString place own constructed
       >>= λ value. from_inside place (run (due_element limits outermost (read_type limits type earlier outermost)) 0 (leaf_contents value))
-      >>= λ value. apply_rule place (rule earlier value) (Leaf own (der value)))
+      >>= λ contained. apply_rule place (rule earlier contained) (Leaf own (der contained)))
   read_type limits (RuledType rule type) earlier enclosing place tag constructed = read_type limits type earlier enclosing place tag constructed >>= λ value. apply_rule place (rule earlier value) value
   read_type limits (RefusedType own why) earlier enclosing place tag constructed = require (same_tag own tag) (fault place WrongTag) (Fail (fault place why))
   read_type limits (DefinedByType path octets first second) earlier enclosing place tag constructed = choose (one_of (leaf_at path earlier) octets) (read_type limits first earlier enclosing place tag constructed) (read_type limits second earlier enclosing place tag constructed)

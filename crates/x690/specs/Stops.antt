@@ -1,116 +1,102 @@
--- The fault grammar.
-use Rattle.std.specs.Prelude.{Bool, List, Some, [], false, suc, true, zero, ℕ, ◌++◌, ◌+◌, ◌<◌, ◌∷◌, ◌≡◌, ◌⊎◌}
+-- The fault grammar of types: how an element of a type stops (which fault comes first: profile).
+use Rattle.std.specs.Prelude.{Bool, List, Option, Some, [], false, true, ℕ, ◌++◌, ◌+◌, ◌<◌, ◌∷◌, ◌≡◌, ◌⊎◌}
 use Rattle.tlv_core.specs.Identifier.{Tag}
 use Rattle.tlv_core.specs.Limits.{Limits}
 use Rattle.tlv_core.specs.declared.fault.Fault.{Fault}
 use Rattle.tlv_core.specs.declared.reason.Reason.{Reason}
-use Rattle.tlv_core.specs.declared.reason.Reason.TheVariants.{EmptySet, Extra, Inner, Missing, Trailing, WrongForm, WrongTag}
+use Rattle.tlv_core.specs.declared.reason.Reason.TheVariants.{EmptySet, Extra, Inner, Missing, Trailing, WrongTag}
 use Rattle.x690.specs.Contents.{OctetString}
+use Rattle.x690.specs.ContentsFaults.{After, LeafStops, MemberStands, OpenStops, StopsHere}
+use Rattle.x690.specs.HeaderFaults.{EndsHere, OpensThen, Stands, StandsThen, StopsInForm, StopsInTag}
 use Rattle.x690.specs.Layouts.{same_tag}
 use Rattle.x690.specs.Lists.{one_of}
 use Rattle.x690.specs.Points.{Enclosing, fault, outermost}
-use Rattle.x690.specs.ReadContents.{read_leaf, read_open}
-use Rattle.x690.specs.ReadHeaders.{ContainerEnds, ElementStands, entered, next_tag, read_length}
-use Rattle.x690.specs.Reading.{Halted, Took, run}
-use Rattle.x690.specs.Takes.{Takes}
-use Rattle.x690.specs.TypeTerms.{ContainingType, Default, DefinedByType, Fields, LeafType, EndOfFields, OpenType, Optional, RefusedType, Required, RuledType, SequenceOfType, SequenceType, SetOfType, TypeTerm, fits_tag}
-use Rattle.x690.specs.Values.{Leaf, Same, Value, leaf_at, leaf_contents}
+use Rattle.x690.specs.Takes.{Takes, TakesThen}
+use Rattle.x690.specs.TypeTerms.{ContainingType, Default, DefinedByType, EndOfFields, Fields, LeafType, OpenType, Optional, RefusedType, Required, RuledType, SequenceOfType, SequenceType, SetOfType, TypeTerm, fits_tag}
+use Rattle.x690.specs.Values.{Leaf, Same, Value, leaf_at}
 
--- an element stands here: its place, tag and form, and what is behind its identifier
-abbrev pub Stands : Limits → Enclosing → ℕ → List ℕ → ℕ → Tag → Bool → ℕ → List ℕ → Type 0
-Stands l c k s p t form j u = run (next_tag l c) k s ≡ Took (ElementStands p t form) j u
+-- A container of members stops: it is primitive, its length stops, or behind some of its members the next one stops, or the container ends with too few.
+abbrev pub MembersStop : Limits → TypeTerm → ℕ → Enclosing → ℕ → Bool → ℕ → List ℕ → (Enclosing → ℕ → Tag → Bool → ℕ → List ℕ → Fault → Type 0) → (ℕ → Fault) → Fault → Type 0
+MembersStop limits type least enclosing place constructed here octets Member too_few found =
+    StopsInForm limits enclosing place constructed here octets found
+    ⊎ OpensThen limits enclosing constructed here octets (λ inside behind rest.
+    ((many : ℕ) × After (MemberStands limits type inside) (λ before place' octets'. StopsHere limits inside (Member inside) place' octets' found) many tt behind rest)
+    ⊎ ((many : ℕ) × (many < least) × After (MemberStands limits type inside) (λ before place' octets'. EndsHere limits inside place' octets' × (found ≡ too_few place')) many tt behind rest))
 
--- nothing is left here, the end being at `p`
-abbrev pub EndsHere : Limits → Enclosing → ℕ → List ℕ → ℕ → Type 0
-EndsHere l c k s p = (j : ℕ) × (u : List ℕ) × (run (next_tag l c) k s ≡ Took (ContainerEnds p) j u)
+-- What stands in an OCTET STRING, its octets taken, is at fault: as a document of its own it stops, or octets are left behind it, or the rule refuses it.
+abbrev pub ContainedStops : Limits → TypeTerm → List Value → (Value → Option Reason) → ℕ → List ℕ → (Fault → Type 0) → Fault → Type 0
+ContainedStops limits type earlier rule place octets Inside found =
+    ((inner : Fault) × Inside inner × (found ≡ record { at = place; why = Inner; inside = Some (inner.at, inner.why) }))
+    ⊎ ((value : Value) × (taken : ℕ) × (octet : ℕ) × (rest : List ℕ) × Takes limits type earlier outermost 0 octets value taken (octet ∷ rest)
+    × (found ≡ record { at = place; why = Inner; inside = Some (taken, Trailing) }))
+    ⊎ ((value : Value) × (taken : ℕ) × (why : Reason) × Takes limits type earlier outermost 0 octets value taken [] × (rule value ≡ Some why) × (found ≡ fault place why))
 
--- form and length of a container stop
-abbrev pub LengthStops : Limits → Enclosing → ℕ → Bool → ℕ → List ℕ → Fault → Type 0
-LengthStops l c p form k s f = ((form ≡ false) × (f ≡ fault p WrongForm)) ⊎ ((form ≡ true) × (run (read_length l c.nearest_end p) k s ≡ Halted f))
+-- An optional field stops, or what follows it: it isn't there, as the container ends or another tag stands here; it is, and stops; or it is taken, and the fields behind it stop.
+abbrev pub FieldStops : Limits → TypeTerm → List Value → Enclosing → ℕ → List ℕ → (ℕ → Tag → Bool → ℕ → List ℕ → Fault → Type 0) → Type 0 → (Value → ℕ → List ℕ → Type 0) → Fault → Type 0
+FieldStops limits type earlier enclosing place octets Behind Without With found =
+    StopsInTag limits enclosing place octets found
+    ⊎ (EndsHere limits enclosing place octets × Without)
+    ⊎ StandsThen limits enclosing place octets (λ tag constructed behind rest. ((fits_tag type tag ≡ false) × Without) ⊎ ((fits_tag type tag ≡ true) × Behind place tag constructed behind rest found))
+    ⊎ TakesThen limits type earlier enclosing place octets With
 
--- form and length are taken, and `i` is the context inside
-abbrev pub Opens : Limits → Enclosing → ℕ → Bool → ℕ → List ℕ → Enclosing → ℕ → List ℕ → Type 0
-Opens l c p form k s i j u = (form ≡ true) × ((x : _) × (run (read_length l c.nearest_end p) k s ≡ Took x j u) × (i ≡ entered c j x))
-
--- `m` elements stand one after another, and then this holds
-unfoldable pub After : (ℕ → List ℕ → ℕ → List ℕ → Type 0) → (ℕ → List ℕ → Type 0) → ℕ → ℕ → List ℕ → Type 0
-After Stand Then zero k s = Then k s
-After Stand Then (suc m) k s = (n : ℕ) × (rest : List ℕ) × Stand k s n rest × After Stand Then m (k + n) rest
-
-abbrev pub MemberStands : Limits → TypeTerm → Enclosing → ℕ → List ℕ → ℕ → List ℕ → Type 0
-MemberStands l T c k s n rest = (v : Value) × Takes l T [] c k s v n rest
-
--- what stands here stops in its identifier, or behind it
-abbrev pub StopsHere : Limits → Enclosing → (ℕ → Tag → Bool → ℕ → List ℕ → Fault → Type 0) → ℕ → List ℕ → Fault → Type 0
-StopsHere l c behind k s f =
-    (run (next_tag l c) k s ≡ Halted f)
-    ⊎ ((p : ℕ) × (t : Tag) × (form : Bool) × (j : ℕ) × (u : List ℕ) × Stands l c k s p t form j u × behind p t form j u f)
+-- Another tag than its own stands here, or its own, and then this.
+abbrev pub UnderTag : Tag → Tag → ℕ → Fault → Type 0 → Type 0
+UnderTag own tag place found Then = ((same_tag own tag ≡ false) × (found ≡ fault place WrongTag)) ⊎ ((same_tag own tag ≡ true) × Then)
 
 unfoldable mutual
-  -- An element of the type, whose identifier is taken, stops behind it.
+  -- An element whose identifier is taken stops behind it, as one of the type; `earlier` are the values of the earlier fields of its container.
   pub StopsBehind : Limits → TypeTerm → List Value → Enclosing → ℕ → Tag → Bool → ℕ → List ℕ → Fault → Type 0
-  StopsBehind l (LeafType w kind) earlier c p t form k s f =
-      ((same_tag w t ≡ false) × (f ≡ fault p WrongTag)) ⊎ ((same_tag w t ≡ true) × (run (read_leaf l c kind p w form) k s ≡ Halted f))
-  StopsBehind l OpenType earlier c p t form k s f = run (read_open l.depth l c p t form) k s ≡ Halted f
-  StopsBehind l (SequenceOfType w n T) earlier c p t form k s f =
-      ((same_tag w t ≡ false) × (f ≡ fault p WrongTag))
-      ⊎ ((same_tag w t ≡ true) × LengthStops l c p form k s f)
-      ⊎ ((same_tag w t ≡ true) × ((i : Enclosing) × (j : ℕ) × (u : List ℕ) × Opens l c p form k s i j u
-      × (((m : ℕ) × After (MemberStands l T i) (λ a b. StopsHere l i (StopsBehind l T [] i) a b f) m j u)
-      ⊎ ((m : ℕ) × (e : ℕ) × (m < n) × After (MemberStands l T i) (λ a b. EndsHere l i a b e) m j u × (f ≡ fault e Missing)))))
-  StopsBehind l (SetOfType w n T) earlier c p t form k s f =
-      ((same_tag w t ≡ false) × (f ≡ fault p WrongTag))
-      ⊎ ((same_tag w t ≡ true) × LengthStops l c p form k s f)
-      ⊎ ((same_tag w t ≡ true) × ((i : Enclosing) × (j : ℕ) × (u : List ℕ) × Opens l c p form k s i j u
-      × (((m : ℕ) × After (MemberStands l T i) (λ a b. StopsHere l i (StopsBehind l T [] i) a b f) m j u)
-      ⊎ ((m : ℕ) × (e : ℕ) × (m < n) × After (MemberStands l T i) (λ a b. EndsHere l i a b e) m j u × (f ≡ fault p EmptySet)))))
-  StopsBehind l (SequenceType w fs) earlier c p t form k s f =
-      ((same_tag w t ≡ false) × (f ≡ fault p WrongTag))
-      ⊎ ((same_tag w t ≡ true) × LengthStops l c p form k s f)
-      ⊎ ((same_tag w t ≡ true) × ((i : Enclosing) × (j : ℕ) × (u : List ℕ) × Opens l c p form k s i j u × StopsFields l fs [] i j u f))
-  -- the octet string stops, or what is inside does, or octets follow it there, or the rule is broken
-  StopsBehind l (ContainingType w q T) earlier c p t form k s f =
-      ((same_tag w t ≡ false) × (f ≡ fault p WrongTag))
-      ⊎ ((same_tag w t ≡ true) × (run (read_leaf l c OctetString p w form) k s ≡ Halted f))
-      ⊎ ((same_tag w t ≡ true) × ((o : Value) × (j : ℕ) × (u : List ℕ) × (run (read_leaf l c OctetString p w form) k s ≡ Took o j u)
-      × (((g : Fault) × (StopsHere l outermost (StopsBehind l T earlier outermost) 0 (leaf_contents o) g) × (f ≡ record { at = p; why = Inner; inside = Some (g.at, g.why) }))
-      ⊎ ((v : Value) × (n : ℕ) × (x : ℕ) × (rest : List ℕ) × Takes l T earlier outermost 0 (leaf_contents o) v n (x ∷ rest) × (f ≡ record { at = p; why = Inner; inside = Some (n, Trailing) }))
-      ⊎ ((v : Value) × (n : ℕ) × (why : Reason) × Takes l T earlier outermost 0 (leaf_contents o) v n [] × (q earlier v ≡ Some why) × (f ≡ fault p why)))))
-  StopsBehind l (RuledType q T) earlier c p t form k s f =
-      StopsBehind l T earlier c p t form k s f
-      ⊎ ((b : ℕ) × (a : List ℕ) × (v : Value) × (n : ℕ) × (rest : List ℕ) × (why : Reason) × Stands l c b a p t form k s × Takes l T earlier c b a v n rest × (q earlier v ≡ Some why) × (f ≡ fault p why))
-  StopsBehind l (RefusedType w why) earlier c p t form k s f =
-      ((same_tag w t ≡ false) × (f ≡ fault p WrongTag)) ⊎ ((same_tag w t ≡ true) × (f ≡ fault p why))
-  StopsBehind l (DefinedByType path os A B) earlier c p t form k s f =
-      ((one_of (leaf_at path earlier) os ≡ true) × StopsBehind l A earlier c p t form k s f)
-      ⊎ ((one_of (leaf_at path earlier) os ≡ false) × StopsBehind l B earlier c p t form k s f)
+  StopsBehind limits (LeafType own kind) earlier enclosing place tag constructed here octets found = UnderTag own tag place found (LeafStops limits enclosing kind place tag constructed here octets found)
+  StopsBehind limits OpenType earlier enclosing place tag constructed here octets found = OpenStops limits.depth limits enclosing place tag constructed here octets found
+  StopsBehind limits (SequenceOfType own least type) earlier enclosing place tag constructed here octets found =
+      UnderTag own tag place found (MembersStop limits type least enclosing place constructed here octets (λ inside. StopsBehind limits type [] inside) (λ end. fault end Missing) found)
+  StopsBehind limits (SetOfType own least type) earlier enclosing place tag constructed here octets found =
+      UnderTag own tag place found (MembersStop limits type least enclosing place constructed here octets (λ inside. StopsBehind limits type [] inside) (λ end. fault place EmptySet) found)
+  StopsBehind limits (SequenceType own fields) earlier enclosing place tag constructed here octets found =
+      UnderTag own tag place found
+      (StopsInForm limits enclosing place constructed here octets found
+      ⊎ OpensThen limits enclosing constructed here octets (λ inside behind rest. StopsFields limits fields [] inside behind rest found))
+  -- the OCTET STRING stops, or it stands and what it contains is at fault
+  StopsBehind limits (ContainingType own rule type) earlier enclosing place tag constructed here octets found =
+      UnderTag own tag place found
+      (LeafStops limits enclosing OctetString place tag constructed here octets found
+      ⊎ ((stand : List ℕ) × (contained : List ℕ) × (taken : ℕ) × (rest : List ℕ) × Stands limits enclosing place stand tag constructed here octets
+      × Takes limits (LeafType own OctetString) [] enclosing place stand (Leaf own contained) taken rest
+      × ContainedStops limits type earlier (rule earlier) place contained (λ inner. StopsHere limits outermost (StopsBehind limits type earlier outermost) 0 contained inner) found))
+  -- it stops as an element of the type, or is one, and the rule refuses its value
+  StopsBehind limits (RuledType rule type) earlier enclosing place tag constructed here octets found =
+      StopsBehind limits type earlier enclosing place tag constructed here octets found
+      ⊎ ((stand : List ℕ) × (value : Value) × (taken : ℕ) × (rest : List ℕ) × (why : Reason) × Stands limits enclosing place stand tag constructed here octets
+      × Takes limits type earlier enclosing place stand value taken rest × (rule earlier value ≡ Some why) × (found ≡ fault place why))
+  StopsBehind limits (RefusedType own why) earlier enclosing place tag constructed here octets found = UnderTag own tag place found (found ≡ fault place why)
+  StopsBehind limits (DefinedByType path identifiers first second) earlier enclosing place tag constructed here octets found =
+      ((one_of (leaf_at path earlier) identifiers ≡ true) × StopsBehind limits first earlier enclosing place tag constructed here octets found)
+      ⊎ ((one_of (leaf_at path earlier) identifiers ≡ false) × StopsBehind limits second earlier enclosing place tag constructed here octets found)
 
   -- The fields from here on stop.
   pub StopsFields : Limits → Fields → List Value → Enclosing → ℕ → List ℕ → Fault → Type 0
-  StopsFields l EndOfFields earlier c k s f =
-      (run (next_tag l c) k s ≡ Halted f)
-      ⊎ ((p : ℕ) × (t : Tag) × (form : Bool) × (j : ℕ) × (u : List ℕ) × Stands l c k s p t form j u × (f ≡ fault p Extra))
-  StopsFields l (Required T fs) earlier c k s f =
-      (run (next_tag l c) k s ≡ Halted f)
-      ⊎ ((p : ℕ) × EndsHere l c k s p × (f ≡ fault p Missing))
-      ⊎ ((p : ℕ) × (t : Tag) × (form : Bool) × (j : ℕ) × (u : List ℕ) × Stands l c k s p t form j u
-      × (((fits_tag T t ≡ false) × (f ≡ fault p WrongTag)) ⊎ ((fits_tag T t ≡ true) × StopsBehind l T earlier c p t form j u f)))
-      ⊎ ((v : Value) × (n : ℕ) × (rest : List ℕ) × Takes l T earlier c k s v n rest × StopsFields l fs (earlier ++ (v ∷ [])) c (k + n) rest f)
-  StopsFields l (Optional T fs) earlier c k s f =
-      (run (next_tag l c) k s ≡ Halted f)
-      ⊎ ((p : ℕ) × EndsHere l c k s p × StopsFields l fs earlier c k s f)
-      ⊎ ((p : ℕ) × (t : Tag) × (form : Bool) × (j : ℕ) × (u : List ℕ) × Stands l c k s p t form j u
-      × (((fits_tag T t ≡ false) × StopsFields l fs earlier c k s f) ⊎ ((fits_tag T t ≡ true) × StopsBehind l T earlier c p t form j u f)))
-      ⊎ ((v : Value) × (n : ℕ) × (rest : List ℕ) × Takes l T earlier c k s v n rest × StopsFields l fs (earlier ++ (v ∷ [])) c (k + n) rest f)
-  StopsFields l (Default w o T fs) earlier c k s f =
-      (run (next_tag l c) k s ≡ Halted f)
-      ⊎ ((p : ℕ) × EndsHere l c k s p × StopsFields l fs earlier c k s f)
-      ⊎ ((p : ℕ) × (t : Tag) × (form : Bool) × (j : ℕ) × (u : List ℕ) × Stands l c k s p t form j u
-      × (((fits_tag T t ≡ false) × StopsFields l fs earlier c k s f) ⊎ ((fits_tag T t ≡ true) × StopsBehind l T earlier c p t form j u f)))
-      ⊎ ((v : Value) × (n : ℕ) × (rest : List ℕ) × Takes l T earlier c k s v n rest
-      × ((Same v (Leaf w o) × StopsFields l fs earlier c (k + n) rest f) ⊎ ((Same v (Leaf w o) → ⊥) × StopsFields l fs (earlier ++ (v ∷ [])) c (k + n) rest f)))
+  StopsFields limits EndOfFields earlier enclosing place octets found =
+      StopsInTag limits enclosing place octets found
+      ⊎ StandsThen limits enclosing place octets (λ tag constructed behind rest. found ≡ fault place Extra)
+  StopsFields limits (Required type fields) earlier enclosing place octets found =
+      StopsInTag limits enclosing place octets found
+      ⊎ (EndsHere limits enclosing place octets × (found ≡ fault place Missing))
+      ⊎ StandsThen limits enclosing place octets (λ tag constructed behind rest.
+      ((fits_tag type tag ≡ false) × (found ≡ fault place WrongTag)) ⊎ ((fits_tag type tag ≡ true) × StopsBehind limits type earlier enclosing place tag constructed behind rest found))
+      ⊎ TakesThen limits type earlier enclosing place octets (λ value taken rest. StopsFields limits fields (earlier ++ (value ∷ [])) enclosing (place + taken) rest found)
+  StopsFields limits (Optional type fields) earlier enclosing place octets found =
+      FieldStops limits type earlier enclosing place octets (λ place' tag constructed behind rest. StopsBehind limits type earlier enclosing place' tag constructed behind rest)
+      (StopsFields limits fields earlier enclosing place octets found)
+      (λ value taken rest. StopsFields limits fields (earlier ++ (value ∷ [])) enclosing (place + taken) rest found) found
+  StopsFields limits (Default own contents type fields) earlier enclosing place octets found =
+      FieldStops limits type earlier enclosing place octets (λ place' tag constructed behind rest. StopsBehind limits type earlier enclosing place' tag constructed behind rest)
+      (StopsFields limits fields earlier enclosing place octets found)
+      (λ value taken rest.
+      (Same value (Leaf own contents) × StopsFields limits fields earlier enclosing (place + taken) rest found)
+      ⊎ ((Same value (Leaf own contents) → ⊥) × StopsFields limits fields (earlier ++ (value ∷ [])) enclosing (place + taken) rest found)) found
 
--- An element of the type, due here, stops.
+-- An element of the type, which has to stand here, stops: so does what stands here, or the container ends.
 abbrev pub Stops : Limits → TypeTerm → List Value → Enclosing → ℕ → List ℕ → Fault → Type 0
-Stops l T earlier c k s f =
-    StopsHere l c (StopsBehind l T earlier c) k s f ⊎ ((p : ℕ) × EndsHere l c k s p × (f ≡ fault p Missing))
+Stops limits type earlier enclosing place octets found =
+    StopsHere limits enclosing (StopsBehind limits type earlier enclosing) place octets found
+    ⊎ (EndsHere limits enclosing place octets × (found ≡ fault place Missing))

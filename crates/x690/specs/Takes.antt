@@ -19,6 +19,10 @@ pub record Takes (limits : Limits) (type : TypeTerm) (earlier : List Value) (enc
   pub depth_fits : enclosing.open_containers + tree_depth tree ≤ limits.depth
   pub fits : Fits limits.depth type earlier tree value
 
+-- An element of the type takes octets here, and this holds of its value, their number and what follows.
+abbrev pub TakesThen : Limits → TypeTerm → List Value → Enclosing → ℕ → List ℕ → (Value → ℕ → List ℕ → Type 0) → Type 0
+TakesThen limits type earlier enclosing place octets Holds = (value : Value) × (taken : ℕ) × (rest : List ℕ) × Takes limits type earlier enclosing place octets value taken rest × Holds value taken rest
+
 -- An innermost container of definite length is the nearest one of definite length: so it is wherever a reader can stand.
 abbrev pub Proper : Enclosing → Type 0
 Proper enclosing = (end : ℕ) → enclosing.innermost ≡ EndsAt end → enclosing.nearest_end ≡ Some end

@@ -7,7 +7,8 @@ use Rattle.tlv_core.specs.declared.reason.Reason.TheVariants.{TextTooLong, Trunc
 use Rattle.x690.specs.Answers.{Answer, IsAnswer, Refused, Spelled, SpelledBy, answer}
 use Rattle.x690.specs.DerTexts.{der}
 use Rattle.x690.specs.Fitting.{Spells}
-use Rattle.x690.specs.Points.{InsideWhereInner, fault, outermost}
+use Rattle.tlv_core.specs.Faults.{InsideMatches}
+use Rattle.x690.specs.Points.{fault, outermost}
 use Rattle.x690.specs.Premises.{Fair, Honest}
 use Rattle.x690.specs.ReadTypes.{read_document, read_element}
 use Rattle.x690.specs.Reading.{Halted, Outcome, Took, run}
@@ -173,9 +174,9 @@ needed_octets = record {
 pub inside_of_answers : InsideOfAnswers
 inside_of_answers l T b f hn h = go (refused_by l T b f h)
   where
-    go : (run (read_element l T [] outermost) 0 b ≡ Halted f) ⊎ (f ≡ fault 0 TextTooLong) → InsideWhereInner f
+    go : (run (read_element l T [] outermost) 0 b ≡ Halted f) ⊎ (f ≡ fault 0 TextTooLong) → InsideMatches f
     go (inl e) = inside_of_faults l T [] outermost 0 b f hn e
-    go (inr e) = subst InsideWhereInner (sym e) (inr (λ z. cc, refl))
+    go (inr e) = subst InsideMatches (sym e) (λ z. cc, λ z. cc)
 
 pub text_answers_itself : TextAnswersItself
 text_answers_itself l T b t n lw lt h =

@@ -92,7 +92,7 @@ mutual
   frame (Primitive t o) b h = record { form = false; contents = o; framed = inl h.1; holds = omega (arith, length-append o []) }
   frame (Constructed t rs) b h = record { form = true; contents = h.1.0; framed = h.1.2; holds = segments_within rs h.1.0 h.1.1 }
 
-  segments_within : (rs : RawTrees) (c : List ℕ) → AllLaidOut rs c → length (join (all_segments rs)) ≤ length c
+  pub segments_within : (rs : RawTrees) (c : List ℕ) → AllLaidOut rs c → length (join (all_segments rs)) ≤ length c
   segments_within NoTrees c h = omega arith
   segments_within (FirstTree r rs) c h =
       let a = frame r h.0 h.2 in

@@ -1,6 +1,6 @@
 -- The rules over the types of documents are fair.
 use Rattle.std.proofs.Common.{◌≡◌, ℕ, zero, suc, ◌-◌, ◌==◌, ◌&&◌, ◌||◌, not, Bool, true, false, List, [], ◌∷◌, length, Option, refl, ap, ap₂}
-use Rattle.x690_laws.proofs.OneValue.{octets_same, row_items_same, leaf_at_same}
+use Rattle.x690_laws.proofs.OneValue.{octets_same, members_same, leaf_at_same}
 use Rattle.x690_laws.proofs.Complete.{each_length}
 use Rattle.tlv_core.specs.Identifier.{Tag}
 use Rattle.tlv_core.specs.declared.reason.Reason.{Reason}
@@ -48,12 +48,12 @@ fair_version allowed earlier earlier' v w es s = ap (λ o. else_refused (one_of 
 
 pub fair_parameters : FairRule parameters_rule
 fair_parameters earlier earlier' v w es s =
-    let r = row_items_same v w s in
+    let r = members_same v w s in
     ap₂ (λ (o : List ℕ) (n : ℕ). else_refused (not (one_of o rfc8410_algorithms) || (n == 1)) Parameters) (leaf_at_same (0 ∷ []) (sequence_members v) (sequence_members w) r) (each_length (sequence_members v) (sequence_members w) r)
 
 pub fair_ec_parameters : FairRule ec_parameters_rule
 fair_ec_parameters earlier earlier' v w es s =
-    let r = row_items_same v w s in
+    let r = members_same v w s in
     ap₂ (λ (o : List ℕ) (t : Tag). else_refused (not (one_of o (ec_public_key ∷ [])) || same_tag t (universal 6)) Parameters) (leaf_at_same (0 ∷ []) (sequence_members v) (sequence_members w) r) (nth_tag_same 1 (sequence_members v) (sequence_members w) r)
 
 pub fair_key_bits : (path : List ℕ) → FairRule (key_bits_rule path)
@@ -62,10 +62,10 @@ fair_key_bits path earlier earlier' v w es s =
 
 own_curve_same : (v w : Value) → Same v w → own_curve v ≡ own_curve w
 own_curve_same v w s =
-    leaf_at_same (0 ∷ 0 ∷ []) (with_tag (context_specific 0) (sequence_members v)) (with_tag (context_specific 0) (sequence_members w)) (with_tag_same (context_specific 0) (sequence_members v) (sequence_members w) (row_items_same v w s))
+    leaf_at_same (0 ∷ 0 ∷ []) (with_tag (context_specific 0) (sequence_members v)) (with_tag (context_specific 0) (sequence_members w)) (with_tag_same (context_specific 0) (sequence_members v) (sequence_members w) (members_same v w s))
 
 ec_length_same : (c c' : List ℕ) (v w : Value) → c ≡ c' → Same v w → ec_length c v ≡ ec_length c' w
-ec_length_same c c' v w e s = ap₂ (λ a o. ec_length_of a o) e (leaf_at_same (1 ∷ []) (sequence_members v) (sequence_members w) (row_items_same v w s))
+ec_length_same c c' v w e s = ap₂ (λ a o. ec_length_of a o) e (leaf_at_same (1 ∷ []) (sequence_members v) (sequence_members w) (members_same v w s))
   where
     ec_length_of : List ℕ → List ℕ → Bool
     ec_length_of a o = has_length (length_under curve_lengths a) (length o)
@@ -88,11 +88,11 @@ fair_inner_ec earlier earlier' v w es s =
 
 pub fair_key_version : FairRule key_version_rule
 fair_key_version earlier earlier' v w es s =
-    let r = row_items_same v w s in
+    let r = members_same v w s in
     ap₂ (λ (o : List ℕ) (n : ℕ). else_refused (one_of o ((0 ∷ []) ∷ []) || not (n == 0)) VersionRule) (leaf_at_same (0 ∷ []) (sequence_members v) (sequence_members w) r)
     (each_length (with_tag (context_specific 1) (sequence_members v)) (with_tag (context_specific 1) (sequence_members w)) (with_tag_same (context_specific 1) (sequence_members v) (sequence_members w) r))
 
 pub fair_rsa_version : FairRule rsa_version_rule
 fair_rsa_version earlier earlier' v w es s =
-    let r = row_items_same v w s in
+    let r = members_same v w s in
     ap₂ (λ (o : List ℕ) (n : ℕ). else_refused (one_of o ((0 ∷ []) ∷ []) || n == 10) VersionRule) (leaf_at_same (0 ∷ []) (sequence_members v) (sequence_members w) r) (each_length (sequence_members v) (sequence_members w) r)

@@ -1,5 +1,5 @@
 -- The reading takes what lays out a tree that fits.
-use Rattle.std.proofs.Common.{◌≡◌, ℕ, zero, suc, ◌+◌, ◌-◌, ◌*◌, ◌%◌, ◌<◌, ◌≤◌, ◌≢◌, ◌⊎◌, inl, inr, ⊎_elim, ◌==◌, ◌&&◌, ◌||◌, nat_lt, nat_le, not, Bool, true, false, List, [], ◌∷◌, ◌++◌, map, length, Some, refl, sym, ◌∙◌, ap, ap₂, subst, append_assoc, append-nil, arith}
+use Rattle.std.proofs.Common.{◌≡◌, ℕ, zero, suc, ◌+◌, ◌-◌, ◌*◌, ◌%◌, ◌<◌, ◌≤◌, ◌≢◌, ◌⊎◌, inl, inr, ⊎_elim, ◌==◌, ◌&&◌, ◌||◌, nat_lt, nat_le, not, Bool, true, false, List, [], ◌∷◌, ◌++◌, flat_map, length, Some, refl, sym, ◌∙◌, ap, ap₂, subst, append_assoc, append-nil, arith}
 use Rattle.std.proofs.lemmas.Bool.Decides.{nat_tests}
 use Rattle.std.proofs.lemmas.List.{length-append}
 use Rattle.std.specs.Str.{IsUtf8}
@@ -8,14 +8,14 @@ use Rattle.x690_laws.proofs.Headers.{IsRun, run_value, digits_run, digits_value,
 use Rattle.x690_laws.proofs.Runs.{run_bind}
 use Rattle.x690_laws.proofs.HeaderSound.{Within}
 use Rattle.x690_laws.proofs.Sound.{Steps}
-use Rattle.x690_laws.proofs.HeaderGives.{guard_on, where_on, done_on, at_place, both, within_less, next_on, ends_on, endless_on, extent_on, indefinite_on, LeadFits, digits_fit, lead_from, not_lead}
+use Rattle.x690_laws.proofs.HeaderGives.{require_on, where_on, done_on, at_place, both, within_less, next_on, ends_on, endless_on, length_on, indefinite_on, LeadFits, digits_fit, lead_from, not_lead}
 use Rattle.tlv_core.specs.Identifier.{IsTag, Tag, base128, identifier}
 use Rattle.tlv_core.specs.Length.{SpellsLength}
 use Rattle.tlv_core.specs.Limits.{Limits}
 use Rattle.x690.specs.Contents.{BitString, Boolean, Integer, IsBitSegment, IsInteger, LeafContents, LeafKind, Null, ObjectIdentifier, OctetString, Utf8String, segments}
 use Rattle.x690.specs.Layouts.{AllLaidOut, Constructed, FirstTree, LaidOut, NoTrees, Primitive, RawTree, RawTrees, tree_depth, tree_tag, trees_depth}
-use Rattle.x690.specs.Lists.{AllBelow, join}
-use Rattle.x690.specs.ObjectIdentifiers.{ObjectIdentifierContents}
+use Rattle.tlv_core.specs.ObjectIdentifier.{AllBelow}
+use Rattle.tlv_core.specs.ObjectIdentifier.{ObjectIdentifierOctets}
 use Rattle.x690.specs.Points.{Enclosing, EndsAt, EndsWithZeros, past_end, stands_at_end}
 use Rattle.x690.specs.ReadContents.{is_bit_segment, is_contents, is_integer_contents, is_object_identifier, is_subidentifiers}
 use Rattle.x690.specs.ReadHeaders.{ContainerEnds, DefiniteLength, ElementStands, IndefiniteLength, each_member, entered, in_container, next_tag}
@@ -63,10 +63,10 @@ unfolding SpellsLength
 len_some m [] k g = absurd (omega arith)
 len_some m (x ∷ s) k g = omega arith
 
-pub inside_on : {A : Type 0} (l : Limits) (c : Enclosing) (p : ℕ) (t : Tag) (rs : RawTrees) (body : Enclosing → Reading A) (made : ℕ → A) (k : ℕ) (y r : List ℕ) → Behind (Constructed t rs) y → c.open_containers + tree_depth (Constructed t rs) ≤ l.depth → Within l c.nearest_end (k + length y) → BodyGives l body rs made
+pub container_on : {A : Type 0} (l : Limits) (c : Enclosing) (p : ℕ) (t : Tag) (rs : RawTrees) (body : Enclosing → Reading A) (made : ℕ → A) (k : ℕ) (y r : List ℕ) → Behind (Constructed t rs) y → c.open_containers + tree_depth (Constructed t rs) ≤ l.depth → Within l c.nearest_end (k + length y) → BodyGives l body rs made
     → (e : ℕ) × (run (in_container l c p true body) k (y ++ r) ≡ Took (made e) (k + length y) r)
 unfolding in_container Behind
-inside_on l c p t rs body made k y r h d w f = ⊎_elim
+container_on l c p t rs body made k y r h d w f = ⊎_elim
     (λ a. let length_octets = a.0 in
     let o = h.0 in
     let n : length y ≡ length (length_octets ++ o) = ap length a.2 in
@@ -78,8 +78,8 @@ inside_on l c p t rs body made k y r h d w f = ⊎_elim
     let pos : 0 < k + length length_octets = len_some (length o) length_octets k a.1 in (
       k + length length_octets + length o,
       ap (λ v. run (in_container l c p true body) k (v ++ r)) a.2 ∙ ap (λ v. run (in_container l c p true body) k v) (append_assoc length_octets o r)
-          ∙ guard_on _ _ _ k (length_octets ++ (o ++ r)) refl
-          ∙ run_bind _ _ k (length_octets ++ (o ++ r)) (DefiniteLength (length o)) (k + length length_octets) (o ++ r) (extent_on l c.nearest_end p (length o) k length_octets (o ++ r) a.1 w1)
+          ∙ require_on _ _ _ k (length_octets ++ (o ++ r)) refl
+          ∙ run_bind _ _ k (length_octets ++ (o ++ r)) (DefiniteLength (length o)) (k + length length_octets) (o ++ r) (length_on l c.nearest_end p (length o) k length_octets (o ++ r) a.1 w1)
           ∙ where_on _ (k + length length_octets) (o ++ r)
           ∙ f (entered c (k + length length_octets) (DefiniteLength (length o))) (k + length length_octets) (k + length length_octets + length o) o [] r h.1 (omega arith) pos (inl (refl, refl, refl)) w2
           ∙ at_place _ _ _ r q,
@@ -91,7 +91,7 @@ inside_on l c p t rs body made k y r h d w f = ⊎_elim
     let w1 : Within l c.nearest_end (k + 1 + length o + 2) = subst (Within l c.nearest_end) (sym q) w in (
       k + 1 + length o,
       ap (λ v. run (in_container l c p true body) k (v ++ r)) a
-          ∙ guard_on _ _ _ k (128 ∷ ((o ++ (0 ∷ 0 ∷ [])) ++ r)) refl
+          ∙ require_on _ _ _ k (128 ∷ ((o ++ (0 ∷ 0 ∷ [])) ++ r)) refl
           ∙ run_bind _ _ k (128 ∷ ((o ++ (0 ∷ 0 ∷ [])) ++ r)) IndefiniteLength (k + 1) ((o ++ (0 ∷ 0 ∷ [])) ++ r) (indefinite_on l c.nearest_end p k ((o ++ (0 ∷ 0 ∷ [])) ++ r) (within_less l c.nearest_end (k + 1) (k + 1 + length o + 2) (omega arith) w1))
           ∙ where_on _ (k + 1) ((o ++ (0 ∷ 0 ∷ [])) ++ r)
           ∙ ap (λ v. run (body (entered c (k + 1) IndefiniteLength)) (k + 1) v) (append_assoc o (0 ∷ 0 ∷ []) r)
@@ -172,16 +172,16 @@ member_on l c k q x b d tail r h dp e w =
       ending = ends_on_rest c k (k + length a + length s.octets) q (b ++ d) d tail j e;
     }
 
-pub many_on : {S : Type 0} (one : S → ℕ → Tag → Bool → Reading S) (l : Limits) (c : Enclosing) (fuel : ℕ) (s0 : S) (rs : RawTrees) (s1 : S) (k q : ℕ) (o tail r : List ℕ)
+pub each_on_members : {S : Type 0} (one : S → ℕ → Tag → Bool → Reading S) (l : Limits) (c : Enclosing) (fuel : ℕ) (s0 : S) (rs : RawTrees) (s1 : S) (k q : ℕ) (o tail r : List ℕ)
     → Steps (λ s x s'. Gives l c (one s) x s') s0 rs s1 → AllLaidOut rs o → length o < fuel → c.open_containers + trees_depth rs ≤ l.depth → EndsSo c k o tail q → Within l c.nearest_end q
     → run (each_member one fuel l c s0) k (o ++ (tail ++ r)) ≡ Took (record { all = s1; at = k + length o }) q r
 unfolding each_member LaidOut
-many_on one l c zero s0 rs s1 k q o tail r h g f d e w = absurd (omega arith)
-many_on one l c (suc fuel) s0 NoTrees s1 k q o tail r h g f d e w =
+each_on_members one l c zero s0 rs s1 k q o tail r h g f d e w = absurd (omega arith)
+each_on_members one l c (suc fuel) s0 NoTrees s1 k q o tail r h g f d e w =
     let n : length o ≡ 0 = ap length g in
     let z : k ≡ k + length o = omega arith in
     run_bind _ _ k (o ++ (tail ++ r)) (ContainerEnds k) q r (at_end c k q o tail r l g e w) ∙ done_on _ q r ∙ ap₂ (λ u v. Took (record { all = u; at = v }) q r) h z
-many_on one l c (suc fuel) s0 (FirstTree x xs) s1 k q o tail r h g f d e w =
+each_on_members one l c (suc fuel) s0 (FirstTree x xs) s1 k q o tail r h g f d e w =
     let e' = subst (λ v. EndsSo c k v tail q) g.4 e in
     let m = member_on l c k q x g.0 g.1 tail r g.2 (omega arith) e' w in
     let n : length o ≡ length (g.0 ++ g.1) = ap length g.4 in
@@ -192,7 +192,7 @@ many_on one l c (suc fuel) s0 (FirstTree x xs) s1 k q o tail r h g f d e w =
     ap (λ v. run (each_member one (suc fuel) l c s0) k (v ++ (tail ++ r))) g.4
     ∙ run_bind _ _ k ((g.0 ++ g.1) ++ (tail ++ r)) (ElementStands k (tree_tag x) (form_of x)) m.behind (m.octets ++ (g.1 ++ (tail ++ r))) m.taken
     ∙ run_bind _ _ m.behind (m.octets ++ (g.1 ++ (tail ++ r))) h.0 (m.behind + length m.octets) (g.1 ++ (tail ++ r)) (h.1 k m.behind m.octets (g.1 ++ (tail ++ r)) m.laid_out (omega arith) m.within m.positive)
-    ∙ many_on one l c fuel h.0 xs s1 (m.behind + length m.octets) q g.1 tail r h.2 g.3 (omega arith) (omega arith) m.ending w
+    ∙ each_on_members one l c fuel h.0 xs s1 (m.behind + length m.octets) q g.1 tail r h.2 g.3 (omega arith) (omega arith) m.ending w
     ∙ ap (λ v. Took (record { all = s1; at = v }) q r) q'
 
 -- leaves
@@ -242,14 +242,14 @@ empty_arcs : is_subidentifiers 0 [] ≡ true
 unfolding is_subidentifiers
 empty_arcs = refl
 
-all_arcs_on : (ns : List ℕ) → AllBelow Big ns → is_subidentifiers 0 (join (map base128 ns)) ≡ true
+all_arcs_on : (ns : List ℕ) → AllBelow Big ns → is_subidentifiers 0 (flat_map base128 ns) ≡ true
 all_arcs_on [] h = empty_arcs
-all_arcs_on (n ∷ ns) h = arcs_on 0 (base128 n) (join (map base128 ns)) n (digits_run n) (digits_fit n) (digits_value n) h.0 (all_arcs_on ns h.1)
+all_arcs_on (n ∷ ns) h = arcs_on 0 (base128 n) (flat_map base128 ns) n (digits_run n) (digits_fit n) (digits_value n) h.0 (all_arcs_on ns h.1)
 
-oid_on : (arcs o : List ℕ) → ObjectIdentifierContents arcs o → is_object_identifier o ≡ true
-oid_on [] o h = absurd h
-oid_on (x ∷ []) o h = absurd h
-oid_on (x ∷ y ∷ arcs) o h = not_empty o (run_some (40 * x + y) (join (map base128 arcs)) o h.3) (subst (λ v. is_subidentifiers 0 v ≡ true) (sym h.3) (all_arcs_on ((40 * x + y) ∷ arcs) h.2))
+object_identifier_on : (arcs o : List ℕ) → ObjectIdentifierOctets arcs o → is_object_identifier o ≡ true
+object_identifier_on [] o h = absurd h
+object_identifier_on (x ∷ []) o h = absurd h
+object_identifier_on (x ∷ y ∷ arcs) o h = not_empty o (run_some (40 * x + y) (flat_map base128 arcs) o h.3) (subst (λ v. is_subidentifiers 0 v ≡ true) (sym h.3) (all_arcs_on ((40 * x + y) ∷ arcs) h.2))
   where
     not_empty : (o : List ℕ) → o ≢ [] → is_subidentifiers 0 o ≡ true → is_object_identifier o ≡ true
     not_empty [] z g = absurd (z refl)
@@ -268,7 +268,7 @@ unfolding LeafContents segments
 contents_on Boolean t c o h = let z : length c ≡ 1 = h.0 in grind (arith, nat_tests)
 contents_on Integer t c o h = integer_on c h.0
 contents_on Null t c o h = let z : length c ≡ 0 = ap length h.0 in grind (arith, nat_tests)
-contents_on ObjectIdentifier t c o h = oid_on h.0.0 c h.0.1
+contents_on ObjectIdentifier t c o h = object_identifier_on h.0.0 c h.0.1
 contents_on BitString t c o h = segment_ok c h.each
 contents_on OctetString t c o h = refl
 contents_on Utf8String t c o h = is_utf8-from_IsUtf8 c (subst IsUtf8 (h.0.is ∙ append-nil c) h.1)

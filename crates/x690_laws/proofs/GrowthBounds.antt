@@ -10,7 +10,8 @@ use Rattle.x690.specs.Contents.{BitString, LeafContents, Segmented, all_segments
 use Rattle.x690.specs.DerTexts.{der, der_element}
 use Rattle.x690.specs.Fitting.{Fits}
 use Rattle.x690.specs.Layouts.{AllLaidOut, Constructed, Definite, FirstTree, LaidOut, NoTrees, Primitive, RawTree, RawTrees, universal}
-use Rattle.x690.specs.Lists.{AllBelow, join}
+use Rattle.tlv_core.specs.ObjectIdentifier.{AllBelow}
+use Rattle.x690.specs.Lists.{join}
 use Rattle.x690.specs.TypeTerms.{LeafType}
 use Rattle.x690.specs.Values.{Leaf}
 use Rattle.x690_laws.specs.GrowthLaws.{Growth, GrowthByHalf, GrowthByTwo, HalfIsReached}

@@ -8,7 +8,7 @@ use Rattle.tlv_core.specs.Identifier.{Tag, identifier}
 use Rattle.tlv_core.specs.Length.{SpellsLength, big_endian, number_octets, shortest_length}
 use Rattle.x690.specs.DerTexts.{der_element}
 use Rattle.x690.specs.Layouts.{Definite, Indefinite}
-use Rattle.x690.specs.Lists.{AllBelow}
+use Rattle.tlv_core.specs.ObjectIdentifier.{AllBelow}
 
 -- identifiers
 
@@ -24,7 +24,7 @@ identifier_some t f = ⊎_elim (λ a. omega (arith, ap length a.is)) (λ a. omeg
 
 -- the shortest length
 
-number_length : (steps k n : ℕ) → n < 256 ^ k → length (number_octets steps n) ≤ k
+pub number_length : (steps k n : ℕ) → n < 256 ^ k → length (number_octets steps n) ≤ k
 unfolding number_octets
 number_length zero k n h = omega arith
 number_length (suc steps) zero n h = go (n == 0) refl

@@ -3,7 +3,7 @@ use Rattle.std.proofs.Common.{◌≡◌, ℕ, zero, suc, ◌+◌, ◌-◌, ◌*�
 use Rattle.std.proofs.Math.Nat.{mul-le-mul_left}
 use Rattle.std.proofs.lemmas.Bool.Decides.{nat_tests}
 use Rattle.x690_laws.proofs.Headers.{branch}
-use Rattle.x690_laws.proofs.Runs.{took_bind, took_guard, took_pick, took_where, took_done, took_fail}
+use Rattle.x690_laws.proofs.Runs.{took_bind, took_require, took_choose, took_where, took_done, took_fail}
 use Rattle.tlv_core.specs.Identifier.{IsTag, Tag, base128, identifier, leading_base128}
 use Rattle.tlv_core.specs.Length.{SpellsLength, big_endian}
 use Rattle.tlv_core.specs.Limits.{Limits}
@@ -44,8 +44,8 @@ ask_took k (y ∷ s) x q r h = let e : y ≡ x = cc in let e' : s ≡ r = cc in 
 pub octet_took : (l : Limits) (e : Option ℕ) (p k : ℕ) (s : List ℕ) (x q : ℕ) (r : List ℕ) → run (header_octet l e p) k s ≡ Took x q r → OneOctet l e k s x q r
 unfolding header_octet
 octet_took l e p k s x q r h =
-    let a = took_guard _ _ _ _ _ _ _ _ (took_where _ _ _ _ _ _ h) in
-    let b = took_guard _ _ _ _ _ _ _ _ a.1 in
+    let a = took_require _ _ _ _ _ _ _ _ (took_where _ _ _ _ _ _ h) in
+    let b = took_require _ _ _ _ _ _ _ _ a.1 in
     let o = ask_took k s x q r b.1 in
     let b0 : nat_lt k l.octets ≡ true = b.0 in
     let o1 : q ≡ k + 1 = o.1 in
@@ -146,9 +146,9 @@ high_took l e p zero n k s m q r h = absurd (took_fail _ _ _ _ _ _ h)
 high_took l e p (suc left) n k s m q r h =
     let a = took_bind _ _ _ _ _ _ _ h in
     let o = octet_took l e p k s a.value a.place a.rest a.first in
-    let b = took_guard _ _ _ _ _ _ _ _ a.next_tag in
+    let b = took_require _ _ _ _ _ _ _ _ a.next_tag in
     let t = both_true _ _ b.0 in
-    go a.value a.place a.rest o t.0 t.1 (took_pick _ _ _ _ _ _ _ _ b.1)
+    go a.value a.place a.rest o t.0 t.1 (took_choose _ _ _ _ _ _ _ _ b.1)
     (λ x j v w. high_took l e p left (n * 128 + (x - 128)) j v m q r w)
   where
     go : (x j : ℕ) (v : List ℕ) → OneOctet l e k s x j v → not ((n == 0) && (x == 128)) ≡ true → nat_lt x 256 ≡ true
@@ -157,7 +157,7 @@ high_took l e p (suc left) n k s m q r h =
         → ((x j : ℕ) (v : List ℕ) → run (read_high_number l e p left (n * 128 + (x - 128))) j v ≡ Took m q r → HighNumber l e left (n * 128 + (x - 128)) j v m q r)
         → HighNumber l e (suc left) n k s m q r
     go x j v o t u c ih = ⊎_elim
-        (λ y. let g = took_guard _ _ _ _ _ _ _ _ y.1 in let d = took_done _ _ _ _ _ _ g.1 in
+        (λ y. let g = took_require _ _ _ _ _ _ _ _ y.1 in let d = took_done _ _ _ _ _ _ g.1 in
         let d0 : n * 128 + x ≡ m = d.0 in
         let d1 : j ≡ q = d.1 in
         let y0 : nat_lt x 128 ≡ true = y.0 in
@@ -215,7 +215,7 @@ pub record TagNumber (l : Limits) (e : Option ℕ) (x k : ℕ) (s : List ℕ) (n
   pub within : Within l e q
   pub number : ((x % 32 ≡ n) × (n < 31) × (octets ≡ [])) ⊎ ((x % 32 ≡ 31) × (31 ≤ n) × (n < 268435456) × (octets ≡ base128 n))
 
-number_took : (l : Limits) (e : Option ℕ) (p x k : ℕ) (s : List ℕ) (n q : ℕ) (r : List ℕ) → Within l e k → run (read_tag_number l e p x) k s ≡ Took n q r → TagNumber l e x k s n q r
+pub number_took : (l : Limits) (e : Option ℕ) (p x k : ℕ) (s : List ℕ) (n q : ℕ) (r : List ℕ) → Within l e k → run (read_tag_number l e p x) k s ≡ Took n q r → TagNumber l e x k s n q r
 unfolding read_tag_number
 number_took l e p x k s n q r w h = ⊎_elim
     (λ y. let d = took_done _ _ _ _ _ _ y.1 in
@@ -236,7 +236,7 @@ number_took l e p x k s n q r w h = ⊎_elim
       within = i.within;
       number = inr (omega arith, i.large, omega arith, sym (ap (λ v. v ++ i.octets) z) ∙ i.digits_are);
     })
-    (took_pick _ _ _ _ _ _ _ _ h)
+    (took_choose _ _ _ _ _ _ _ _ h)
 
 lead_is : (x : ℕ) → x < 256 → x ≡ x / 64 * 64 + cond (nat_le 32 (x % 64)) 32 0 + x % 32
 lead_is x h = go (nat_le 32 (x % 64)) refl
@@ -254,7 +254,7 @@ unfolding identifier
 long_identifier t f h = let e : nat_lt t.number 31 ≡ false = grind (arith, nat_tests) in ap (λ b. cond b ((t.class * 64 + cond f 32 0 + t.number) ∷ []) ((t.class * 64 + cond f 32 0 + 31) ∷ base128 t.number)) e
 
 -- the identifier that an octet and the number behind it are
-identifier_is : (l : Limits) (e : Option ℕ) (x k : ℕ) (s : List ℕ) (n q : ℕ) (r : List ℕ) → x < 256 → (i : TagNumber l e x k s n q r) → identifier (record { class = x / 64; number = n }) (nat_le 32 (x % 64)) ≡ x ∷ i.octets
+pub identifier_is : (l : Limits) (e : Option ℕ) (x k : ℕ) (s : List ℕ) (n q : ℕ) (r : List ℕ) → x < 256 → (i : TagNumber l e x k s n q r) → identifier (record { class = x / 64; number = n }) (nat_le 32 (x % 64)) ≡ x ∷ i.octets
 identifier_is l e x k s n q r h i = ⊎_elim
     (λ y. short_identifier (record { class = x / 64; number = n }) (nat_le 32 (x % 64)) y.1
     ∙ ap₂ (λ a b. a ∷ b) (ap (λ m. x / 64 * 64 + cond (nat_le 32 (x % 64)) 32 0 + m) (sym y.0) ∙ sym (lead_is x h)) (sym y.2))
@@ -262,7 +262,7 @@ identifier_is l e x k s n q r h i = ⊎_elim
     ∙ ap₂ (λ a b. a ∷ b) (ap (λ m. x / 64 * 64 + cond (nat_le 32 (x % 64)) 32 0 + m) (sym y.0) ∙ sym (lead_is x h)) (sym y.3))
     i.number
 
-tag_is : (l : Limits) (e : Option ℕ) (x k : ℕ) (s : List ℕ) (n q : ℕ) (r : List ℕ) → x < 256 → x ≢ 0 → x ≢ 32 → TagNumber l e x k s n q r → IsTag (record { class = x / 64; number = n })
+pub tag_is : (l : Limits) (e : Option ℕ) (x k : ℕ) (s : List ℕ) (n q : ℕ) (r : List ℕ) → x < 256 → x ≢ 0 → x ≢ 32 → TagNumber l e x k s n q r → IsTag (record { class = x / 64; number = n })
 tag_is l e x k s n q r h z z' i = ⊎_elim
     (λ y. let y0 : x % 32 ≡ n = y.0 in let y1 : n < 31 = y.1 in record { class_fits = omega arith; number_fits = omega arith; not_end = λ w. z (no_class x n h y0 w z') })
     (λ y. let y1 : 31 ≤ n = y.1 in record { class_fits = omega arith; number_fits = y.2; not_end = λ w. absurd (omega arith) })
@@ -271,7 +271,7 @@ tag_is l e x k s n q r h z z' i = ⊎_elim
     no_class : (x n : ℕ) → x < 256 → x % 32 ≡ n → x / 64 + n ≡ 0 → x ≢ 32 → x ≡ 0
     no_class x n h e w z' = omega arith
 
-in_definite : (c : Innermost) (k : ℕ) → stands_at_end c k ≡ true → c ≡ EndsAt k
+pub in_definite : (c : Innermost) (k : ℕ) → stands_at_end c k ≡ true → c ≡ EndsAt k
 in_definite NoContainer k h = cc
 in_definite (EndsAt e) k h = let h' : (e == k) ≡ true = h in let q : e ≡ k = grind (arith, nat_tests) in ap EndsAt q
 in_definite EndsWithZeros k h = cc
@@ -289,10 +289,10 @@ next_took l c k s d q r h = ⊎_elim
     (λ y. let a = took_bind _ _ _ _ _ _ _ y.1 in
     let o = octet_took l c.nearest_end k k s a.value a.place a.rest a.first in
     ⊎_elim
-    (λ z. let b = took_guard _ _ _ _ _ _ _ _ z.1 in
+    (λ z. let b = took_require _ _ _ _ _ _ _ _ z.1 in
     let a' = took_bind _ _ _ _ _ _ _ b.1 in
     let o' = octet_took l c.nearest_end k a.place a.rest a'.value a'.place a'.rest a'.first in
-    let b' = took_guard _ _ _ _ _ _ _ _ a'.next_tag in
+    let b' = took_require _ _ _ _ _ _ _ _ a'.next_tag in
     let e = took_done _ _ _ _ _ _ b'.1 in
     let z0 : (a.value == 0) ≡ true = z.0 in
     let x0 : a.value ≡ 0 = grind (arith, nat_tests) in
@@ -311,11 +311,11 @@ next_took l c k s d q r h = ⊎_elim
         subst (Within l c.nearest_end) e1 o'.within,
       );
     }))
-    (λ z. let b = took_guard _ _ _ _ _ _ _ _ z.1 in
+    (λ z. let b = took_require _ _ _ _ _ _ _ _ z.1 in
     let b0 = both_true _ _ b.0 in
     let a' = took_bind _ _ _ _ _ _ _ b.1 in
     let i = number_took l c.nearest_end k a.value a.place a.rest a'.value a'.place a'.rest o.within a'.first in
-    let g = took_guard _ _ _ _ _ _ _ _ a'.next_tag in
+    let g = took_require _ _ _ _ _ _ _ _ a'.next_tag in
     let e = took_done _ _ _ _ _ _ g.1 in
     let z0 : (a.value == 0) ≡ false = z.0 in
     let n0 : a.value ≢ 0 = grind (arith, nat_tests) in
@@ -339,8 +339,8 @@ next_took l c k s d q r h = ⊎_elim
       deep = deep;
       within = subst (Within l c.nearest_end) e1 i.within;
     }))
-    (took_pick _ _ _ _ _ _ _ _ a.next_tag))
-    (took_pick _ _ _ _ _ _ _ _ (took_where _ _ _ _ _ _ h))
+    (took_choose _ _ _ _ _ _ _ _ a.next_tag))
+    (took_choose _ _ _ _ _ _ _ _ (took_where _ _ _ _ _ _ h))
 
 -- lengths
 
@@ -351,7 +351,7 @@ pub record BigNumber (l : Limits) (e : Option ℕ) (left n k : ℕ) (s : List �
   pub count : length octets ≡ left
   pub number : big_endian n octets ≡ m
 
-big_took : (l : Limits) (e : Option ℕ) (p left n k : ℕ) (s : List ℕ) (m q : ℕ) (r : List ℕ) → run (read_big_endian l e p left n) k s ≡ Took m q r → BigNumber l e left n k s m q r
+pub big_took : (l : Limits) (e : Option ℕ) (p left n k : ℕ) (s : List ℕ) (m q : ℕ) (r : List ℕ) → run (read_big_endian l e p left n) k s ≡ Took m q r → BigNumber l e left n k s m q r
 unfolding read_big_endian
 big_took l e p zero n k s m q r h =
     let d = took_done _ _ _ _ _ _ h in let d1 : k ≡ q = d.1 in record { octets = []; is = d.2; place = omega arith; count = refl; number = d.0 }
@@ -375,8 +375,8 @@ pub record Length (l : Limits) (e : Option ℕ) (k : ℕ) (s : List ℕ) (m q : 
 pub fitting_took : (l : Limits) (e : Option ℕ) (p n k : ℕ) (s : List ℕ) (m q : ℕ) (r : List ℕ) → run (fit_contents l e p n) k s ≡ Took m q r → (n ≡ m) × (k ≡ q) × (s ≡ r) × Within l e (q + m)
 unfolding fit_contents
 fitting_took l e p n k s m q r h =
-    let a = took_guard _ _ _ _ _ _ _ _ (took_where _ _ _ _ _ _ h) in
-    let b = took_guard _ _ _ _ _ _ _ _ a.1 in
+    let a = took_require _ _ _ _ _ _ _ _ (took_where _ _ _ _ _ _ h) in
+    let b = took_require _ _ _ _ _ _ _ _ a.1 in
     let d = took_done _ _ _ _ _ _ b.1 in
     let d0 : n ≡ m = d.0 in
     let d1 : k ≡ q = d.1 in
@@ -385,7 +385,7 @@ fitting_took l e p n k s m q r h =
     (d.0, d.1, d.2, subst (λ x. Within l e (q + x)) d0 (subst (λ x. Within l e (x + n)) d1 w))
 
 -- the number behind the first octet `x` of a length
-number_of_took : (l : Limits) (e : Option ℕ) (p x k : ℕ) (s : List ℕ) (m q : ℕ) (r : List ℕ) → x < 255 → x ≢ 128 → run (read_number l e p x) k s ≡ Took m q r
+pub number_of_took : (l : Limits) (e : Option ℕ) (p x k : ℕ) (s : List ℕ) (m q : ℕ) (r : List ℕ) → x < 255 → x ≢ 128 → run (read_number l e p x) k s ≡ Took m q r
     → (o : List ℕ) × (s ≡ o ++ r) × (q ≡ k + length o) × SpellsLength m (x ∷ o) × Within l e (q + m)
 unfolding read_number SpellsLength
 number_of_took l e p x k s m q r lt ne h =
@@ -406,19 +406,19 @@ number_of_took l e p x k s m q r lt ne h =
     let b0 : length b.octets ≡ x - 128 = b.count in
     let b1 : a.place ≡ k + length b.octets = b.place in
     (b.octets, b.is ∙ ap (λ w. b.octets ++ w) f.2, omega arith, inr (omega arith, lt, omega arith, b.number ∙ f0), f.3))
-    (took_pick _ _ _ _ _ _ _ _ a.first)
+    (took_choose _ _ _ _ _ _ _ _ a.first)
 
 abbrev pub ExtentIs : Limits → Option ℕ → ℕ → List ℕ → LengthForm → ℕ → List ℕ → Type 0
 ExtentIs l e k s (DefiniteLength m) q r = Length l e k s m q r
 ExtentIs l e k s IndefiniteLength q r = (s ≡ 128 ∷ r) × (q ≡ k + 1) × Within l e q
 
-pub extent_took : (l : Limits) (e : Option ℕ) (p k : ℕ) (s : List ℕ) (x : LengthForm) (q : ℕ) (r : List ℕ) → run (read_length l e p) k s ≡ Took x q r → ExtentIs l e k s x q r
+pub length_took : (l : Limits) (e : Option ℕ) (p k : ℕ) (s : List ℕ) (x : LengthForm) (q : ℕ) (r : List ℕ) → run (read_length l e p) k s ≡ Took x q r → ExtentIs l e k s x q r
 unfolding read_length
-extent_took l e p k s x q r h =
+length_took l e p k s x q r h =
     let a = took_bind _ _ _ _ _ _ _ h in
     let o = octet_took l e p k s a.value a.place a.rest a.first in
     let o1 : a.place ≡ k + 1 = o.place in
-    let b = took_guard _ _ _ _ _ _ _ _ a.next_tag in
+    let b = took_require _ _ _ _ _ _ _ _ a.next_tag in
     let b0 : nat_lt a.value 255 ≡ true = b.0 in
     let lt : a.value < 255 = grind (arith, nat_tests) in
     ⊎_elim
@@ -436,9 +436,9 @@ extent_took l e p k s x q r h =
     let d1 : c.place ≡ q = d.1 in
     subst (λ w. ExtentIs l e k s w q r) d.0
     (record { octets = a.value ∷ n.0; is = o.is ∙ ap (λ w. a.value ∷ w) (n.1 ∙ ap (λ w. n.0 ++ w) d.2); place = omega arith; spells = n.3; within = subst (λ w. Within l e (w + c.value)) d1 n.4 }))
-    (took_pick _ _ _ _ _ _ _ _ b.1)
+    (took_choose _ _ _ _ _ _ _ _ b.1)
 
-octets_took : (n k : ℕ) (s o : List ℕ) (q : ℕ) (r : List ℕ) → run (next_octets n) k s ≡ Took o q r → (s ≡ o ++ r) × (length o ≡ n) × (q ≡ k + n)
+pub octets_took : (n k : ℕ) (s o : List ℕ) (q : ℕ) (r : List ℕ) → run (next_octets n) k s ≡ Took o q r → (s ≡ o ++ r) × (length o ≡ n) × (q ≡ k + n)
 unfolding next_octets run
 octets_took zero k s o q r h = let e : [] ≡ o = cc in let e' : k ≡ q = cc in let e'' : s ≡ r = cc in (e'' ∙ ap (λ v. v ++ r) e, ap length (sym e), omega arith)
 octets_took (suc n) k [] o q r h = cc
@@ -467,7 +467,7 @@ primitive_took l c p k s o q r h =
     let y = took_bind _ _ _ _ _ _ _ h in
     let a = took_bind _ _ _ _ _ _ _ y.first in
     let x = octet_took l c.nearest_end p k s a.value a.place a.rest a.first in
-    let b = took_guard _ _ _ _ _ _ _ _ a.next_tag in
+    let b = took_require _ _ _ _ _ _ _ _ a.next_tag in
     let b' = both_true _ _ b.0 in
     let b0 : nat_lt a.value 255 ≡ true = b'.0 in
     let lt : a.value < 255 = grind (arith, nat_tests) in

@@ -1,5 +1,5 @@
 -- What faults look like: Truncated stands at the end of the octets, and something is inside exactly for Inner.
-use Rattle.std.proofs.Common.{◌≡◌, ℕ, zero, suc, ◌+◌, Bool, true, false, List, [], ◌∷◌, length, Option, Some, None, inl, inr, refl, sym, ◌∙◌, ap, arith, subst}
+use Rattle.std.proofs.Common.{◌≡◌, ℕ, zero, suc, ◌+◌, Bool, true, false, List, [], ◌∷◌, length, Option, Some, None, refl, sym, ◌∙◌, ap, arith, subst}
 use Rattle.tlv_core.specs.Identifier.{Tag}
 use Rattle.tlv_core.specs.Limits.{Limits}
 use Rattle.tlv_core.specs.declared.fault.Fault.{Fault}
@@ -7,7 +7,8 @@ use Rattle.tlv_core.specs.declared.reason.Reason.{Reason}
 use Rattle.tlv_core.specs.declared.reason.Reason.TheVariants.{Inner, LeftOut, Missing, Trailing, Truncated}
 use Rattle.x690.specs.Contents.{BitString, Boolean, Integer, LeafKind, Null, ObjectIdentifier, OctetString, Utf8String}
 use Rattle.x690.specs.OpenValues.{OpenForm, OpenLeaf, OpenPlain, OpenRefused, OpenSequence, OpenSetOf, open_form}
-use Rattle.x690.specs.Points.{Enclosing, InsideWhereInner, fault}
+use Rattle.tlv_core.specs.Faults.{InsideMatches}
+use Rattle.x690.specs.Points.{Enclosing, fault}
 use Rattle.x690.specs.Premises.{Honest, HonestFields, HonestReason}
 use Rattle.x690.specs.ReadContents.{add_member, all_members, bad_contents, read_leaf, read_open, read_segment}
 use Rattle.x690.specs.ReadHeaders.{ContainerEnds, ElementStands, Ended, Next, each_member, fit_contents, header_octet, in_container, next_octets, next_tag, primitive_contents, read_big_endian, read_definite_length, read_high_number, read_length, read_number, read_tag_number}
@@ -20,7 +21,7 @@ use Rattle.x690_laws.specs.ReadingLaws.{InsideOfFaults, TruncatedAtTheEnd}
 -- Truncated is left to the end of the octets, and what is inside is there exactly for Inner.
 pub record Own (f : Fault) : Type 0 where
   pub not_truncated : f.why ≡ Truncated → ⊥
-  pub inside_fits : InsideWhereInner f
+  pub inside_fits : InsideMatches f
 
 -- each fault that the reading itself gives is its own
 unfoldable pub Plainly : {A : Type 0} → Reading A → Type 0
@@ -37,133 +38,133 @@ at_end (Where g) k s f p h w = at_end (g k) k s f (p k) h w
 at_end (Ask g) k [] f p h w = let e : fault k Truncated ≡ f = cc in let z : k ≡ k + 0 = omega arith in sym e ∙ ap (λ n. fault n Truncated) z
 at_end (Ask g) k (x ∷ s) f p h w = let z : k + 1 + length s ≡ k + length (x ∷ s) = omega arith in at_end (g x) (k + 1) s f (p x) h w ∙ ap (λ n. fault n Truncated) z
 
-inside_fits : {A : Type 0} (p : Reading A) (k : ℕ) (s : List ℕ) (f : Fault) → Plainly p → run p k s ≡ Halted f → InsideWhereInner f
+inside_fits : {A : Type 0} (p : Reading A) (k : ℕ) (s : List ℕ) (f : Fault) → Plainly p → run p k s ≡ Halted f → InsideMatches f
 unfolding Plainly run
 inside_fits (Done a) k s f p h = cc
-inside_fits (Fail g) k s f p h = let e : g ≡ f = cc in subst InsideWhereInner e p.inside_fits
+inside_fits (Fail g) k s f p h = let e : g ≡ f = cc in subst InsideMatches e p.inside_fits
 inside_fits (Where g) k s f p h = inside_fits (g k) k s f (p k) h
-inside_fits (Ask g) k [] f p h = let e : fault k Truncated ≡ f = cc in subst InsideWhereInner e (inr (λ z. cc, refl))
+inside_fits (Ask g) k [] f p h = let e : fault k Truncated ≡ f = cc in subst InsideMatches e (λ z. cc, λ z. cc)
 inside_fits (Ask g) k (x ∷ s) f p h = inside_fits (g x) (k + 1) s f (p x) h
 
 plain : (p : ℕ) (w : Reason) → HonestReason w → Own (fault p w)
-plain p w h = record { not_truncated = h.0; inside_fits = inr (h.1, refl) }
+plain p w h = record { not_truncated = h.0; inside_fits = (λ z. cc, λ z. absurd (h.1 z)) }
 
 within : (p at : ℕ) (why : Reason) → Own (record { at = p; why = Inner; inside = Some (at, why) })
-within p at why = record { not_truncated = λ z. cc; inside_fits = inl (refl, λ z. cc) }
+within p at why = record { not_truncated = λ z. cc; inside_fits = (λ z. refl, λ z. refl) }
 
-bind_h : {A B : Type 0} (p : Reading A) (f : A → Reading B) → Plainly p → ((a : A) → Plainly (f a)) → Plainly (p >>= f)
+bind_plain : {A B : Type 0} (p : Reading A) (f : A → Reading B) → Plainly p → ((a : A) → Plainly (f a)) → Plainly (p >>= f)
 unfolding Plainly ◌>>=◌
-bind_h (Done a) f p g = g a
-bind_h (Fail e) f p g = p
-bind_h (Where h) f p g = λ k. bind_h (h k) f (p k) g
-bind_h (Ask h) f p g = λ x. bind_h (h x) f (p x) g
+bind_plain (Done a) f p g = g a
+bind_plain (Fail e) f p g = p
+bind_plain (Where h) f p g = λ k. bind_plain (h k) f (p k) g
+bind_plain (Ask h) f p g = λ x. bind_plain (h x) f (p x) g
 
-guard_h : {A : Type 0} (b : Bool) (f : Fault) (p : Reading A) → Own f → Plainly p → Plainly (require b f p)
+require_plain : {A : Type 0} (b : Bool) (f : Fault) (p : Reading A) → Own f → Plainly p → Plainly (require b f p)
 unfolding Plainly require
-guard_h true f p g h = h
-guard_h false f p g h = g
+require_plain true f p g h = h
+require_plain false f p g h = g
 
-pick_h : {A : Type 0} (b : Bool) (p p' : Reading A) → Plainly p → Plainly p' → Plainly (choose b p p')
+choose_plain : {A : Type 0} (b : Bool) (p p' : Reading A) → Plainly p → Plainly p' → Plainly (choose b p p')
 unfolding Plainly choose
-pick_h true p p' g h = g
-pick_h false p p' g h = h
+choose_plain true p p' g h = g
+choose_plain false p p' g h = h
 
-done_h : {A : Type 0} (a : A) → Plainly (Done a)
+done_plain : {A : Type 0} (a : A) → Plainly (Done a)
 unfolding Plainly
-done_h a = tt
+done_plain a = tt
 
-fail_h : (A : Type 0) (f : Fault) → Own f → Plainly {A = A} (Fail f)
+fail_plain : (A : Type 0) (f : Fault) → Own f → Plainly {A = A} (Fail f)
 unfolding Plainly
-fail_h A f g = g
+fail_plain A f g = g
 
-where_h : {A : Type 0} (h : ℕ → Reading A) → ((k : ℕ) → Plainly (h k)) → Plainly (Where h)
+where_plain : {A : Type 0} (h : ℕ → Reading A) → ((k : ℕ) → Plainly (h k)) → Plainly (Where h)
 unfolding Plainly
-where_h h g = g
+where_plain h g = g
 
-octet_h : (l : Limits) (e : Option ℕ) (p : ℕ) → Plainly (header_octet l e p)
+octet_plain : (l : Limits) (e : Option ℕ) (p : ℕ) → Plainly (header_octet l e p)
 unfolding header_octet Plainly
-octet_h l e p = λ k. guard_h _ _ _ (plain _ _ (λ z. cc, λ z. cc)) (guard_h _ _ _ (plain _ _ (λ z. cc, λ z. cc)) (λ x. tt))
+octet_plain l e p = λ k. require_plain _ _ _ (plain _ _ (λ z. cc, λ z. cc)) (require_plain _ _ _ (plain _ _ (λ z. cc, λ z. cc)) (λ x. tt))
 
-high_h : (l : Limits) (e : Option ℕ) (p left n : ℕ) → Plainly (read_high_number l e p left n)
+high_plain : (l : Limits) (e : Option ℕ) (p left n : ℕ) → Plainly (read_high_number l e p left n)
 unfolding read_high_number
-high_h l e p zero n = fail_h ℕ _ (plain _ _ (λ z. cc, λ z. cc))
-high_h l e p (suc left) n = bind_h _ _ (octet_h l e p) (λ x. guard_h _ _ _ (plain _ _ (λ z. cc, λ z. cc)) (pick_h _ _ _ (guard_h _ _ _ (plain _ _ (λ z. cc, λ z. cc)) (done_h _)) (high_h l e p left _)))
+high_plain l e p zero n = fail_plain ℕ _ (plain _ _ (λ z. cc, λ z. cc))
+high_plain l e p (suc left) n = bind_plain _ _ (octet_plain l e p) (λ x. require_plain _ _ _ (plain _ _ (λ z. cc, λ z. cc)) (choose_plain _ _ _ (require_plain _ _ _ (plain _ _ (λ z. cc, λ z. cc)) (done_plain _)) (high_plain l e p left _)))
 
-next_h : (l : Limits) (c : Enclosing) → Plainly (next_tag l c)
+next_plain : (l : Limits) (c : Enclosing) → Plainly (next_tag l c)
 unfolding next_tag read_tag_number
-next_h l c = where_h _ (λ p. pick_h _ _ _ (done_h _) (bind_h _ _ (octet_h l c.nearest_end p) (λ x. pick_h _ _ _
-    (guard_h _ _ _ (plain _ _ (λ z. cc, λ z. cc)) (bind_h _ _ (octet_h l c.nearest_end p) (λ y. guard_h _ _ _ (plain _ _ (λ z. cc, λ z. cc)) (done_h _))))
-    (guard_h _ _ _ (plain _ _ (λ z. cc, λ z. cc)) (bind_h _ _ (pick_h _ _ _ (done_h _) (high_h l c.nearest_end p 4 0)) (λ n. guard_h _ _ _ (plain _ _ (λ z. cc, λ z. cc)) (done_h _)))))))
+next_plain l c = where_plain _ (λ p. choose_plain _ _ _ (done_plain _) (bind_plain _ _ (octet_plain l c.nearest_end p) (λ x. choose_plain _ _ _
+    (require_plain _ _ _ (plain _ _ (λ z. cc, λ z. cc)) (bind_plain _ _ (octet_plain l c.nearest_end p) (λ y. require_plain _ _ _ (plain _ _ (λ z. cc, λ z. cc)) (done_plain _))))
+    (require_plain _ _ _ (plain _ _ (λ z. cc, λ z. cc)) (bind_plain _ _ (choose_plain _ _ _ (done_plain _) (high_plain l c.nearest_end p 4 0)) (λ n. require_plain _ _ _ (plain _ _ (λ z. cc, λ z. cc)) (done_plain _)))))))
 
-big_h : (l : Limits) (e : Option ℕ) (p left n : ℕ) → Plainly (read_big_endian l e p left n)
+big_plain : (l : Limits) (e : Option ℕ) (p left n : ℕ) → Plainly (read_big_endian l e p left n)
 unfolding read_big_endian
-big_h l e p zero n = done_h n
-big_h l e p (suc left) n = bind_h _ _ (octet_h l e p) (λ x. big_h l e p left _)
+big_plain l e p zero n = done_plain n
+big_plain l e p (suc left) n = bind_plain _ _ (octet_plain l e p) (λ x. big_plain l e p left _)
 
-number_h : (l : Limits) (e : Option ℕ) (p x : ℕ) → Plainly (read_number l e p x)
+number_plain : (l : Limits) (e : Option ℕ) (p x : ℕ) → Plainly (read_number l e p x)
 unfolding read_number fit_contents
-number_h l e p x = bind_h _ _ (pick_h _ _ _ (done_h _) (big_h l e p _ 0)) (λ n. where_h _ (λ k. guard_h _ _ _ (plain _ _ (λ z. cc, λ z. cc)) (guard_h _ _ _ (plain _ _ (λ z. cc, λ z. cc)) (done_h _))))
+number_plain l e p x = bind_plain _ _ (choose_plain _ _ _ (done_plain _) (big_plain l e p _ 0)) (λ n. where_plain _ (λ k. require_plain _ _ _ (plain _ _ (λ z. cc, λ z. cc)) (require_plain _ _ _ (plain _ _ (λ z. cc, λ z. cc)) (done_plain _))))
 
-extent_h : (l : Limits) (e : Option ℕ) (p : ℕ) → Plainly (read_length l e p)
+length_plain : (l : Limits) (e : Option ℕ) (p : ℕ) → Plainly (read_length l e p)
 unfolding read_length
-extent_h l e p = bind_h _ _ (octet_h l e p) (λ x. guard_h _ _ _ (plain _ _ (λ z. cc, λ z. cc)) (pick_h _ _ _ (done_h _) (bind_h _ _ (number_h l e p x) (λ n. done_h _))))
+length_plain l e p = bind_plain _ _ (octet_plain l e p) (λ x. require_plain _ _ _ (plain _ _ (λ z. cc, λ z. cc)) (choose_plain _ _ _ (done_plain _) (bind_plain _ _ (number_plain l e p x) (λ n. done_plain _))))
 
-octets_h : (n : ℕ) → Plainly (next_octets n)
+octets_plain : (n : ℕ) → Plainly (next_octets n)
 unfolding next_octets Plainly
-octets_h zero = tt
-octets_h (suc n) = λ x. bind_h _ _ (octets_h n) (λ o. tt)
+octets_plain zero = tt
+octets_plain (suc n) = λ x. bind_plain _ _ (octets_plain n) (λ o. tt)
 
-primitive_h : (l : Limits) (c : Enclosing) (p : ℕ) → Plainly (primitive_contents l c p)
+primitive_plain : (l : Limits) (c : Enclosing) (p : ℕ) → Plainly (primitive_contents l c p)
 unfolding primitive_contents read_definite_length
-primitive_h l c p = bind_h _ _ (bind_h _ _ (octet_h l c.nearest_end p) (λ x. guard_h _ _ _ (plain _ _ (λ z. cc, λ z. cc)) (number_h l c.nearest_end p x))) (λ n. octets_h n)
+primitive_plain l c p = bind_plain _ _ (bind_plain _ _ (octet_plain l c.nearest_end p) (λ x. require_plain _ _ _ (plain _ _ (λ z. cc, λ z. cc)) (number_plain l c.nearest_end p x))) (λ n. octets_plain n)
 
-inside_h : {A : Type 0} (l : Limits) (c : Enclosing) (p : ℕ) (form : Bool) (body : Enclosing → Reading A) → ((i : Enclosing) → Plainly (body i)) → Plainly (in_container l c p form body)
+container_plain : {A : Type 0} (l : Limits) (c : Enclosing) (p : ℕ) (form : Bool) (body : Enclosing → Reading A) → ((i : Enclosing) → Plainly (body i)) → Plainly (in_container l c p form body)
 unfolding in_container
-inside_h l c p form body g = guard_h _ _ _ (plain _ _ (λ z. cc, λ z. cc)) (bind_h _ _ (extent_h l c.nearest_end p) (λ x. where_h _ (λ k. g _)))
+container_plain l c p form body g = require_plain _ _ _ (plain _ _ (λ z. cc, λ z. cc)) (bind_plain _ _ (length_plain l c.nearest_end p) (λ x. where_plain _ (λ k. g _)))
 
-many_h : {S : Type 0} (one : S → ℕ → Tag → Bool → Reading S) (fuel : ℕ) (l : Limits) (c : Enclosing) (s : S) → ((s : S) (p : ℕ) (t : Tag) (form : Bool) → Plainly (one s p t form)) → Plainly (each_member one fuel l c s)
+members_plain : {S : Type 0} (one : S → ℕ → Tag → Bool → Reading S) (fuel : ℕ) (l : Limits) (c : Enclosing) (s : S) → ((s : S) (p : ℕ) (t : Tag) (form : Bool) → Plainly (one s p t form)) → Plainly (each_member one fuel l c s)
 unfolding each_member
-many_h {S} one zero l c s g = fail_h (Ended S) _ (plain _ _ (λ z. cc, λ z. cc))
-many_h {S} one (suc fuel) l c s g = bind_h _ _ (next_h l c) (λ d. go d (λ s'. many_h one fuel l c s' g))
+members_plain {S} one zero l c s g = fail_plain (Ended S) _ (plain _ _ (λ z. cc, λ z. cc))
+members_plain {S} one (suc fuel) l c s g = bind_plain _ _ (next_plain l c) (λ d. go d (λ s'. members_plain one fuel l c s' g))
   where
     go : (d : Next) → ((s' : S) → Plainly (each_member one fuel l c s')) → Plainly {A = Ended S} (elim d [ ContainerEnds p ↦ Done (record { all = s; at = p }) | ElementStands p t form ↦ one s p t form >>= λ s'. each_member one fuel l c s' ])
-    go (ContainerEnds p) ih = done_h _
-    go (ElementStands p t form) ih = bind_h _ _ (g s p t form) ih
+    go (ContainerEnds p) ih = done_plain _
+    go (ElementStands p t form) ih = bind_plain _ _ (g s p t form) ih
 
-segment_h : (deep : ℕ) (l : Limits) (n : ℕ) (c : Enclosing) (s : List (List ℕ)) (p : ℕ) (t : Tag) (form : Bool) → Plainly (read_segment deep l n c s p t form)
+segment_plain : (deep : ℕ) (l : Limits) (n : ℕ) (c : Enclosing) (s : List (List ℕ)) (p : ℕ) (t : Tag) (form : Bool) → Plainly (read_segment deep l n c s p t form)
 unfolding read_segment
-segment_h zero l n c s p t form = fail_h (List (List ℕ)) _ (plain _ _ (λ z. cc, λ z. cc))
-segment_h (suc deep) l n c s p t true = guard_h _ _ _ (plain _ _ (λ z. cc, λ z. cc)) (bind_h _ _ (inside_h l c p true _ (λ i. many_h _ l.octets l i s (λ s' p' t' form'. segment_h deep l n i s' p' t' form'))) (λ e. done_h _))
-segment_h (suc deep) l n c s p t false = guard_h _ _ _ (plain _ _ (λ z. cc, λ z. cc)) (bind_h _ _ (primitive_h l c p) (λ o. guard_h _ _ _ (plain _ _ (λ z. cc, λ z. cc)) (done_h _)))
+segment_plain zero l n c s p t form = fail_plain (List (List ℕ)) _ (plain _ _ (λ z. cc, λ z. cc))
+segment_plain (suc deep) l n c s p t true = require_plain _ _ _ (plain _ _ (λ z. cc, λ z. cc)) (bind_plain _ _ (container_plain l c p true _ (λ i. members_plain _ l.octets l i s (λ s' p' t' form'. segment_plain deep l n i s' p' t' form'))) (λ e. done_plain _))
+segment_plain (suc deep) l n c s p t false = require_plain _ _ _ (plain _ _ (λ z. cc, λ z. cc)) (bind_plain _ _ (primitive_plain l c p) (λ o. require_plain _ _ _ (plain _ _ (λ z. cc, λ z. cc)) (done_plain _)))
 
-bad_h : (kind : LeafKind) → HonestReason (bad_contents kind)
-bad_h Boolean = (λ z. cc, λ z. cc)
-bad_h Integer = (λ z. cc, λ z. cc)
-bad_h Null = (λ z. cc, λ z. cc)
-bad_h ObjectIdentifier = (λ z. cc, λ z. cc)
-bad_h BitString = (λ z. cc, λ z. cc)
-bad_h OctetString = (λ z. cc, λ z. cc)
-bad_h Utf8String = (λ z. cc, λ z. cc)
+bad_plain : (kind : LeafKind) → HonestReason (bad_contents kind)
+bad_plain Boolean = (λ z. cc, λ z. cc)
+bad_plain Integer = (λ z. cc, λ z. cc)
+bad_plain Null = (λ z. cc, λ z. cc)
+bad_plain ObjectIdentifier = (λ z. cc, λ z. cc)
+bad_plain BitString = (λ z. cc, λ z. cc)
+bad_plain OctetString = (λ z. cc, λ z. cc)
+bad_plain Utf8String = (λ z. cc, λ z. cc)
 
-leaf_h : (l : Limits) (c : Enclosing) (kind : LeafKind) (p : ℕ) (t : Tag) (form : Bool) → Plainly (read_leaf l c kind p t form)
+leaf_plain : (l : Limits) (c : Enclosing) (kind : LeafKind) (p : ℕ) (t : Tag) (form : Bool) → Plainly (read_leaf l c kind p t form)
 unfolding read_leaf
-leaf_h l c kind p t false = bind_h _ _ (primitive_h l c p) (λ o. guard_h _ _ _ (plain _ _ (bad_h kind)) (done_h _))
-leaf_h l c Boolean p t true = fail_h Value _ (plain _ _ (λ z. cc, λ z. cc))
-leaf_h l c Integer p t true = fail_h Value _ (plain _ _ (λ z. cc, λ z. cc))
-leaf_h l c Null p t true = fail_h Value _ (plain _ _ (λ z. cc, λ z. cc))
-leaf_h l c ObjectIdentifier p t true = fail_h Value _ (plain _ _ (λ z. cc, λ z. cc))
-leaf_h l c BitString p t true = bind_h _ _ (inside_h l c p true _ (λ i. many_h _ l.octets l i [] (λ s' p' t' form'. segment_h l.depth l 3 i s' p' t' form'))) (λ e. guard_h _ _ _ (plain _ _ (λ z. cc, λ z. cc)) (done_h _))
-leaf_h l c OctetString p t true = bind_h _ _ (inside_h l c p true _ (λ i. many_h _ l.octets l i [] (λ s' p' t' form'. segment_h l.depth l 4 i s' p' t' form'))) (λ e. guard_h _ _ _ (plain _ _ (λ z. cc, λ z. cc)) (done_h _))
-leaf_h l c Utf8String p t true = bind_h _ _ (inside_h l c p true _ (λ i. many_h _ l.octets l i [] (λ s' p' t' form'. segment_h l.depth l 4 i s' p' t' form'))) (λ e. guard_h _ _ _ (plain _ _ (λ z. cc, λ z. cc)) (done_h _))
+leaf_plain l c kind p t false = bind_plain _ _ (primitive_plain l c p) (λ o. require_plain _ _ _ (plain _ _ (bad_plain kind)) (done_plain _))
+leaf_plain l c Boolean p t true = fail_plain Value _ (plain _ _ (λ z. cc, λ z. cc))
+leaf_plain l c Integer p t true = fail_plain Value _ (plain _ _ (λ z. cc, λ z. cc))
+leaf_plain l c Null p t true = fail_plain Value _ (plain _ _ (λ z. cc, λ z. cc))
+leaf_plain l c ObjectIdentifier p t true = fail_plain Value _ (plain _ _ (λ z. cc, λ z. cc))
+leaf_plain l c BitString p t true = bind_plain _ _ (container_plain l c p true _ (λ i. members_plain _ l.octets l i [] (λ s' p' t' form'. segment_plain l.depth l 3 i s' p' t' form'))) (λ e. require_plain _ _ _ (plain _ _ (λ z. cc, λ z. cc)) (done_plain _))
+leaf_plain l c OctetString p t true = bind_plain _ _ (container_plain l c p true _ (λ i. members_plain _ l.octets l i [] (λ s' p' t' form'. segment_plain l.depth l 4 i s' p' t' form'))) (λ e. require_plain _ _ _ (plain _ _ (λ z. cc, λ z. cc)) (done_plain _))
+leaf_plain l c Utf8String p t true = bind_plain _ _ (container_plain l c p true _ (λ i. members_plain _ l.octets l i [] (λ s' p' t' form'. segment_plain l.depth l 4 i s' p' t' form'))) (λ e. require_plain _ _ _ (plain _ _ (λ z. cc, λ z. cc)) (done_plain _))
 
-values_h : (l : Limits) (c : Enclosing) (p : ℕ) (form : Bool) (one : Enclosing → ℕ → Tag → Bool → Reading Value) → ((i : Enclosing) (p : ℕ) (t : Tag) (form : Bool) → Plainly (one i p t form)) → Plainly (all_members l c p form one)
+values_plain : (l : Limits) (c : Enclosing) (p : ℕ) (form : Bool) (one : Enclosing → ℕ → Tag → Bool → Reading Value) → ((i : Enclosing) (p : ℕ) (t : Tag) (form : Bool) → Plainly (one i p t form)) → Plainly (all_members l c p form one)
 unfolding all_members add_member
-values_h l c p form one g = inside_h l c p form _ (λ i. many_h _ l.octets l i [] (λ s p' t' form'. bind_h _ _ (g i p' t' form') (λ v. done_h _)))
+values_plain l c p form one g = container_plain l c p form _ (λ i. members_plain _ l.octets l i [] (λ s p' t' form'. bind_plain _ _ (g i p' t' form') (λ v. done_plain _)))
 
-open_h : (deep : ℕ) (l : Limits) (c : Enclosing) (p : ℕ) (t : Tag) (form : Bool) → Plainly (read_open deep l c p t form)
+open_plainly : (deep : ℕ) (l : Limits) (c : Enclosing) (p : ℕ) (t : Tag) (form : Bool) → Plainly (read_open deep l c p t form)
 unfolding read_open
-open_h zero l c p t form = fail_h Value _ (plain _ _ (λ z. cc, λ z. cc))
-open_h (suc deep) l c p t form = go (open_form t) form (λ i p' t' form'. open_h deep l i p' t' form')
+open_plainly zero l c p t form = fail_plain Value _ (plain _ _ (λ z. cc, λ z. cc))
+open_plainly (suc deep) l c p t form = go (open_form t) form (λ i p' t' form'. open_plainly deep l i p' t' form')
   where
     go : (o : OpenForm) (form : Bool) → ((i : Enclosing) (p : ℕ) (t : Tag) (form : Bool) → Plainly (read_open deep l i p t form))
         → Plainly {A = Value} (elim o [
@@ -173,58 +174,58 @@ open_h (suc deep) l c p t form = go (open_form t) form (λ i p' t' form'. open_h
           | OpenSequence ↦ all_members l c p form (λ c'. read_open deep l c') >>= λ e. Done (Sequence t (values_of e.all))
           | OpenSetOf ↦ all_members l c p form (λ c'. read_open deep l c') >>= λ e. Done (SetOf t (values_of e.all))
         ])
-    go OpenRefused form ih = fail_h Value _ (plain _ _ (λ z. cc, λ z. cc))
-    go (OpenLeaf kind) form ih = leaf_h l c kind p t form
-    go OpenPlain false ih = bind_h _ _ (primitive_h l c p) (λ o. done_h _)
-    go OpenPlain true ih = bind_h _ _ (values_h l c p true _ ih) (λ e. done_h _)
-    go OpenSequence form ih = bind_h _ _ (values_h l c p form _ ih) (λ e. done_h _)
-    go OpenSetOf form ih = bind_h _ _ (values_h l c p form _ ih) (λ e. done_h _)
+    go OpenRefused form ih = fail_plain Value _ (plain _ _ (λ z. cc, λ z. cc))
+    go (OpenLeaf kind) form ih = leaf_plain l c kind p t form
+    go OpenPlain false ih = bind_plain _ _ (primitive_plain l c p) (λ o. done_plain _)
+    go OpenPlain true ih = bind_plain _ _ (values_plain l c p true _ ih) (λ e. done_plain _)
+    go OpenSequence form ih = bind_plain _ _ (values_plain l c p form _ ih) (λ e. done_plain _)
+    go OpenSetOf form ih = bind_plain _ _ (values_plain l c p form _ ih) (λ e. done_plain _)
 
-ruled_h : (p : ℕ) (why : Option Reason) (w : Value) → ((x : Reason) → why ≡ Some x → HonestReason x) → Plainly (apply_rule p why w)
+ruled_plain : (p : ℕ) (why : Option Reason) (w : Value) → ((x : Reason) → why ≡ Some x → HonestReason x) → Plainly (apply_rule p why w)
 unfolding apply_rule
-ruled_h p None w g = done_h w
-ruled_h p (Some x) w g = fail_h Value _ (plain _ _ (g x refl))
+ruled_plain p None w g = done_plain w
+ruled_plain p (Some x) w g = fail_plain Value _ (plain _ _ (g x refl))
 
-from_h : (p : ℕ) (o : Outcome Value) → Plainly (from_inside p o)
+contained_plain : (p : ℕ) (o : Outcome Value) → Plainly (from_inside p o)
 unfolding from_inside
-from_h p (Halted g) = fail_h Value _ (within p g.at g.why)
-from_h p (Took w k []) = done_h w
-from_h p (Took w k (x ∷ s)) = fail_h Value _ (within p k Trailing)
+contained_plain p (Halted g) = fail_plain Value _ (within p g.at g.why)
+contained_plain p (Took w k []) = done_plain w
+contained_plain p (Took w k (x ∷ s)) = fail_plain Value _ (within p k Trailing)
 
 mutual
   unfolding read_type Honest
 
-  judge_h : (l : Limits) (T : TypeTerm) (earlier : List Value) (c : Enclosing) (p : ℕ) (t : Tag) (form : Bool) → Honest T → Plainly (read_type l T earlier c p t form)
-  judge_h l (LeafType u kind) earlier c p t form h = guard_h _ _ _ (plain _ _ (λ z. cc, λ z. cc)) (leaf_h l c kind p u form)
-  judge_h l OpenType earlier c p t form h = open_h l.depth l c p t form
-  judge_h l (SequenceOfType u n T) earlier c p t form h = guard_h _ _ _ (plain _ _ (λ z. cc, λ z. cc)) (bind_h _ _ (values_h l c p form _ (λ i p' t' form'. judge_h l T [] i p' t' form' h)) (λ e. guard_h _ _ _ (plain _ _ (λ z. cc, λ z. cc)) (done_h _)))
-  judge_h l (SetOfType u n T) earlier c p t form h = guard_h _ _ _ (plain _ _ (λ z. cc, λ z. cc)) (bind_h _ _ (values_h l c p form _ (λ i p' t' form'. judge_h l T [] i p' t' form' h)) (λ e. guard_h _ _ _ (plain _ _ (λ z. cc, λ z. cc)) (done_h _)))
-  judge_h l (SequenceType u fs) earlier c p t form h = guard_h _ _ _ (plain _ _ (λ z. cc, λ z. cc)) (bind_h _ _ (inside_h l c p form _ (λ i. bind_h _ _ (next_h l i) (λ d. fields_h l fs [] i d h))) (λ vs. done_h _))
-  judge_h l (ContainingType u q T) earlier c p t form h = guard_h _ _ _ (plain _ _ (λ z. cc, λ z. cc)) (bind_h _ _ (leaf_h l c OctetString p u form) (λ v. bind_h _ _ (from_h p _) (λ w. ruled_h p (q earlier w) _ (h.0 earlier w))))
-  judge_h l (RuledType q T) earlier c p t form h = bind_h _ _ (judge_h l T earlier c p t form h.1) (λ v. ruled_h p (q earlier v) v (h.0 earlier v))
-  judge_h l (RefusedType u why) earlier c p t form h = guard_h _ _ _ (plain _ _ (λ z. cc, λ z. cc)) (fail_h Value _ (plain _ _ h))
-  judge_h l (DefinedByType path os A B) earlier c p t form h = pick_h _ _ _ (judge_h l A earlier c p t form h.0) (judge_h l B earlier c p t form h.1)
+  type_plain : (l : Limits) (T : TypeTerm) (earlier : List Value) (c : Enclosing) (p : ℕ) (t : Tag) (form : Bool) → Honest T → Plainly (read_type l T earlier c p t form)
+  type_plain l (LeafType u kind) earlier c p t form h = require_plain _ _ _ (plain _ _ (λ z. cc, λ z. cc)) (leaf_plain l c kind p u form)
+  type_plain l OpenType earlier c p t form h = open_plainly l.depth l c p t form
+  type_plain l (SequenceOfType u n T) earlier c p t form h = require_plain _ _ _ (plain _ _ (λ z. cc, λ z. cc)) (bind_plain _ _ (values_plain l c p form _ (λ i p' t' form'. type_plain l T [] i p' t' form' h)) (λ e. require_plain _ _ _ (plain _ _ (λ z. cc, λ z. cc)) (done_plain _)))
+  type_plain l (SetOfType u n T) earlier c p t form h = require_plain _ _ _ (plain _ _ (λ z. cc, λ z. cc)) (bind_plain _ _ (values_plain l c p form _ (λ i p' t' form'. type_plain l T [] i p' t' form' h)) (λ e. require_plain _ _ _ (plain _ _ (λ z. cc, λ z. cc)) (done_plain _)))
+  type_plain l (SequenceType u fs) earlier c p t form h = require_plain _ _ _ (plain _ _ (λ z. cc, λ z. cc)) (bind_plain _ _ (container_plain l c p form _ (λ i. bind_plain _ _ (next_plain l i) (λ d. fields_plain l fs [] i d h))) (λ vs. done_plain _))
+  type_plain l (ContainingType u q T) earlier c p t form h = require_plain _ _ _ (plain _ _ (λ z. cc, λ z. cc)) (bind_plain _ _ (leaf_plain l c OctetString p u form) (λ v. bind_plain _ _ (contained_plain p _) (λ w. ruled_plain p (q earlier w) _ (h.0 earlier w))))
+  type_plain l (RuledType q T) earlier c p t form h = bind_plain _ _ (type_plain l T earlier c p t form h.1) (λ v. ruled_plain p (q earlier v) v (h.0 earlier v))
+  type_plain l (RefusedType u why) earlier c p t form h = require_plain _ _ _ (plain _ _ (λ z. cc, λ z. cc)) (fail_plain Value _ (plain _ _ h))
+  type_plain l (DefinedByType path os A B) earlier c p t form h = choose_plain _ _ _ (type_plain l A earlier c p t form h.0) (type_plain l B earlier c p t form h.1)
 
-  fields_h : (l : Limits) (fs : Fields) (earlier : List Value) (c : Enclosing) (d : Next) → HonestFields fs → Plainly (read_fields l fs earlier c d)
-  fields_h l EndOfFields earlier c (ContainerEnds p) h = done_h _
-  fields_h l EndOfFields earlier c (ElementStands p t form) h = fail_h (List Value) _ (plain _ _ (λ z. cc, λ z. cc))
-  fields_h l (Required T fs) earlier c (ContainerEnds p) h = fail_h (List Value) _ (plain _ _ (λ z. cc, λ z. cc))
-  fields_h l (Required T fs) earlier c (ElementStands p t form) h = guard_h _ _ _ (plain _ _ (λ z. cc, λ z. cc)) (bind_h _ _ (judge_h l T earlier c p t form h.0) (λ v. bind_h _ _ (next_h l c) (λ d. bind_h _ _ (fields_h l fs _ c d h.1) (λ vs. done_h _))))
-  fields_h l (Optional T fs) earlier c (ContainerEnds p) h = fields_h l fs earlier c (ContainerEnds p) h.1
-  fields_h l (Optional T fs) earlier c (ElementStands p t form) h = pick_h _ _ _ (bind_h _ _ (judge_h l T earlier c p t form h.0) (λ v. bind_h _ _ (next_h l c) (λ d. bind_h _ _ (fields_h l fs _ c d h.1) (λ vs. done_h _)))) (fields_h l fs earlier c (ElementStands p t form) h.1)
-  fields_h l (Default i o T fs) earlier c (ContainerEnds p) h = fields_h l fs earlier c (ContainerEnds p) h.1
-  fields_h l (Default i o T fs) earlier c (ElementStands p t form) h = pick_h _ _ _ (bind_h _ _ (judge_h l T earlier c p t form h.0) (λ v. bind_h _ _ (next_h l c) (λ d. pick_h _ _ _ (fields_h l fs earlier c d h.1) (bind_h _ _ (fields_h l fs _ c d h.1) (λ vs. done_h _))))) (fields_h l fs earlier c (ElementStands p t form) h.1)
+  fields_plain : (l : Limits) (fs : Fields) (earlier : List Value) (c : Enclosing) (d : Next) → HonestFields fs → Plainly (read_fields l fs earlier c d)
+  fields_plain l EndOfFields earlier c (ContainerEnds p) h = done_plain _
+  fields_plain l EndOfFields earlier c (ElementStands p t form) h = fail_plain (List Value) _ (plain _ _ (λ z. cc, λ z. cc))
+  fields_plain l (Required T fs) earlier c (ContainerEnds p) h = fail_plain (List Value) _ (plain _ _ (λ z. cc, λ z. cc))
+  fields_plain l (Required T fs) earlier c (ElementStands p t form) h = require_plain _ _ _ (plain _ _ (λ z. cc, λ z. cc)) (bind_plain _ _ (type_plain l T earlier c p t form h.0) (λ v. bind_plain _ _ (next_plain l c) (λ d. bind_plain _ _ (fields_plain l fs _ c d h.1) (λ vs. done_plain _))))
+  fields_plain l (Optional T fs) earlier c (ContainerEnds p) h = fields_plain l fs earlier c (ContainerEnds p) h.1
+  fields_plain l (Optional T fs) earlier c (ElementStands p t form) h = choose_plain _ _ _ (bind_plain _ _ (type_plain l T earlier c p t form h.0) (λ v. bind_plain _ _ (next_plain l c) (λ d. bind_plain _ _ (fields_plain l fs _ c d h.1) (λ vs. done_plain _)))) (fields_plain l fs earlier c (ElementStands p t form) h.1)
+  fields_plain l (Default i o T fs) earlier c (ContainerEnds p) h = fields_plain l fs earlier c (ContainerEnds p) h.1
+  fields_plain l (Default i o T fs) earlier c (ElementStands p t form) h = choose_plain _ _ _ (bind_plain _ _ (type_plain l T earlier c p t form h.0) (λ v. bind_plain _ _ (next_plain l c) (λ d. choose_plain _ _ _ (fields_plain l fs earlier c d h.1) (bind_plain _ _ (fields_plain l fs _ c d h.1) (λ vs. done_plain _))))) (fields_plain l fs earlier c (ElementStands p t form) h.1)
 
-element_h : (l : Limits) (T : TypeTerm) (earlier : List Value) (c : Enclosing) → Honest T → Plainly (read_element l T earlier c)
+element_plain : (l : Limits) (T : TypeTerm) (earlier : List Value) (c : Enclosing) → Honest T → Plainly (read_element l T earlier c)
 unfolding due_element
-element_h l T earlier c h = bind_h _ _ (next_h l c) go
+element_plain l T earlier c h = bind_plain _ _ (next_plain l c) go
   where
     go : (d : Next) → Plainly {A = Value} (elim d [ ContainerEnds p ↦ Fail (fault p Missing) | ElementStands p t form ↦ read_type l T earlier c p t form ])
-    go (ContainerEnds p) = fail_h Value _ (plain _ _ (λ z. cc, λ z. cc))
-    go (ElementStands p t form) = judge_h l T earlier c p t form h
+    go (ContainerEnds p) = fail_plain Value _ (plain _ _ (λ z. cc, λ z. cc))
+    go (ElementStands p t form) = type_plain l T earlier c p t form h
 
 pub truncated_at_the_end : TruncatedAtTheEnd
-truncated_at_the_end l T earlier c k s f h e w = at_end (read_element l T earlier c) k s f (element_h l T earlier c h) e w
+truncated_at_the_end l T earlier c k s f h e w = at_end (read_element l T earlier c) k s f (element_plain l T earlier c h) e w
 
 pub inside_of_faults : InsideOfFaults
-inside_of_faults l T earlier c k s f h e = inside_fits (read_element l T earlier c) k s f (element_h l T earlier c h) e
+inside_of_faults l T earlier c k s f h e = inside_fits (read_element l T earlier c) k s f (element_plain l T earlier c h) e

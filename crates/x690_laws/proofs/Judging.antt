@@ -1,4 +1,4 @@
--- The laws of the plain program.
+-- The laws on the plain reading of an element.
 use Rattle.std.proofs.Common.{◌≡◌, ℕ, ◌+◌, ◌≤◌, ◌<◌, ◌==◌, nat_lt, Bool, true, false, Option, Some, List, [], ◌∷◌, ◌++◌, length, refl, sym, ◌∙◌, ap, subst, arith}
 use Rattle.std.proofs.lemmas.Bool.Decides.{nat_tests}
 use Rattle.std.proofs.lemmas.List.{length-append}
@@ -7,8 +7,8 @@ use Rattle.x690_laws.proofs.HeaderSound.{Within}
 use Rattle.x690_laws.proofs.Sames.{same_refl, same_sym, same_trans}
 use Rattle.x690_laws.proofs.OneValue.{same_of}
 use Rattle.x690_laws.proofs.Gives.{form_of, split_lay, id_some}
-use Rattle.x690_laws.proofs.Complete.{judge_on, whole_on}
-use Rattle.x690_laws.proofs.Soundness.{outer_took, judge_took}
+use Rattle.x690_laws.proofs.Complete.{type_on, whole_on}
+use Rattle.x690_laws.proofs.Soundness.{due_took, type_took}
 use Rattle.tlv_core.specs.Identifier.{identifier}
 use Rattle.tlv_core.specs.Limits.{Limits}
 use Rattle.tlv_core.specs.declared.fault.Fault.{Fault}
@@ -26,7 +26,7 @@ use Rattle.x690_laws.specs.ReadingLaws.{TakenIsRead, FaultTakesNothing, MoreOcte
 
 pub sound : ReadIsTaken
 sound l T earlier c k s v q rest h =
-    let m = outer_took l c (read_type l T earlier c) (Fits l.depth T earlier) k s v q rest (judge_took l T earlier c) h in
+    let m = due_took l c (read_type l T earlier c) (Fits l.depth T earlier) k s v q rest (type_took l T earlier c) h in
     let w = subst (λ x. Within l c.nearest_end x) m.place m.within in
     (length m.octets, m.place, record { tree = m.tree; octets = m.octets; is = m.is; count = refl; laid_out = m.laid_out; in_bound = w.nearest_end; in_limit = w.limit; depth_fits = m.deep; fits = m.fact })
 
@@ -40,7 +40,7 @@ pub each_refl : (vs : List Value) → Each Same vs vs
 each_refl [] = tt
 each_refl (v ∷ vs) = (same_refl v, each_refl vs)
 
-not_ended : (c : Enclosing) (k n : ℕ) → Proper c → 0 < n → past_end c.nearest_end (k + n) ≡ false → stands_at_end c.innermost k ≡ false
+pub not_ended : (c : Enclosing) (k n : ℕ) → Proper c → 0 < n → past_end c.nearest_end (k + n) ≡ false → stands_at_end c.innermost k ≡ false
 not_ended c k n g p b = go c.innermost refl
   where
     past_self : (k n : ℕ) (b : Option ℕ) → b ≡ Some k → 0 < n → past_end b (k + n) ≡ false → ⊥
@@ -55,10 +55,10 @@ not_ended c k n g p b = go c.innermost refl
     go (EndsAt e) i = inner_at e (e == k) refl i
     go EndsWithZeros i = refl
 
-pub complete_env : (l : Limits) (T : TypeTerm) (earlier' earlier : List Value) (c : Enclosing) (k : ℕ) (s : List ℕ) (v : Value) (n : ℕ) (rest : List ℕ) → Fair T → Proper c → Each Same earlier' earlier
+pub complete_with : (l : Limits) (T : TypeTerm) (earlier' earlier : List Value) (c : Enclosing) (k : ℕ) (s : List ℕ) (v : Value) (n : ℕ) (rest : List ℕ) → Fair T → Proper c → Each Same earlier' earlier
     → Takes l T earlier' c k s v n rest → (w : Value) × Same v w × (run (read_element l T earlier c) k s ≡ Took w (k + n) rest)
-complete_env l T earlier' earlier c k s v n rest fr pr es h =
-    let i = judge_on l T earlier' earlier h.tree v fr es h.fits in
+complete_with l T earlier' earlier c k s v n rest fr pr es h =
+    let i = type_on l T earlier' earlier h.tree v fr es h.fits in
     let sp = split_lay h.tree h.octets h.laid_out in
     let some = id_some (tree_tag h.tree) (form_of h.tree) sp.tag in
     let z : length h.octets ≡ length (identifier (tree_tag h.tree) (form_of h.tree) ++ sp.octets) = ap length sp.is in
@@ -74,7 +74,7 @@ complete_env l T earlier' earlier c k s v n rest fr pr es h =
     )
 
 pub complete : TakenIsRead
-complete l T earlier c k s v n rest fr pr h = complete_env l T earlier earlier c k s v n rest fr pr (each_refl earlier) h
+complete l T earlier c k s v n rest fr pr h = complete_with l T earlier earlier c k s v n rest fr pr (each_refl earlier) h
 
 pub exclusive : FaultTakesNothing
 exclusive l T earlier c k s f fr pr h v n rest t = let x = complete l T earlier c k s v n rest fr pr t in clash (run (read_element l T earlier c) k s) f x.0 (k + n) rest h x.2

@@ -1,13 +1,13 @@
 -- Contents that pass their test are those of a leaf.
-use Rattle.std.proofs.Common.{◌≡◌, ℕ, ◌+◌, ◌-◌, ◌*◌, ◌<◌, ◌≤◌, ◌≢◌, ◌==◌, ◌&&◌, ◌||◌, nat_lt, nat_le, not, Bool, true, false, List, [], ◌∷◌, ◌++◌, map, length, refl, sym, ◌∙◌, ap, ap₂, subst, append_assoc, append-nil, arith}
+use Rattle.std.proofs.Common.{◌≡◌, ℕ, ◌+◌, ◌-◌, ◌*◌, ◌<◌, ◌≤◌, ◌≢◌, ◌==◌, ◌&&◌, ◌||◌, nat_lt, nat_le, not, Bool, true, false, List, [], ◌∷◌, ◌++◌, flat_map, length, refl, sym, ◌∙◌, ap, ap₂, subst, append_assoc, append-nil, arith}
 use Rattle.std.proofs.lemmas.Bool.Decides.{nat_tests}
 use Rattle.std.proofs.lemmas.Str.{IsUtf8-from_is_utf8}
 use Rattle.x690_laws.proofs.HeaderSound.{both_true, zero_digits, one_more, last_digit}
 use Rattle.tlv_core.specs.Identifier.{Tag, base128, leading_base128}
 use Rattle.x690.specs.Contents.{BitString, Boolean, Integer, IsBitSegment, IsInteger, LeafContents, LeafKind, Null, ObjectIdentifier, OctetString, Segmented, Utf8String, segments}
 use Rattle.x690.specs.Layouts.{Primitive}
-use Rattle.x690.specs.Lists.{AllBelow, join}
-use Rattle.x690.specs.ObjectIdentifiers.{ObjectIdentifierContents}
+use Rattle.tlv_core.specs.ObjectIdentifier.{AllBelow}
+use Rattle.tlv_core.specs.ObjectIdentifier.{ObjectIdentifierOctets}
 use Rattle.x690.specs.ReadContents.{der_contents, is_bit_segment, is_contents, is_integer_contents, is_object_identifier, is_subidentifiers}
 
 pub either_true : (a b : Bool) → not a || b ≡ true → a ≡ true → b ≡ true
@@ -44,7 +44,7 @@ not_lead n x h t z =
 pub record Arcs (n : ℕ) (s : List ℕ) : Type 0 where
   pub all : List ℕ
   pub below : AllBelow Big all
-  pub is : leading_base128 n n ++ s ≡ join (map base128 all)
+  pub is : leading_base128 n n ++ s ≡ flat_map base128 all
 
 arcs_fit : (n : ℕ) (s : List ℕ) → is_subidentifiers n s ≡ true → Arcs n s
 unfolding is_subidentifiers
@@ -62,7 +62,7 @@ arcs_fit n (x ∷ s) h =
         let i = ih a.1 in
         let lt : x < 128 = grind (arith, nat_tests) in
         let a0 : nat_lt (n * 128 + x) Big ≡ true = a.0 in
-        let e : s ≡ join (map base128 i.all) = sym (ap (λ v. v ++ s) (zero_digits 0 0 refl)) ∙ i.is in
+        let e : s ≡ flat_map base128 i.all = sym (ap (λ v. v ++ s) (zero_digits 0 0 refl)) ∙ i.is in
         record {
           all = (n * 128 + x) ∷ i.all;
           below = (grind (arith, nat_tests), i.below);
@@ -79,22 +79,22 @@ arcs_fit n (x ∷ s) h =
         }
 
 -- the first subidentifier, as two arcs
-two_arcs : (n a b : ℕ) (ns o : List ℕ) → a ≤ 2 → (a < 2 → b < 40) → 40 * a + b ≡ n → AllBelow Big (n ∷ ns) → o ≡ join (map base128 (n ∷ ns)) → (arcs : List ℕ) × ObjectIdentifierContents arcs o
+two_arcs : (n a b : ℕ) (ns o : List ℕ) → a ≤ 2 → (a < 2 → b < 40) → 40 * a + b ≡ n → AllBelow Big (n ∷ ns) → o ≡ flat_map base128 (n ∷ ns) → (arcs : List ℕ) × ObjectIdentifierOctets arcs o
 two_arcs n a b ns o h g e l q =
-    (a ∷ b ∷ ns, (h, g, subst (λ m. AllBelow Big (m ∷ ns)) (sym e) l, q ∙ ap (λ m. join (map base128 (m ∷ ns))) (sym e)))
+    (a ∷ b ∷ ns, (h, g, subst (λ m. AllBelow Big (m ∷ ns)) (sym e) l, q ∙ ap (λ m. flat_map base128 (m ∷ ns)) (sym e)))
 
-some_arcs : (all o : List ℕ) → (o ≡ [] → ⊥) → AllBelow Big all → o ≡ join (map base128 all) → (arcs : List ℕ) × ObjectIdentifierContents arcs o
+some_arcs : (all o : List ℕ) → (o ≡ [] → ⊥) → AllBelow Big all → o ≡ flat_map base128 all → (arcs : List ℕ) × ObjectIdentifierOctets arcs o
 some_arcs [] o z b e = absurd (z e)
 some_arcs (n ∷ ns) o z b e = go (nat_lt n 40) refl (nat_lt n 80) refl
   where
-    go : (c : Bool) → nat_lt n 40 ≡ c → (c' : Bool) → nat_lt n 80 ≡ c' → (arcs : List ℕ) × ObjectIdentifierContents arcs o
+    go : (c : Bool) → nat_lt n 40 ≡ c → (c' : Bool) → nat_lt n 80 ≡ c' → (arcs : List ℕ) × ObjectIdentifierOctets arcs o
     go true c c' d = let lt : n < 40 = grind (arith, nat_tests) in two_arcs n 0 n ns o (omega arith) (λ z. lt) (omega arith) b e
     go false c true d = let ge : 40 ≤ n = grind (arith, nat_tests) in let lt : n < 80 = grind (arith, nat_tests) in two_arcs n 1 (n - 40) ns o (omega arith) (λ z. omega arith) (omega arith) b e
     go false c false d = let ge : 80 ≤ n = grind (arith, nat_tests) in two_arcs n 2 (n - 80) ns o (omega arith) (λ z. absurd (omega arith)) (omega arith) b e
 
-oid_fits : (o : List ℕ) → is_object_identifier o ≡ true → (arcs : List ℕ) × ObjectIdentifierContents arcs o
-oid_fits [] h = cc
-oid_fits (x ∷ s) h = let a = arcs_fit 0 (x ∷ s) h in some_arcs a.all (x ∷ s) (λ z. cc) a.below (sym (ap (λ v. v ++ (x ∷ s)) (zero_digits 0 0 refl)) ∙ a.is)
+object_identifier_fits : (o : List ℕ) → is_object_identifier o ≡ true → (arcs : List ℕ) × ObjectIdentifierOctets arcs o
+object_identifier_fits [] h = cc
+object_identifier_fits (x ∷ s) h = let a = arcs_fit 0 (x ∷ s) h in some_arcs a.all (x ∷ s) (λ z. cc) a.below (sym (ap (λ v. v ++ (x ∷ s)) (zero_digits 0 0 refl)) ∙ a.is)
 
 -- Contents that pass the test are a leaf's.
 pub contents_fit : (k : LeafKind) (t : Tag) (o : List ℕ) → is_contents k o ≡ true → LeafContents k (Primitive t o) (der_contents k o)
@@ -106,7 +106,7 @@ contents_fit Null t o h = (no_length o h, refl)
     no_length : (o : List ℕ) → (length o == 0) ≡ true → o ≡ []
     no_length [] h = refl
     no_length (x ∷ s) h = absurd (let z : length (x ∷ s) ≡ 0 = grind (arith, nat_tests) in omega arith)
-contents_fit ObjectIdentifier t o h = (oid_fits o h, refl)
+contents_fit ObjectIdentifier t o h = (object_identifier_fits o h, refl)
 contents_fit BitString t o h = record { segmented = tt; each = segment_fits o h; is = refl }
 contents_fit OctetString t o h = record { segmented = tt; is = sym (append-nil o) }
 contents_fit Utf8String t o h = (record { segmented = tt; is = sym (append-nil o) }, IsUtf8-from_is_utf8 o h)

@@ -1,13 +1,16 @@
 pub mod Answering
 pub mod Complete
+pub mod Composing
 pub mod Computed
 pub mod ContentLengths
+pub mod ContentsFaulting
 pub mod Deeper
 pub mod Exactly
 pub mod Fairs
 pub mod Gives
 pub mod Growing
 pub mod GrowthBounds
+pub mod HeaderFaulting
 pub mod HeaderGives
 pub mod HeaderLengths
 pub mod HeaderSound
@@ -17,6 +20,7 @@ pub mod Judging
 pub mod LawfulTypes
 pub mod LeafSound
 pub mod Lengths
+pub mod Members
 pub mod OneValue
 pub mod Order
 pub mod Pairing

@@ -49,13 +49,13 @@ row_each NoMembers (FirstMember w ws) h = absurd h
 row_each (FirstMember v vs) NoMembers h = absurd h
 row_each (FirstMember v vs) (FirstMember w ws) h = (h.0, row_each vs ws h.1)
 
-pub same_row : (t : Tag) (vs ws : Values) → Each Same (members vs) (members ws) → Same (Sequence t vs) (Sequence t ws)
+pub same_sequence : (t : Tag) (vs ws : Values) → Each Same (members vs) (members ws) → Same (Sequence t vs) (Sequence t ws)
 unfolding Same
-same_row t vs ws h = (refl, each_row vs ws h)
+same_sequence t vs ws h = (refl, each_row vs ws h)
 
-pub same_bag : (t : Tag) (vs ws : Values) → Paired Same (members vs) (members ws) → Same (SetOf t vs) (SetOf t ws)
+pub same_set : (t : Tag) (vs ws : Values) → Paired Same (members vs) (members ws) → Same (SetOf t vs) (SetOf t ws)
 unfolding Same
-same_bag t vs ws h = (refl, paired_bag vs (members ws) h)
+same_set t vs ws h = (refl, paired_bag vs (members ws) h)
 
 -- two lists related to one, in place and paired
 
@@ -115,7 +115,7 @@ mutual
       (λ a'. ⊎_elim
       (λ b. absurd (clash_row t b.kind b.taken a'.1))
       (λ b. ⊎_elim
-      (λ b'. same_along v w (Sequence t a'.0) (Sequence t b'.0) a'.2 b'.2 (same_row t a'.0 b'.0 (open_row_same rs (members a'.0) (members b'.0) a'.3 b'.3)))
+      (λ b'. same_along v w (Sequence t a'.0) (Sequence t b'.0) a'.2 b'.2 (same_sequence t a'.0 b'.0 (open_row_same rs (members a'.0) (members b'.0) a'.3 b'.3)))
       (λ b'. absurd (clash_both t b'.1 a'.1))
       b)
       k)
@@ -123,7 +123,7 @@ mutual
       (λ b. absurd (clash_bag t b.kind b.taken a'.1))
       (λ b. ⊎_elim
       (λ b'. absurd (clash_both t a'.1 b'.1))
-      (λ b'. same_along v w (SetOf t a'.0) (SetOf t b'.0) a'.2 b'.2 (same_bag t a'.0 b'.0 (open_bag_same rs (members a'.0) (members b'.0) a'.3 b'.3)))
+      (λ b'. same_along v w (SetOf t a'.0) (SetOf t b'.0) a'.2 b'.2 (same_set t a'.0 b'.0 (open_bag_same rs (members a'.0) (members b'.0) a'.3 b'.3)))
       b)
       k)
       a)
@@ -153,17 +153,17 @@ octets_same (SetOf t vs) (Leaf u p) h = absurd h
 octets_same (SetOf t vs) (Sequence u ws) h = absurd h
 octets_same (SetOf t vs) (SetOf u ws) h = refl
 
-pub row_items_same : (v w : Value) → Same v w → Each Same (sequence_members v) (sequence_members w)
+pub members_same : (v w : Value) → Same v w → Each Same (sequence_members v) (sequence_members w)
 unfolding Same
-row_items_same (Leaf t o) (Leaf u p) h = tt
-row_items_same (Leaf t o) (Sequence u ws) h = absurd h
-row_items_same (Leaf t o) (SetOf u ws) h = absurd h
-row_items_same (Sequence t vs) (Leaf u p) h = absurd h
-row_items_same (Sequence t vs) (Sequence u ws) h = row_each vs ws h.1
-row_items_same (Sequence t vs) (SetOf u ws) h = absurd h
-row_items_same (SetOf t vs) (Leaf u p) h = absurd h
-row_items_same (SetOf t vs) (Sequence u ws) h = absurd h
-row_items_same (SetOf t vs) (SetOf u ws) h = tt
+members_same (Leaf t o) (Leaf u p) h = tt
+members_same (Leaf t o) (Sequence u ws) h = absurd h
+members_same (Leaf t o) (SetOf u ws) h = absurd h
+members_same (Sequence t vs) (Leaf u p) h = absurd h
+members_same (Sequence t vs) (Sequence u ws) h = row_each vs ws h.1
+members_same (Sequence t vs) (SetOf u ws) h = absurd h
+members_same (SetOf t vs) (Leaf u p) h = absurd h
+members_same (SetOf t vs) (Sequence u ws) h = absurd h
+members_same (SetOf t vs) (SetOf u ws) h = tt
 
 pub leaf_at_same : (p : List ℕ) (vs ws : List Value) → Each Same vs ws → leaf_at p vs ≡ leaf_at p ws
 unfolding leaf_at
@@ -172,7 +172,7 @@ leaf_at_same (i ∷ p) [] [] h = refl
 leaf_at_same (i ∷ p) [] (w ∷ ws) h = absurd h
 leaf_at_same (i ∷ p) (v ∷ vs) [] h = absurd h
 leaf_at_same (zero ∷ []) (v ∷ vs) (w ∷ ws) h = octets_same v w h.0
-leaf_at_same (zero ∷ j ∷ p) (v ∷ vs) (w ∷ ws) h = leaf_at_same (j ∷ p) (sequence_members v) (sequence_members w) (row_items_same v w h.0)
+leaf_at_same (zero ∷ j ∷ p) (v ∷ vs) (w ∷ ws) h = leaf_at_same (j ∷ p) (sequence_members v) (sequence_members w) (members_same v w h.0)
 leaf_at_same (suc i ∷ p) (v ∷ vs) (w ∷ ws) h = leaf_at_same (i ∷ p) vs ws h.1
 
 pub each_snoc : (vs ws : List Value) (v w : Value) → Each Same vs ws → Same v w → Each Same (vs ++ (v ∷ [])) (ws ++ (w ∷ []))
@@ -190,15 +190,15 @@ mutual
   fits_same d (SequenceOfType t n T) earlier earlier' r v w e h k =
       let q : k.0 ≡ h.0 = let a = h.2 in let b = k.2 in cc in
       let k' = subst (λ x. Each (Fits d T []) (member_trees x) (members k.1)) q k.5 in
-      same_along v w (Sequence t h.1) (Sequence t k.1) h.3 k.3 (same_row t h.1 k.1 (each_same (Fits d T []) Same (λ a b c x y. fits_same d T [] [] a b c tt x y) (member_trees h.0) (members h.1) (members k.1) h.5 k'))
+      same_along v w (Sequence t h.1) (Sequence t k.1) h.3 k.3 (same_sequence t h.1 k.1 (each_same (Fits d T []) Same (λ a b c x y. fits_same d T [] [] a b c tt x y) (member_trees h.0) (members h.1) (members k.1) h.5 k'))
   fits_same d (SetOfType t n T) earlier earlier' r v w e h k =
       let q : k.0 ≡ h.0 = let a = h.2 in let b = k.2 in cc in
       let k' = subst (λ x. Paired (Fits d T []) (member_trees x) (members k.1)) q k.5 in
-      same_along v w (SetOf t h.1) (SetOf t k.1) h.3 k.3 (same_bag t h.1 k.1 (paired_same (Fits d T []) Same (λ a b c x y. fits_same d T [] [] a b c tt x y) (member_trees h.0) (members h.1) (members k.1) h.5 k'))
+      same_along v w (SetOf t h.1) (SetOf t k.1) h.3 k.3 (same_set t h.1 k.1 (paired_same (Fits d T []) Same (λ a b c x y. fits_same d T [] [] a b c tt x y) (member_trees h.0) (members h.1) (members k.1) h.5 k'))
   fits_same d (SequenceType t fs) earlier earlier' r v w e h k =
       let q : k.0 ≡ h.0 = let a = h.2 in let b = k.2 in cc in
       let k' = subst (λ x. FitsFields d fs [] (member_trees x) (members k.1)) q k.4 in
-      same_along v w (Sequence t h.1) (Sequence t k.1) h.3 k.3 (same_row t h.1 k.1 (fields_same d fs [] [] (member_trees h.0) (members h.1) (members k.1) tt h.4 k'))
+      same_along v w (Sequence t h.1) (Sequence t k.1) h.3 k.3 (same_sequence t h.1 k.1 (fields_same d fs [] [] (member_trees h.0) (members h.1) (members k.1) tt h.4 k'))
   fits_same d (ContainingType t q T) earlier earlier' r v w e h k =
       let c = leaf_one OctetString r h.1 k.1 h.2 k.2 in
       let s = (prefix h.3 k.3 h.1 k.1 [] h.6 k.6 (sym c ∙ sym (append-nil h.1))).1 in
@@ -262,5 +262,9 @@ mutual
       k)
       h
 
+each_same_refl : (vs : List Value) → Each Same vs vs
+each_same_refl [] = tt
+each_same_refl (v ∷ vs) = (same_refl v, each_same_refl vs)
+
 pub one_value : OneValue
-one_value d T r v w h k = fits_same d T [] [] r v w tt h k
+one_value d T earlier r v w h k = fits_same d T earlier earlier r v w (each_same_refl earlier) h k

@@ -1,19 +1,20 @@
 -- The DER text of a value spells it.
-use Rattle.std.proofs.Common.{◌≡◌, ℕ, ◌+◌, ◌*◌, ◌/◌, ◌^◌, ◌<◌, ◌≤◌, ◌==◌, true, false, cond, inl, inr, ⊎_elim, List, [], ◌∷◌, ◌++◌, map, length, refl, sym, ◌∙◌, ap, ap₂, subst, arith, append-nil, mul-div_cancel}
+use Rattle.std.proofs.Common.{◌≡◌, ℕ, ◌+◌, ◌*◌, ◌/◌, ◌^◌, ◌<◌, ◌≤◌, ◌==◌, true, false, inl, inr, ⊎_elim, List, [], ◌∷◌, ◌++◌, map, length, refl, sym, ◌∙◌, ap, ap₂, subst, arith, append-nil, mul-div_cancel}
 use Rattle.std.proofs.lemmas.List.{length-append}
 use Rattle.std.proofs.lemmas.Nat.{pow_pos}
 use Rattle.std.proofs.lemmas.Bool.Decides.{nat_tests}
 use Rattle.x690_laws.proofs.Texts.{ders_map, element_alone}
 use Rattle.x690_laws.proofs.Texts as plain
+use Rattle.x690_laws.proofs.ContentLengths.{arranged_length}
 use Rattle.x690_laws.proofs.OneValue.{fits_same}
 use Rattle.x690_laws.proofs.Trees.{text, Tagged, raws_of, depth_list, TaggedList, members_raws, texts_raws, depths_raws, depths_members, tagged_raws, tagged_members, lay_tagged, lay_text, text_alone, element_long, arrange_trees, arrange_texts, arrange_depth, arrange_tagged, arrange_paired}
 use Rattle.tlv_core.specs.Identifier.{IsTag, Tag}
 use Rattle.x690.specs.Contents.{AreBitSegments, BitString, BitStringContents, Boolean, Integer, IsBitSegment, IsInteger, LeafContents, LeafKind, Null, ObjectIdentifier, OctetString, Segmented, Utf8String, bit_contents, bit_octets, boolean_contents, clear_unused, segments, unused_bits}
-use Rattle.x690.specs.DerTexts.{arrange, der, der_element, der_texts, insert_text, padded_less}
+use Rattle.x690.specs.DerTexts.{arrange, der, der_element, der_texts}
 use Rattle.x690.specs.Fitting.{Fits, FitsFields, next_fits}
 use Rattle.x690.specs.Layouts.{Constructed, FirstTree, LaidOut, NoTrees, Primitive, RawTree, RawTrees, member_trees, same_tag, tree_depth, tree_tag}
 use Rattle.x690.specs.Lists.{Each, Paired, Picked, join}
-use Rattle.x690.specs.ObjectIdentifiers.{ObjectIdentifierContents}
+use Rattle.tlv_core.specs.ObjectIdentifier.{ObjectIdentifierOctets}
 use Rattle.x690.specs.OpenValues.{FitOpenInPlace, FitOpenPaired, FitsOpen, IsOpenLeaf}
 use Rattle.x690.specs.TypeTerms.{ContainingType, Default, DefinedByType, Distinct, DistinctFields, Fields, LeafType, EndOfFields, OpenType, Optional, RefusedType, Required, RuledType, SequenceOfType, SequenceType, SetOfType, TypeTerm, fields_fit_tag, fits_tag}
 use Rattle.x690.specs.Values.{FirstMember, Leaf, NoMembers, Sequence, SetOf, Value, Values, members}
@@ -48,26 +49,13 @@ unfolding Short
 every_short NoMembers h = tt
 every_short (FirstMember v vs) h = (h.0, every_short vs h.1)
 
-insert_length : (x : List ℕ) (ys : List (List ℕ)) → length (join (insert_text x ys)) ≡ length x + length (join ys)
-unfolding insert_text
-insert_length x [] = length-append x []
-insert_length x (y ∷ ys) = elim (padded_less x y) as (λ b. length (join (cond b (x ∷ y ∷ ys) (y ∷ insert_text x ys))) ≡ length x + length (join (y ∷ ys))) [
-  | true ↦ length-append x (y ++ join ys)
-  | false ↦ omega (arith, insert_length x ys, length-append y (join ys), length-append y (join (insert_text x ys)))
-]
-
-arrange_length : (xs : List (List ℕ)) → length (join (arrange xs)) ≡ length (join xs)
-unfolding arrange
-arrange_length [] = refl
-arrange_length (x ∷ xs) = omega (arith, insert_length x (arrange xs), arrange_length xs, length-append x (join xs))
-
 mutual
   unfolding Short der
 
   pub short : (v : Value) → length (der v) < 18446744073709551616 → Short v
   short (Leaf t o) h = omega (arith, element_long t false o)
   short (Sequence t vs) h = shorts vs (omega (arith, element_long t true (join (der_texts vs))))
-  short (SetOf t vs) h = shorts vs (omega (arith, element_long t true (join (arrange (der_texts vs))), arrange_length (der_texts vs)))
+  short (SetOf t vs) h = shorts vs (omega (arith, element_long t true (join (arrange (der_texts vs))), arranged_length (der_texts vs)))
 
   shorts : (vs : Values) → length (join (der_texts vs)) < 18446744073709551616 → Shorts vs
   shorts NoMembers h = tt
@@ -131,7 +119,7 @@ leaf_again Integer (Primitive u c) o t h = (subst IsInteger (sym h.1) h.0, refl)
 leaf_again Integer (Constructed u rs) o t h = absurd h
 leaf_again Null (Primitive u c) o t h = (h.1 ∙ h.0, refl)
 leaf_again Null (Constructed u rs) o t h = absurd h
-leaf_again ObjectIdentifier (Primitive u c) o t h = (subst (λ x. (arcs : List ℕ) × ObjectIdentifierContents arcs x) (sym h.1) h.0, refl)
+leaf_again ObjectIdentifier (Primitive u c) o t h = (subst (λ x. (arcs : List ℕ) × ObjectIdentifierOctets arcs x) (sym h.1) h.0, refl)
 leaf_again ObjectIdentifier (Constructed u rs) o t h = absurd h
 leaf_again BitString r o t h = bits_again r o t h
 leaf_again OctetString r o t h = record { segmented = tt; is = sym (append-nil o) }
@@ -285,17 +273,17 @@ octets_prim t o = record { segmented = tt; is = sym (append-nil o) }
 
 -- open values
 
-pub open_row_is : (rs : RawTrees) (vs : List Value) → Each FitsOpen (member_trees rs) vs → FitOpenInPlace rs vs
+pub open_sequence_is : (rs : RawTrees) (vs : List Value) → Each FitsOpen (member_trees rs) vs → FitOpenInPlace rs vs
 unfolding FitsOpen
-open_row_is NoTrees [] h = refl
-open_row_is NoTrees (v ∷ vs) h = absurd h
-open_row_is (FirstTree r rs) [] h = absurd h
-open_row_is (FirstTree r rs) (v ∷ vs) h = (v, vs, refl, h.0, open_row_is rs vs h.1)
+open_sequence_is NoTrees [] h = refl
+open_sequence_is NoTrees (v ∷ vs) h = absurd h
+open_sequence_is (FirstTree r rs) [] h = absurd h
+open_sequence_is (FirstTree r rs) (v ∷ vs) h = (v, vs, refl, h.0, open_sequence_is rs vs h.1)
 
-pub open_bag_is : (rs : RawTrees) (vs : List Value) → Paired FitsOpen (member_trees rs) vs → FitOpenPaired rs vs
+pub open_set_is : (rs : RawTrees) (vs : List Value) → Paired FitsOpen (member_trees rs) vs → FitOpenPaired rs vs
 unfolding FitsOpen
-open_bag_is NoTrees vs h = h
-open_bag_is (FirstTree r rs) vs h = (h.0, h.1, h.2, h.3, open_bag_is rs h.1 h.4)
+open_set_is NoTrees vs h = h
+open_set_is (FirstTree r rs) vs h = (h.0, h.1, h.2, h.3, open_set_is rs h.1 h.4)
 
 open_leaf : (t : Tag) (o : List ℕ) (v : Value) → IsOpenLeaf t (Primitive t o) v → FitsOpen (Primitive t o) v
 unfolding FitsOpen
@@ -320,11 +308,11 @@ mutual
       (λ a.
       let c = open_row_canon rs (members a.0) (every_short a.0 (subst Short a.2 s)) a.3 in
       row_canon FitsOpen (Each FitsOpen) (Constructed t rs) v t rs a.0 refl a.2 c
-      (inr (inl (a.0, a.1, a.2, open_row_is (raws_of c.trees) (members a.0) (subst (λ x. Each FitsOpen x (members a.0)) (sym (members_raws c.trees)) c.fits)))))
+      (inr (inl (a.0, a.1, a.2, open_sequence_is (raws_of c.trees) (members a.0) (subst (λ x. Each FitsOpen x (members a.0)) (sym (members_raws c.trees)) c.fits)))))
       (λ a.
       let c = open_bag_canon rs (members a.0) (every_short a.0 (subst Short a.2 s)) a.3 in
       bag_canon FitsOpen FitsOpen (Constructed t rs) v t rs a.0 refl a.2 c
-      (inr (inr (a.0, a.1, a.2, open_bag_is (raws_of (arrange_trees c.trees)) (members a.0) (subst (λ x. Paired FitsOpen x (members a.0)) (sym (members_raws (arrange_trees c.trees))) (arrange_paired FitsOpen c.trees (members a.0) c.fits))))))
+      (inr (inr (a.0, a.1, a.2, open_set_is (raws_of (arrange_trees c.trees)) (members a.0) (subst (λ x. Paired FitsOpen x (members a.0)) (sym (members_raws (arrange_trees c.trees))) (arrange_paired FitsOpen c.trees (members a.0) c.fits))))))
       b)
       h
 

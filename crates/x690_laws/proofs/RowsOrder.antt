@@ -2,7 +2,7 @@
 use Rattle.std.proofs.Common.{◌≡◌, codes, refl}
 use Rattle.tlv_core.specs.declared.reason.Reason.TheVariants.{BadEnd, BadInteger, BadLength, BadTag, BadText, Extra, KeyLength, LeftOut, Missing, Parameters, PastEnd, TextTooLong, TooLong, Truncated, Version, VersionRule, WrongTag}
 use Rattle.x690.specs.Answers.{Spelled, answer}
-use Rattle.x690.specs.DocumentTypes.{ECPrivateKey, Extension, OneAsymmetricKey, SubjectPublicKeyInfo}
+use Rattle.x690.specs.DocumentTypes.{CertificationRequest, ECPrivateKey, Extension, OneAsymmetricKey, SubjectPublicKeyInfo}
 use Rattle.x690.specs.TypeTerms.{OpenType}
 use Rattle.x690_laws.proofs.Computed.{computed}
 use Rattle.x690_laws.specs.Examples.{hex, IsDer, refused, refused_inside, usual}
@@ -266,3 +266,27 @@ members_of_a_set_are_compared_octet_by_octet = refl
 open_values_of_64_levels : answer (record { depth = 64; octets = 1048576 }) OpenType (hex (codes "30803080308030803080308030803080308030803080308030803080308030803080308030803080308030803080308030803080308030803080308030803080308030803080308030803080308030803080308030803080308030803080308030803080308030803080308030803080308030803080308030803080308030800000000000000000000000000000000000000000000000000000000000000000000000000000000000000000000000000000000000000000000000000000000000000000000000000000000000000000000000000000000000000000000000000000000000000000000000000000000000000000000000000000000000000000")) ≡ Spelled (hex (codes "307e307c307a30783076307430723070306e306c306a30683066306430623060305e305c305a30583056305430523050304e304c304a30483046304430423040303e303c303a30383036303430323030302e302c302a30283026302430223020301e301c301a30183016301430123010300e300c300a30083006300430023000")) 256
 unfolding computed
 open_values_of_64_levels = refl
+
+an_x25519_key : IsDer usual OneAsymmetricKey (hex (codes "302e020100300506032b656e042204202222222222222222222222222222222222222222222222222222222222222222"))
+unfolding computed
+an_x25519_key = refl
+
+an_x25519_public_key_that_is_too_short : answer usual SubjectPublicKeyInfo (hex (codes "3029300506032b656e032000aaaaaaaaaaaaaaaaaaaaaaaaaaaaaaaaaaaaaaaaaaaaaaaaaaaaaaaaaaaaaa")) ≡ refused 9 KeyLength
+unfolding computed
+an_x25519_public_key_that_is_too_short = refl
+
+an_x448_public_key_that_is_too_short : answer usual SubjectPublicKeyInfo (hex (codes "3041300506032b656f033800aaaaaaaaaaaaaaaaaaaaaaaaaaaaaaaaaaaaaaaaaaaaaaaaaaaaaaaaaaaaaaaaaaaaaaaaaaaaaaaaaaaaaaaaaaaaaaaaaaaaaaaaaaaaaa")) ≡ refused 9 KeyLength
+unfolding computed
+an_x448_public_key_that_is_too_short = refl
+
+null_parameters_under_x448 : answer usual OneAsymmetricKey (hex (codes "3080020100300706032b656f0500")) ≡ refused 5 Parameters
+unfolding computed
+null_parameters_under_x448 = refl
+
+an_ec_key_of_version_0 : answer usual ECPrivateKey (hex (codes "3006020100040107")) ≡ refused 2 Version
+unfolding computed
+an_ec_key_of_version_0 = refl
+
+a_request_of_version_1 : answer usual CertificationRequest (hex (codes "307f3033020101")) ≡ refused 4 Version
+unfolding computed
+a_request_of_version_1 = refl

@@ -36,15 +36,15 @@ halt_bind (Where e) f k s g h = halt_bind (e k) f k s g h
 halt_bind (Ask e) f k [] g h = cc
 halt_bind (Ask e) f k (x ∷ s) g h = halt_bind (e x) f (k + 1) s g h
 
-pub took_guard : {A : Type 0} (b : Bool) (f : Fault) (p : Reading A) (k : ℕ) (s : List ℕ) (a : A) (q : ℕ) (r : List ℕ) → run (require b f p) k s ≡ Took a q r → (b ≡ true) × (run p k s ≡ Took a q r)
+pub took_require : {A : Type 0} (b : Bool) (f : Fault) (p : Reading A) (k : ℕ) (s : List ℕ) (a : A) (q : ℕ) (r : List ℕ) → run (require b f p) k s ≡ Took a q r → (b ≡ true) × (run p k s ≡ Took a q r)
 unfolding run require
-took_guard true f p k s a q r h = (refl, h)
-took_guard false f p k s a q r h = cc
+took_require true f p k s a q r h = (refl, h)
+took_require false f p k s a q r h = cc
 
-pub took_pick : {A : Type 0} (b : Bool) (p p' : Reading A) (k : ℕ) (s : List ℕ) (a : A) (q : ℕ) (r : List ℕ) → run (choose b p p') k s ≡ Took a q r → ((b ≡ true) × (run p k s ≡ Took a q r)) ⊎ ((b ≡ false) × (run p' k s ≡ Took a q r))
+pub took_choose : {A : Type 0} (b : Bool) (p p' : Reading A) (k : ℕ) (s : List ℕ) (a : A) (q : ℕ) (r : List ℕ) → run (choose b p p') k s ≡ Took a q r → ((b ≡ true) × (run p k s ≡ Took a q r)) ⊎ ((b ≡ false) × (run p' k s ≡ Took a q r))
 unfolding run choose
-took_pick true p p' k s a q r h = inl (refl, h)
-took_pick false p p' k s a q r h = inr (refl, h)
+took_choose true p p' k s a q r h = inl (refl, h)
+took_choose false p p' k s a q r h = inr (refl, h)
 
 pub took_where : {A : Type 0} (f : ℕ → Reading A) (k : ℕ) (s : List ℕ) (a : A) (q : ℕ) (r : List ℕ) → run (Where f) k s ≡ Took a q r → run (f k) k s ≡ Took a q r
 unfolding run
@@ -111,15 +111,15 @@ halted_bind (Where e) f k s g h = halted_bind (e k) f k s g h
 halted_bind (Ask e) f k [] g h = inl (let x : fault k Truncated ≡ g = cc in ap Halted x)
 halted_bind (Ask e) f k (x ∷ s) g h = halted_bind (e x) f (k + 1) s g h
 
-pub halted_guard : {A : Type 0} (b : Bool) (g : Fault) (p : Reading A) (k : ℕ) (s : List ℕ) (f : Fault) → run (require b g p) k s ≡ Halted f → ((b ≡ false) × (f ≡ g)) ⊎ ((b ≡ true) × (run p k s ≡ Halted f))
+pub halted_require : {A : Type 0} (b : Bool) (g : Fault) (p : Reading A) (k : ℕ) (s : List ℕ) (f : Fault) → run (require b g p) k s ≡ Halted f → ((b ≡ false) × (f ≡ g)) ⊎ ((b ≡ true) × (run p k s ≡ Halted f))
 unfolding run require
-halted_guard true g p k s f h = inr (refl, h)
-halted_guard false g p k s f h = inl (refl, cc)
+halted_require true g p k s f h = inr (refl, h)
+halted_require false g p k s f h = inl (refl, cc)
 
-pub halted_pick : {A : Type 0} (b : Bool) (p p' : Reading A) (k : ℕ) (s : List ℕ) (f : Fault) → run (choose b p p') k s ≡ Halted f → ((b ≡ true) × (run p k s ≡ Halted f)) ⊎ ((b ≡ false) × (run p' k s ≡ Halted f))
+pub halted_choose : {A : Type 0} (b : Bool) (p p' : Reading A) (k : ℕ) (s : List ℕ) (f : Fault) → run (choose b p p') k s ≡ Halted f → ((b ≡ true) × (run p k s ≡ Halted f)) ⊎ ((b ≡ false) × (run p' k s ≡ Halted f))
 unfolding run choose
-halted_pick true p p' k s f h = inl (refl, h)
-halted_pick false p p' k s f h = inr (refl, h)
+halted_choose true p p' k s f h = inl (refl, h)
+halted_choose false p p' k s f h = inr (refl, h)
 
 pub halted_done : {A : Type 0} (a : A) (k : ℕ) (s : List ℕ) (f : Fault) → run (Done a) k s ≡ Halted f → ⊥
 unfolding run

@@ -6,7 +6,7 @@ use Rattle.tlv_core.specs.Limits.{Limits}
 use Rattle.x690_laws.proofs.GrowthBounds.{growth_by_two}
 use Rattle.x690_laws.proofs.Judging.{sound}
 use Rattle.x690_laws.proofs.Sound.{Laid}
-use Rattle.x690_laws.proofs.Soundness.{judge_took, open_took}
+use Rattle.x690_laws.proofs.Soundness.{type_took, open_took}
 use Rattle.x690.specs.DerTexts.{der, texts_of}
 use Rattle.x690.specs.Fitting.{Fits}
 use Rattle.x690.specs.Layouts.{LaidOut, RawTree}
@@ -49,7 +49,7 @@ unfolding read_document
 read_texts = record {
   element = element_text;
   document = λ l T b v n rest h e. element_text l T [] outermost 0 b v n rest h e;
-  behind = λ l T earlier c p t form k s v q rest h g d e m. behind_text l T earlier c p t form k s v q rest h e (judge_took l T earlier c v p t form k s q rest g d m);
+  behind = λ l T earlier c p t form k s v q rest h g d e m. behind_text l T earlier c p t form k s v q rest h e (type_took l T earlier c v p t form k s q rest g d m);
   open_behind = λ l deep c p t form k s v q rest h g d e m. behind_text l OpenType [] c p t form k s v q rest h e (open_fits l c k s t form v q rest (open_took deep l c v p t form k s q rest g d m));
 }
 

@@ -3,8 +3,8 @@ use Rattle.std.proofs.Common.{◌≡◌, ℕ, zero, suc, ◌+◌, ◌<◌, ◌�
 use Rattle.std.proofs.lemmas.Bool.Decides.{nat_tests}
 use Rattle.std.proofs.lemmas.List.{length-append}
 use Rattle.std.proofs.lemmas.Str.{IsUtf8-from_is_utf8}
-use Rattle.x690_laws.proofs.Runs.{took_bind, took_guard, took_where, took_done, took_fail}
-use Rattle.x690_laws.proofs.HeaderSound.{both_true, Within, NextElement, NextEnds, NextIs, next_took, Length, ExtentIs, extent_took, PrimitiveTaken, primitive_took}
+use Rattle.x690_laws.proofs.Runs.{took_bind, took_require, took_where, took_done, took_fail}
+use Rattle.x690_laws.proofs.HeaderSound.{both_true, Within, NextElement, NextEnds, NextIs, next_took, Length, ExtentIs, length_took, PrimitiveTaken, primitive_took}
 use Rattle.x690_laws.proofs.LeafSound.{either_true, segment_fits, contents_fit}
 use Rattle.tlv_core.specs.Identifier.{IsTag, Tag, identifier}
 use Rattle.tlv_core.specs.Length.{SpellsLength}
@@ -146,12 +146,12 @@ indefinite_laid l c k s t P j u q r g n n1 h = ⊎_elim
     })
     h.ending
 
-pub inside_took : {A : Type 0} (l : Limits) (c : Enclosing) (p : ℕ) (t : Tag) (form : Bool) (body : Enclosing → Reading A) (P : RawTrees → Type 0) (k : ℕ) (s : List ℕ) (a : A) (q : ℕ) (r : List ℕ) → IsTag t → c.open_containers < l.depth → BodySound l body a P → run (in_container l c p form body) k s ≡ Took a q r → Laid l c k s t form (Of t P) q r
+pub container_took : {A : Type 0} (l : Limits) (c : Enclosing) (p : ℕ) (t : Tag) (form : Bool) (body : Enclosing → Reading A) (P : RawTrees → Type 0) (k : ℕ) (s : List ℕ) (a : A) (q : ℕ) (r : List ℕ) → IsTag t → c.open_containers < l.depth → BodySound l body a P → run (in_container l c p form body) k s ≡ Took a q r → Laid l c k s t form (Of t P) q r
 unfolding in_container
-inside_took l c p t form body P k s a q r g d f h =
-    let x = took_guard _ _ _ _ _ _ _ _ h in
+container_took l c p t form body P k s a q r g d f h =
+    let x = took_require _ _ _ _ _ _ _ _ h in
     let y = took_bind _ _ _ _ _ _ _ x.1 in
-    let e = extent_took l c.nearest_end p k s y.value y.place y.rest y.first in
+    let e = length_took l c.nearest_end p k s y.value y.place y.rest y.first in
     let b = took_where _ _ _ _ _ _ y.next_tag in
     subst (λ w. Laid l c k s t w (Of t P) q r) (sym x.0) (go y.value y.place y.rest e b)
   where
@@ -168,12 +168,12 @@ Steps {S} R s (FirstTree r rs) s' = (m : S) × R s r m × Steps R m rs s'
 abbrev pub OneSound : {S : Type 0} → Limits → Enclosing → (S → ℕ → Tag → Bool → Reading S) → (S → RawTree → S → Type 0) → Type 0
 OneSound {S} l c one R = (s0 s1 : S) (p : ℕ) (t : Tag) (form : Bool) (k : ℕ) (s : List ℕ) (q : ℕ) (r : List ℕ) → IsTag t → c.open_containers < l.depth → run (one s0 p t form) k s ≡ Took s1 q r → Laid l c k s t form (λ x. R s0 x s1) q r
 
-pub many_took : {S : Type 0} (one : S → ℕ → Tag → Bool → Reading S) (R : S → RawTree → S → Type 0) (fuel : ℕ) (l : Limits) (c : Enclosing) (s0 : S) (k : ℕ) (s : List ℕ) (e : Ended S) (q : ℕ) (r : List ℕ) → c.open_containers ≤ l.depth → OneSound l c one R → run (each_member one fuel l c s0) k s ≡ Took e q r → Held l c k s (λ rs. Steps R s0 rs e.all) q r
+pub each_took : {S : Type 0} (one : S → ℕ → Tag → Bool → Reading S) (R : S → RawTree → S → Type 0) (fuel : ℕ) (l : Limits) (c : Enclosing) (s0 : S) (k : ℕ) (s : List ℕ) (e : Ended S) (q : ℕ) (r : List ℕ) → c.open_containers ≤ l.depth → OneSound l c one R → run (each_member one fuel l c s0) k s ≡ Took e q r → Held l c k s (λ rs. Steps R s0 rs e.all) q r
 unfolding each_member
-many_took one R zero l c s0 k s e q r d f h = absurd (took_fail _ _ _ _ _ _ h)
-many_took {S} one R (suc fuel) l c s0 k s e q r d f h =
+each_took one R zero l c s0 k s e q r d f h = absurd (took_fail _ _ _ _ _ _ h)
+each_took {S} one R (suc fuel) l c s0 k s e q r d f h =
     let x = took_bind _ _ _ _ _ _ _ h in
-    go x.value x.place x.rest (next_took l c k s x.value x.place x.rest x.first) x.next_tag (λ s1 j u w. many_took one R fuel l c s1 j u e q r d f w)
+    go x.value x.place x.rest (next_took l c k s x.value x.place x.rest x.first) x.next_tag (λ s1 j u w. each_took one R fuel l c s1 j u e q r d f w)
   where
     go : (x : Next) (j : ℕ) (u : List ℕ) → NextIs l c k s x j u
         → run (elim x [ ContainerEnds p ↦ Done (record { all = s0; at = p }) | ElementStands p t form ↦ one s0 p t form >>= λ s'. each_member one fuel l c s' ]) j u ≡ Took e q r
@@ -213,7 +213,7 @@ one_segment [] o h z g = g
 one_segment (a ∷ []) o h z g = (h, z, g)
 one_segment (a ∷ b ∷ s) o h z g = (h.0, h.1, one_segment (b ∷ s) o h.2 z g)
 
-next_fine : (n : ℕ) (s : List (List ℕ)) (o : List ℕ) → is_next_segment n s o ≡ true → Fine n s → Fine n (s ++ (o ∷ []))
+pub next_fine : (n : ℕ) (s : List (List ℕ)) (o : List ℕ) → is_next_segment n s o ≡ true → Fine n s → Fine n (s ++ (o ∷ []))
 next_fine n s o h f e =
     let t : (n == 3) ≡ true = grind (arith, nat_tests) in
     let a = both_true _ _ (either_true _ _ h t) in
@@ -237,7 +237,7 @@ pub segment_took : (deep : ℕ) (l : Limits) (n : ℕ) (c : Enclosing) → OneSo
 unfolding read_segment segments Segmented
 segment_took zero l n c s0 s1 p t form k s q r g d h = absurd (took_fail _ _ _ _ _ _ h)
 segment_took (suc deep) l n c s0 s1 p t form k s q r g d h =
-    let x = took_guard _ _ _ _ _ _ _ _ h in
+    let x = took_require _ _ _ _ _ _ _ _ h in
     go form x.1 (same_tag_is t (universal n) x.0) (λ c'. segment_took deep l n c')
   where
     go : (form : Bool)
@@ -250,8 +250,8 @@ segment_took (suc deep) l n c s0 s1 p t form k s q r g d h =
     go true h e ih =
         let x = took_bind _ _ _ _ _ _ _ h in
         let y = took_done _ _ _ _ _ _ x.next_tag in
-        let z = inside_took l c p t true (λ c'. each_member (read_segment deep l n c') l.octets l c' s0) (λ rs. Steps (Segs n) s0 rs x.value.all) k s x.value x.place x.rest g d
-        (λ c' k' s' q' r' o w. many_took (read_segment deep l n c') (Segs n) l.octets l c' s0 k' s' x.value q' r' o (ih c') w) x.first in
+        let z = container_took l c p t true (λ c'. each_member (read_segment deep l n c') l.octets l c' s0) (λ rs. Steps (Segs n) s0 rs x.value.all) k s x.value x.place x.rest g d
+        (λ c' k' s' q' r' o w. each_took (read_segment deep l n c') (Segs n) l.octets l c' s0 k' s' x.value q' r' o (ih c') w) x.first in
         subst (λ w. Laid l c k s t true (λ x. Segs n s0 x s1) q w) y.2 (subst (λ w. Laid l c k s t true (λ x. Segs n s0 x s1) w x.rest) y.1
         (fact_along l c k s t true (Of t (λ rs. Steps (Segs n) s0 rs x.value.all)) (λ x. Segs n s0 x s1) x.place x.rest
         (λ a b f. let all = steps_segments n s0 f.0 x.value.all f.2 in
@@ -260,7 +260,7 @@ segment_took (suc deep) l n c s0 s1 p t form k s q r g d h =
     go false h e ih =
         let x = took_bind _ _ _ _ _ _ _ h in
         let v = primitive_took l c p k s x.value x.place x.rest x.first in
-        let u = took_guard _ _ _ _ _ _ _ _ x.next_tag in
+        let u = took_require _ _ _ _ _ _ _ _ x.next_tag in
         let y = took_done _ _ _ _ _ _ u.1 in
         subst (λ w. Laid l c k s t false (λ x. Segs n s0 x s1) q w) y.2 (subst (λ w. Laid l c k s t false (λ x. Segs n s0 x s1) w x.rest) y.1
         (prim_laid l c k s t (λ x. Segs n s0 x s1) x.value x.place x.rest g d v
@@ -296,7 +296,7 @@ unfolding read_leaf
 leaf_took l c kind p t false k s v q r g d h =
     let x = took_bind _ _ _ _ _ _ _ h in
     let m = primitive_took l c p k s x.value x.place x.rest x.first in
-    let u = took_guard _ _ _ _ _ _ _ _ x.next_tag in
+    let u = took_require _ _ _ _ _ _ _ _ x.next_tag in
     let y = took_done _ _ _ _ _ _ u.1 in
     subst (λ w. Laid l c k s t false (LeafSays kind t v) q w) y.2 (subst (λ w. Laid l c k s t false (LeafSays kind t v) w x.rest) y.1
     (prim_laid l c k s t (LeafSays kind t v) x.value x.place x.rest g d m (der_contents kind x.value, contents_fit kind t x.value u.0, sym y.0)))
@@ -312,10 +312,10 @@ leaf_took l c kind p t true k s v q r g d h = go (segment_tag kind) refl h
     go None e h = absurd (took_fail _ _ _ _ _ _ h)
     go (Some n) e h =
         let x = took_bind _ _ _ _ _ _ _ h in
-        let u = took_guard _ _ _ _ _ _ _ _ x.next_tag in
+        let u = took_require _ _ _ _ _ _ _ _ x.next_tag in
         let y = took_done _ _ _ _ _ _ u.1 in
-        let z = inside_took l c p t true (λ c'. each_member (read_segment l.depth l n c') l.octets l c' []) (λ rs. Steps (Segs n) [] rs x.value.all) k s x.value x.place x.rest g d
-        (λ c' k' s' q' r' o w. many_took (read_segment l.depth l n c') (Segs n) l.octets l c' [] k' s' x.value q' r' o (segment_took l.depth l n c') w) x.first in
+        let z = container_took l c p t true (λ c'. each_member (read_segment l.depth l n c') l.octets l c' []) (λ rs. Steps (Segs n) [] rs x.value.all) k s x.value x.place x.rest g d
+        (λ c' k' s' q' r' o w. each_took (read_segment l.depth l n c') (Segs n) l.octets l c' [] k' s' x.value q' r' o (segment_took l.depth l n c') w) x.first in
         subst (λ w. Laid l c k s t true (LeafSays kind t v) q w) y.2 (subst (λ w. Laid l c k s t true (LeafSays kind t v) w x.rest) y.1
         (fact_along l c k s t true (Of t (λ rs. Steps (Segs n) [] rs x.value.all)) (LeafSays kind t v) x.place x.rest
         (λ a b f. (joined_contents kind x.value.all, subst (λ w. LeafContents kind w (joined_contents kind x.value.all)) (sym f.1) (string_fits kind n t f.0 x.value.all e u.0 f.2), sym y.0))

@@ -2,10 +2,10 @@
 use Rattle.std.proofs.Common.{◌≡◌, ℕ, zero, suc, ◌+◌, ◌<◌, ◌≤◌, ◌⊎◌, inl, inr, ⊎_elim, ◌==◌, ◌&&◌, nat_le, Bool, true, false, List, [], ◌∷◌, ◌++◌, length, Option, Some, None, refl, sym, ◌∙◌, ap, ap₂, subst, append_assoc, append-nil, arith}
 use Rattle.std.proofs.lemmas.Bool.Decides.{nat_tests}
 use Rattle.std.proofs.lemmas.List.{length-append}
-use Rattle.x690_laws.proofs.Runs.{took_bind, took_guard, took_pick, took_done, took_fail}
+use Rattle.x690_laws.proofs.Runs.{took_bind, took_require, took_choose, took_done, took_fail}
 use Rattle.x690_laws.proofs.HeaderSound.{both_true, Within, NextEnds, NextIs, next_took, primitive_took}
-use Rattle.x690_laws.proofs.Refit.{open_row_is, open_bag_is}
-use Rattle.x690_laws.proofs.Sound.{Laid, Held, prim_laid, fact_along, held_none, held_more, Of, inside_took, Steps, OneSound, many_took, same_tag_is, LeafSays, leaf_took}
+use Rattle.x690_laws.proofs.Refit.{open_sequence_is, open_set_is}
+use Rattle.x690_laws.proofs.Sound.{Laid, Held, prim_laid, fact_along, held_none, held_more, Of, container_took, Steps, OneSound, each_took, same_tag_is, LeafSays, leaf_took}
 use Rattle.tlv_core.specs.Identifier.{IsTag, Tag, identifier}
 use Rattle.tlv_core.specs.Limits.{Limits}
 use Rattle.tlv_core.specs.declared.reason.Reason.{Reason}
@@ -55,8 +55,8 @@ unfolding all_members
 all_values_took l c p t form one Q k s e q r g d f h =
     fact_along l c k s t form (Of t (λ rs. Steps (ValueStep Q) [] rs e.all)) (Of t (λ rs. Each Q (member_trees rs) e.all)) q r
     (λ a b x. let y = steps_values Q [] x.0 e.all x.2 in (x.0, x.1, subst (λ w. Each Q (member_trees x.0) w) (sym y.1) y.2))
-    (inside_took l c p t form (λ c'. each_member (add_member (one c')) l.octets l c' []) (λ rs. Steps (ValueStep Q) [] rs e.all) k s e q r g d
-    (λ c' k' s' q' r' o w. many_took (add_member (one c')) (ValueStep Q) l.octets l c' [] k' s' e q' r' o (member_took l c' (one c') Q (f c')) w) h)
+    (container_took l c p t form (λ c'. each_member (add_member (one c')) l.octets l c' []) (λ rs. Steps (ValueStep Q) [] rs e.all) k s e q r g d
+    (λ c' k' s' q' r' o w. each_took (add_member (one c')) (ValueStep Q) l.octets l c' [] k' s' e q' r' o (member_took l c' (one c') Q (f c')) w) h)
 
 pub each_paired : {A B : Type 0} (R : A → B → Type 0) (xs : List A) (ys : List B) → Each R xs ys → Paired R xs ys
 each_paired R [] [] h = refl
@@ -79,12 +79,12 @@ open_leaf t kind (Constructed u rs) v e g h = inl (record { kind = kind; octets 
 open_row : (t : Tag) (all : List Value) (x : RawTree) → (open_form t ≡ OpenSequence) ⊎ (open_form t ≡ OpenPlain) → Of t (λ rs. Each FitsOpen (member_trees rs) all) x → FitsOpen x (Sequence t (values_of all))
 unfolding FitsOpen
 open_row t all x e f =
-    subst (λ w. FitsOpen w (Sequence t (values_of all))) (sym f.1) (inr (inl (values_of all, e, refl, subst (λ w. FitOpenInPlace f.0 w) (sym (items_values all)) (open_row_is f.0 all f.2))))
+    subst (λ w. FitsOpen w (Sequence t (values_of all))) (sym f.1) (inr (inl (values_of all, e, refl, subst (λ w. FitOpenInPlace f.0 w) (sym (items_values all)) (open_sequence_is f.0 all f.2))))
 
 open_bag : (t : Tag) (all : List Value) (x : RawTree) → open_form t ≡ OpenSetOf → Of t (λ rs. Each FitsOpen (member_trees rs) all) x → FitsOpen x (SetOf t (values_of all))
 unfolding FitsOpen
 open_bag t all x e f =
-    subst (λ w. FitsOpen w (SetOf t (values_of all))) (sym f.1) (inr (inr (values_of all, e, refl, subst (λ w. FitOpenPaired f.0 w) (sym (items_values all)) (open_bag_is f.0 all (each_paired FitsOpen (member_trees f.0) all f.2)))))
+    subst (λ w. FitsOpen w (SetOf t (values_of all))) (sym f.1) (inr (inr (values_of all, e, refl, subst (λ w. FitOpenPaired f.0 w) (sym (items_values all)) (open_set_is f.0 all (each_paired FitsOpen (member_trees f.0) all f.2)))))
 
 plain_prim : (t : Tag) (x : RawTree) (o : List ℕ) → x ≡ Primitive t o → open_form t ≡ OpenPlain → FitsOpen x (Leaf t o)
 unfolding FitsOpen
@@ -199,9 +199,9 @@ pub record Element_laid (l : Limits) (c : Enclosing) (k : ℕ) (s : List ℕ) (P
   pub within : Within l c.nearest_end q
   pub fact : P tree
 
-pub outer_took : (l : Limits) (c : Enclosing) (one : ℕ → Tag → Bool → Reading Value) (Q : RawTree → Value → Type 0) (k : ℕ) (s : List ℕ) (v : Value) (q : ℕ) (r : List ℕ) → ValueSound l c one Q → run (due_element l c one) k s ≡ Took v q r → Element_laid l c k s (λ x. Q x v) q r
+pub due_took : (l : Limits) (c : Enclosing) (one : ℕ → Tag → Bool → Reading Value) (Q : RawTree → Value → Type 0) (k : ℕ) (s : List ℕ) (v : Value) (q : ℕ) (r : List ℕ) → ValueSound l c one Q → run (due_element l c one) k s ≡ Took v q r → Element_laid l c k s (λ x. Q x v) q r
 unfolding due_element
-outer_took l c one Q k s v q r f h =
+due_took l c one Q k s v q r f h =
     let x = took_bind _ _ _ _ _ _ _ h in
     go x.value x.place x.rest (next_took l c k s x.value x.place x.rest x.first) x.next_tag
   where
@@ -237,35 +237,35 @@ held_fact l c k s P Q q r f h = record { trees = h.trees; octets = h.octets; tai
 mutual
   unfolding read_type Fits
 
-  pub judge_took : (l : Limits) (T : TypeTerm) (earlier : List Value) (c : Enclosing) → ValueSound l c (read_type l T earlier c) (Fits l.depth T earlier)
-  judge_took l (LeafType u kind) earlier c v p t form k s q r g d h =
-      let x = took_guard _ _ _ _ _ _ _ _ h in
+  pub type_took : (l : Limits) (T : TypeTerm) (earlier : List Value) (c : Enclosing) → ValueSound l c (read_type l T earlier c) (Fits l.depth T earlier)
+  type_took l (LeafType u kind) earlier c v p t form k s q r g d h =
+      let x = took_require _ _ _ _ _ _ _ _ h in
       let e = same_tag_is u t x.0 in
       subst (λ w. Laid l c k s w form (λ y. Fits l.depth (LeafType u kind) earlier y v) q r) e
       (fact_along l c k s u form (LeafSays kind u v) (λ y. Fits l.depth (LeafType u kind) earlier y v) q r (λ y a f. (a, f.0, f.1, f.2))
       (leaf_took l c kind p u form k s v q r (subst IsTag (sym e) g) d x.1))
-  judge_took l OpenType earlier c v p t form k s q r g d h = open_took l.depth l c v p t form k s q r g d h
-  judge_took l (SequenceOfType u n T) earlier c v p t form k s q r g d h =
-      let x = took_guard _ _ _ _ _ _ _ _ h in
+  type_took l OpenType earlier c v p t form k s q r g d h = open_took l.depth l c v p t form k s q r g d h
+  type_took l (SequenceOfType u n T) earlier c v p t form k s q r g d h =
+      let x = took_require _ _ _ _ _ _ _ _ h in
       let e = same_tag_is u t x.0 in
       let y = took_bind _ _ _ _ _ _ _ x.1 in
-      let z = took_guard _ _ _ _ _ _ _ _ y.next_tag in
+      let z = took_require _ _ _ _ _ _ _ _ y.next_tag in
       let z0 : nat_le n (length y.value.all) ≡ true = z.0 in
       let le : n ≤ length y.value.all = grind (arith, nat_tests) in
       subst (λ w. Laid l c k s w form (λ y. Fits l.depth (SequenceOfType u n T) earlier y v) q r) e
       (then_done l c k s u form (Of u (λ rs. Each (Fits l.depth T []) (member_trees rs) y.value.all)) (Fits l.depth (SequenceOfType u n T) earlier) (Sequence u (values_of y.value.all)) v y.place y.rest q r z.1
-      (all_values_took l c p u form (read_type l T []) (Fits l.depth T []) k s y.value y.place y.rest (subst IsTag (sym e) g) d (λ c'. judge_took l T [] c') y.first)
+      (all_values_took l c p u form (read_type l T []) (Fits l.depth T []) k s y.value y.place y.rest (subst IsTag (sym e) g) d (λ c'. type_took l T [] c') y.first)
       (λ a b f. (f.0, values_of y.value.all, f.1, refl, subst (λ w. n ≤ length w) (sym (items_values y.value.all)) le, subst (λ w. Each (Fits l.depth T []) (member_trees f.0) w) (sym (items_values y.value.all)) f.2)))
-  judge_took l (SetOfType u n T) earlier c v p t form k s q r g d h =
-      let x = took_guard _ _ _ _ _ _ _ _ h in
+  type_took l (SetOfType u n T) earlier c v p t form k s q r g d h =
+      let x = took_require _ _ _ _ _ _ _ _ h in
       let e = same_tag_is u t x.0 in
       let y = took_bind _ _ _ _ _ _ _ x.1 in
-      let z = took_guard _ _ _ _ _ _ _ _ y.next_tag in
+      let z = took_require _ _ _ _ _ _ _ _ y.next_tag in
       let z0 : nat_le n (length y.value.all) ≡ true = z.0 in
       let le : n ≤ length y.value.all = grind (arith, nat_tests) in
       subst (λ w. Laid l c k s w form (λ y. Fits l.depth (SetOfType u n T) earlier y v) q r) e
       (then_done l c k s u form (Of u (λ rs. Each (Fits l.depth T []) (member_trees rs) y.value.all)) (Fits l.depth (SetOfType u n T) earlier) (SetOf u (values_of y.value.all)) v y.place y.rest q r z.1
-      (all_values_took l c p u form (read_type l T []) (Fits l.depth T []) k s y.value y.place y.rest (subst IsTag (sym e) g) d (λ c'. judge_took l T [] c') y.first)
+      (all_values_took l c p u form (read_type l T []) (Fits l.depth T []) k s y.value y.place y.rest (subst IsTag (sym e) g) d (λ c'. type_took l T [] c') y.first)
       (λ a b f. (
         f.0,
         values_of y.value.all,
@@ -274,25 +274,25 @@ mutual
         subst (λ w. n ≤ length w) (sym (items_values y.value.all)) le,
         subst (λ w. Paired (Fits l.depth T []) (member_trees f.0) w) (sym (items_values y.value.all)) (each_paired (Fits l.depth T []) (member_trees f.0) y.value.all f.2),
       )))
-  judge_took l (SequenceType u fs) earlier c v p t form k s q r g d h =
-      let x = took_guard _ _ _ _ _ _ _ _ h in
+  type_took l (SequenceType u fs) earlier c v p t form k s q r g d h =
+      let x = took_require _ _ _ _ _ _ _ _ h in
       let e = same_tag_is u t x.0 in
       let y = took_bind _ _ _ _ _ _ _ x.1 in
       subst (λ w. Laid l c k s w form (λ y. Fits l.depth (SequenceType u fs) earlier y v) q r) e
       (then_done l c k s u form (Of u (λ rs. FitsFields l.depth fs [] (member_trees rs) y.value)) (Fits l.depth (SequenceType u fs) earlier) (Sequence u (values_of y.value)) v y.place y.rest q r y.next_tag
-      (inside_took l c p u form (λ c'. next_tag l c' >>= λ d. read_fields l fs [] c' d) (λ rs. FitsFields l.depth fs [] (member_trees rs) y.value) k s y.value y.place y.rest (subst IsTag (sym e) g) d
+      (container_took l c p u form (λ c'. next_tag l c' >>= λ d. read_fields l fs [] c' d) (λ rs. FitsFields l.depth fs [] (member_trees rs) y.value) k s y.value y.place y.rest (subst IsTag (sym e) g) d
       (λ c' k' s' q' r' o w. let m = took_bind _ _ _ _ _ _ _ w in
       held_fact l c' k' s' (FieldsSay l.depth fs [] m.value y.value) (λ rs. FitsFields l.depth fs [] (member_trees rs) y.value) q' r' (λ z f. f.0)
       (fields_took l fs [] c' k' s' m.value m.place m.rest y.value q' r' o (next_took l c' k' s' m.value m.place m.rest m.first) m.next_tag))
       y.first)
       (λ a b f. (f.0, values_of y.value, f.1, refl, subst (λ w. FitsFields l.depth fs [] (member_trees f.0) w) (sym (items_values y.value)) f.2)))
-  judge_took l (ContainingType u qq T) earlier c v p t form k s q r g d h =
-      let x = took_guard _ _ _ _ _ _ _ _ h in
+  type_took l (ContainingType u qq T) earlier c v p t form k s q r g d h =
+      let x = took_require _ _ _ _ _ _ _ _ h in
       let e = same_tag_is u t x.0 in
       let y' = took_bind _ _ _ _ _ _ _ x.1 in
       let y = took_bind _ _ _ _ _ _ _ y'.next_tag in
       let w = from_inside_took p (run (due_element l outermost (read_type l T earlier outermost)) 0 (leaf_contents y'.value)) y.value y'.place y'.rest y.place y.rest y.first in
-      let m = outer_took l outermost (read_type l T earlier outermost) (Fits l.depth T earlier) 0 (leaf_contents y'.value) y.value w.end [] (judge_took l T earlier outermost) w.is in
+      let m = due_took l outermost (read_type l T earlier outermost) (Fits l.depth T earlier) 0 (leaf_contents y'.value) y.value w.end [] (type_took l T earlier outermost) w.is in
       let rr = ruled_took p (qq earlier y.value) (Leaf u (der y.value)) v y.place y.rest q r y.next_tag in
       let lf = leaf_took l c OctetString p u form k s y'.value y'.place y'.rest (subst IsTag (sym e) g) d y'.first in
       let lf' = subst (λ a. Laid l c k s u form (LeafSays OctetString u y'.value) y.place a) w.rest (subst (λ a. Laid l c k s u form (LeafSays OctetString u y'.value) a y'.rest) w.place lf) in
@@ -310,16 +310,16 @@ mutual
         refl,
         rr.0,
       )))
-  judge_took l (RuledType qq T) earlier c v p t form k s q r g d h =
+  type_took l (RuledType qq T) earlier c v p t form k s q r g d h =
       let y = took_bind _ _ _ _ _ _ _ h in
       let rr = ruled_took p (qq earlier y.value) y.value v y.place y.rest q r y.next_tag in
       then_done l c k s t form (λ x. Fits l.depth T earlier x y.value) (Fits l.depth (RuledType qq T) earlier) y.value v y.place y.rest q r rr.1
-      (judge_took l T earlier c y.value p t form k s y.place y.rest g d y.first) (λ a b f. (rr.0, f))
-  judge_took l (RefusedType u w) earlier c v p t form k s q r g d h = let x = took_guard _ _ _ _ _ _ _ _ h in absurd (took_fail _ _ _ _ _ _ x.1)
-  judge_took l (DefinedByType path os A B) earlier c v p t form k s q r g d h = ⊎_elim
-      (λ x. fact_along l c k s t form (λ y. Fits l.depth A earlier y v) (λ y. Fits l.depth (DefinedByType path os A B) earlier y v) q r (λ a b f. inl (x.0, f)) (judge_took l A earlier c v p t form k s q r g d x.1))
-      (λ x. fact_along l c k s t form (λ y. Fits l.depth B earlier y v) (λ y. Fits l.depth (DefinedByType path os A B) earlier y v) q r (λ a b f. inr (x.0, f)) (judge_took l B earlier c v p t form k s q r g d x.1))
-      (took_pick _ _ _ _ _ _ _ _ h)
+      (type_took l T earlier c y.value p t form k s y.place y.rest g d y.first) (λ a b f. (rr.0, f))
+  type_took l (RefusedType u w) earlier c v p t form k s q r g d h = let x = took_require _ _ _ _ _ _ _ _ h in absurd (took_fail _ _ _ _ _ _ x.1)
+  type_took l (DefinedByType path os A B) earlier c v p t form k s q r g d h = ⊎_elim
+      (λ x. fact_along l c k s t form (λ y. Fits l.depth A earlier y v) (λ y. Fits l.depth (DefinedByType path os A B) earlier y v) q r (λ a b f. inl (x.0, f)) (type_took l A earlier c v p t form k s q r g d x.1))
+      (λ x. fact_along l c k s t form (λ y. Fits l.depth B earlier y v) (λ y. Fits l.depth (DefinedByType path os A B) earlier y v) q r (λ a b f. inr (x.0, f)) (type_took l B earlier c v p t form k s q r g d x.1))
+      (took_choose _ _ _ _ _ _ _ _ h)
 
   pub fields_took : (l : Limits) (fs : Fields) (earlier : List Value) (c : Enclosing) (k : ℕ) (s : List ℕ) (x : Next) (j : ℕ) (u : List ℕ) (vs : List Value) (q : ℕ) (r : List ℕ) → c.open_containers ≤ l.depth → NextIs l c k s x j u
       → run (read_fields l fs earlier c x) j u ≡ Took vs q r → Held l c k s (FieldsSay l.depth fs earlier x vs) q r
@@ -329,7 +329,7 @@ mutual
   fields_took l EndOfFields earlier c k s (ElementStands p t form) j u vs q r o n h = absurd (took_fail _ _ _ _ _ _ h)
   fields_took l (Required T fs) earlier c k s (ContainerEnds p) j u vs q r o n h = absurd (took_fail _ _ _ _ _ _ h)
   fields_took l (Required T fs) earlier c k s (ElementStands p t form) j u vs q r o n h =
-      let x = took_guard _ _ _ _ _ _ _ _ h in
+      let x = took_require _ _ _ _ _ _ _ _ h in
       let y = took_bind _ _ _ _ _ _ _ x.1 in
       let z = took_bind _ _ _ _ _ _ _ y.next_tag in
       let w = took_bind _ _ _ _ _ _ _ z.next_tag in
@@ -337,7 +337,7 @@ mutual
       let m = fields_took l fs (earlier ++ (y.value ∷ [])) c y.place y.rest z.value z.place z.rest w.value w.place w.rest o (next_took l c y.place y.rest z.value z.place z.rest z.first) w.first in
       let m' = subst (λ a. Held l c y.place y.rest (FieldsSay l.depth fs (earlier ++ (y.value ∷ [])) z.value w.value) q a) e.2 (subst (λ a. Held l c y.place y.rest (FieldsSay l.depth fs (earlier ++ (y.value ∷ [])) z.value w.value) a w.rest) e.1 m) in
       held_more l c k s p t form (λ b. Fits l.depth T earlier b y.value) (FieldsSay l.depth fs (earlier ++ (y.value ∷ [])) z.value w.value) (FieldsSay l.depth (Required T fs) earlier (ElementStands p t form) vs) q r j y.place u y.rest n
-      (judge_took l T earlier c y.value p t form j u y.place y.rest n.tag n.deep y.first) m'
+      (type_took l T earlier c y.value p t form j u y.place y.rest n.tag n.deep y.first) m'
       (λ a b tg f f'. ((a, member_trees b, y.value, w.value, refl, sym e.0, f, f'.0), (a, b, refl, tg)))
   fields_took l (Optional T fs) earlier c k s (ContainerEnds p) j u vs q r o n h =
       held_fact l c k s (FieldsSay l.depth fs earlier (ContainerEnds p) vs) (FieldsSay l.depth (Optional T fs) earlier (ContainerEnds p) vs) q r
@@ -350,11 +350,11 @@ mutual
       let m = fields_took l fs (earlier ++ (y.value ∷ [])) c y.place y.rest z.value z.place z.rest w.value w.place w.rest o (next_took l c y.place y.rest z.value z.place z.rest z.first) w.first in
       let m' = subst (λ a. Held l c y.place y.rest (FieldsSay l.depth fs (earlier ++ (y.value ∷ [])) z.value w.value) q a) e.2 (subst (λ a. Held l c y.place y.rest (FieldsSay l.depth fs (earlier ++ (y.value ∷ [])) z.value w.value) a w.rest) e.1 m) in
       held_more l c k s p t form (λ b. Fits l.depth T earlier b y.value) (FieldsSay l.depth fs (earlier ++ (y.value ∷ [])) z.value w.value) (FieldsSay l.depth (Optional T fs) earlier (ElementStands p t form) vs) q r j y.place u y.rest n
-      (judge_took l T earlier c y.value p t form j u y.place y.rest n.tag n.deep y.first) m'
+      (type_took l T earlier c y.value p t form j u y.place y.rest n.tag n.deep y.first) m'
       (λ a b tg f f'. (inr (a, member_trees b, y.value, w.value, refl, sym e.0, ap (fits_tag T) tg ∙ x.0, f, f'.0), (a, b, refl, tg))))
       (λ x. held_fact l c k s (FieldsSay l.depth fs earlier (ElementStands p t form) vs) (FieldsSay l.depth (Optional T fs) earlier (ElementStands p t form) vs) q r
       (λ a f. (inl (due_as T a p t form f.1 ∙ x.0, f.0), f.1)) (fields_took l fs earlier c k s (ElementStands p t form) j u vs q r o n x.1))
-      (took_pick _ _ _ _ _ _ _ _ h)
+      (took_choose _ _ _ _ _ _ _ _ h)
   fields_took l (Default i io T fs) earlier c k s (ContainerEnds p) j u vs q r o n h =
       held_fact l c k s (FieldsSay l.depth fs earlier (ContainerEnds p) vs) (FieldsSay l.depth (Default i io T fs) earlier (ContainerEnds p) vs) q r
       (λ a f. (inl (not_due_end T a f.1, f.0), f.1)) (fields_took l fs earlier c k s (ContainerEnds p) j u vs q r o n h)
@@ -362,7 +362,7 @@ mutual
       (λ x. let y = took_bind _ _ _ _ _ _ _ x.1 in
       let z = took_bind _ _ _ _ _ _ _ y.next_tag in
       let nx = next_took l c y.place y.rest z.value z.place z.rest z.first in
-      let jd = judge_took l T earlier c y.value p t form j u y.place y.rest n.tag n.deep y.first in
+      let jd = type_took l T earlier c y.value p t form j u y.place y.rest n.tag n.deep y.first in
       ⊎_elim
       (λ w. let m = fields_took l fs earlier c y.place y.rest z.value z.place z.rest vs q r o nx w.1 in
       held_more l c k s p t form (λ b. Fits l.depth T earlier b y.value) (FieldsSay l.depth fs earlier z.value vs) (FieldsSay l.depth (Default i io T fs) earlier (ElementStands p t form) vs) q r j y.place u y.rest n jd m
@@ -373,7 +373,7 @@ mutual
       let m' = subst (λ a. Held l c y.place y.rest (FieldsSay l.depth fs (earlier ++ (y.value ∷ [])) z.value w.value) q a) e.2 (subst (λ a. Held l c y.place y.rest (FieldsSay l.depth fs (earlier ++ (y.value ∷ [])) z.value w.value) a w.rest) e.1 m) in
       held_more l c k s p t form (λ b. Fits l.depth T earlier b y.value) (FieldsSay l.depth fs (earlier ++ (y.value ∷ [])) z.value w.value) (FieldsSay l.depth (Default i io T fs) earlier (ElementStands p t form) vs) q r j y.place u y.rest n jd m'
       (λ a b tg f f'. (inr (a, member_trees b, y.value, refl, ap (fits_tag T) tg ∙ x.0, f, inr (w.value, sym e.0, leaf_other i io y.value w'.0, f'.0)), (a, b, refl, tg))))
-      (took_pick _ _ _ _ _ _ _ _ z.next_tag))
+      (took_choose _ _ _ _ _ _ _ _ z.next_tag))
       (λ x. held_fact l c k s (FieldsSay l.depth fs earlier (ElementStands p t form) vs) (FieldsSay l.depth (Default i io T fs) earlier (ElementStands p t form) vs) q r
       (λ a f. (inl (due_as T a p t form f.1 ∙ x.0, f.0), f.1)) (fields_took l fs earlier c k s (ElementStands p t form) j u vs q r o n x.1))
-      (took_pick _ _ _ _ _ _ _ _ h)
+      (took_choose _ _ _ _ _ _ _ _ h)

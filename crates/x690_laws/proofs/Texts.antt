@@ -1,5 +1,5 @@
--- DER texts are layouts, so none begins another, and a bag's texts have one arrangement.
-use Rattle.std.proofs.Common.{◌≡◌, ℕ, zero, suc, ◌+◌, ◌*◌, ◌/◌, ◌%◌, ◌^◌, ◌⊎◌, ◌<◌, ◌≤◌, ◌==◌, nat_lt, Bool, true, false, inl, inr, ⊎_elim, List, [], ◌∷◌, ◌++◌, map, length, refl, sym, ◌∙◌, ap, ap₂, subst, arith, pow-suc, lit<, append_assoc, append-nil}
+-- DER texts are layouts, so none begins another, and the texts of a SET OF have one arrangement.
+use Rattle.std.proofs.Common.{◌≡◌, ◌||◌, ◌&&◌, ℕ, zero, suc, ◌+◌, ◌*◌, ◌/◌, ◌%◌, ◌^◌, ◌⊎◌, ◌<◌, ◌≤◌, ◌==◌, nat_lt, Bool, true, false, inl, inr, ⊎_elim, List, [], ◌∷◌, ◌++◌, map, length, refl, sym, ◌∙◌, ap, ap₂, subst, arith, pow-suc, lit<, append_assoc, append-nil}
 use Rattle.std.proofs.lemmas.Bool.Decides.{nat_tests}
 use Rattle.x690_laws.proofs.Headers.{identifier_alone, split_alone, along, branch}
 use Rattle.x690_laws.proofs.Order.{bool_cases, lt_asym, ge_trans, lt_trans, ties}
@@ -8,7 +8,7 @@ use Rattle.tlv_core.specs.Length.{big_endian, number_octets, shortest_length}
 use Rattle.x690.specs.DerTexts.{Ascends, arrange, der, der_element, der_texts, insert_text, padded_less}
 use Rattle.x690.specs.Lists.{Paired, Picked, join}
 use Rattle.x690.specs.Values.{FirstMember, Leaf, NoMembers, Same, SameInPlace, SamePaired, Sequence, SetOf, Value, Values, members}
-use Rattle.x690_laws.specs.ValueLaws.{Arrangement, SameHaveOneText}
+use Rattle.x690_laws.specs.ValueLaws.{Arrangement, SameHaveOneText, plain_less}
 
 -- big-endian octets
 
@@ -240,12 +240,31 @@ one_arrangement vs xs a p =
     let t = ders_texts vs in
     sym (arrange_ascends xs (texts_paired xs (der_texts vs) t p) a) ∙ arrange_paired xs (der_texts vs) t p
 
+-- neither list begins the other one, unless they are the same
+plain_same : (x y : List ℕ) → ((z : List ℕ) → y ≡ x ++ z → x ≡ y) → ((z : List ℕ) → x ≡ y ++ z → y ≡ x) → padded_less x y ≡ plain_less x y
+unfolding padded_less
+plain_same [] [] f g = refl
+plain_same [] (y ∷ ys) f g = let e : [] ≡ y ∷ ys = f (y ∷ ys) refl in cc
+plain_same (x ∷ xs) [] f g = refl
+plain_same (x ∷ xs) (y ∷ ys) f g = go (x == y) refl (λ e. plain_same xs ys (λ z h. behind x y xs ys (f z (front x y ys (xs ++ z) e h))) (λ z h. behind y x ys xs (g z (front y x xs (ys ++ z) (sym e) h))))
+  where
+    front : (a b : ℕ) (s t : List ℕ) → a ≡ b → s ≡ t → b ∷ s ≡ a ∷ t
+    front a b s t e h = ap₂ (λ u v. u ∷ v) (sym e) h
+
+    behind : (a b : ℕ) (s t : List ℕ) → a ∷ s ≡ b ∷ t → s ≡ t
+    behind a b s t h = cc
+
+    go : (b : Bool) → (x == y) ≡ b → (x ≡ y → padded_less xs ys ≡ plain_less xs ys) → nat_lt x y || (b && padded_less xs ys) ≡ nat_lt x y || (b && plain_less xs ys)
+    go true e ih = ap (λ b. nat_lt x y || b) (ih (grind (arith, nat_tests)))
+    go false e ih = refl
+
 pub arrangement : Arrangement
 arrangement = record {
   total = λ x y. ⊎_elim (λ l. inr (lt_asym x y l)) (λ l. inl l) (bool_cases (padded_less x y));
   transitive = λ x y z h k. ge_trans z y x k h;
   no_front = λ v w z e. text_front (der v) (der w) z (der_text v) (der_text w) e;
   no_ties = λ v w l m. text_ties (der v) (der w) (der_text v) (der_text w) l m;
+  plain_order = λ v w. plain_same (der v) (der w) (λ z e. text_front (der v) (der w) z (der_text v) (der_text w) e) (λ z e. text_front (der w) (der v) z (der_text w) (der_text v) e);
   one_arrangement = one_arrangement;
 }
 

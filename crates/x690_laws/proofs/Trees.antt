@@ -1,8 +1,9 @@
 -- The trees of DER texts.
-use Rattle.std.proofs.Common.{◌≡◌, ℕ, zero, suc, ◌+◌, ◌/◌, ◌%◌, ◌^◌, ◌<◌, ◌≤◌, ◌==◌, max, Bool, true, false, cond, inl, inr, ⊎_elim, List, [], ◌∷◌, ◌++◌, map, length, refl, sym, ◌∙◌, ap, subst, arith, pow-suc}
+use Rattle.std.proofs.Common.{◌≡◌, ℕ, zero, suc, ◌+◌, ◌/◌, ◌%◌, ◌<◌, ◌≤◌, ◌==◌, max, Bool, true, false, cond, inl, inr, ⊎_elim, List, [], ◌∷◌, ◌++◌, map, length, refl, sym, ◌∙◌, ap, subst, arith}
 use Rattle.std.proofs.lemmas.List.{length-append}
 use Rattle.std.proofs.lemmas.Bool.Decides.{nat_tests}
 use Rattle.x690_laws.proofs.Headers.{branch}
+use Rattle.x690_laws.proofs.HeaderLengths.{number_length}
 use Rattle.x690_laws.proofs.Pairing.{pick_swap}
 use Rattle.x690_laws.proofs.Texts.{element_alone, shortest_cases, number_value, below_power}
 use Rattle.tlv_core.specs.Identifier.{IsTag, Tag, identifier}
@@ -83,21 +84,6 @@ mutual
 
 -- the DER layout is one, where it is short
 
-number_count : (f k n : ℕ) → n < 256 ^ k → length (number_octets f n) ≤ k
-unfolding number_octets
-number_count zero k n h = omega arith
-number_count (suc f) zero n h = go (n == 0) refl
-  where
-    go : (b : Bool) → (n == 0) ≡ b → length (branch b [] (number_octets f (n / 256) ++ ((n % 256) ∷ []))) ≤ 0
-    go true e = omega arith
-    go false e = absurd (grind (arith, nat_tests))
-number_count (suc f) (suc k) n h =
-    let small : n / 256 < 256 ^ k = omega (arith, pow-suc 256 k) in go (n == 0) refl (number_count f k (n / 256) small)
-  where
-    go : (b : Bool) → (n == 0) ≡ b → length (number_octets f (n / 256)) ≤ k → length (branch b [] (number_octets f (n / 256) ++ ((n % 256) ∷ []))) ≤ suc k
-    go true e l = omega arith
-    go false e l = omega (arith, length-append (number_octets f (n / 256)) ((n % 256) ∷ []))
-
 number_some : (f n : ℕ) → 0 < n → 1 ≤ length (number_octets (suc f) n)
 unfolding number_octets
 number_some f n h = go (n == 0) refl
@@ -117,7 +103,7 @@ len_brief n h = inl (h, refl, refl)
 len_counted : (n : ℕ) → n < 18446744073709551616 → 128 ≤ n → SpellsLength n ((128 + length (number_octets n n)) ∷ number_octets n n)
 unfolding SpellsLength
 len_counted n h l =
-    let c = number_count n 8 n (omega arith) in
+    let c = number_length n 8 n (omega arith) in
     let s = some_octets n l in
     inr (omega arith, omega arith, omega arith, number_value n n (below_power n))
 

@@ -6,7 +6,8 @@ use Rattle.tlv_core.specs.declared.reason.Reason.TheVariants.{Truncated}
 use Rattle.x690.specs.Answers.{Answer, IsAnswer, Refused, Spelled, answer}
 use Rattle.x690.specs.DerTexts.{der}
 use Rattle.x690.specs.Fitting.{Spells}
-use Rattle.x690.specs.Points.{InsideWhereInner, fault}
+use Rattle.tlv_core.specs.Faults.{InsideMatches}
+use Rattle.x690.specs.Points.{fault}
 use Rattle.x690.specs.Premises.{Fair, Honest, Lawful}
 use Rattle.x690.specs.TypeTerms.{TypeTerm}
 use Rattle.x690.specs.Values.{Same, Value}
@@ -30,7 +31,7 @@ pub record NeededOctets : Type 0 where
       → found ≡ fault (length octets) Truncated
 
 abbrev pub InsideOfAnswers : Type 0
-InsideOfAnswers = (limits : Limits) (type : TypeTerm) (octets : List ℕ) (found : Fault) → Honest type → answer limits type octets ≡ Refused found → InsideWhereInner found
+InsideOfAnswers = (limits : Limits) (type : TypeTerm) (octets : List ℕ) (found : Fault) → Honest type → answer limits type octets ≡ Refused found → InsideMatches found
 
 abbrev pub TextAnswersItself : Type 0
 TextAnswersItself = (limits : Limits) (type : TypeTerm) (octets text : List ℕ) (taken : ℕ) → Lawful type → limits.octets < 2147483648

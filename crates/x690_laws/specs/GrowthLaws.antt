@@ -5,7 +5,7 @@ use Rattle.tlv_core.specs.Limits.{Limits}
 use Rattle.x690.specs.DerTexts.{der}
 use Rattle.x690.specs.Fitting.{Fits}
 use Rattle.x690.specs.Layouts.{LaidOut, RawTree}
-use Rattle.x690.specs.Lists.{AllBelow}
+use Rattle.tlv_core.specs.ObjectIdentifier.{AllBelow}
 use Rattle.x690.specs.Points.{Enclosing}
 use Rattle.x690.specs.ReadContents.{read_open}
 use Rattle.x690.specs.ReadTypes.{read_document, read_element, read_type}

@@ -1,11 +1,14 @@
 -- What the laws on the plain reading of an element say.
-use Rattle.std.specs.Prelude.{List, length, ℕ, ◌++◌, ◌+◌, ◌≡◌, ◌⊎◌}
+use Rattle.std.specs.Prelude.{Bool, List, length, ℕ, ◌++◌, ◌+◌, ◌≡◌, ◌⊎◌}
+use Rattle.tlv_core.specs.Identifier.{Tag}
 use Rattle.tlv_core.specs.Limits.{Limits}
 use Rattle.tlv_core.specs.declared.fault.Fault.{Fault}
 use Rattle.tlv_core.specs.declared.reason.Reason.TheVariants.{Truncated}
-use Rattle.x690.specs.Points.{Enclosing, InsideWhereInner, fault}
+use Rattle.tlv_core.specs.Faults.{InsideMatches}
+use Rattle.x690.specs.HeaderFaults.{Stands}
+use Rattle.x690.specs.Points.{Enclosing, fault}
 use Rattle.x690.specs.Premises.{Fair, Honest}
-use Rattle.x690.specs.ReadTypes.{read_element}
+use Rattle.x690.specs.ReadTypes.{read_element, read_type}
 use Rattle.x690.specs.Reading.{Halted, Took, run}
 use Rattle.x690.specs.Takes.{Proper, Takes}
 use Rattle.x690.specs.TypeTerms.{TypeTerm}
@@ -45,4 +48,15 @@ TruncatedAtTheEnd = (limits : Limits) (type : TypeTerm) (earlier : List Value) (
 
 abbrev pub InsideOfFaults : Type 0
 InsideOfFaults = (limits : Limits) (type : TypeTerm) (earlier : List Value) (enclosing : Enclosing) (place : ℕ) (octets : List ℕ) (found : Fault)
-    → Honest type → run (read_element limits type earlier enclosing) place octets ≡ Halted found → InsideWhereInner found
+    → Honest type → run (read_element limits type earlier enclosing) place octets ≡ Halted found → InsideMatches found
+
+-- Behind an identifier that stands, as a reader of a type is called.
+abbrev pub BehindIsTaken : Type 0
+BehindIsTaken = (limits : Limits) (type : TypeTerm) (earlier : List Value) (enclosing : Enclosing) (place : ℕ) (octets : List ℕ) (tag : Tag) (constructed : Bool) (behind : ℕ) (rest : List ℕ) (value : Value) (place' : ℕ) (rest' : List ℕ)
+    → Stands limits enclosing place octets tag constructed behind rest → run (read_type limits type earlier enclosing place tag constructed) behind rest ≡ Took value place' rest'
+    → (taken : ℕ) × (place' ≡ place + taken) × Takes limits type earlier enclosing place octets value taken rest'
+
+abbrev pub TakenIsBehind : Type 0
+TakenIsBehind = (limits : Limits) (type : TypeTerm) (earlier : List Value) (enclosing : Enclosing) (place : ℕ) (octets : List ℕ) (tag : Tag) (constructed : Bool) (behind : ℕ) (rest : List ℕ) (value : Value) (taken : ℕ) (rest' : List ℕ)
+    → Fair type → Proper enclosing → Stands limits enclosing place octets tag constructed behind rest → Takes limits type earlier enclosing place octets value taken rest'
+    → (read : Value) × Same value read × (run (read_type limits type earlier enclosing place tag constructed) behind rest ≡ Took read (place + taken) rest')

@@ -1,5 +1,5 @@
 -- What the laws on the trees and values of a type say.
-use Rattle.std.specs.Prelude.{List, [], ℕ, ◌<◌, ◌≡◌}
+use Rattle.std.specs.Prelude.{List, ℕ, ◌<◌, ◌≡◌}
 use Rattle.tlv_core.specs.Limits.{Limits}
 use Rattle.x690.specs.DerTexts.{der}
 use Rattle.x690.specs.Fitting.{Fits, Spells}
@@ -8,7 +8,7 @@ use Rattle.x690.specs.TypeTerms.{Distinct, TypeTerm}
 use Rattle.x690.specs.Values.{Same, Value}
 
 abbrev pub OneValue : Type 0
-OneValue = (depth : ℕ) (type : TypeTerm) (tree : RawTree) (v w : Value) → Fits depth type [] tree v → Fits depth type [] tree w → Same v w
+OneValue = (depth : ℕ) (type : TypeTerm) (earlier : List Value) (tree : RawTree) (v w : Value) → Fits depth type earlier tree v → Fits depth type earlier tree w → Same v w
 
 abbrev pub TextSpells : Type 0
 TextSpells = (limits : Limits) (type : TypeTerm) (value : Value) (octets : List ℕ) → Distinct type → limits.octets < 2147483648 → Spells limits type value octets → Spells limits type value (der value)

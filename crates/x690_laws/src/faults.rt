@@ -1,5 +1,5 @@
 //! The laws on the fault grammar, for every type term.
-ghost use Rattle.x690_laws.specs.FaultLaws.{FaultStops, StopIsFault, OneFault};
+ghost use Rattle.x690_laws.specs.FaultLaws.{FaultStops, StopIsFault, OneFault, BehindStops};
 
 /// The fault that the plain reading finds stops the element by the fault grammar.
 pub fn a_fault_stops_the_element()
@@ -14,4 +14,9 @@ pub fn what_stops_is_the_fault()
 /// The fault grammar stops an element by one fault at most, and by none where the element takes its octets.
 pub fn there_is_one_fault()
     ensures { OneFault }
+{}
+
+/// Behind an identifier that stands, the plain reading of a type finds exactly the fault that stops the element by the fault grammar.
+pub fn faults_behind_an_identifier_are_those_of_the_grammar()
+    ensures { BehindStops }
 {}

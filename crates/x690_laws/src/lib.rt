@@ -2,7 +2,7 @@
 //!
 //! Each law is the contract of a public function without parameters that does nothing: what it ensures is proved once, over all
 //! type terms, so that a reader owes one equation with the plain reading (`x690`, `specs/Reads.antt`) and has the rest from here.
-//! The rules of composition are the lemmas of `proofs/Readers.antt`. `proofs/Rows.antt` has documents with their answers, closed by computing.
+//! The rules of composition are the lemmas of `proofs/Readers.antt` and `proofs/Composing.antt`. `proofs/Rows*.antt` have documents with their answers, closed by computing.
 #![tactic(auto)]
 
 pub mod answers;

@@ -1,5 +1,5 @@
 //! The laws on the plain reading of an element that has to stand at a place, for every type term.
-ghost use Rattle.x690_laws.specs.ReadingLaws.{ReadIsTaken, TakenIsRead, FaultTakesNothing, OneTaken, MoreOctets, TruncatedAtTheEnd, InsideOfFaults};
+ghost use Rattle.x690_laws.specs.ReadingLaws.{ReadIsTaken, TakenIsRead, FaultTakesNothing, OneTaken, MoreOctets, TruncatedAtTheEnd, InsideOfFaults, BehindIsTaken, TakenIsBehind};
 
 /// What the plain reading takes, an element takes by the definitions of layout and fit: no more octets, and this value.
 pub fn what_is_read_is_taken()
@@ -34,4 +34,14 @@ pub fn truncated_stands_at_the_end()
 /// What is inside a fault is there exactly where its reason is Inner.
 pub fn inside_is_there_for_inner()
     ensures { InsideOfFaults }
+{}
+
+/// Where an identifier stands and the plain reading of a type takes what is behind it, the element takes these octets, from its identifier on, and says this value.
+pub fn what_is_read_behind_an_identifier_is_taken()
+    ensures { BehindIsTaken }
+{}
+
+/// Where an identifier stands and its element takes octets by the definitions, the plain reading takes as many behind the identifier, and gives a value that is the same.
+pub fn what_is_taken_is_read_behind_its_identifier()
+    ensures { TakenIsBehind }
 {}

@@ -1,4 +1,4 @@
-use Rattle.std.proofs.Common.{rules, arith, ◌≡◌, ◌-◌, ◌*◌, ◌/◌, ◌^◌, ◌<◌, suc, length, set, ℕ, Bool, true, false, List, get_or, refl, sym, ap, ◌∙◌}
+use Rattle.std.proofs.Common.{arith, ◌-◌, ◌*◌, ◌/◌, ◌^◌, ◌<◌, length, set, sym, ap, ◌∙◌}
 use Rattle.std.proofs.lemmas.Bool.Decides.{nat_tests}
 use Rattle.ber_pull.proofs.Joining.{clear_at}
 use Rattle.ber_pull.proofs.string.clear_unused.Goals as goal

@@ -1,5 +1,5 @@
 use Rattle.ber_pull.specs.Hears.{Continues}
-use Rattle.std.proofs.Common.{◌≡◌, ◌+◌, ◌-◌, ◌*◌, ◌^◌, ◌<◌, ◌≤◌, ℕ, None}
+use Rattle.std.proofs.Common.{◌≡◌, ◌-◌, ◌^◌, ◌<◌, ◌≤◌, ℕ, None}
 use Rattle.x690.specs.ReadHeaders.{read_big_endian}
 use Rattle.ber_pull.specs.Lengths.{IsClipped}
 use Rattle.ber_pull.specs.Standing.{enclosing, moved}

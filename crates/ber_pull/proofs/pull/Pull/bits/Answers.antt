@@ -1,17 +1,7 @@
-use Rattle.std.proofs.Common.{rules, arith, ◌≡◌, ◌+◌, ◌-◌, ◌<◌, ◌≤◌, ℕ, Bool, true, false, length, take, List, [], IfSome, Option, Some, None, Ok, Err, refl, sym, ap, ap₂, subst, ◌∙◌}
-use Rattle.tlv_core.specs.declared.fault.ReadError.TheVariants as errors
-use Rattle.tlv_core.specs.declared.reason.Reason.TheVariants.{Extra, Truncated, WrongForm}
-use Rattle.x690.specs.Points.{fault}
-use Rattle.x690.specs.ReadHeaders.{read_length, next_octets}
-use Rattle.x690.specs.Reads.{Refused, Said, ReadFailed}
-use Rattle.ber_pull.specs.Hears.{Hears, heard, heard_error}
-use Rattle.ber_pull.specs.Lengths.{form_of}
-use Rattle.ber_pull.specs.Standing.{enclosing, moved, opening, place, used}
-use Rattle.ber_pull.proofs.Hearing.{hears_as, hears_at, hears_done, hears_err, hears_error, hears_memory, hears_off, hears_on, hears_then, hears_said, hears_stop, no_false, no_octet, no_true}
-use Rattle.ber_pull.proofs.Containers.{enter_error, enter_opens, enter_primitive, leave_ended, leave_error, leave_extra}
-use Rattle.ber_pull.proofs.Pieces.{contents_done, contents_error, octets_ended, octets_failed}
+use Rattle.std.proofs.Common.{rules, ◌≡◌, ap, ap₂, ◌∙◌}
+use Rattle.ber_pull.proofs.Hearing.{hears_err, hears_error, hears_then}
 use Rattle.x690.specs.Contents as values
-use Rattle.ber_pull.specs.Calls.{read_bits, read_segments}
+use Rattle.ber_pull.specs.Calls.{read_bits}
 use Rattle.ber_pull.specs.Segments.{joined_octets, joined_unused}
 use Rattle.ber_pull.proofs.Hearing.{hears_done_as}
 use Rattle.ber_pull.proofs.pull.Pull.bits.Goals as goal

@@ -1,4 +1,4 @@
-use Rattle.std.proofs.Common.{◌≡◌, ◌+◌, ◌-◌, ◌≤◌, ℕ, None, length}
+use Rattle.std.proofs.Common.{◌≡◌, ◌+◌, ◌-◌, ◌≤◌, None, length}
 use Rattle.std.specs.Io.KnownBytes.{Consumes}
 use Rattle.ber_pull.specs.Standing.{moved}
 use Rattle.ber_pull.proofs.pull.Pull.contents.Given as goal

@@ -1,16 +1,8 @@
-use Rattle.ber_pull.specs.Hears.{Continues}
-use Rattle.std.proofs.Common.{rules, arith, ◌≡◌, ◌+◌, ◌-◌, ◌*◌, ◌^◌, ◌<◌, ◌≤◌, ◌==◌, ℕ, zero, suc, inl, inr, Bool, true, false, nat_lt, nat_le, List, [], ◌∷◌, Option, Some, None, Ok, Err, refl, sym, ap, subst, ◌∙◌}
+use Rattle.std.proofs.Common.{rules, arith, ◌≡◌, ◌==◌, true, false, refl, sym, ap, ◌∙◌}
 use Rattle.std.proofs.lemmas.Bool.Decides.{nat_tests}
-use Rattle.tlv_core.specs.declared.fault.ReadError.TheVariants as errors
-use Rattle.tlv_core.specs.declared.reason.Reason.TheVariants.{BadEnd, BadLength, BadTag, PastEnd, TooDeep, TooLong, Truncated}
-use Rattle.x690.specs.Points.{at_end, fault}
-use Rattle.x690.specs.ReadHeaders as headers
-use Rattle.x690.specs.Reads.{Refused, Said, ReadFailed}
-use Rattle.x690.specs.Reading.{Ask, Done}
-use Rattle.ber_pull.specs.Hears.{Hears, heard, heard_error}
-use Rattle.ber_pull.specs.Standing.{enclosing, ending, moved}
-use Rattle.ber_pull.proofs.Hearing.{continues_here, hears_at, hears_done, hears_err, hears_error, hears_first, hears_off, hears_on, hears_second, hears_stop, hears_then, hears_where}
-use Rattle.ber_pull.proofs.Headers.{big_endian_more, clipped_small, is_definite, is_used, not_definite, fit_past_end, fit_past_limit, fit_within, not_opposite, opposite}
+use Rattle.tlv_core.specs.declared.reason.Reason.TheVariants.{BadEnd}
+use Rattle.x690.specs.Points.{fault}
+use Rattle.ber_pull.proofs.Hearing.{hears_at, hears_done, hears_err, hears_error, hears_off, hears_on, hears_stop, hears_then}
 use Rattle.ber_pull.proofs.pull.Pull.end_of_contents.Goals as goal
 
 pub returns-then-not-is_indefinite-clause-reads : goal.returns-then-not-is_indefinite-clause-reads

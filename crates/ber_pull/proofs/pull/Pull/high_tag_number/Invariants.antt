@@ -1,5 +1,5 @@
 use Rattle.ber_pull.specs.Hears.{Continues}
-use Rattle.std.proofs.Common.{◌≡◌, ◌+◌, ◌-◌, ◌*◌, ◌^◌, ◌<◌, ◌≤◌, ℕ, None}
+use Rattle.std.proofs.Common.{◌≡◌, ◌-◌, ◌^◌, ◌<◌, ◌≤◌, None}
 use Rattle.x690.specs.ReadHeaders.{read_high_number}
 use Rattle.ber_pull.specs.Standing.{enclosing, moved}
 use Rattle.ber_pull.proofs.pull.Pull.high_tag_number.Given as goal

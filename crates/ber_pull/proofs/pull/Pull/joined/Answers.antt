@@ -1,20 +1,10 @@
-use Rattle.std.proofs.Common.{rules, arith, ◌≡◌, ◌+◌, ◌-◌, ◌<◌, ◌≤◌, ℕ, Bool, true, false, length, take, List, [], IfSome, Option, Some, None, Ok, Err, refl, sym, ap, subst, ◌∙◌}
-use Rattle.tlv_core.specs.declared.fault.ReadError.TheVariants as errors
-use Rattle.tlv_core.specs.declared.reason.Reason.TheVariants.{Extra, Truncated, WrongForm}
-use Rattle.x690.specs.Points.{fault}
-use Rattle.x690.specs.ReadHeaders.{read_length, next_octets}
-use Rattle.x690.specs.Reads.{Refused, Said, ReadFailed}
-use Rattle.ber_pull.specs.Hears.{Hears, heard, heard_error}
-use Rattle.ber_pull.specs.Lengths.{form_of}
-use Rattle.ber_pull.specs.Standing.{enclosing, moved, opening, place, used}
-use Rattle.ber_pull.proofs.Hearing.{hears_as, hears_at, hears_done, hears_err, hears_error, hears_memory, hears_off, hears_on, hears_then, hears_said, hears_stop, no_false, no_octet, no_true}
-use Rattle.ber_pull.proofs.Containers.{enter_error, enter_opens, enter_primitive, leave_ended, leave_error, leave_extra}
-use Rattle.ber_pull.proofs.Pieces.{contents_done, contents_error, octets_ended, octets_failed}
+use Rattle.std.proofs.Common.{rules, arith, ◌≡◌, ◌<◌, ◌≤◌, length, [], Ok, Err, refl, sym, ap, subst, ◌∙◌}
+use Rattle.ber_pull.specs.Standing.{enclosing, used}
+use Rattle.ber_pull.proofs.Hearing.{hears_as, no_false, no_true}
 use Rattle.std.proofs.Common.{◌∷◌}
 use Rattle.ber_pull.specs.Calls.{read_segments}
-use Rattle.ber_pull.specs.Segments.{GoesOn, Joins, Stacked, Steps, read_one_segment, read_rest, segment_number}
+use Rattle.ber_pull.specs.Segments.{Stacked, Steps, read_one_segment, read_rest, segment_number}
 use Rattle.ber_pull.specs.Standing.{enclosing_of}
-use Rattle.ber_pull.specs.declared.state.Given.{Given}
 use Rattle.ber_pull.proofs.Joining.{joined_error}
 use Rattle.ber_pull.proofs.Strings.{around_left, segments_error, segments_into, segments_one, stack_start, walk_done, walk_on}
 use Rattle.ber_pull.proofs.Walk.{continues_as, level}

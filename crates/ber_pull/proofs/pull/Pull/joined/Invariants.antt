@@ -1,4 +1,4 @@
-use Rattle.std.proofs.Common.{◌≡◌, ◌+◌, ◌-◌, ◌*◌, ◌≤◌, ℕ, Some, None, length}
+use Rattle.std.proofs.Common.{◌≡◌, ◌+◌, ◌-◌, ◌*◌, ◌≤◌, Some, None, length}
 use Rattle.ber_pull.specs.Calls.{read_segments}
 use Rattle.ber_pull.specs.Segments.{GoesOn, segment_number}
 use Rattle.ber_pull.specs.Standing.{among}

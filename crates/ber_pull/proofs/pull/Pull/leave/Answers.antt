@@ -1,16 +1,12 @@
-use Rattle.std.proofs.Common.{rules, arith, ◌≡◌, ◌+◌, ◌<◌, ◌≤◌, ℕ, Bool, true, false, length, take, List, [], IfSome, Option, Some, None, Ok, Err, refl, sym, ap, subst, ◌∙◌}
+use Rattle.std.proofs.Common.{rules, refl, ap, subst, ◌∙◌}
 use Rattle.tlv_core.specs.declared.fault.ReadError.TheVariants as errors
-use Rattle.tlv_core.specs.declared.reason.Reason.TheVariants.{Extra, Truncated, WrongForm}
+use Rattle.tlv_core.specs.declared.reason.Reason.TheVariants.{Extra}
 use Rattle.x690.specs.Points.{fault}
-use Rattle.x690.specs.ReadHeaders.{read_length, next_octets}
-use Rattle.x690.specs.Reads.{Refused, Said, ReadFailed}
-use Rattle.ber_pull.specs.Hears.{Hears, heard, heard_error}
-use Rattle.ber_pull.specs.Lengths.{form_of}
-use Rattle.ber_pull.specs.Standing.{enclosing, moved, opening, place, used}
-use Rattle.ber_pull.proofs.Hearing.{hears_as, hears_at, hears_err, hears_memory, hears_said, hears_stop, no_false, no_octet, no_true}
-use Rattle.ber_pull.proofs.Containers.{enter_error, enter_opens, enter_primitive, leave_ended, leave_error, leave_extra}
-use Rattle.ber_pull.proofs.Pieces.{octets_ended, octets_failed}
-use Rattle.x690.specs.ReadHeaders.{ContainerEnds, ElementStands}
+use Rattle.x690.specs.Reads.{Said}
+use Rattle.ber_pull.specs.Hears.{Hears}
+use Rattle.ber_pull.specs.Standing.{place}
+use Rattle.ber_pull.proofs.Hearing.{hears_at, hears_err, hears_stop}
+use Rattle.ber_pull.proofs.Containers.{leave_ended, leave_error, leave_extra}
 use Rattle.ber_pull.specs.Calls.{read_next}
 use Rattle.ber_pull.specs.Hears.{next_at}
 use Rattle.ber_pull.proofs.pull.Pull.leave.Goals as goal

@@ -1,9 +1,8 @@
-use Rattle.std.proofs.Common.{rules, arith, ◌≡◌, ◌+◌, ◌/◌, ◌%◌, ◌<◌, ◌≤◌, ℕ, inl, inr, Bool, true, false, nat_lt, nat_le, length, List, Option, Some, None, Ok, Err, refl, sym, ap, subst, ◌∙◌}
+use Rattle.std.proofs.Common.{rules, nat_lt, length, refl, sym, ap, ◌∙◌}
 use Rattle.tlv_core.specs.declared.fault.ReadError.TheVariants as errors
 use Rattle.tlv_core.specs.declared.reason.Reason.TheVariants.{BadTag, TooDeep}
 use Rattle.x690.specs.Points.{fault}
 use Rattle.x690.specs.ReadHeaders.{header_octet, read_tag_number, ContainerEnds}
-use Rattle.x690.specs.Reads.{Refused, Said, ReadFailed}
 use Rattle.ber_pull.specs.Calls.{read_end_of_contents}
 use Rattle.ber_pull.specs.Hears.{Hears, heard, heard_error}
 use Rattle.ber_pull.specs.Standing.{enclosing, is_over, moved, place}

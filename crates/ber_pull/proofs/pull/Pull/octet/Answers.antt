@@ -1,9 +1,9 @@
-use Rattle.std.proofs.Common.{rules, arith, ◌≡◌, ◌+◌, ◌<◌, ℕ, Bool, true, false, nat_lt, List, take, get_or, subst, [], ◌∷◌, Option, Some, None, refl, sym, ap, ◌∙◌}
+use Rattle.std.proofs.Common.{arith, ◌≡◌, take, get_or, subst, [], ◌∷◌, sym, ap, ◌∙◌}
 use Rattle.tlv_core.specs.declared.reason.Reason.TheVariants.{PastEnd, TooLong, Truncated}
 use Rattle.tlv_core.specs.declared.fault.ReadError.TheVariants as errors
-use Rattle.x690.specs.Points.{at_end, fault}
+use Rattle.x690.specs.Points.{fault}
 use Rattle.std.specs.Io.KnownBytes.{Consumes}
-use Rattle.x690.specs.Reads.{Refused, Said, ReadFailed}
+use Rattle.x690.specs.Reads.{Said}
 use Rattle.x690.specs.Reading.{Ask, Done}
 use Rattle.ber_pull.specs.Hears.{Hears}
 use Rattle.ber_pull.proofs.Hearing.{hears_stop, hears_octet, hears_ended, hears_failed_at, no_octet, one_octet}

@@ -1,15 +1,5 @@
-use Rattle.std.proofs.Common.{rules, arith, ◌≡◌, ◌+◌, ◌-◌, ◌<◌, ◌≤◌, ℕ, Bool, true, false, length, take, List, [], IfSome, Option, Some, None, Ok, Err, refl, sym, ap, subst, ◌∙◌}
-use Rattle.tlv_core.specs.declared.fault.ReadError.TheVariants as errors
-use Rattle.tlv_core.specs.declared.reason.Reason.TheVariants.{Extra, Truncated, WrongForm}
-use Rattle.x690.specs.Points.{fault}
-use Rattle.x690.specs.ReadHeaders.{read_length, next_octets}
-use Rattle.x690.specs.Reads.{Refused, Said, ReadFailed}
-use Rattle.ber_pull.specs.Hears.{Hears, heard, heard_error}
-use Rattle.ber_pull.specs.Lengths.{form_of}
-use Rattle.ber_pull.specs.Standing.{enclosing, moved, opening, place, used}
-use Rattle.ber_pull.proofs.Hearing.{hears_as, hears_at, hears_done, hears_err, hears_error, hears_memory, hears_off, hears_on, hears_then, hears_said, hears_stop, no_false, no_octet, no_true}
-use Rattle.ber_pull.proofs.Containers.{enter_error, enter_opens, enter_primitive, leave_ended, leave_error, leave_extra}
-use Rattle.ber_pull.proofs.Pieces.{contents_done, contents_error, octets_ended, octets_failed}
+use Rattle.std.proofs.Common.{rules, refl, ap}
+use Rattle.ber_pull.proofs.Hearing.{hears_at, hears_err, hears_error, hears_then}
 use Rattle.x690.specs.ReadHeaders.{primitive_contents}
 use Rattle.ber_pull.proofs.pull.Pull.primitive_contents.Goals as goal
 

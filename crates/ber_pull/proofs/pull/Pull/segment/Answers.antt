@@ -1,23 +1,12 @@
-use Rattle.std.proofs.Common.{rules, arith, ◌≡◌, ◌+◌, ◌-◌, ◌<◌, ◌≤◌, ℕ, Bool, true, false, length, take, List, [], IfSome, Option, Some, None, Ok, Err, refl, sym, ap, subst, ◌∙◌}
-use Rattle.tlv_core.specs.declared.fault.ReadError.TheVariants as errors
-use Rattle.tlv_core.specs.declared.reason.Reason.TheVariants.{Extra, Truncated, WrongForm}
+use Rattle.std.proofs.Common.{rules, ◌≡◌, true, false, [], sym, ap, subst, ◌∙◌}
 use Rattle.x690.specs.Points.{fault}
-use Rattle.x690.specs.ReadHeaders.{read_length, next_octets}
-use Rattle.x690.specs.Reads.{Refused, Said, ReadFailed}
-use Rattle.ber_pull.specs.Hears.{Hears, heard, heard_error}
-use Rattle.ber_pull.specs.Lengths.{form_of}
-use Rattle.ber_pull.specs.Standing.{enclosing, moved, opening, place, used}
-use Rattle.ber_pull.proofs.Hearing.{hears_as, hears_at, hears_done, hears_err, hears_error, hears_memory, hears_off, hears_on, hears_then, hears_said, hears_stop, no_false, no_octet, no_true}
-use Rattle.ber_pull.proofs.Containers.{enter_error, enter_opens, enter_primitive, leave_ended, leave_error, leave_extra}
-use Rattle.ber_pull.proofs.Pieces.{contents_done, contents_error, octets_ended, octets_failed}
-use Rattle.std.proofs.Common.{◌==◌, ◌||◌, ◌&&◌, not, ◌∷◌, ◌++◌}
+use Rattle.ber_pull.proofs.Hearing.{hears_done, hears_error, hears_off, hears_on, hears_then, hears_stop}
+use Rattle.std.proofs.Common.{◌∷◌, ◌++◌}
 use Rattle.tlv_core.specs.declared.reason.Reason.TheVariants.{BadBits}
 use Rattle.x690.specs.ReadContents.{is_next_segment}
-use Rattle.x690.specs.ReadHeaders.{primitive_contents}
-use Rattle.ber_pull.specs.Segments.{AddsSegment, Joins, read_one_segment, segment_number}
+use Rattle.ber_pull.specs.Segments.{read_one_segment, segment_number}
 use Rattle.ber_pull.proofs.Hearing.{hears_then_memory}
-use Rattle.ber_pull.proofs.Joining.{added_error, follows, follows_bits}
-use Rattle.ber_pull.proofs.Walk.{level}
+use Rattle.ber_pull.proofs.Joining.{added_error, follows}
 use Rattle.ber_pull.proofs.pull.Pull.segment.Goals as goal
 
 pub returns-in_err-contents-clause-reads : goal.returns-in_err-contents-clause-reads

@@ -1,26 +1,14 @@
-use Rattle.std.proofs.Common.{rules, arith, ◌≡◌, ◌+◌, ◌-◌, ◌<◌, ◌≤◌, ℕ, Bool, true, false, length, take, List, [], IfSome, Option, Some, None, Ok, Err, refl, sym, ap, subst, ◌∙◌}
+use Rattle.std.proofs.Common.{rules, arith, ◌≡◌, ◌<◌, ◌≤◌, Some, None, refl, sym, ap, subst, ◌∙◌}
 use Rattle.tlv_core.specs.declared.fault.ReadError.TheVariants as errors
-use Rattle.tlv_core.specs.declared.reason.Reason.TheVariants.{Extra, Truncated, WrongForm}
 use Rattle.x690.specs.Points.{fault}
-use Rattle.x690.specs.ReadHeaders.{read_length, next_octets}
-use Rattle.x690.specs.Reads.{Refused, Said, ReadFailed}
-use Rattle.ber_pull.specs.Hears.{Hears, heard, heard_error}
-use Rattle.ber_pull.specs.Lengths.{form_of}
-use Rattle.ber_pull.specs.Standing.{after_next, closing, enclosing, enclosing_of, giving, moved, opening, place, used}
-use Rattle.ber_pull.proofs.Hearing.{hears_as, hears_at, hears_done, hears_err, hears_error, hears_memory, hears_off, hears_on, hears_then, hears_said, hears_stop, no_false, no_octet, no_true}
-use Rattle.ber_pull.proofs.Containers.{enter_error, enter_opens, enter_primitive, leave_ended, leave_error, leave_extra}
-use Rattle.ber_pull.proofs.Pieces.{contents_done, contents_error, octets_ended, octets_failed}
+use Rattle.ber_pull.specs.Standing.{after_next, closing, enclosing, enclosing_of, giving, moved, opening, used}
+use Rattle.ber_pull.proofs.Hearing.{hears_as, hears_said, hears_stop}
 use Rattle.std.proofs.Common.{◌∷◌, suc}
 use Rattle.tlv_core.specs.declared.reason.Reason.TheVariants.{WrongTag}
-use Rattle.x690.specs.ReadHeaders.{ContainerEnds, ElementStands, next_tag}
-use Rattle.x690.specs.Layouts.{same_tag, universal}
-use Rattle.x690.specs.Layouts.{same_tag, universal}
-use Rattle.x690.specs.Layouts.{same_tag, universal}
-use Rattle.ber_pull.specs.Calls.{read_next}
-use Rattle.ber_pull.specs.Hears.{next_at}
-use Rattle.ber_pull.specs.Segments.{AddsSegment, GoesOn, Joins, Level, Stacked, Steps, read_one_segment, read_rest, segment_number}
+use Rattle.x690.specs.ReadHeaders.{ElementStands}
+use Rattle.ber_pull.specs.Segments.{Stacked, read_rest, segment_number}
 use Rattle.ber_pull.proofs.Joining.{step_error}
-use Rattle.ber_pull.proofs.Walk.{ToGo, continues_as, continues_at, enclosing_is, into_here, level, next_fails, next_here, one_here, next_is, stack_ended, stack_into, stack_one, stacked_on, to_go, walk_ended, walk_error, walk_into, walk_into_error, walk_one, walk_one_error, walk_wrong}
+use Rattle.ber_pull.proofs.Walk.{continues_as, continues_at, into_here, level, next_fails, next_here, one_here, stack_ended, stack_into, stack_one, to_go, walk_ended, walk_error, walk_into, walk_into_error, walk_one, walk_one_error, walk_wrong}
 use Rattle.ber_pull.proofs.pull.Pull.step.Goals as goal
 
 pub returns-in_err-next-clause-reads : goal.returns-in_err-next-clause-reads

@@ -1,5 +1,4 @@
-use Rattle.std.proofs.Common.{rules, arith, ◌≡◌, ℕ, Bool, true, false, List, [], ◌∷◌, ◌++◌, get_or, drop, refl, sym, ap, ap₂, subst, ◌∙◌}
-use Rattle.ber_pull.specs.Segments.{Joins}
+use Rattle.std.proofs.Common.{◌≡◌, true, false, ◌++◌, get_or, drop, sym, ap, ap₂, ◌∙◌}
 use Rattle.ber_pull.proofs.Joining.{joins_bits, joins_octets}
 use Rattle.ber_pull.proofs.string.Joined.add.Goals as goal
 use Rattle.ber_pull.proofs.string.Joined.add.Goals.{then-self, else-self}

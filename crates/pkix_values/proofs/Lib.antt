@@ -1,0 +1,3 @@
+pub mod Handing
+pub mod PartTexts
+pub mod ShortFields

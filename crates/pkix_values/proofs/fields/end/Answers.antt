@@ -1,0 +1,22 @@
+use Rattle.std.proofs.Common.{rules, arith, ◌≡◌, ℕ, Bool, true, false, List, [], ◌∷◌, Option, Some, None, Ok, Err, IfOk, IsSome, refl, sym, ap, subst, ◌∙◌}
+use Rattle.x690.specs.Points.{fault}
+use Rattle.x690.specs.Reading.{Done}
+use Rattle.tlv_core.specs.declared.reason.Reason.TheVariants.{Extra, Missing, WrongTag}
+use Rattle.ber_pull.specs.Hears.{next_at}
+use Rattle.ber_pull.proofs.Hearing.{hears_as, hears_at, hears_done, hears_err, hears_error, hears_said, hears_stop, hears_then}
+use Rattle.ber_pull.proofs.Fields.{begin_in, begin_wrong, due_missing, due_read, due_wrong, end_extra, end_here, optional_absent, optional_other, optional_read}
+use Rattle.ber_pull.proofs.Insides.{inside_given, leaves, left_here, next_inside, opens_within, stands_none, stands_some, used_within, within_next, within_none}
+use Rattle.pkix_values.specs.Fields.{next_of}
+use Rattle.pkix_values.proofs.fields.end.Goals as goal
+
+pub returns-then-is_some-clause-reads : goal.returns-then-is_some-clause-reads
+returns-then-is_some-clause-reads g c = λ outer inside a.
+    let first = c.refuse.ensures.first c.requires.fine in
+    hears_stop _ (fault c.args.next.at Extra) _ _ _ _ _ _ _ first.0 (ap (λ s. s.taken) first.1) (ap g.R.Source.remaining c.refuse.ensures.same)
+    (end_extra c.args.next.at c.args.next.tag _ _ (sym c.is_some.ensures ∙ c.if-is_some.true))
+
+pub returns-clause-reads : goal.returns-clause-reads
+returns-clause-reads g c = λ outer inside a.
+    let none = sym c.is_some.ensures ∙ c.if-is_some.false in
+    let left = c.leave.ensures.ended c.requires.fine (a.ended (stands_none c.args.next.at c.args.next.tag none)) in
+    end_here c.args.next.at c.args.next.tag _ _ _ _ _ none (left_here _ _ _ _ _ left.0 (ap (λ s. s.taken) left.2) (ap g.R.Source.remaining left.1))
