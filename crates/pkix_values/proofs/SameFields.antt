@@ -64,3 +64,10 @@ three_short i (Some w) v a b c = omega (arith, length-append (der i) (der w ++ (
 pub extension_short : (own : Tag) (octets : List ℕ) (i : Value) (b c : Option Bool) (v : Value) → length (der i) < 2 ^ 32 → IfSome b (λ b. length (der (truth_value b)) < 2 ^ 32) → length (der v) < 2 ^ 32 → option_map truth_value c ≡ but_default own octets (option_map truth_value b)
     → length (texts_of (i ∷ (with_field (option_map truth_value c) [] ++ (v ∷ [])))) < 2 ^ 63
 extension_short own octets i b c v h h' h'' e = three_short i (option_map truth_value c) v h (subst IsShort (sym e) (default_short own octets (option_map truth_value b) (truth_short b h'))) h''
+
+pub two_short : (v w : Value) → length (der v) < 2 ^ 32 → length (der w) < 2 ^ 32 → length (texts_of (v ∷ w ∷ [])) < 2 ^ 63
+two_short v w a b = omega (arith, length-append (der v) (der w ++ []), length-append (der w) [])
+
+pub one_or_two_short : {A : Type 0} (f : A → Value) (v : Value) (o : Option A) → length (der v) < 2 ^ 32 → IfSome o (λ x. length (der (f x)) < 2 ^ 32) → length (texts_of (v ∷ with_field (option_map f o) [])) < 2 ^ 63
+one_or_two_short f v None a b = omega (arith, length-append (der v) [])
+one_or_two_short f v (Some x) a b = two_short v (f x) a b

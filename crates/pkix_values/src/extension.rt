@@ -1,7 +1,7 @@
 //! Extension of RFC 5280 section 4.1.
-ghost use Rattle.std.specs.Prelude.{◌≡◌, ◌<◌, ◌^◌, ◌∷◌, [], length, true};
-ghost use Rattle.std.specs.Option.{option_map};
-ghost use Rattle.x690.specs.DerTexts.{texts_of};
+ghost use Rattle.std.specs.Prelude.{◌≡◌, ◌↔◌, ◌<◌, ◌^◌, ◌∷◌, IsTrue, [], length, true};
+ghost use Rattle.std.specs.Option.{is_some, option_map};
+ghost use Rattle.x690.specs.DerTexts.{der, texts_of};
 ghost use Rattle.x690.specs.DocumentTypes.{Extension as ExtensionType};
 ghost use Rattle.x690.specs.Layouts.{universal};
 ghost use Rattle.x690.specs.Values.{Sequence, values_of};
@@ -11,7 +11,7 @@ ghost use Rattle.pkix_values.specs.Values.{extension_values, true_if_there, trut
 use crate::fields::{begin, due, end, optional};
 use crate::parts::{Both, Field, OptionalField, put_sequence, sequence_octet, sequence_size};
 use asn_values::boolean::Bool;
-use asn_values::der_text::DerText;
+use asn_values::der_text::{DerText, same_text};
 use asn_values::element::Element;
 use asn_values::octets::Octets;
 use asn_values::tags::{is_same_tag, universal_tag};
@@ -41,13 +41,7 @@ fn unless_false(critical: Option<Bool>) -> Option<Bool>
     ensures not_default { true_if_there result ≡ true }
 {
     match critical {
-        Some(b) => {
-            if b.value() {
-                Some(b)
-            } else {
-                None
-            }
-        }
+        Some(b) => { if b.value() { Some(b) } else { None } }
         None => None,
     }
 }
@@ -61,7 +55,9 @@ impl Extension {
     }
 
     /// Whether one who doesn't know it has to refuse the certificate.
-    pub fn critical(&self) -> bool {
+    pub fn critical(&self) -> bool
+        ensures { result ≡ is_some self.now.critical }
+    {
         self.critical.is_some()
     }
 
@@ -70,6 +66,13 @@ impl Extension {
         ensures { result.now ≡ self.now.value }
     {
         &self.value
+    }
+
+    /// Whether the two are the same.
+    pub fn same(&self, other: &Extension) -> bool
+        ensures { IsTrue result ↔ (der (Sequence (universal 16) (values_of (extension_values self.now.id self.now.critical self.now.value))) ≡ der (Sequence (universal 16) (values_of (extension_values other.now.id other.now.critical other.now.value)))) }
+    {
+        same_text(self, other)
     }
 
     fn parts(&self) -> Both<Field<'_, Oid>, Both<OptionalField<'_, Bool>, Field<'_, Octets>>>
@@ -118,6 +121,10 @@ impl Element for Extension {
         let value = due::<R, Octets>(alloc, pull, &mut next)?;
         end(pull, next)?;
         let critical = unless_false(critical);
-        Ok(Extension { id, critical, value })
+        Ok(Extension {
+            id,
+            critical,
+            value,
+        })
     }
 }

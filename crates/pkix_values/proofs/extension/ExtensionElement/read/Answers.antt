@@ -87,11 +87,12 @@ returns-clause-reads g c = λ given fine is.
     let f3 = c.in_ok-value.ensures.reads _ _ i3 in
     let i4 = c.in_ok-value.ensures.stands _ _ i3 in
     let critical = ap (but_default (universal 1) (0 ∷ [])) (same_truth f2.0 c.in_ok-critical.critical f2.1) ∙ sym c.unless_false-critical.ensures.is in
-    let vs = f1.0 ∷ with_field (but_default (universal 1) (0 ∷ []) f2.0) (f3.0 ∷ []) in
-    (Sequence (universal 16) (values_of vs),
-    same_lists (universal 16) vs (extension_values c.in_ok-id.id c.unless_false-critical.result c.in_ok-value.value) (f1.1, each_joined _ (option_map truth_value c.unless_false-critical.result) (f3.0 ∷ []) (Leaf (universal 4) (octets_of c.in_ok-value.value) ∷ []) (same_fields _ _ critical) (f3.1, tt)),
-    begins _ _ _ _ _ _ _ _ _ _ _ _ _ _ _ _ _ _ c.universal_tag.ensures (c.in_ok-next.ensures.reads given fine is)
-    (due _ _ _ _ _ _ _ _ _ _ _ _ _ _ _ _ f1.2
-    (default _ _ _ _ _ _ _ _ _ _ _ _ _ _ _ _ _ _ (optional_closed _ _ _ _ _ _ _ _ _ _ (leaf_closed _ _) f2.2)
-    (due _ _ _ _ _ _ _ _ _ _ _ _ _ _ _ _ (due_closed _ _ _ _ _ _ _ _ _ _ (leaf_closed _ _) f3.2)
-    (ends _ _ _ _ _ _ _ _ _ _ _ _ (c.in_ok-end.ensures.reads _ _ i4) (hears_done _ _ _))))))
+    let vs = f1.0 ∷ with_field (but_default (universal 1) (0 ∷ []) f2.0) (f3.0 ∷ []) in (
+      Sequence (universal 16) (values_of vs),
+      same_lists (universal 16) vs (extension_values c.in_ok-id.id c.unless_false-critical.result c.in_ok-value.value) (f1.1, each_joined _ (option_map truth_value c.unless_false-critical.result) (f3.0 ∷ []) (Leaf (universal 4) (octets_of c.in_ok-value.value) ∷ []) (same_fields _ _ critical) (f3.1, tt)),
+      begins _ _ _ _ _ _ _ _ _ _ _ _ _ _ _ _ _ _ c.universal_tag.ensures (c.in_ok-next.ensures.reads given fine is)
+          (due _ _ _ _ _ _ _ _ _ _ _ _ _ _ _ _ f1.2
+          (default _ _ _ _ _ _ _ _ _ _ _ _ _ _ _ _ _ _ (optional_closed _ _ _ _ _ _ _ _ _ _ (leaf_closed _ _) f2.2)
+          (due _ _ _ _ _ _ _ _ _ _ _ _ _ _ _ _ (due_closed _ _ _ _ _ _ _ _ _ _ (leaf_closed _ _) f3.2)
+          (ends _ _ _ _ _ _ _ _ _ _ _ _ (c.in_ok-end.ensures.reads _ _ i4) (hears_done _ _ _))))),
+    )
