@@ -10,7 +10,7 @@ use Rattle.x690.specs.Reading.{Reading}
 use Rattle.x690.specs.ReadHeaders.{Ended}
 use Rattle.x690.specs.Reads.{Heard, Refused}
 use Rattle.x690.specs.Values.{Value}
-use Rattle.ber_pull.specs.Hears.{Hears, heard, heard_error}
+use Rattle.ber_pull.specs.Hears.{Hears, heard_error}
 use Rattle.ber_pull.specs.Standing.{Standing, failed_with, place}
 use Rattle.ber_pull.specs.View.{Answers, Unmoved, source, standing}
 use Rattle.ber_pull.specs.declared.pull.Pull.{Pull}

@@ -1,15 +1,14 @@
 -- The plain reading of a leaf, by the calls of a pull reader.
-use Rattle.std.proofs.Common.{◌≡◌, ◌∙◌, ◌++◌, ◌&&◌, ◌||◌, ◌==◌, not, Bool, true, false, List, [], ◌∷◌, ℕ, None, Some, Option, refl, sym, ap, append-nil}
+use Rattle.std.proofs.Common.{◌≡◌, ◌∙◌, ◌&&◌, not, Bool, true, false, List, [], ◌∷◌, ℕ, None, refl, ap, append-nil}
 use Rattle.tlv_core.specs.Identifier.{Tag}
 use Rattle.tlv_core.specs.Limits.{Limits}
-use Rattle.tlv_core.specs.declared.fault.Fault.{Fault}
 use Rattle.tlv_core.specs.declared.reason.Reason.TheVariants.{BadBits, BadText, WrongForm}
 use Rattle.x690.specs.Contents.{BitString, LeafKind, OctetString, Utf8String, bit_contents, bit_octets, clear_unused, unused_bits}
 use Rattle.x690.specs.Lists.{join}
 use Rattle.x690.specs.Points.{Enclosing, fault}
-use Rattle.x690.specs.ReadContents.{bad_contents, der_contents, is_bit_segment, is_contents, is_next_segment, is_joined_contents, joined_contents, read_leaf, read_segment, segment_tag}
-use Rattle.x690.specs.ReadHeaders.{Ended, each_member, in_container, primitive_contents}
-use Rattle.x690.specs.Reading.{Done, Fail, Reading, require, run, ◌>>=◌}
+use Rattle.x690.specs.ReadContents.{bad_contents, der_contents, is_bit_segment, is_contents, is_next_segment, read_leaf, read_segment, segment_tag}
+use Rattle.x690.specs.ReadHeaders.{each_member, in_container, primitive_contents}
+use Rattle.x690.specs.Reading.{Done, Reading, require, run, ◌>>=◌}
 use Rattle.x690.specs.Values.{Leaf, Value}
 use Rattle.ber_pull.specs.Calls.{read_bits, read_octets, read_primitive, read_segments}
 use Rattle.ber_pull.specs.Standing.{Standing, enclosing}

@@ -1,27 +1,26 @@
 -- The plain reading of members, by the calls of a pull reader.
-use Rattle.std.proofs.Common.{◌≡◌, ◌∙◌, ◌+◌, ◌*◌, ◌<◌, ◌≤◌, ◌++◌, ◌⊎◌, Bool, true, false, List, [], ◌∷◌, ℕ, zero, suc, None, Some, Option, refl, sym, ap, subst, length, arith}
+use Rattle.std.proofs.Common.{◌≡◌, ◌∙◌, ◌+◌, ◌*◌, ◌<◌, ◌≤◌, ◌++◌, Bool, true, false, List, [], ◌∷◌, ℕ, zero, suc, None, Some, Option, refl, sym, ap, subst, length, arith}
 use Rattle.tlv_core.specs.Identifier.{Tag}
 use Rattle.tlv_core.specs.Limits.{Limits}
 use Rattle.tlv_core.specs.declared.fault.ReadError.{ReadError}
 use Rattle.tlv_core.specs.declared.fault.ReadError.TheVariants as errors
-use Rattle.tlv_core.specs.declared.reason.Reason.TheVariants.{WrongForm}
 use Rattle.tlv_core.specs.declared.source.Source.{Ghosts}
 use Rattle.x690.specs.DerTexts.{der, texts_of}
-use Rattle.x690.specs.Points.{Enclosing, fault}
+use Rattle.x690.specs.Points.{Enclosing}
 use Rattle.x690.specs.ReadContents.{add_member, all_members}
 use Rattle.x690.specs.ReadHeaders.{ContainerEnds, DefiniteLength, ElementStands, Ended, IndefiniteLength, LengthForm, Next, each_member, entered, in_container, next_tag, read_length}
-use Rattle.x690.specs.Reading.{Done, Fail, Reading, Where, choose, require, run, ◌>>=◌}
+use Rattle.x690.specs.Reading.{Done, Reading, Where, choose, require, run, ◌>>=◌}
 use Rattle.x690.specs.Reads.{Heard, Said}
 use Rattle.x690.specs.Values.{Value}
 use Rattle.ber_pull.specs.Calls.{read_entering, read_next}
-use Rattle.ber_pull.specs.Hears.{Continues, Hears, heard_error, next_at}
+use Rattle.ber_pull.specs.Hears.{Continues, Hears, heard_error}
 use Rattle.ber_pull.specs.Standing.{Standing, after_next, closing, container_of, enclosing, first_of, is_ended, is_over, opening, place, used, with_ended, without_first}
-use Rattle.ber_pull.specs.View.{Answers, SameSource, Uses, standing, told}
+use Rattle.ber_pull.specs.View.{Answers, SameSource, Uses, told}
 use Rattle.ber_pull.specs.declared.pull.Pull.{Pull}
 use Rattle.ber_pull.specs.declared.state.Container.{Container}
 use Rattle.ber_pull.specs.declared.state.Container.TheVariants as open'
 use Rattle.ber_pull.specs.declared.state.Given.{Given}
-use Rattle.ber_pull.proofs.Hearing.{hears_as, hears_done, hears_error, hears_said, hears_same, hears_then, hears_then_memory}
+use Rattle.ber_pull.proofs.Hearing.{hears_as, hears_done, hears_error, hears_same, hears_then, hears_then_memory}
 use Rattle.ber_pull.proofs.Nexts.{place_taken}
 use Rattle.ber_pull.proofs.Runs.{bind_assoc, bind_same}
 use Rattle.x690_laws.proofs.ShortTexts.{texts_pushed}

@@ -1,11 +1,11 @@
 -- Members in another order: pairings, and multisets that are the same.
-use Rattle.std.proofs.Common.{◌≡◌, ◌∙◌, ◌<◌, ◌++◌, List, [], ◌∷◌, ℕ, zero, suc, ap, get_or, inl, inr, length, refl, set, subst, sym, arith}
+use Rattle.std.proofs.Common.{◌≡◌, ◌<◌, List, [], ◌∷◌, ℕ, zero, suc, ap, get_or, inl, inr, length, refl, set, subst, sym, arith}
 use Rattle.std.specs.List.{swap}
 use Rattle.std.specs.List.Sorted.{IsPermutation}
 use Rattle.std.proofs.lemmas.List.Sorted.{IsPermutation-keeps}
 use Rattle.tlv_core.specs.Identifier.{Tag}
 use Rattle.x690.specs.Lists.{Each, Paired, Picked}
-use Rattle.x690.specs.Values.{Same, SamePaired, SetOf, Value, Values, members, values_of}
+use Rattle.x690.specs.Values.{Same, SetOf, Value, members, values_of}
 use Rattle.x690_laws.proofs.Pairing.{paired_add, paired_take}
 use Rattle.x690_laws.proofs.Sames.{paired_bag}
 

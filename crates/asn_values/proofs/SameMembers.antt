@@ -1,7 +1,7 @@
 -- Members that are the same, in place.
 use Rattle.std.proofs.Common.{◌≡◌, ◌++◌, List, [], ◌∷◌, ap, ap₂, length, refl, suc}
 use Rattle.tlv_core.specs.Identifier.{Tag}
-use Rattle.x690.specs.DerTexts.{der, texts_of}
+use Rattle.x690.specs.DerTexts.{texts_of}
 use Rattle.x690.specs.Lists.{Each}
 use Rattle.x690.specs.Values.{Same, SameInPlace, Sequence, Value, values_of}
 use Rattle.x690_laws.proofs.Texts.{canonical}

@@ -1,13 +1,13 @@
 -- How long the text of an element is that was read.
-use Rattle.std.proofs.Common.{◌≡◌, ◌+◌, ◌*◌, ◌≤◌, ◌<◌, Bool, List, [], ℕ, None, Some, Option, refl, length, arith}
+use Rattle.std.proofs.Common.{◌≡◌, ◌+◌, ◌*◌, ◌≤◌, Bool, List, [], ℕ, Option, refl, length, arith}
 use Rattle.tlv_core.specs.Identifier.{Tag}
 use Rattle.tlv_core.specs.Limits.{Limits}
 use Rattle.tlv_core.specs.declared.reason.Reason.TheVariants.{Missing}
 use Rattle.x690.specs.DerTexts.{der}
 use Rattle.x690.specs.Points.{Enclosing, fault}
-use Rattle.x690.specs.ReadHeaders.{ContainerEnds, ElementStands, Next, next_tag}
+use Rattle.x690.specs.ReadHeaders.{ContainerEnds, ElementStands, next_tag}
 use Rattle.x690.specs.ReadTypes.{due_element, read_element, read_type}
-use Rattle.x690.specs.Reading.{Fail, Reading, ◌>>=◌}
+use Rattle.x690.specs.Reading.{Fail, ◌>>=◌}
 use Rattle.x690.specs.Reads.{Said}
 use Rattle.x690.specs.TypeTerms.{TypeTerm}
 use Rattle.x690.specs.Values.{Value}

@@ -1,4 +1,4 @@
-use Rattle.std.proofs.Common.{rules, ◌≡◌, ◌∷◌, ap, refl, sym}
+use Rattle.std.proofs.Common.{rules, ◌≡◌, ◌∷◌, ap, sym}
 use Rattle.x690.specs.Values.{Leaf}
 use Rattle.ber_pull.specs.Calls.{read_bits}
 use Rattle.ber_pull.proofs.Hearing.{hears_done, hears_err, hears_error, hears_said, hears_same, hears_then, hears_then_memory}

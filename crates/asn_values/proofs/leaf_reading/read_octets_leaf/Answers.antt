@@ -1,4 +1,4 @@
-use Rattle.std.proofs.Common.{rules, ◌≡◌, ◌∙◌, ap, false, refl, sym, true}
+use Rattle.std.proofs.Common.{rules, ◌≡◌, ◌∙◌, ap, false, true}
 use Rattle.tlv_core.specs.declared.fault.ReadError.TheVariants as errors
 use Rattle.tlv_core.specs.declared.reason.Reason.TheVariants.{BadText}
 use Rattle.x690.specs.Points.{fault}

@@ -1,11 +1,11 @@
-use Rattle.std.proofs.Common.{rules, ◌≡◌, ◌∙◌, ap, refl, sym, true, false}
+use Rattle.std.proofs.Common.{rules, ◌≡◌, ◌∙◌, ap, sym, true, false}
 use Rattle.tlv_core.specs.declared.fault.ReadError.TheVariants as errors
 use Rattle.x690.specs.Points.{fault}
 use Rattle.x690.specs.ReadContents as reading
 use Rattle.ber_pull.specs.Calls.{read_primitive}
 use Rattle.ber_pull.proofs.Hearing.{hears_as, hears_done, hears_err, hears_error, hears_off, hears_on, hears_said, hears_then}
 use Rattle.x690.specs.Values.{Leaf}
-use Rattle.asn_values.specs.Reading.{kind_of, read_given_leaf}
+use Rattle.asn_values.specs.Reading.{kind_of}
 use Rattle.asn_values.proofs.Answering.{place_given, refused_by}
 use Rattle.asn_values.proofs.LeafReadings.{judged, leaf_is}
 use Rattle.asn_values.proofs.leaf_reading.read_primitive_leaf.Goals as goal

@@ -1,17 +1,13 @@
-use Rattle.std.proofs.Common.{rules, arith, ◌≡◌, ◌∙◌, ◌+◌, ◌*◌, ◌++◌, ◌∷◌, ◌≤◌, [], List, IfSome, None, Some, Err, Ok, ap, length, map, refl, subst, sym, ℕ}
-use Rattle.x690.specs.ReadHeaders.{ContainerEnds, ElementStands}
+use Rattle.std.proofs.Common.{rules, arith, ◌≡◌, ◌∙◌, ◌++◌, ◌∷◌, ◌≤◌, [], IfSome, None, ap, length, map, subst, sym}
 use Rattle.x690.specs.ReadTypes.{read_type}
 use Rattle.x690.specs.Reads.{Said}
-use Rattle.x690.specs.Values.{Value}
-use Rattle.ber_pull.specs.Calls.{read_entering, read_next}
 use Rattle.ber_pull.specs.Hears.{heard_error, next_at}
-use Rattle.ber_pull.specs.Standing.{after_next, closing, enclosing, IsGiven, place}
-use Rattle.ber_pull.specs.View.{Answers, standing}
+use Rattle.ber_pull.specs.Standing.{after_next, enclosing, IsGiven, place}
 use Rattle.ber_pull.specs.declared.state.Given.{Given}
-use Rattle.ber_pull.proofs.Hearing.{hears_at, hears_err, hears_error, hears_same, hears_said}
+use Rattle.ber_pull.proofs.Hearing.{hears_at, hears_said}
 use Rattle.asn_values.specs.Reading.{ended, read_given_members}
 use Rattle.asn_values.proofs.Answering.{members_err, none_by, some_given}
-use Rattle.asn_values.proofs.MemberReadings.{Inside, enter_is, member_reads, inside_ends, inside_error, inside_here, inside_memory, inside_more, inside_never, inside_start, inside_stops, all_used, left, still_open}
+use Rattle.asn_values.proofs.MemberReadings.{Inside, member_reads, inside_ends, inside_error, inside_here, inside_memory, inside_more, inside_never, inside_start, inside_stops, all_used, left, still_open}
 use Rattle.x690.specs.Lists.{Each}
 use Rattle.x690.specs.Values.{Same}
 use Rattle.ber_pull.proofs.Nexts.{place_taken}

@@ -1,4 +1,4 @@
-use Rattle.std.proofs.Common.{◌≡◌, ◌≤◌, ◌-◌, ℕ, List, map, [], None, Some}
+use Rattle.std.proofs.Common.{◌≡◌, ◌≤◌, ◌-◌, List, map, [], None, Some}
 use Rattle.x690.specs.Lists.{Each}
 use Rattle.x690.specs.Values.{Same, Value}
 use Rattle.x690.specs.ReadTypes.{read_type}

@@ -1,6 +1,5 @@
 use Rattle.std.proofs.Common.{rules}
 use Rattle.x690.specs.Contents.{ObjectIdentifier}
-use Rattle.x690.specs.Layouts.{universal}
 use Rattle.x690.specs.TypeTerms.{LeafType}
 use Rattle.x690.specs.Values.{Leaf}
 use Rattle.x690_laws.proofs.Sames.{equivalence}

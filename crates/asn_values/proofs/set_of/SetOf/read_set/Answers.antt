@@ -1,10 +1,9 @@
-use Rattle.std.proofs.Common.{rules, arith, ◌≡◌, ◌∙◌, ◌<◌, ◌≤◌, ap, false, length, map, nat_le, refl, subst, sym, true, ℕ}
+use Rattle.std.proofs.Common.{rules, arith, ◌≡◌, ◌∙◌, ◌<◌, ◌≤◌, ap, false, length, map, nat_le, subst, sym, true}
 use Rattle.std.proofs.lemmas.Bool.Decides.{nat_tests}
 use Rattle.std.proofs.lemmas.List.{length-map}
 use Rattle.tlv_core.specs.declared.fault.ReadError.TheVariants as errors
 use Rattle.tlv_core.specs.declared.reason.Reason.TheVariants.{EmptySet}
 use Rattle.x690.specs.Points.{fault}
-use Rattle.x690.specs.Reading.{◌>>=◌}
 use Rattle.x690.specs.Reads.{Said}
 use Rattle.ber_pull.specs.View.{Answers, told}
 use Rattle.x690.specs.TypeTerms.{SetOfType}

@@ -1,0 +1,341 @@
+//! Values read from octets, whole, in pieces and from sources that fail, and values that are made.
+ghost use Rattle.std.specs.Prelude.{◌≡◌, false};
+
+use crate::bits::Bits;
+use crate::boolean::Bool;
+use crate::build::BuildError;
+use crate::der_text::{DerText, der_text};
+use crate::element::Element;
+use crate::integer::Int;
+use crate::list::List;
+use crate::null::Null;
+use crate::octets::Octets;
+use crate::set_of::SetOf;
+use ber_pull::pull::Pull;
+use std::alloc::Global;
+use std::test::Fail;
+use tlv_core::fault::{Fault, ReadError};
+use tlv_core::limits::Limits;
+use tlv_core::oid::Oid;
+use tlv_core::reason::Reason;
+use tlv_core::sink::Sink;
+use tlv_core::source::{Pieces, Source};
+use tlv_core::target::Stops;
+
+/// What octets are read as.
+#[derive(Clone, Copy, Debug)]
+enum Type {
+    Boolean,
+    Integer,
+    NoValue,
+    Identifier,
+    BitString,
+    OctetString,
+    Integers,
+    Integer1s,
+    IntegerSet,
+    StringSets,
+}
+
+/// The text of the value, or the fault.
+#[derive(Clone, Copy)]
+enum Outcome {
+    Text(&'static [u8]),
+    At(u64, Reason),
+}
+
+use Outcome::{At, Text};
+
+static ROWS: [(Type, &[u8], Outcome); 27] = [
+    (
+        Type::Boolean,
+        &[0x01, 0x01, 0x01],
+        Text(&[0x01, 0x01, 0xFF]),
+    ),
+    (
+        Type::Boolean,
+        &[0x01, 0x81, 0x01, 0x00],
+        Text(&[0x01, 0x01, 0x00]),
+    ),
+    (Type::Boolean, &[0x01, 0x00], At(0, Reason::BadBoolean)),
+    (
+        Type::Integer,
+        &[0x02, 0x01, 0x7F],
+        Text(&[0x02, 0x01, 0x7F]),
+    ),
+    (
+        Type::Integer,
+        &[0x02, 0x02, 0x00, 0x7F],
+        At(0, Reason::BadInteger),
+    ),
+    (Type::Integer, &[0x02, 0x00], At(0, Reason::BadInteger)),
+    (
+        Type::Integer,
+        &[0x22, 0x03, 0x02, 0x01, 0x00],
+        At(0, Reason::WrongForm),
+    ),
+    (Type::Integer, &[0x0A, 0x01, 0x00], At(0, Reason::WrongTag)),
+    (Type::NoValue, &[0x05, 0x00], Text(&[0x05, 0x00])),
+    (Type::NoValue, &[0x05, 0x01, 0x00], At(0, Reason::BadNull)),
+    (
+        Type::Identifier,
+        &[0x06, 0x82, 0x00, 0x01, 0x2A],
+        Text(&[0x06, 0x01, 0x2A]),
+    ),
+    (
+        Type::Identifier,
+        &[0x06, 0x02, 0x2A, 0x80],
+        At(0, Reason::BadOid),
+    ),
+    (
+        Type::BitString,
+        &[0x03, 0x02, 0x04, 0xAF],
+        Text(&[0x03, 0x02, 0x04, 0xA0]),
+    ),
+    (
+        Type::BitString,
+        &[
+            0x23, 0x80, 0x03, 0x02, 0x00, 0xAA, 0x03, 0x02, 0x03, 0xFF, 0x00, 0x00,
+        ],
+        Text(&[0x03, 0x03, 0x03, 0xAA, 0xF8]),
+    ),
+    (
+        Type::BitString,
+        &[0x23, 0x08, 0x03, 0x02, 0x03, 0xF8, 0x03, 0x02, 0x00, 0xAA],
+        At(6, Reason::BadBits),
+    ),
+    (Type::BitString, &[0x23, 0x00], Text(&[0x03, 0x01, 0x00])),
+    (Type::OctetString, &[0x24, 0x00], Text(&[0x04, 0x00])),
+    (
+        Type::OctetString,
+        &[0x04, 0x80, 0x00, 0x00],
+        At(0, Reason::BadLength),
+    ),
+    (
+        Type::OctetString,
+        &[
+            0x24, 0x80, 0x04, 0x01, 0x07, 0x24, 0x03, 0x04, 0x01, 0x08, 0x00, 0x00,
+        ],
+        Text(&[0x04, 0x02, 0x07, 0x08]),
+    ),
+    (
+        Type::Integers,
+        &[0x30, 0x80, 0x02, 0x01, 0x05, 0x02, 0x01, 0x01, 0x00, 0x00],
+        Text(&[0x30, 0x06, 0x02, 0x01, 0x05, 0x02, 0x01, 0x01]),
+    ),
+    (Type::Integers, &[0x30, 0x00], Text(&[0x30, 0x00])),
+    (
+        Type::Integer1s,
+        &[0x30, 0x80, 0x00, 0x00],
+        At(2, Reason::Missing),
+    ),
+    (
+        Type::Integers,
+        &[0x30, 0x03, 0x04, 0x01, 0x05],
+        At(2, Reason::WrongTag),
+    ),
+    (
+        Type::Integers,
+        &[0x30, 0x03, 0x02, 0x02, 0x00],
+        At(2, Reason::PastEnd),
+    ),
+    (
+        Type::IntegerSet,
+        &[
+            0x31, 0x80, 0x02, 0x01, 0x05, 0x02, 0x01, 0x01, 0x02, 0x01, 0x05, 0x00, 0x00,
+        ],
+        Text(&[
+            0x31, 0x09, 0x02, 0x01, 0x01, 0x02, 0x01, 0x05, 0x02, 0x01, 0x05,
+        ]),
+    ),
+    (Type::IntegerSet, &[0x11, 0x00], At(0, Reason::WrongForm)),
+    (
+        Type::StringSets,
+        &[
+            0x31, 0x0E, 0x31, 0x05, 0x04, 0x01, 0x02, 0x04, 0x00, 0x31, 0x05, 0x04, 0x01, 0x01,
+            0x04, 0x00,
+        ],
+        Text(&[
+            0x31, 0x0E, 0x31, 0x05, 0x04, 0x00, 0x04, 0x01, 0x01, 0x31, 0x05, 0x04, 0x00, 0x04,
+            0x01, 0x02,
+        ]),
+    ),
+];
+
+/// The text of the element that the source tells.
+fn text_of<T: Element, R: Source>(alloc: Global, source: &mut R) -> Result<Vec<u8>, ReadError>
+    requires { R.has_failed source.old ≡ false }
+{
+    let Some(limits) = Limits::new(32, 1_048_576) else {
+        return Err(ReadError::Memory);
+    };
+    let mut pull = Pull::new(source, limits);
+    let Some(_next) = pull.next_tag()? else {
+        return Err(ReadError::Memory);
+    };
+    let value = T::read(alloc, &mut pull)?;
+    match der_text(alloc, &value) {
+        Ok(text) => Ok(text),
+        Err(_) => Err(ReadError::Memory),
+    }
+}
+
+/// A list with at least one member.
+fn text_of_some<R: Source>(alloc: Global, source: &mut R) -> Result<Vec<u8>, ReadError>
+    requires { R.has_failed source.old ≡ false }
+{
+    let Some(limits) = Limits::new(32, 1_048_576) else {
+        return Err(ReadError::Memory);
+    };
+    let mut pull = Pull::new(source, limits);
+    let Some(_next) = pull.next_tag()? else {
+        return Err(ReadError::Memory);
+    };
+    let value: List<Int> = List::read_some(alloc, &mut pull)?;
+    match der_text(alloc, &value) {
+        Ok(text) => Ok(text),
+        Err(_) => Err(ReadError::Memory),
+    }
+}
+
+fn read_as<R: Source>(alloc: Global, source: &mut R, kind: Type) -> Result<Vec<u8>, ReadError>
+    requires { R.has_failed source.old ≡ false }
+{
+    match kind {
+        Type::Boolean => text_of::<Bool, R>(alloc, source),
+        Type::Integer => text_of::<Int, R>(alloc, source),
+        Type::NoValue => text_of::<Null, R>(alloc, source),
+        Type::Identifier => text_of::<Oid, R>(alloc, source),
+        Type::BitString => text_of::<Bits, R>(alloc, source),
+        Type::OctetString => text_of::<Octets, R>(alloc, source),
+        Type::Integers => text_of::<List<Int>, R>(alloc, source),
+        Type::Integer1s => text_of_some(alloc, source),
+        Type::IntegerSet => text_of::<SetOf<Int>, R>(alloc, source),
+        Type::StringSets => text_of::<SetOf<SetOf<Octets>>, R>(alloc, source),
+    }
+}
+
+#[test]
+fn values_are_read(rt: HostRuntime) -> Result<(), Fail> {
+    let alloc = rt.alloc();
+    for (kind, octets, outcome) in ROWS {
+        for piece in [1, 7, 64] {
+            let mut source = Pieces::new(octets, piece, false);
+            let read = read_as(alloc, &mut source, kind);
+            match outcome {
+                Text(text) => assert!(rt;
+                    read.ok().as_deref() == Some(text),
+                    "{kind:?} of {octets:?}"
+                ),
+                At(at, why) => assert!(rt;
+                    read.err()
+                        == Some(ReadError::Fault(Fault {
+                            at,
+                            why,
+                            inside: None
+                        })),
+                    "{kind:?} of {octets:?}"
+                ),
+            }
+        }
+    }
+    Ok(())
+}
+
+#[test]
+fn values_are_cut_short(rt: HostRuntime) -> Result<(), Fail> {
+    let alloc = rt.alloc();
+    for (kind, octets, outcome) in ROWS {
+        if let Text(_) = outcome {
+            for k in 0..octets.len() {
+                let at = k as u64;
+                let mut ends = Pieces::new(&octets[..k], 7, false);
+                let truncated = Fault {
+                    at,
+                    why: Reason::Truncated,
+                    inside: None,
+                };
+                assert!(rt;
+                    read_as(alloc, &mut ends, kind).err() == Some(ReadError::Fault(truncated)),
+                    "{kind:?} of {octets:?}"
+                );
+                let mut fails = Pieces::new(&octets[..k], 1, true);
+                assert!(rt;
+                    read_as(alloc, &mut fails, kind).err() == Some(ReadError::Read { at }),
+                    "{kind:?} of {octets:?}"
+                );
+            }
+        }
+    }
+    Ok(())
+}
+
+/// The SET OF the INTEGERs with these contents.
+fn integers(alloc: Global, contents: &[&[u8]]) -> Result<SetOf<Int>, BuildError> {
+    let mut items = Vec::new(alloc);
+    for content in contents {
+        items.push(Int::from_content(alloc, content)?)?;
+    }
+    SetOf::from_items(alloc, items)
+}
+
+/// The SET OF the OCTET STRINGs with these octets.
+fn strings(alloc: Global, contents: &[&[u8]]) -> Result<SetOf<Octets>, BuildError> {
+    let mut items = Vec::new(alloc);
+    for content in contents {
+        items.push(Octets::from_slice(alloc, content)?)?;
+    }
+    SetOf::from_items(alloc, items)
+}
+
+#[test]
+fn values_are_made(rt: HostRuntime) -> Result<(), Fail> {
+    let alloc = rt.alloc();
+    let set = integers(alloc, &[&[5], &[1], &[5]])?;
+    assert_eq!(rt;
+        der_text(alloc, &set)?.as_slice(),
+        [0x31, 9, 2, 1, 1, 2, 1, 5, 2, 1, 5].as_slice()
+    );
+    assert_eq!(rt;
+        der_text(alloc, &integers(alloc, &[])?)?.as_slice(),
+        [0x31, 0].as_slice()
+    );
+    assert!(rt; set.same(&integers(alloc, &[&[5], &[5], &[1]])?));
+    assert!(rt; !set.same(&integers(alloc, &[&[5], &[1]])?));
+    assert_eq!(rt; set.len(), 3);
+    assert!(rt; Int::from_content(alloc, &[0, 0x7F]).err() == Some(BuildError::Bad));
+    assert!(rt; Int::from_content(alloc, &[]).err() == Some(BuildError::Bad));
+    assert_eq!(rt;
+        der_text(alloc, &Octets::from_slice(alloc, &[7])?)?.as_slice(),
+        [4, 1, 7].as_slice()
+    );
+    let padded = strings(alloc, &[&[1, 0], &[1]])?;
+    assert_eq!(rt;
+        der_text(alloc, &padded)?.as_slice(),
+        [0x31, 7, 4, 1, 1, 4, 2, 1, 0].as_slice()
+    );
+    Ok(())
+}
+
+#[test]
+fn long_texts_are_told_apart(rt: HostRuntime) -> Result<(), Fail> {
+    let alloc = rt.alloc();
+    let mut first = vec![in alloc; 0u8; 299]?;
+    first.push(2)?;
+    let mut second = vec![in alloc; 0u8; 299]?;
+    second.push(1)?;
+    let set = strings(alloc, &[&first, &second])?;
+    assert_eq!(rt; set.size(), 612);
+    assert_eq!(rt; set.octet(0), Some(0x31));
+    assert_eq!(rt; set.octet(612), None);
+    assert!(rt;
+        set.get(0)
+            .is_some_and(|member| member.octets() == second.as_slice())
+    );
+    let mut target = Stops::new(alloc, 612, 5)?;
+    let mut sink = Sink::new(&mut target);
+    assert!(rt; set.put(&mut sink).is_ok());
+    assert_eq!(rt; sink.written(), 612);
+    assert_eq!(rt; target.octets(), der_text(alloc, &set)?.as_slice());
+    Ok(())
+}
