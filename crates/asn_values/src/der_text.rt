@@ -41,7 +41,7 @@ pub fn der_text<T: DerText>(alloc: Global, value: &T) -> Result<Vec<u8>, AllocEr
 }
 
 /// Whether the two have one text.
-pub(crate) fn same_text<T: DerText>(value: &T, other: &T) -> bool
+pub fn same_text<T: DerText>(value: &T, other: &T) -> bool
     ensures { IsTrue result ↔ (der (T.value value.now) ≡ der (T.value other.now)) }
 {
     let size = value.size();

@@ -41,7 +41,7 @@ fn class_number(class: Class) -> u8
 }
 
 /// Whether the two are one tag.
-pub(crate) fn is_same_tag(tag: Tag, other: Tag) -> bool
+pub fn is_same_tag(tag: Tag, other: Tag) -> bool
     ensures { result ≡ same_tag tag other }
 {
     class_number(tag.class()) == class_number(other.class()) && tag.number() == other.number()

@@ -1,3 +1,4 @@
 pub mod Handing
 pub mod PartTexts
+pub mod SameFields
 pub mod ShortFields

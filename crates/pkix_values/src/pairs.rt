@@ -1,6 +1,7 @@
 //! Sequences of two fields, of which the second may be absent.
-ghost use Rattle.std.specs.Prelude.{◌≡◌, ◌∷◌, IsSome, List, None, OnOk, Some, []};
+ghost use Rattle.std.specs.Prelude.{◌≡◌, ◌<◌, ◌^◌, ◌∷◌, IfOk, IsSome, List, None, OnOk, Some, [], length};
 ghost use Rattle.std.specs.Option.{option_map};
+ghost use Rattle.x690.specs.DerTexts.{texts_of};
 ghost use Rattle.x690.specs.DocumentTypes.{sequence};
 ghost use Rattle.x690.specs.Layouts.{universal};
 ghost use Rattle.x690.specs.ReadTypes.{read_type};
@@ -30,6 +31,7 @@ pub fn read_pair<R: Source, A: Element, B: Element>(
     ensures same_source { SameSource pull.old pull.new }
     ensures repeats { Repeats pull.old pull.new result }
     ensures reads { (given : Given) → (earlier : List Value) → (standing pull.old).error ≡ None → (standing pull.old).given ≡ Some given → AnswersValue pull.old pull.new (read_type (standing pull.old).limits (sequence (Required A.type_term (Required B.type_term EndOfFields))) earlier (enclosing (standing pull.old)) given.at given.tag given.constructed) (λ r. Sequence (universal 16) (values_of (A.value r.0 ∷ B.value r.1 ∷ []))) result }
+    ensures short { IfOk result (λ r. length (texts_of (A.value r.0 ∷ B.value r.1 ∷ [])) < 2 ^ 63) }
     ensures stands { OnOk result (Uses pull.old pull.new) }
     ensures keeps { Keeps pull.new result }
     ensures read { ReadsFail pull.old pull.new result }
@@ -52,6 +54,7 @@ pub fn read_one_or_two<R: Source, A: Element, B: Element>(
     ensures same_source { SameSource pull.old pull.new }
     ensures repeats { Repeats pull.old pull.new result }
     ensures reads { (given : Given) → (earlier : List Value) → (standing pull.old).error ≡ None → (standing pull.old).given ≡ Some given → AnswersValue pull.old pull.new (read_type (standing pull.old).limits (sequence (Required A.type_term (Optional B.type_term EndOfFields))) earlier (enclosing (standing pull.old)) given.at given.tag given.constructed) (λ r. Sequence (universal 16) (values_of (A.value r.0 ∷ with_field (option_map B.value r.1) []))) result }
+    ensures short { IfOk result (λ r. length (texts_of (A.value r.0 ∷ with_field (option_map B.value r.1) [])) < 2 ^ 63) }
     ensures stands { OnOk result (Uses pull.old pull.new) }
     ensures keeps { Keeps pull.new result }
     ensures read { ReadsFail pull.old pull.new result }

@@ -13,7 +13,7 @@ use tlv_core::tag::Tag;
 use tlv_core::target::Target;
 
 /// Fields one after another, and their texts.
-pub trait Parts {
+pub trait Parts: Drop {
     /// The values of those that are there.
     ghost values: { Self → List Value };
 
@@ -34,6 +34,7 @@ pub trait Parts {
 }
 
 /// A field.
+#[derive(Drop)]
 pub struct Field<'a, T: DerText>(pub &'a T);
 
 impl<'a, T: DerText> Parts for Field<'a, T> {
@@ -53,6 +54,7 @@ impl<'a, T: DerText> Parts for Field<'a, T> {
 }
 
 /// A field that may be absent.
+#[derive(Drop)]
 pub struct OptionalField<'a, T: DerText>(pub Option<&'a T>);
 
 impl<'a, T: DerText> Parts for OptionalField<'a, T> {
@@ -81,6 +83,7 @@ impl<'a, T: DerText> Parts for OptionalField<'a, T> {
 }
 
 /// Fields, and those behind them.
+#[derive(Drop)]
 pub struct Both<A: Parts, B: Parts> {
     pub first: A,
     pub rest: B,

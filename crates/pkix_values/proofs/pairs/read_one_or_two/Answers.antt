@@ -12,6 +12,7 @@ use Rattle.ber_pull.proofs.Hearing.{hears_done}
 use Rattle.asn_values.proofs.Answering.{value_err}
 use Rattle.asn_values.proofs.SameMembers.{same_lists}
 use Rattle.pkix_values.proofs.Handing.{each_with}
+use Rattle.pkix_values.proofs.SameFields.{one_or_two_short}
 use Rattle.pkix_values.proofs.pairs.read_one_or_two.Goals as goal
 
 pub returns-in_err-next-clause-reads : goal.returns-in_err-next-clause-reads
@@ -63,3 +64,6 @@ returns-clause-reads g c = λ given earlier fine is.
           (optional _ _ _ _ _ _ _ _ _ _ _ _ _ _ _ _ (optional_closed _ _ _ _ _ _ _ _ _ _ c.requires.closed f2.2)
           (ends _ _ _ _ _ _ _ _ _ _ _ _ (c.in_ok-end.ensures.reads _ _ i3) (hears_done _ _ _)))),
     )
+
+pub returns-clause-short : goal.returns-clause-short
+returns-clause-short g c = one_or_two_short g.B.DerText.value (g.A.DerText.value c.in_ok-first.first) c.in_ok-second.second c.in_ok-first.ensures.short c.in_ok-second.ensures.short

@@ -1,0 +1,21 @@
+-- The values of the types, field by field.
+use Rattle.std.specs.Prelude.{Bool as Truth, List, None, Option, Some, [], cond, true, ℕ, ◌++◌, ◌∷◌}
+use Rattle.std.specs.Option.{option_map}
+use Rattle.x690.specs.Layouts.{universal}
+use Rattle.x690.specs.Values.{Leaf, Value}
+use Rattle.ber_pull.specs.Fields.{with_field}
+use Rattle.asn_values.specs.Leaves.{octets_of, truth}
+use Rattle.asn_values.specs.declared.boolean.Bool.{Bool}
+use Rattle.asn_values.specs.declared.octets.Octets.{Octets}
+
+abbrev pub truth_value : Bool → Value
+truth_value b = Leaf (universal 1) (cond (truth b) 255 0 ∷ [])
+
+-- it is TRUE where it is there
+abbrev pub true_if_there : Option Bool → Truth
+true_if_there None = true
+true_if_there (Some b) = truth b
+
+-- extnID, critical where it isn't the default, extnValue
+abbrev pub extension_values : List ℕ → Option Bool → Octets → List Value
+extension_values id critical value = Leaf (universal 6) id ∷ (with_field (option_map truth_value critical) [] ++ (Leaf (universal 4) (octets_of value) ∷ []))

@@ -1,0 +1,130 @@
+//! Extension of RFC 5280 section 4.1.
+ghost use Rattle.std.specs.Prelude.{◌≡◌, ◌↔◌, ◌<◌, ◌^◌, ◌∷◌, IsTrue, [], length, true};
+ghost use Rattle.std.specs.Option.{is_some, option_map};
+ghost use Rattle.x690.specs.DerTexts.{der, texts_of};
+ghost use Rattle.x690.specs.DocumentTypes.{Extension as ExtensionType};
+ghost use Rattle.x690.specs.Layouts.{universal};
+ghost use Rattle.x690.specs.Values.{Sequence, values_of};
+ghost use Rattle.ber_pull.specs.Fields.{but_default};
+ghost use Rattle.pkix_values.specs.Values.{extension_values, true_if_there, truth_value};
+
+use crate::fields::{begin, due, end, optional};
+use crate::parts::{Both, Field, OptionalField, put_sequence, sequence_octet, sequence_size};
+use asn_values::boolean::Bool;
+use asn_values::der_text::{DerText, same_text};
+use asn_values::element::Element;
+use asn_values::octets::Octets;
+use asn_values::tags::{is_same_tag, universal_tag};
+use ber_pull::pull::Pull;
+use std::alloc::Global;
+use tlv_core::fault::ReadError;
+use tlv_core::oid::Oid;
+use tlv_core::sink::{Sink, WriteError};
+use tlv_core::source::Source;
+use tlv_core::tag::Tag;
+use tlv_core::target::Target;
+
+/// An extension of a certificate or a request; what it says is carried.
+#[derive(Drop)]
+pub struct Extension {
+    id: Oid,
+    /// There where it is TRUE, which isn't the default.
+    critical: Option<Bool>,
+    value: Octets,
+    ghost not_default: { true_if_there critical ≡ true },
+    ghost small: { length (texts_of (extension_values id critical value)) < 2 ^ 63 },
+}
+
+/// A BOOLEAN DEFAULT FALSE that may be left out: it is where it is FALSE (X.690 11.5).
+fn unless_false(critical: Option<Bool>) -> Option<Bool>
+    ensures is { option_map truth_value result ≡ but_default (universal 1) (0 ∷ []) (option_map truth_value critical) }
+    ensures not_default { true_if_there result ≡ true }
+{
+    match critical {
+        Some(b) => { if b.value() { Some(b) } else { None } }
+        None => None,
+    }
+}
+
+impl Extension {
+    /// What it is about.
+    pub fn id(&self) -> &Oid
+        ensures { result.now ≡ self.now.id }
+    {
+        &self.id
+    }
+
+    /// Whether one who doesn't know it has to refuse the certificate.
+    pub fn critical(&self) -> bool
+        ensures { result ≡ is_some self.now.critical }
+    {
+        self.critical.is_some()
+    }
+
+    /// What it says: the octets of a DER text of another type.
+    pub fn value(&self) -> &Octets
+        ensures { result.now ≡ self.now.value }
+    {
+        &self.value
+    }
+
+    /// Whether the two are the same.
+    pub fn same(&self, other: &Extension) -> bool
+        ensures { IsTrue result ↔ (der (Sequence (universal 16) (values_of (extension_values self.now.id self.now.critical self.now.value))) ≡ der (Sequence (universal 16) (values_of (extension_values other.now.id other.now.critical other.now.value)))) }
+    {
+        same_text(self, other)
+    }
+
+    fn parts(&self) -> Both<Field<'_, Oid>, Both<OptionalField<'_, Bool>, Field<'_, Octets>>>
+        ensures id { result.first.0.now ≡ self.now.id }
+        ensures critical { option_map (λ r. truth_value r.now) result.rest.first.0 ≡ option_map truth_value self.now.critical }
+        ensures value { result.rest.rest.0.now ≡ self.now.value }
+    {
+        Both {
+            first: Field(&self.id),
+            rest: Both {
+                first: OptionalField(self.critical.as_ref()),
+                rest: Field(&self.value),
+            },
+        }
+    }
+}
+
+impl DerText for Extension {
+    ghost value = { λ e. Sequence (universal 16) (values_of (extension_values e.id e.critical e.value)) };
+
+    fn size(&self) -> u64 {
+        sequence_size(universal_tag(16), &self.parts())
+    }
+
+    fn put<W: Target>(&self, sink: &mut Sink<'_, W>) -> Result<(), WriteError> {
+        put_sequence(universal_tag(16), &self.parts(), sink)
+    }
+
+    fn octet(&self, i: u64) -> Option<u8> {
+        sequence_octet(universal_tag(16), &self.parts(), i)
+    }
+}
+
+impl Element for Extension {
+    ghost type_term = { ExtensionType };
+
+    #[tactic(auto, unfolding(x690::specs::TypeTerms::fits_tag, x690::specs::DocumentTypes::Extension))]
+    fn fits(tag: Tag) -> bool {
+        is_same_tag(universal_tag(16), tag)
+    }
+
+    fn read<R: Source>(alloc: Global, pull: &mut Pull<'_, R>) -> Result<Extension, ReadError> {
+        let mut next = begin(pull, universal_tag(16))?;
+        let id = due::<R, Oid>(alloc, pull, &mut next)?;
+        let critical = optional::<R, Bool>(alloc, pull, &mut next)?;
+        let value = due::<R, Octets>(alloc, pull, &mut next)?;
+        end(pull, next)?;
+        let critical = unless_false(critical);
+        Ok(Extension {
+            id,
+            critical,
+            value,
+        })
+    }
+}
