@@ -9,3 +9,5 @@ pub mod extension;
 pub mod fields;
 pub mod pairs;
 pub mod parts;
+#[cfg(test)]
+mod tests;
