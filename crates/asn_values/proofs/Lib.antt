@@ -1,5 +1,6 @@
 pub mod Answering
 pub mod ContainerTexts
+pub mod Handing
 pub mod HeaderOctets
 pub mod LeafReadings
 pub mod MappedMembers
@@ -11,4 +12,5 @@ pub mod PairedMembers
 pub mod Putting
 pub mod SameMembers
 pub mod ShortElements
+pub mod ShortFields
 pub mod TypeReadings

@@ -1,4 +1,5 @@
 pub mod Containers
+pub mod Fields
 pub mod Framing
 pub mod Leaves
 pub mod Members

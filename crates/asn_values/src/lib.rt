@@ -7,6 +7,7 @@
 //! ascend as 11.6 has it, equal ones kept. A reader answers what the plain reading of its type (`x690`) gives for the octets taken: a value that is the same
 //! up to the order in SET OF, or the first fault; a failed read only where that octet was needed; want of memory says nothing. By the laws of `x690_laws`
 //! a value that was read is spelled by exactly those octets, and no spelling is refused. `from_content`, `from_slice` and `from_items` refuse exactly what they name.
+//! `fields` reads a SEQUENCE field by field, as the plain reading of its type does.
 //! `same` is proved to be "the same text". Open values, strings of other tags, and the reading of `Tagged` are still to come.
 #![tactic(auto)]
 
@@ -15,6 +16,7 @@ pub mod boolean;
 pub mod build;
 pub mod der_text;
 pub mod element;
+pub mod fields;
 pub mod framing;
 pub mod integer;
 mod leaf;

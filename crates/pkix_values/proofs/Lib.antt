@@ -1,4 +1,2 @@
-pub mod Handing
 pub mod PartTexts
 pub mod SameFields
-pub mod ShortFields

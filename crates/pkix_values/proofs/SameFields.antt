@@ -10,7 +10,7 @@ use Rattle.x690.specs.Values.{Leaf, Same, Sequence, SetOf, Value}
 use Rattle.x690_laws.proofs.Sames.{equivalence}
 use Rattle.ber_pull.specs.Fields.{but_default, with_field}
 use Rattle.asn_values.specs.declared.boolean.Bool.{Bool}
-use Rattle.pkix_values.specs.Fields.{SameField}
+use Rattle.asn_values.specs.Fields.{SameField}
 use Rattle.pkix_values.specs.Values.{truth_value}
 
 -- an optional field in front of others

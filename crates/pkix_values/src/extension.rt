@@ -8,11 +8,11 @@ ghost use Rattle.x690.specs.Values.{Sequence, values_of};
 ghost use Rattle.ber_pull.specs.Fields.{but_default};
 ghost use Rattle.pkix_values.specs.Values.{extension_values, true_if_there, truth_value};
 
-use crate::fields::{begin, due, end, optional};
 use crate::parts::{Both, Field, OptionalField, put_sequence, sequence_octet, sequence_size};
 use asn_values::boolean::Bool;
 use asn_values::der_text::{DerText, same_text};
 use asn_values::element::Element;
+use asn_values::fields::{begin, due, end, optional};
 use asn_values::octets::Octets;
 use asn_values::tags::{is_same_tag, universal_tag};
 use ber_pull::pull::Pull;

@@ -13,8 +13,8 @@ ghost use Rattle.ber_pull.specs.View.{standing, SameSource, Repeats, Keeps, Read
 ghost use Rattle.asn_values.specs.Reading.{AnswersValue};
 ghost use Rattle.ber_pull.specs.declared.state.Given.{Given};
 
-use crate::fields::{begin, due, end, optional};
 use asn_values::element::Element;
+use asn_values::fields::{begin, due, end, optional};
 use asn_values::tags::universal_tag;
 use ber_pull::pull::Pull;
 use std::alloc::Global;

@@ -11,7 +11,7 @@ use Rattle.ber_pull.proofs.Fields.{begins, begins_error, due, due_closed, due_er
 use Rattle.ber_pull.proofs.Hearing.{hears_done}
 use Rattle.asn_values.proofs.Answering.{value_err}
 use Rattle.asn_values.proofs.SameMembers.{same_lists}
-use Rattle.pkix_values.proofs.Handing.{each_with}
+use Rattle.asn_values.proofs.Handing.{each_with}
 use Rattle.pkix_values.proofs.SameFields.{two_short}
 use Rattle.pkix_values.proofs.pairs.read_pair.Goals as goal
 

@@ -17,10 +17,10 @@ ghost use Rattle.ber_pull.specs.Hears.{heard};
 ghost use Rattle.ber_pull.specs.Standing.{Standing, enclosing, used};
 ghost use Rattle.ber_pull.specs.View.{standing, SameSource, Repeats, Keeps, ReadsFail, Onward, Answers};
 ghost use Rattle.ber_pull.specs.declared.state.Given.{Given};
-ghost use Rattle.pkix_values.specs.Fields.{AnswersField, AnswersInside, IsInside, SameField, StaysInside, next_of};
+ghost use Rattle.asn_values.specs.Fields.{AnswersField, AnswersInside, IsInside, SameField, StaysInside, next_of};
 
-use asn_values::element::Element;
-use asn_values::leaf_reading::expect_tag;
+use crate::element::Element;
+use crate::leaf_reading::expect_tag;
 use ber_pull::pull::Pull;
 use std::alloc::Global;
 use tlv_core::fault::ReadError;

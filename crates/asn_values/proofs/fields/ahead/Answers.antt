@@ -9,9 +9,9 @@ use Rattle.ber_pull.proofs.Fields.{begin_in, begin_wrong, due_missing, due_read,
 use Rattle.ber_pull.proofs.Insides.{inside_given, leaves, left_here, next_inside, opens_within, stands_some, used_within, within_limits, within_next, within_none}
 use Rattle.x690.specs.ReadHeaders.{next_tag}
 use Rattle.ber_pull.specs.Standing.{enclosing}
-use Rattle.pkix_values.proofs.ShortFields.{begins_here}
-use Rattle.pkix_values.specs.Fields.{next_of}
-use Rattle.pkix_values.proofs.fields.ahead.Goals as goal
+use Rattle.asn_values.proofs.ShortFields.{begins_here}
+use Rattle.asn_values.specs.Fields.{next_of}
+use Rattle.asn_values.proofs.fields.ahead.Goals as goal
 
 pub returns-in_err-tag-clause-reads : goal.returns-in_err-tag-clause-reads
 returns-in_err-tag-clause-reads g c = λ outer inside w.

@@ -12,7 +12,7 @@ use Rattle.ber_pull.specs.Fields.{with_field}
 use Rattle.ber_pull.specs.Hears.{heard_error}
 use Rattle.ber_pull.specs.View.{Answers}
 use Rattle.ber_pull.specs.declared.pull.Pull.{Pull}
-use Rattle.pkix_values.specs.Fields.{SameField}
+use Rattle.asn_values.specs.Fields.{SameField}
 
 pub field_err : {R A V : Type 0} {s : Ghosts R} (old new : Pull R s) (p : Reading (V × headers.Next)) (Alike : V → V → Type 0) (value : A → V) (behind : headers.Next) (r : Result A ReadError) (e : ReadError) → r ≡ Err e → Answers old new p (heard_error e) → MatchResult r (λ x. (v : V) × Alike v (value x) × Answers old new p (Said (v, behind))) (λ e. Answers old new p (heard_error e))
 field_err {R} {A} {V} old new p Alike value behind r e h x = subst (λ w. MatchResult w (λ x. (v : V) × Alike v (value x) × Answers old new p (Said (v, behind))) (λ e. Answers old new p (heard_error e))) (sym h) x

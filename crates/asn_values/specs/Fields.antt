@@ -12,7 +12,7 @@ use Rattle.ber_pull.specs.Hears.{heard_error, next_at}
 use Rattle.ber_pull.specs.Standing.{Standing}
 use Rattle.ber_pull.specs.View.{Answers}
 use Rattle.ber_pull.specs.declared.pull.Pull.{Pull}
-use Rattle.pkix_values.specs.declared.fields.Next.{Next}
+use Rattle.asn_values.specs.declared.fields.Next.{Next}
 
 -- what stands next
 abbrev pub next_of : Next → headers.Next

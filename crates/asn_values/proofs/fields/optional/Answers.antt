@@ -11,11 +11,11 @@ use Rattle.std.specs.Option.{option_map}
 use Rattle.x690.specs.Values.{Same}
 use Rattle.ber_pull.specs.Fields.{read_due, read_optional}
 use Rattle.ber_pull.specs.declared.state.Given.{Given}
-use Rattle.pkix_values.specs.Fields.{SameField, next_of}
+use Rattle.asn_values.specs.Fields.{SameField, next_of}
 use Rattle.ber_pull.specs.Fields.{BeginsBefore}
-use Rattle.pkix_values.proofs.ShortFields.{field_short}
-use Rattle.pkix_values.proofs.Handing.{field_err}
-use Rattle.pkix_values.proofs.fields.optional.Goals as goal
+use Rattle.asn_values.proofs.ShortFields.{field_short}
+use Rattle.asn_values.proofs.Handing.{field_err}
+use Rattle.asn_values.proofs.fields.optional.Goals as goal
 
 pub returns-in-None-clause-reads : goal.returns-in-None-clause-reads
 returns-in-None-clause-reads g c = λ outer inside a.

@@ -9,8 +9,8 @@ use Rattle.ber_pull.specs.Calls.{read_entering}
 use Rattle.ber_pull.specs.Fields.{Inside, read_begin}
 use Rattle.ber_pull.specs.Standing.{enclosing, opening, used}
 use Rattle.asn_values.proofs.Answering.{fine_still, given_still, unmoved_answers}
-use Rattle.pkix_values.specs.Fields.{next_of}
-use Rattle.pkix_values.proofs.fields.begin.Goals as goal
+use Rattle.asn_values.specs.Fields.{next_of}
+use Rattle.asn_values.proofs.fields.begin.Goals as goal
 
 pub returns-in_err-expect_tag-clause-reads : goal.returns-in_err-expect_tag-clause-reads
 returns-in_err-expect_tag-clause-reads g c = λ given fine is.
