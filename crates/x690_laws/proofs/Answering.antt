@@ -181,7 +181,7 @@ inside_of_answers l T b f hn h = go (refused_by l T b f h)
 pub text_answers_itself : TextAnswersItself
 text_answers_itself l T b t n lw lt h =
     let s = subst (IsAnswer l T b) h (one_answer.is_answer l T b) in
-    let x = text_spells l T s.value s.first lw.distinct lt s.spells in
+    let x = text_spells l T s.value s.first lw.distinct (omega (arith, lt)) s.spells in
     ap (λ z. answer l T z) (s.text_is ∙ sym (append-nil (der s.value))) ∙ spelling_is l T s.value (der s.value) [] lw.fair x ∙ ap₂ (λ a c. Spelled a c) (sym s.text_is) (ap length (sym s.text_is))
 
 pub texts_tell_values : TextsTellValues

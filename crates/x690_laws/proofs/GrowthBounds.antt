@@ -96,8 +96,33 @@ twice = record {
 pub growth_by_two : GrowthByTwo
 growth_by_two d T earlier r v b a h k = grows twice d T earlier r v b a h k
 
+-- at most five times as long: so it is of octets of any length that is below 2^64 five times
+
+five_times : (t : Tag) (f g : Bool) (o c b : List ℕ) → length b < 1152921504606846976 → length o ≤ 5 * length c → Framed t g c b → length (der_element t f o) ≤ 5 * length b
+five_times t f g o c b a l h =
+    let e = element_length t f o in
+    ⊎_elim
+    (λ d.
+    let k = definite_length t g c b d in
+    let some = spelled_some (length c) d.length_octets d.spells in
+    omega (arith, identifier_form t f g, identifier_some t g, shortest_within 8 (length o) (omega arith)))
+    (λ d. let k = indefinite_length t c b d in omega (arith, identifier_form t f true, identifier_some t true, shortest_within 8 (length o) (omega arith)))
+    h
+
+five : Growing (λ b. length b < 1152921504606846976) (λ m n. m ≤ 5 * n)
+five = record {
+  front = λ x y h. omega (arith, length-append x y);
+  back = λ x y h. omega (arith, length-append x y);
+  held = λ r b h a. omega (arith, held_length r b h);
+  within = λ m n h. omega arith;
+  slack = λ m n n' l h. omega arith;
+  joined = λ m m' n n' h k. omega arith;
+  brief = λ t f g o c b l h. let x = brief_length t f g o c b l h in omega (arith, x.0, x.1);
+  element = five_times;
+}
+
 pub growth : Growth
-growth d T earlier r v b a h k = omega (arith, growth_by_two d T earlier r v b a h k)
+growth d T earlier r v b a h k = grows five d T earlier r v b a h k
 
 -- at most half as long again
 

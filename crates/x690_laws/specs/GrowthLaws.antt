@@ -16,7 +16,7 @@ use Rattle.x690.specs.Values.{Value}
 
 abbrev pub Growth : Type 0
 Growth =
-    (depth : ℕ) (type : TypeTerm) (earlier : List Value) (tree : RawTree) (value : Value) (octets : List ℕ) → length octets < 2147483648
+    (depth : ℕ) (type : TypeTerm) (earlier : List Value) (tree : RawTree) (value : Value) (octets : List ℕ) → length octets < 1152921504606846976
     → LaidOut tree octets → Fits depth type earlier tree value → length (der value) ≤ 5 * length octets
 
 abbrev pub GrowthByTwo : Type 0

@@ -11,7 +11,7 @@ abbrev pub OneValue : Type 0
 OneValue = (depth : ℕ) (type : TypeTerm) (earlier : List Value) (tree : RawTree) (v w : Value) → Fits depth type earlier tree v → Fits depth type earlier tree w → Same v w
 
 abbrev pub TextSpells : Type 0
-TextSpells = (limits : Limits) (type : TypeTerm) (value : Value) (octets : List ℕ) → Distinct type → limits.octets < 2147483648 → Spells limits type value octets → Spells limits type value (der value)
+TextSpells = (limits : Limits) (type : TypeTerm) (value : Value) (octets : List ℕ) → Distinct type → limits.octets < 18446744073709551616 → Spells limits type value octets → Spells limits type value (der value)
 
 -- The limits may differ.
 abbrev pub OneText : Type 0

@@ -1,0 +1,102 @@
+//! Open values: elements of any type, read by their tags alone.
+//!
+//! Universal tags say their types (X.680 8.6); elements of other classes keep their octets where they are primitive, and their elements in
+//! order where they are constructed. An open value is kept as its DER text, so that writing and comparing it is a matter of octets.
+ghost use Rattle.std.specs.Prelude.{◌≡◌, ◌↔◌, IsTrue};
+ghost use Rattle.std.specs.Option.{option_map};
+ghost use Rattle.x690.specs.DerTexts.{der};
+ghost use Rattle.x690.specs.TypeTerms.{OpenType};
+ghost use Rattle.asn_values.specs.OpenTexts.{identifier_in, open_value};
+
+use crate::der_text::{DerText, der_text};
+use crate::element::Element;
+use crate::object_identifier::read_identifier;
+use crate::open_value::append_open;
+use crate::tags::{is_same_tag, universal_tag};
+use ber_pull::pull::Pull;
+use std::alloc::Global;
+use tlv_core::fault::ReadError;
+use tlv_core::oid::Oid;
+use tlv_core::sink::{Sink, WriteError};
+use tlv_core::source::Source;
+use tlv_core::tag::Tag;
+use tlv_core::target::Target;
+
+/// An open value.
+#[derive(Drop)]
+pub struct Any {
+    /// Its DER text.
+    text: Vec<u8>,
+    /// There where it is an OBJECT IDENTIFIER.
+    oid: Option<Oid>,
+    ghost whole: { der (open_value text.items) ≡ text.items },
+    ghost identified: { oid ≡ identifier_in (open_value text.items) },
+}
+
+impl Any {
+    ghost use Rattle.asn_values.specs.OpenValues.{open_value_of};
+
+    /// The OBJECT IDENTIFIER that it is, if it is one.
+    pub fn oid(&self) -> Option<&Oid>
+        ensures { option_map (λ r. r.now) result ≡ identifier_in (open_value_of self.now) }
+    {
+        self.oid.as_ref()
+    }
+
+    /// Whether the two have one text, and so are the same.
+    pub fn same(&self, other: &Any) -> bool
+        ensures { IsTrue result ↔ (der (open_value_of self.now) ≡ der (open_value_of other.now)) }
+    {
+        self.text == other.text
+    }
+}
+
+impl DerText for Any {
+    ghost use Rattle.asn_values.specs.OpenValues.{open_value_of};
+
+    ghost value = { open_value_of };
+
+    fn size(&self) -> u64 {
+        self.text.len() as u64
+    }
+
+    fn put<W: Target>(&self, sink: &mut Sink<'_, W>) -> Result<(), WriteError> {
+        sink.put(&self.text)
+    }
+
+    fn octet(&self, i: u64) -> Option<u8> {
+        if i < self.text.len() as u64 {
+            Some(self.text[i as usize])
+        } else {
+            None
+        }
+    }
+}
+
+impl Element for Any {
+    ghost type_term = { OpenType };
+
+    #[tactic(auto, unfolding(x690::specs::TypeTerms::fits_tag))]
+    fn fits(_tag: Tag) -> bool {
+        true
+    }
+
+    fn read<R: Source>(alloc: Global, pull: &mut Pull<'_, R>) -> Result<Any, ReadError> {
+        let Some((tag, _)) = pull.next_tag()? else {
+            unreachable!()
+        };
+        if is_same_tag(universal_tag(6), tag) {
+            let oid = read_identifier(alloc, pull)?;
+            return match der_text(alloc, &oid) {
+                Ok(text) => Ok(Any {
+                    text,
+                    oid: Some(oid),
+                }),
+                Err(_) => Err(pull.no_memory()),
+            };
+        }
+        let mut text = Vec::new(alloc);
+        append_open(alloc, pull, &mut text)?;
+        Ok(Any { text, oid: None })
+    }
+}
