@@ -33,3 +33,4 @@ pub mod tagged;
 pub mod tags;
 #[cfg(test)]
 mod tests;
+mod texts;
