@@ -35,3 +35,4 @@ pub mod tagged;
 pub mod tags;
 #[cfg(test)]
 mod tests;
+mod texts;
