@@ -1,5 +1,5 @@
 -- Type terms: the types of ASN.1 that the documents use, as data.
-use Rattle.std.specs.Prelude.{Bool, List, Option, false, true, ℕ, ◌||◌, ◌≡◌, ◌⊎◌}
+use Rattle.std.specs.Prelude.{Bool, List, Option, [], false, true, ℕ, ◌||◌, ◌∷◌, ◌≡◌, ◌⊎◌}
 use Rattle.tlv_core.specs.Identifier.{Tag}
 use Rattle.tlv_core.specs.declared.reason.Reason.{Reason}
 use Rattle.x690.specs.Contents.{LeafKind}
@@ -38,6 +38,11 @@ mutual
     Required Optional : TypeTerm → Fields → Fields
     -- with a DEFAULT, which is a leaf: its tag and contents
     Default : Tag → List ℕ → TypeTerm → Fields → Fields
+
+-- a CHOICE of several types
+abbrev pub choice_of : TypeTerm → List TypeTerm → TypeTerm
+choice_of first [] = first
+choice_of first (second ∷ more) = ChoiceType first (choice_of second more)
 
 -- A value of the type may begin with the tag.
 unfoldable pub fits_tag : TypeTerm → Tag → Bool
