@@ -33,6 +33,7 @@ mod row;
 pub mod set_of;
 pub mod tagged;
 pub mod tags;
+pub mod text;
 #[cfg(test)]
 mod tests;
 mod texts;

@@ -12,11 +12,11 @@ use Rattle.x690.specs.Contents.{LeafKind}
 use Rattle.x690.specs.Layouts.{same_tag}
 use Rattle.x690.specs.Lists.{one_of}
 use Rattle.x690.specs.Points.{Enclosing, fault}
-use Rattle.x690.specs.ReadHeaders.{ContainerEnds, ElementStands, LengthForm, Next, entered, in_container, next_tag, read_length}
+use Rattle.x690.specs.ReadHeaders.{ContainerEnds, ElementStands, Next, entered, in_container, next_tag, read_length}
 use Rattle.x690.specs.ReadTypes.{apply_rule, is_this_leaf, read_fields, read_type}
 use Rattle.x690.specs.Reading.{Done, Fail, Reading, Where, choose, require, run, ◌>>=◌}
 use Rattle.x690.specs.Reads.{Heard, Refused, Said}
-use Rattle.x690.specs.TypeTerms.{Default, DefinedByType, EndOfFields, Fields, LeafType, OpenType, Optional, Required, Rule, RuledType, SequenceOfType, SequenceType, SetOfType, TypeTerm, fits_tag}
+use Rattle.x690.specs.TypeTerms.{ChoiceType, Default, DefinedByType, EndOfFields, Fields, LeafType, OpenType, Optional, Required, Rule, RuledType, SequenceOfType, SequenceType, SetOfType, TypeTerm, fits_tag}
 use Rattle.x690.specs.Values.{Sequence, Value, leaf_at, values_of}
 use Rattle.ber_pull.specs.Fields.{IsClosed, but_default, read_begin, read_due, read_end, read_optional, with_field}
 use Rattle.ber_pull.specs.Hears.{Hears, heard_error, next_at}
@@ -211,6 +211,10 @@ sequence_of_closed own least T l earlier c p tag constructed = refl
 pub set_of_closed : (own : Tag) (least : ℕ) (T : TypeTerm) → IsClosed (SetOfType own least T)
 unfolding read_type
 set_of_closed own least T l earlier c p tag constructed = refl
+
+pub choice_closed : (first second : TypeTerm) → IsClosed first → IsClosed second → IsClosed (ChoiceType first second)
+unfolding read_type
+choice_closed first second closed closed' l earlier c p tag constructed = ap₂ (choose (fits_tag first tag)) (closed l earlier c p tag constructed) (closed' l earlier c p tag constructed)
 
 -- with a rule on the value alone
 pub ruled_closed : (rule : Rule) (T : TypeTerm) → IsClosed T → ((earlier : List Value) → rule earlier ≡ rule []) → IsClosed (RuledType rule T)

@@ -6,7 +6,7 @@ use Rattle.x690.specs.DerTexts.{der}
 use Rattle.x690.specs.Layouts.{Constructed, LaidOut, RawTree, RawTrees, member_trees, tree_depth, tree_tag}
 use Rattle.x690.specs.Lists.{Each, Paired, one_of}
 use Rattle.x690.specs.OpenValues.{FitsOpen}
-use Rattle.x690.specs.TypeTerms.{ContainingType, Default, DefinedByType, Fields, LeafType, EndOfFields, OpenType, Optional, RefusedType, Required, RuledType, SequenceOfType, SequenceType, SetOfType, TypeTerm, fits_tag}
+use Rattle.x690.specs.TypeTerms.{ChoiceType, Chosen, ContainingType, Default, DefinedByType, Fields, LeafType, EndOfFields, OpenType, Optional, RefusedType, Required, RuledType, SequenceOfType, SequenceType, SetOfType, TypeTerm, fits_tag}
 use Rattle.x690.specs.Values.{Leaf, Same, Sequence, SetOf, Value, Values, leaf_at, members}
 
 -- a tree is left, and begins as a value of the type may
@@ -34,9 +34,8 @@ unfoldable mutual
       × (value ≡ Leaf tag (der contained)) × (rule earlier contained ≡ None)
   Fits depth (RuledType rule type) earlier tree value = (rule earlier value ≡ None) × Fits depth type earlier tree value
   Fits depth (RefusedType tag why) earlier tree value = ⊥
-  Fits depth (DefinedByType path octets first second) earlier tree value =
-      ((one_of (leaf_at path earlier) octets ≡ true) × Fits depth first earlier tree value)
-      ⊎ ((one_of (leaf_at path earlier) octets ≡ false) × Fits depth second earlier tree value)
+  Fits depth (DefinedByType path octets first second) earlier tree value = Chosen (one_of (leaf_at path earlier) octets) (Fits depth first earlier tree value) (Fits depth second earlier tree value)
+  Fits depth (ChoiceType first second) earlier tree value = Chosen (fits_tag first (tree_tag tree)) (Fits depth first earlier tree value) (Fits depth second earlier tree value)
 
   -- The trees are those of the fields, in order, and say the values of those that are there.
   pub FitsFields : ℕ → Fields → List Value → List RawTree → List Value → Type 0

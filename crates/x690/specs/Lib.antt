@@ -19,6 +19,7 @@ pub mod Reading
 pub mod Reads
 pub mod Rules
 pub mod Stops
+pub mod StringTypes
 pub mod Takes
 pub mod TypeTerms
 pub mod ValueCodes

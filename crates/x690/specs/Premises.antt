@@ -3,7 +3,7 @@ use Rattle.std.specs.Prelude.{List, Some, ◌≡◌}
 use Rattle.tlv_core.specs.declared.reason.Reason.{Reason}
 use Rattle.tlv_core.specs.declared.reason.Reason.TheVariants.{Inner, Truncated}
 use Rattle.x690.specs.Lists.{Each}
-use Rattle.x690.specs.TypeTerms.{ContainingType, Default, DefinedByType, Distinct, EndOfFields, Fields, LeafType, OpenType, Optional, RefusedType, Required, Rule, RuledType, SequenceOfType, SequenceType, SetOfType, TypeTerm}
+use Rattle.x690.specs.TypeTerms.{ChoiceType, ContainingType, Default, DefinedByType, Distinct, EndOfFields, Fields, LeafType, OpenType, Optional, RefusedType, Required, Rule, RuledType, SequenceOfType, SequenceType, SetOfType, TypeTerm}
 use Rattle.x690.specs.Values.{Same, Value}
 
 -- The rule says the same of values that are the same.
@@ -22,6 +22,7 @@ unfoldable mutual
   Fair (RuledType rule type) = FairRule rule × Fair type
   Fair (RefusedType tag why) = Unit {0}
   Fair (DefinedByType path octets first second) = Fair first × Fair second
+  Fair (ChoiceType first second) = Fair first × Fair second
 
   pub FairFields : Fields → Type 0
   FairFields EndOfFields = Unit {0}
@@ -48,6 +49,7 @@ unfoldable mutual
   Honest (RuledType rule type) = HonestRule rule × Honest type
   Honest (RefusedType tag why) = HonestReason why
   Honest (DefinedByType path octets first second) = Honest first × Honest second
+  Honest (ChoiceType first second) = Honest first × Honest second
 
   pub HonestFields : Fields → Type 0
   HonestFields EndOfFields = Unit {0}

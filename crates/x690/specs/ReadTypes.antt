@@ -13,7 +13,7 @@ use Rattle.x690.specs.Points.{Enclosing, fault, outermost}
 use Rattle.x690.specs.ReadContents.{all_members, read_leaf, read_open}
 use Rattle.x690.specs.ReadHeaders.{ContainerEnds, ElementStands, Next, in_container, next_tag}
 use Rattle.x690.specs.Reading.{Done, Fail, Halted, Outcome, Reading, Took, choose, require, run, ◌>>=◌}
-use Rattle.x690.specs.TypeTerms.{ContainingType, Default, DefinedByType, Fields, LeafType, EndOfFields, OpenType, Optional, RefusedType, Required, RuledType, SequenceOfType, SequenceType, SetOfType, TypeTerm, fits_tag}
+use Rattle.x690.specs.TypeTerms.{ChoiceType, ContainingType, Default, DefinedByType, Fields, LeafType, EndOfFields, OpenType, Optional, RefusedType, Required, RuledType, SequenceOfType, SequenceType, SetOfType, TypeTerm, fits_tag}
 use Rattle.x690.specs.Values.{Leaf, Sequence, SetOf, Value, leaf_at, leaf_contents, values_of}
 
 -- what a rule says of a value
@@ -58,6 +58,7 @@ unfoldable mutual
   read_type limits (RuledType rule type) earlier enclosing place tag constructed = read_type limits type earlier enclosing place tag constructed >>= λ value. apply_rule place (rule earlier value) value
   read_type limits (RefusedType own why) earlier enclosing place tag constructed = require (same_tag own tag) (fault place WrongTag) (Fail (fault place why))
   read_type limits (DefinedByType path octets first second) earlier enclosing place tag constructed = choose (one_of (leaf_at path earlier) octets) (read_type limits first earlier enclosing place tag constructed) (read_type limits second earlier enclosing place tag constructed)
+  read_type limits (ChoiceType first second) earlier enclosing place tag constructed = choose (fits_tag first tag) (read_type limits first earlier enclosing place tag constructed) (read_type limits second earlier enclosing place tag constructed)
 
   -- The fields from here on, where `next` stands: the values of those that are there, but those that are their default.
   pub read_fields : Limits → Fields → List Value → Enclosing → Next → Reading (List Value)

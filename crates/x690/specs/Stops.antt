@@ -12,7 +12,7 @@ use Rattle.x690.specs.Layouts.{same_tag}
 use Rattle.x690.specs.Lists.{one_of}
 use Rattle.x690.specs.Points.{Enclosing, fault, outermost}
 use Rattle.x690.specs.Takes.{Takes, TakesThen}
-use Rattle.x690.specs.TypeTerms.{ContainingType, Default, DefinedByType, EndOfFields, Fields, LeafType, OpenType, Optional, RefusedType, Required, RuledType, SequenceOfType, SequenceType, SetOfType, TypeTerm, fits_tag}
+use Rattle.x690.specs.TypeTerms.{ChoiceType, Chosen, ContainingType, Default, DefinedByType, EndOfFields, Fields, LeafType, OpenType, Optional, RefusedType, Required, RuledType, SequenceOfType, SequenceType, SetOfType, TypeTerm, fits_tag}
 use Rattle.x690.specs.Values.{Leaf, Same, Value, leaf_at}
 
 -- A container of members stops: it is primitive, its length stops, or behind some of its members the next one stops, or the container ends with too few.
@@ -70,8 +70,9 @@ unfoldable mutual
       × Takes limits type earlier enclosing place stand value taken rest × (rule earlier value ≡ Some why) × (found ≡ fault place why))
   StopsBehind limits (RefusedType own why) earlier enclosing place tag constructed here octets found = UnderTag own tag place found (found ≡ fault place why)
   StopsBehind limits (DefinedByType path identifiers first second) earlier enclosing place tag constructed here octets found =
-      ((one_of (leaf_at path earlier) identifiers ≡ true) × StopsBehind limits first earlier enclosing place tag constructed here octets found)
-      ⊎ ((one_of (leaf_at path earlier) identifiers ≡ false) × StopsBehind limits second earlier enclosing place tag constructed here octets found)
+      Chosen (one_of (leaf_at path earlier) identifiers) (StopsBehind limits first earlier enclosing place tag constructed here octets found) (StopsBehind limits second earlier enclosing place tag constructed here octets found)
+  StopsBehind limits (ChoiceType first second) earlier enclosing place tag constructed here octets found =
+      Chosen (fits_tag first tag) (StopsBehind limits first earlier enclosing place tag constructed here octets found) (StopsBehind limits second earlier enclosing place tag constructed here octets found)
 
   -- The fields from here on stop.
   pub StopsFields : Limits → Fields → List Value → Enclosing → ℕ → List ℕ → Fault → Type 0

@@ -1,5 +1,5 @@
 -- Type terms: the types of ASN.1 that the documents use, as data.
-use Rattle.std.specs.Prelude.{Bool, List, Option, false, true, ℕ, ◌||◌, ◌≡◌}
+use Rattle.std.specs.Prelude.{Bool, List, Option, [], false, true, ℕ, ◌||◌, ◌∷◌, ◌≡◌, ◌⊎◌}
 use Rattle.tlv_core.specs.Identifier.{Tag}
 use Rattle.tlv_core.specs.declared.reason.Reason.{Reason}
 use Rattle.x690.specs.Contents.{LeafKind}
@@ -9,6 +9,10 @@ use Rattle.x690.specs.Values.{Value}
 -- Why a value is refused, if it is, by the earlier fields of its container and itself.
 abbrev pub Rule : Type 0
 Rule = List Value → Value → Option Reason
+
+-- the first where the test holds, else the second
+abbrev pub Chosen : Bool → Type 0 → Type 0 → Type 0
+Chosen test First Second = ((test ≡ true) × First) ⊎ ((test ≡ false) × Second)
 
 mutual
   -- Each type carries its tag: an IMPLICIT tag stands in the place of the type's own, an EXPLICIT one is that of a sequence of one field.
@@ -26,12 +30,19 @@ mutual
     RefusedType : Tag → Reason → TypeTerm
     -- the first type where the leaf at the path among the earlier fields is one of these octets, else the second
     DefinedByType : List ℕ → List (List ℕ) → TypeTerm → TypeTerm → TypeTerm
+    -- a CHOICE (X.680 29, X.690 8.13): the first type where its values may begin with the tag that stands here, else the second
+    ChoiceType : TypeTerm → TypeTerm → TypeTerm
 
   pub data Fields : Type 0 where
     EndOfFields : Fields
     Required Optional : TypeTerm → Fields → Fields
     -- with a DEFAULT, which is a leaf: its tag and contents
     Default : Tag → List ℕ → TypeTerm → Fields → Fields
+
+-- a CHOICE of several types
+abbrev pub choice_of : TypeTerm → List TypeTerm → TypeTerm
+choice_of first [] = first
+choice_of first (second ∷ more) = ChoiceType first (choice_of second more)
 
 -- A value of the type may begin with the tag.
 unfoldable pub fits_tag : TypeTerm → Tag → Bool
@@ -44,6 +55,7 @@ fits_tag (ContainingType own rule type) tag = same_tag own tag
 fits_tag (RefusedType own why) tag = same_tag own tag
 fits_tag (RuledType rule type) tag = fits_tag type tag
 fits_tag (DefinedByType path octets first second) tag = fits_tag first tag || fits_tag second tag
+fits_tag (ChoiceType first second) tag = fits_tag first tag || fits_tag second tag
 
 -- The fields may begin with the tag.
 unfoldable pub fields_fit_tag : Fields → Tag → Bool
@@ -64,6 +76,7 @@ unfoldable mutual
   Distinct (RefusedType tag why) = Unit {0}
   Distinct (RuledType rule type) = Distinct type
   Distinct (DefinedByType path octets first second) = Distinct first × Distinct second
+  Distinct (ChoiceType first second) = Distinct first × Distinct second
 
   pub DistinctFields : Fields → Type 0
   DistinctFields EndOfFields = Unit {0}

@@ -35,7 +35,7 @@ use Rattle.x690.specs.ReadContents.{add_member, all_members, der_contents, is_bi
 use Rattle.x690.specs.ReadHeaders.{ContainerEnds, ElementStands, Next, each_member, in_container, next_tag, primitive_contents}
 use Rattle.x690.specs.ReadTypes.{apply_rule, due_element, from_inside, is_this_leaf, read_fields, read_type}
 use Rattle.x690.specs.Reading.{Done, Halted, Outcome, Reading, Took, choose, run, ◌>>=◌}
-use Rattle.x690.specs.TypeTerms.{ContainingType, Default, DefinedByType, Fields, LeafType, EndOfFields, OpenType, Optional, RefusedType, Required, RuledType, SequenceOfType, SequenceType, SetOfType, TypeTerm}
+use Rattle.x690.specs.TypeTerms.{ChoiceType, ContainingType, Default, DefinedByType, EndOfFields, Fields, LeafType, OpenType, Optional, RefusedType, Required, RuledType, SequenceOfType, SequenceType, SetOfType, TypeTerm}
 use Rattle.x690.specs.Values.{Leaf, Same, Sequence, SetOf, Value, Values, members, values_of}
 
 -- strings
@@ -485,6 +485,10 @@ mutual
       (i.0, i.1, λ c p k y r g d w z. choose_first _ _ _ k (y ++ r) (ap (λ b. one_of b os) (sym (leaf_at_same path earlier earlier' es)) ∙ a.0) ∙ i.2 c p k y r g d w z))
       (λ a. let i = type_on l B earlier earlier' x v fr.1 es a.1 in
       (i.0, i.1, λ c p k y r g d w z. choose_second _ _ _ k (y ++ r) (ap (λ b. one_of b os) (sym (leaf_at_same path earlier earlier' es)) ∙ a.0) ∙ i.2 c p k y r g d w z))
+      h
+  type_on l (ChoiceType A B) earlier earlier' x v fr es h = ⊎_elim
+      (λ a. let i = type_on l A earlier earlier' x v fr.0 es a.1 in (i.0, i.1, λ c p k y r g d w z. choose_first _ _ _ k (y ++ r) a.0 ∙ i.2 c p k y r g d w z))
+      (λ a. let i = type_on l B earlier earlier' x v fr.1 es a.1 in (i.0, i.1, λ c p k y r g d w z. choose_second _ _ _ k (y ++ r) a.0 ∙ i.2 c p k y r g d w z))
       h
 
   pub fields_on : (l : Limits) (fs : Fields) (earlier earlier' : List Value) (rs : RawTrees) (vs : List Value) → FairFields fs → Each Same earlier earlier' → FitsFields l.depth fs earlier (member_trees rs) vs → (ws : List Value) × Each Same vs ws × FieldsGive l fs earlier' rs ws

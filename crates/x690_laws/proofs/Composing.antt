@@ -13,7 +13,7 @@ use Rattle.x690.specs.ReadHeaders.{ContainerEnds, ElementStands, Ended, Next, ea
 use Rattle.x690.specs.ReadTypes.{apply_rule, from_inside, is_this_leaf, read_fields, read_type}
 use Rattle.x690.specs.Reading.{Ask, Done, Fail, Halted, Outcome, Reading, Took, Where, choose, require, run, ◌>>=◌}
 use Rattle.x690.specs.Reads.{Heard, NoMemory, ReadFailed, Reads, Refused, Said}
-use Rattle.x690.specs.TypeTerms.{Default, DefinedByType, EndOfFields, Fields, Optional, Required, RuledType, SequenceType, TypeTerm, fits_tag}
+use Rattle.x690.specs.TypeTerms.{ChoiceType, Default, DefinedByType, EndOfFields, Fields, Optional, Required, RuledType, SequenceType, TypeTerm, fits_tag}
 use Rattle.x690.specs.Values.{Sequence, Value, leaf_at, values_of}
 use Rattle.x690_laws.proofs.HeaderSound.{next_took}
 use Rattle.x690_laws.proofs.Gives.{id_some}
@@ -166,6 +166,15 @@ pub defined_second : (l : Limits) (path : List ℕ) (os : List (List ℕ)) (T U 
     → Alike (read_type l (DefinedByType path os T U) earlier c p t form) (read_type l U earlier c p t form) k
 unfolding read_type
 defined_second l path os T U earlier c p t form k e s = chosen_second (one_of (leaf_at path earlier) os) (read_type l T earlier c p t form) (read_type l U earlier c p t form) k s e
+
+-- a choice by the tag
+pub choice_first : (l : Limits) (T U : TypeTerm) (earlier : List Value) (c : Enclosing) (p : ℕ) (t : Tag) (form : Bool) (k : ℕ) → fits_tag T t ≡ true → Alike (read_type l (ChoiceType T U) earlier c p t form) (read_type l T earlier c p t form) k
+unfolding read_type
+choice_first l T U earlier c p t form k e s = chosen_first (fits_tag T t) (read_type l T earlier c p t form) (read_type l U earlier c p t form) k s e
+
+pub choice_second : (l : Limits) (T U : TypeTerm) (earlier : List Value) (c : Enclosing) (p : ℕ) (t : Tag) (form : Bool) (k : ℕ) → fits_tag T t ≡ false → Alike (read_type l (ChoiceType T U) earlier c p t form) (read_type l U earlier c p t form) k
+unfolding read_type
+choice_second l T U earlier c p t form k e s = chosen_second (fits_tag T t) (read_type l T earlier c p t form) (read_type l U earlier c p t form) k s e
 
 -- a rule at the end of an element
 pub ruled_stands : (l : Limits) (rule : List Value → Value → Option Reason) (T : TypeTerm) (earlier : List Value) (c : Enclosing) (p : ℕ) (t : Tag) (form : Bool) (k : ℕ)

@@ -3,7 +3,7 @@ use Rattle.std.proofs.Common.{ℕ, ◌≤◌, inl, inr, List, [], ◌∷◌, ari
 use Rattle.x690.specs.Fitting.{Fits, FitsFields}
 use Rattle.x690.specs.Layouts.{RawTree}
 use Rattle.x690.specs.Lists.{Each, Paired}
-use Rattle.x690.specs.TypeTerms.{ContainingType, Default, DefinedByType, EndOfFields, Fields, LeafType, OpenType, Optional, RefusedType, Required, RuledType, SequenceOfType, SequenceType, SetOfType, TypeTerm}
+use Rattle.x690.specs.TypeTerms.{ChoiceType, ContainingType, Default, DefinedByType, EndOfFields, Fields, LeafType, OpenType, Optional, RefusedType, Required, RuledType, SequenceOfType, SequenceType, SetOfType, TypeTerm}
 use Rattle.x690.specs.Values.{Value}
 
 each_map : {A B : Type 0} (R Q : A → B → Type 0) → ((a : A) (b : B) → R a b → Q a b) → (as' : List A) (bs : List B) → Each R as' bs → Each Q as' bs
@@ -31,6 +31,8 @@ mutual
   fits_deeper d d' (RefusedType t w) earlier r v le h = h
   fits_deeper d d' (DefinedByType p os A B) earlier r v le (inl h) = inl (h.0, fits_deeper d d' A earlier r v le h.1)
   fits_deeper d d' (DefinedByType p os A B) earlier r v le (inr h) = inr (h.0, fits_deeper d d' B earlier r v le h.1)
+  fits_deeper d d' (ChoiceType A B) earlier r v le (inl h) = inl (h.0, fits_deeper d d' A earlier r v le h.1)
+  fits_deeper d d' (ChoiceType A B) earlier r v le (inr h) = inr (h.0, fits_deeper d d' B earlier r v le h.1)
 
   fields_deeper : (d d' : ℕ) (fs : Fields) (earlier : List Value) (rs : List RawTree) (vs : List Value) → d ≤ d' → FitsFields d fs earlier rs vs → FitsFields d' fs earlier rs vs
   fields_deeper d d' EndOfFields earlier rs vs le h = h

@@ -21,7 +21,7 @@ use Rattle.x690.specs.ReadTypes.{apply_rule, due_element, from_inside, is_this_l
 use Rattle.x690.specs.Reading.{Done, Fail, Halted, Outcome, Took, choose, require, run, ◌>>=◌}
 use Rattle.x690.specs.Stops.{MembersStop, StopsBehind, StopsFields}
 use Rattle.x690.specs.Takes.{Proper, Takes}
-use Rattle.x690.specs.TypeTerms.{ContainingType, Default, DefinedByType, EndOfFields, Fields, LeafType, OpenType, Optional, RefusedType, Required, RuledType, SequenceOfType, SequenceType, SetOfType, TypeTerm, fits_tag}
+use Rattle.x690.specs.TypeTerms.{ChoiceType, ContainingType, Default, DefinedByType, EndOfFields, Fields, LeafType, OpenType, Optional, RefusedType, Required, RuledType, SequenceOfType, SequenceType, SetOfType, TypeTerm, fits_tag}
 use Rattle.x690.specs.Values.{Leaf, Same, Sequence, SetOf, Value}
 use Rattle.x690_laws.proofs.Complete.{leaf_test, leaf_untest}
 use Rattle.x690_laws.proofs.ContentsFaulting.{leaf_halts, open_halts, opens_later, opens_within, proper_inside}
@@ -268,6 +268,10 @@ mutual
   behind_halts l (DefinedByType path os A B) earlier earlier' c fr es pr p t form k s f z h = ⊎_elim
       (λ a. choose_first _ _ _ k s (ap (λ b. one_of b os) (sym (leaf_at_same path earlier earlier' es)) ∙ a.0) ∙ behind_halts l A earlier earlier' c fr.0 es pr p t form k s f z a.1)
       (λ a. choose_second _ _ _ k s (ap (λ b. one_of b os) (sym (leaf_at_same path earlier earlier' es)) ∙ a.0) ∙ behind_halts l B earlier earlier' c fr.1 es pr p t form k s f z a.1)
+      h
+  behind_halts l (ChoiceType A B) earlier earlier' c fr es pr p t form k s f z h = ⊎_elim
+      (λ a. choose_first _ _ _ k s a.0 ∙ behind_halts l A earlier earlier' c fr.0 es pr p t form k s f z a.1)
+      (λ a. choose_second _ _ _ k s a.0 ∙ behind_halts l B earlier earlier' c fr.1 es pr p t form k s f z a.1)
       h
 
   fields_halt : (l : Limits) (fs : Fields) (earlier earlier' : List Value) (c : Enclosing) (k : ℕ) (s : List ℕ) (f : Fault) → FairFields fs → Each Same earlier earlier' → Proper c → StopsFields l fs earlier c k s f → run (next_tag l c >>= λ d. read_fields l fs earlier' c d) k s ≡ Halted f

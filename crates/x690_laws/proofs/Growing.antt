@@ -11,7 +11,7 @@ use Rattle.x690.specs.Fitting.{Fits, FitsFields}
 use Rattle.x690.specs.Layouts.{AllLaidOut, Constructed, Definite, FirstTree, Indefinite, LaidOut, NoTrees, Primitive, RawTree, RawTrees, member_trees, tree_tag}
 use Rattle.x690.specs.Lists.{Each, Paired, join}
 use Rattle.x690.specs.OpenValues.{FitOpenInPlace, FitOpenPaired, FitsOpen, IsOpenLeaf}
-use Rattle.x690.specs.TypeTerms.{ContainingType, Default, DefinedByType, Fields, LeafType, EndOfFields, OpenType, Optional, RefusedType, Required, RuledType, SequenceOfType, SequenceType, SetOfType, TypeTerm}
+use Rattle.x690.specs.TypeTerms.{ChoiceType, ContainingType, Default, DefinedByType, EndOfFields, Fields, LeafType, OpenType, Optional, RefusedType, Required, RuledType, SequenceOfType, SequenceType, SetOfType, TypeTerm}
 use Rattle.x690.specs.Values.{Leaf, Sequence, SetOf, Value, Values, members}
 
 abbrev pub Framed : Tag → Bool → List ℕ → List ℕ → Type 0
@@ -190,6 +190,7 @@ mutual
   grows q d (RuledType p T) earlier r v b a h x = grows q d T earlier r v b a h x.1
   grows q d (RefusedType t w) earlier r v b a h x = absurd x
   grows q d (DefinedByType p os A B) earlier r v b a h x = ⊎_elim (λ y. grows q d A earlier r v b a h y.1) (λ y. grows q d B earlier r v b a h y.1) x
+  grows q d (ChoiceType A B) earlier r v b a h x = ⊎_elim (λ y. grows q d A earlier r v b a h y.1) (λ y. grows q d B earlier r v b a h y.1) x
 
   fields_grow : {Q : List ℕ → Type 0} {G : ℕ → ℕ → Type 0} → Growing Q G → (d : ℕ) (fs : Fields) (earlier : List Value) (rs : List RawTree) (vs : List Value) (c : List ℕ) → Q c → InOrder rs c → FitsFields d fs earlier rs vs → AllGrown G vs c
   fields_grow q d EndOfFields earlier rs vs c a h x = none_grow q vs c x.1

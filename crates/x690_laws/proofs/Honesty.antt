@@ -14,7 +14,7 @@ use Rattle.x690.specs.ReadContents.{add_member, all_members, bad_contents, read_
 use Rattle.x690.specs.ReadHeaders.{ContainerEnds, ElementStands, Ended, Next, each_member, fit_contents, header_octet, in_container, next_octets, next_tag, primitive_contents, read_big_endian, read_definite_length, read_high_number, read_length, read_number, read_tag_number}
 use Rattle.x690.specs.ReadTypes.{apply_rule, due_element, from_inside, read_element, read_fields, read_type}
 use Rattle.x690.specs.Reading.{Ask, Done, Fail, Halted, Outcome, Reading, Took, Where, choose, require, run, ◌>>=◌}
-use Rattle.x690.specs.TypeTerms.{ContainingType, Default, DefinedByType, Fields, LeafType, EndOfFields, OpenType, Optional, RefusedType, Required, RuledType, SequenceOfType, SequenceType, SetOfType, TypeTerm}
+use Rattle.x690.specs.TypeTerms.{ChoiceType, ContainingType, Default, DefinedByType, EndOfFields, Fields, LeafType, OpenType, Optional, RefusedType, Required, RuledType, SequenceOfType, SequenceType, SetOfType, TypeTerm}
 use Rattle.x690.specs.Values.{Leaf, Sequence, SetOf, Value, values_of}
 use Rattle.x690_laws.specs.ReadingLaws.{InsideOfFaults, TruncatedAtTheEnd}
 
@@ -205,6 +205,7 @@ mutual
   type_plain l (RuledType q T) earlier c p t form h = bind_plain _ _ (type_plain l T earlier c p t form h.1) (λ v. ruled_plain p (q earlier v) v (h.0 earlier v))
   type_plain l (RefusedType u why) earlier c p t form h = require_plain _ _ _ (plain _ _ (λ z. cc, λ z. cc)) (fail_plain Value _ (plain _ _ h))
   type_plain l (DefinedByType path os A B) earlier c p t form h = choose_plain _ _ _ (type_plain l A earlier c p t form h.0) (type_plain l B earlier c p t form h.1)
+  type_plain l (ChoiceType A B) earlier c p t form h = choose_plain _ _ _ (type_plain l A earlier c p t form h.0) (type_plain l B earlier c p t form h.1)
 
   fields_plain : (l : Limits) (fs : Fields) (earlier : List Value) (c : Enclosing) (d : Next) → HonestFields fs → Plainly (read_fields l fs earlier c d)
   fields_plain l EndOfFields earlier c (ContainerEnds p) h = done_plain _

@@ -27,6 +27,7 @@ pub mod Pairing
 pub mod PrefixFree
 pub mod Readers
 pub mod Refit
+pub mod RowsChoices
 pub mod RowsFaults
 pub mod RowsFurtherTypes
 pub mod RowsKeys

@@ -10,7 +10,7 @@ use Rattle.x690.specs.Fitting.{Fits, FitsFields}
 use Rattle.x690.specs.Layouts.{Constructed, FirstTree, NoTrees, Primitive, RawTree, RawTrees, member_trees}
 use Rattle.x690.specs.Lists.{Each, Paired}
 use Rattle.x690.specs.OpenValues.{FitOpenInPlace, FitOpenPaired, FitsOpen, IsOpenLeaf, OpenLeaf, OpenPlain, OpenSequence, OpenSetOf, open_form}
-use Rattle.x690.specs.TypeTerms.{ContainingType, Default, DefinedByType, Fields, LeafType, EndOfFields, OpenType, Optional, RefusedType, Required, RuledType, SequenceOfType, SequenceType, SetOfType, TypeTerm}
+use Rattle.x690.specs.TypeTerms.{ChoiceType, ContainingType, Default, DefinedByType, EndOfFields, Fields, LeafType, OpenType, Optional, RefusedType, Required, RuledType, SequenceOfType, SequenceType, SetOfType, TypeTerm}
 use Rattle.x690.specs.Values.{FirstMember, Leaf, NoMembers, Same, SameInPlace, Sequence, SetOf, Value, Values, leaf_at, leaf_contents, members, sequence_members}
 use Rattle.x690_laws.specs.TypeLaws.{OneValue}
 
@@ -209,6 +209,10 @@ mutual
   fits_same d (DefinedByType p os A B) earlier earlier' r v w e h k =
       let l = leaf_at_same p earlier earlier' e in
       ⊎_elim
+      (λ a. ⊎_elim (λ b. fits_same d A earlier earlier' r v w e a.1 b.1) (λ b. absurd (let x = a.0 in let y = b.0 in cc)) k)
+      (λ a. ⊎_elim (λ b. absurd (let x = a.0 in let y = b.0 in cc)) (λ b. fits_same d B earlier earlier' r v w e a.1 b.1) k)
+      h
+  fits_same d (ChoiceType A B) earlier earlier' r v w e h k = ⊎_elim
       (λ a. ⊎_elim (λ b. fits_same d A earlier earlier' r v w e a.1 b.1) (λ b. absurd (let x = a.0 in let y = b.0 in cc)) k)
       (λ a. ⊎_elim (λ b. absurd (let x = a.0 in let y = b.0 in cc)) (λ b. fits_same d B earlier earlier' r v w e a.1 b.1) k)
       h

@@ -16,7 +16,7 @@ use Rattle.x690.specs.Layouts.{Constructed, FirstTree, LaidOut, NoTrees, Primiti
 use Rattle.x690.specs.Lists.{Each, Paired, Picked, join}
 use Rattle.tlv_core.specs.ObjectIdentifier.{ObjectIdentifierOctets}
 use Rattle.x690.specs.OpenValues.{FitOpenInPlace, FitOpenPaired, FitsOpen, IsOpenLeaf}
-use Rattle.x690.specs.TypeTerms.{ContainingType, Default, DefinedByType, Distinct, DistinctFields, Fields, LeafType, EndOfFields, OpenType, Optional, RefusedType, Required, RuledType, SequenceOfType, SequenceType, SetOfType, TypeTerm, fields_fit_tag, fits_tag}
+use Rattle.x690.specs.TypeTerms.{ChoiceType, ContainingType, Default, DefinedByType, Distinct, DistinctFields, EndOfFields, Fields, LeafType, OpenType, Optional, RefusedType, Required, RuledType, SequenceOfType, SequenceType, SetOfType, TypeTerm, fields_fit_tag, fits_tag}
 use Rattle.x690.specs.Values.{FirstMember, Leaf, NoMembers, Sequence, SetOf, Value, Values, members}
 use Rattle.x690_laws.proofs.Deeper.{fits_deeper}
 use Rattle.x690_laws.specs.TypeLaws.{OneText, TextSpells}
@@ -144,6 +144,10 @@ begins_fits d (DefinedByType p os A B) earlier r v h = ⊎_elim
     (λ a. let x = begins_fits d A earlier r v a.1 in grind (arith, nat_tests))
     (λ a. let x = begins_fits d B earlier r v a.1 in grind (arith, nat_tests))
     h
+begins_fits d (ChoiceType A B) earlier r v h = ⊎_elim
+    (λ a. let x = a.0 in grind (arith, nat_tests))
+    (λ a. let x = begins_fits d B earlier r v a.1 in grind (arith, nat_tests))
+    h
 
 starts_fits : (d : ℕ) (fs : Fields) (earlier : List Value) (r : RawTree) (rs : List RawTree) (vs : List Value) → FitsFields d fs earlier (r ∷ rs) vs → fields_fit_tag fs (tree_tag r) ≡ true
 unfolding Fits fields_fit_tag
@@ -169,6 +173,7 @@ pub record Canon (R : RawTree → Value → Type 0) (r : RawTree) (v : Value) : 
   pub tree : RawTree
   pub text_is : text tree ≡ der v
   pub fits : R tree v
+  pub begins : tree_tag tree ≡ tree_tag r
   pub depth_le : tree_depth tree ≤ tree_depth r
   pub tagged : Tagged r → Tagged tree
 
@@ -209,10 +214,14 @@ bag_text t ts vs p =
     let q : Paired (λ x y. x ≡ y) (map text ts) (der_texts vs) = subst (λ x. Paired (λ x y. x ≡ y) (map text ts) x) (sym (ders_map vs)) p in
     ap (λ x. der_element t true (join x)) (texts_raws (arrange_trees ts) ∙ arrange_texts ts ∙ plain.arrange_paired (map text ts) (der_texts vs) (plain.ders_texts vs) q)
 
+-- what fits otherwise as well
+canon_as : (R S : RawTree → Value → Type 0) (r : RawTree) (v : Value) → (c : Canon R r v) → S c.tree v → Canon S r v
+canon_as R S r v c f = record { tree = c.tree; text_is = c.text_is; fits = f; begins = c.begins; depth_le = c.depth_le; tagged = c.tagged }
+
 -- a leaf
 leaf_canon : (R : RawTree → Value → Type 0) (r : RawTree) (v : Value) (t : Tag) (o : List ℕ) → tree_tag r ≡ t → v ≡ Leaf t o → R (Primitive t o) v → Canon R r v
 leaf_canon R r v t o e q f =
-    record { tree = Primitive t o; text_is = leaf_text t o ∙ ap der (sym q); fits = f; depth_le = depth_pos r; tagged = top_tagged r t o e }
+    record { tree = Primitive t o; text_is = leaf_text t o ∙ ap der (sym q); fits = f; begins = sym e; depth_le = depth_pos r; tagged = top_tagged r t o e }
 
 -- a list
 row_canon : (R : RawTree → Value → Type 0) (F : List RawTree → List Value → Type 0) (r : RawTree) (v : Value) (t : Tag) (rs : RawTrees) (vs : Values) → r ≡ Constructed t rs → v ≡ Sequence t vs → (c : Canons F (member_trees rs) (members vs)) → R (Constructed t (raws_of c.trees)) v → Canon R r v
@@ -221,6 +230,7 @@ row_canon R F r v t rs vs p q c f = record {
   tree = Constructed t (raws_of c.trees);
   text_is = row_text t c.trees vs c.texts_are ∙ ap der (sym q);
   fits = f;
+  begins = sym (ap tree_tag p);
   depth_le = omega (arith, ap tree_depth p, depths_raws c.trees, depths_members rs, c.depth_le);
   tagged = λ h. let h' = subst Tagged p h in (h'.0, tagged_raws c.trees (c.tagged (tagged_members rs h'.1)));
 }
@@ -232,6 +242,7 @@ bag_canon R S r v t rs vs p q c f = record {
   tree = Constructed t (raws_of (arrange_trees c.trees));
   text_is = bag_text t c.trees vs c.texts_are ∙ ap der (sym q);
   fits = f;
+  begins = sym (ap tree_tag p);
   depth_le = omega (arith, ap tree_depth p, depths_raws (arrange_trees c.trees), arrange_depth c.trees, depths_members rs, c.depth_le);
   tagged = λ h. let h' = subst Tagged p h in (h'.0, tagged_raws (arrange_trees c.trees) (arrange_tagged c.trees (c.tagged (tagged_members rs h'.1))));
 }
@@ -350,7 +361,7 @@ mutual
   pub refit : (d : ℕ) (T : TypeTerm) (earlier : List Value) (r : RawTree) (v : Value) → Distinct T → Short v → Fits d T earlier r v → Canon (Fits d T earlier) r v
   refit d (LeafType t k) earlier r v c s h =
       leaf_canon (Fits d (LeafType t k) earlier) r v t h.1 h.0 h.3 (refl, h.1, leaf_again k r h.1 t h.2, h.3)
-  refit d OpenType earlier r v c s h = let x = open_canon r v s h in record { tree = x.tree; text_is = x.text_is; fits = x.fits; depth_le = x.depth_le; tagged = x.tagged }
+  refit d OpenType earlier r v c s h = let x = open_canon r v s h in canon_as FitsOpen (Fits d OpenType earlier) r v x x.fits
   refit d (SequenceOfType t n T) earlier r v c s h =
       let x = each_canon (Fits d T []) (λ a b s' k. refit d T [] a b c s' k) (member_trees h.0) (members h.1) (every_short h.1 (subst Short h.3 s)) h.5 in
       row_canon (Fits d (SequenceOfType t n T) earlier) (Each (Fits d T [])) r v t h.0 h.1 h.2 h.3 x
@@ -370,11 +381,15 @@ mutual
       leaf_canon (Fits d (ContainingType t q T) earlier) r v t (der h.4) h.0 h.8
       (refl, der h.4, leaf_again OctetString (Primitive t (der h.4)) (der h.4) t (octets_prim t (der h.4)), x.tree, h.4, omega (arith, x.depth_le, h.5), subst (LaidOut x.tree) x.text_is y, x.fits, h.8, h.9)
   refit d (RuledType p T) earlier r v c s h =
-      let x = refit d T earlier r v c s h.1 in record { tree = x.tree; text_is = x.text_is; fits = (h.0, x.fits); depth_le = x.depth_le; tagged = x.tagged }
+      let x = refit d T earlier r v c s h.1 in canon_as (Fits d T earlier) (Fits d (RuledType p T) earlier) r v x (h.0, x.fits)
   refit d (RefusedType t w) earlier r v c s h = absurd h
   refit d (DefinedByType p os A B) earlier r v c s h = ⊎_elim
-      (λ a. let x = refit d A earlier r v c.0 s a.1 in record { tree = x.tree; text_is = x.text_is; fits = inl (a.0, x.fits); depth_le = x.depth_le; tagged = x.tagged })
-      (λ a. let x = refit d B earlier r v c.1 s a.1 in record { tree = x.tree; text_is = x.text_is; fits = inr (a.0, x.fits); depth_le = x.depth_le; tagged = x.tagged })
+      (λ a. let x = refit d A earlier r v c.0 s a.1 in canon_as (Fits d A earlier) (Fits d (DefinedByType p os A B) earlier) r v x (inl (a.0, x.fits)))
+      (λ a. let x = refit d B earlier r v c.1 s a.1 in canon_as (Fits d B earlier) (Fits d (DefinedByType p os A B) earlier) r v x (inr (a.0, x.fits)))
+      h
+  refit d (ChoiceType A B) earlier r v c s h = ⊎_elim
+      (λ a. let x = refit d A earlier r v c.0 s a.1 in canon_as (Fits d A earlier) (Fits d (ChoiceType A B) earlier) r v x (inl (ap (fits_tag A) x.begins ∙ a.0, x.fits)))
+      (λ a. let x = refit d B earlier r v c.1 s a.1 in canon_as (Fits d B earlier) (Fits d (ChoiceType A B) earlier) r v x (inr (ap (fits_tag A) x.begins ∙ a.0, x.fits)))
       h
 
   pub fields_refit : (d : ℕ) (fs : Fields) (earlier : List Value) (rs : List RawTree) (vs : List Value) → DistinctFields fs → Every Short vs → FitsFields d fs earlier rs vs → Canons (FitsFields d fs earlier) rs vs

@@ -14,15 +14,15 @@ use Rattle.x690.specs.Contents.{LeafKind, OctetString}
 use Rattle.x690.specs.DerTexts.{der}
 use Rattle.x690.specs.Fitting.{Fits, FitsFields, next_fits}
 use Rattle.x690.specs.Layouts.{Constructed, FirstTree, LaidOut, NoTrees, Primitive, RawTree, RawTrees, member_trees, same_tag, tree_depth, tree_tag}
-use Rattle.x690.specs.Lists.{Each, Paired, same_octets}
+use Rattle.x690.specs.Lists.{Each, Paired, one_of, same_octets}
 use Rattle.x690.specs.OpenValues.{FitOpenInPlace, FitOpenPaired, FitsOpen, OpenForm, OpenLeaf, OpenPlain, OpenRefused, OpenSequence, OpenSetOf, open_form}
 use Rattle.x690.specs.Points.{Enclosing, fault, outermost}
 use Rattle.x690.specs.ReadContents.{add_member, all_members, read_leaf, read_open}
 use Rattle.x690.specs.ReadHeaders.{ContainerEnds, ElementStands, Ended, Next, each_member, next_tag, primitive_contents}
 use Rattle.x690.specs.ReadTypes.{apply_rule, due_element, from_inside, is_this_leaf, read_fields, read_type}
 use Rattle.x690.specs.Reading.{Done, Fail, Halted, Outcome, Reading, Took, run, ◌>>=◌}
-use Rattle.x690.specs.TypeTerms.{ContainingType, Default, DefinedByType, Fields, LeafType, EndOfFields, OpenType, Optional, RefusedType, Required, RuledType, SequenceOfType, SequenceType, SetOfType, TypeTerm, fits_tag}
-use Rattle.x690.specs.Values.{Leaf, Same, Sequence, SetOf, Value, leaf_contents, members, values_of}
+use Rattle.x690.specs.TypeTerms.{ChoiceType, Chosen, ContainingType, Default, DefinedByType, EndOfFields, Fields, LeafType, OpenType, Optional, RefusedType, Required, RuledType, SequenceOfType, SequenceType, SetOfType, TypeTerm, fits_tag}
+use Rattle.x690.specs.Values.{Leaf, Same, Sequence, SetOf, Value, leaf_at, leaf_contents, members, values_of}
 
 pub items_values : (vs : List Value) → members (values_of vs) ≡ vs
 items_values [] = refl
@@ -63,6 +63,12 @@ each_paired R [] [] h = refl
 each_paired R [] (y ∷ ys) h = absurd h
 each_paired R (x ∷ xs) [] h = absurd h
 each_paired R (x ∷ xs) (y ∷ ys) h = (y, ys, inl (refl, refl), h.0, each_paired R xs ys h.1)
+
+-- one of two types, by a test that may look at the tag
+chosen_laid : (l : Limits) (c : Enclosing) (k : ℕ) (s : List ℕ) (t : Tag) (form : Bool) (test : Tag → Bool) (P Q : RawTree → Type 0) (q : ℕ) (r : List ℕ) → Chosen (test t) (Laid l c k s t form P q r) (Laid l c k s t form Q q r) → Laid l c k s t form (λ x. Chosen (test (tree_tag x)) (P x) (Q x)) q r
+chosen_laid l c k s t form test P Q q r = ⊎_elim
+    (λ h. fact_along l c k s t form P (λ x. Chosen (test (tree_tag x)) (P x) (Q x)) q r (λ x e f. inl (ap test e ∙ h.0, f)) h.1)
+    (λ h. fact_along l c k s t form Q (λ x. Chosen (test (tree_tag x)) (P x) (Q x)) q r (λ x e f. inr (ap test e ∙ h.0, f)) h.1)
 
 -- what is done behind a reading of an element
 then_done : (l : Limits) (c : Enclosing) (k : ℕ) (s : List ℕ) (t : Tag) (form : Bool) (P : RawTree → Type 0) (Q : RawTree → Value → Type 0) (w v : Value) (j : ℕ) (u : List ℕ) (q : ℕ) (r : List ℕ) → run (Done w) j u ≡ Took v q r → Laid l c k s t form P j u → ((x : RawTree) → tree_tag x ≡ t → P x → Q x w) → Laid l c k s t form (λ x. Q x v) q r
@@ -316,10 +322,12 @@ mutual
       then_done l c k s t form (λ x. Fits l.depth T earlier x y.value) (Fits l.depth (RuledType qq T) earlier) y.value v y.place y.rest q r rr.1
       (type_took l T earlier c y.value p t form k s y.place y.rest g d y.first) (λ a b f. (rr.0, f))
   type_took l (RefusedType u w) earlier c v p t form k s q r g d h = let x = took_require _ _ _ _ _ _ _ _ h in absurd (took_fail _ _ _ _ _ _ x.1)
-  type_took l (DefinedByType path os A B) earlier c v p t form k s q r g d h = ⊎_elim
-      (λ x. fact_along l c k s t form (λ y. Fits l.depth A earlier y v) (λ y. Fits l.depth (DefinedByType path os A B) earlier y v) q r (λ a b f. inl (x.0, f)) (type_took l A earlier c v p t form k s q r g d x.1))
-      (λ x. fact_along l c k s t form (λ y. Fits l.depth B earlier y v) (λ y. Fits l.depth (DefinedByType path os A B) earlier y v) q r (λ a b f. inr (x.0, f)) (type_took l B earlier c v p t form k s q r g d x.1))
-      (took_choose _ _ _ _ _ _ _ _ h)
+  type_took l (DefinedByType path os A B) earlier c v p t form k s q r g d h =
+      chosen_laid l c k s t form (λ u. one_of (leaf_at path earlier) os) (λ y. Fits l.depth A earlier y v) (λ y. Fits l.depth B earlier y v) q r
+      (⊎_elim (λ x. inl (x.0, type_took l A earlier c v p t form k s q r g d x.1)) (λ x. inr (x.0, type_took l B earlier c v p t form k s q r g d x.1)) (took_choose _ _ _ _ _ _ _ _ h))
+  type_took l (ChoiceType A B) earlier c v p t form k s q r g d h =
+      chosen_laid l c k s t form (fits_tag A) (λ y. Fits l.depth A earlier y v) (λ y. Fits l.depth B earlier y v) q r
+      (⊎_elim (λ x. inl (x.0, type_took l A earlier c v p t form k s q r g d x.1)) (λ x. inr (x.0, type_took l B earlier c v p t form k s q r g d x.1)) (took_choose _ _ _ _ _ _ _ _ h))
 
   pub fields_took : (l : Limits) (fs : Fields) (earlier : List Value) (c : Enclosing) (k : ℕ) (s : List ℕ) (x : Next) (j : ℕ) (u : List ℕ) (vs : List Value) (q : ℕ) (r : List ℕ) → c.open_containers ≤ l.depth → NextIs l c k s x j u
       → run (read_fields l fs earlier c x) j u ≡ Took vs q r → Held l c k s (FieldsSay l.depth fs earlier x vs) q r

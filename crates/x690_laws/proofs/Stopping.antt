@@ -20,7 +20,7 @@ use Rattle.x690.specs.ReadTypes.{apply_rule, due_element, from_inside, is_this_l
 use Rattle.x690.specs.Reading.{Done, Fail, Halted, Outcome, Took, require, run, ◌>>=◌}
 use Rattle.x690.specs.Stops.{MembersStop, Stops, StopsBehind, StopsFields}
 use Rattle.x690.specs.Takes.{Takes}
-use Rattle.x690.specs.TypeTerms.{ContainingType, Default, DefinedByType, EndOfFields, Fields, LeafType, OpenType, Optional, RefusedType, Required, RuledType, SequenceOfType, SequenceType, SetOfType, TypeTerm}
+use Rattle.x690.specs.TypeTerms.{ChoiceType, ContainingType, Default, DefinedByType, EndOfFields, Fields, LeafType, OpenType, Optional, RefusedType, Required, RuledType, SequenceOfType, SequenceType, SetOfType, TypeTerm}
 use Rattle.x690.specs.Values.{Leaf, Same, Value, leaf_contents}
 use Rattle.x690_laws.proofs.ContentsFaulting.{leaf_stops, open_stops, opens_within}
 use Rattle.x690_laws.proofs.Gives.{id_some}
@@ -274,6 +274,10 @@ mutual
       (λ x. inr (x.0, halted_fail Value (fault b why) k s f x.1))
       (halted_require _ _ _ k s f h)
   behind_stops l (DefinedByType path os A B) earlier c b a t form k s f st h = ⊎_elim
+      (λ x. inl (x.0, behind_stops l A earlier c b a t form k s f st x.1))
+      (λ x. inr (x.0, behind_stops l B earlier c b a t form k s f st x.1))
+      (halted_choose _ _ _ k s f h)
+  behind_stops l (ChoiceType A B) earlier c b a t form k s f st h = ⊎_elim
       (λ x. inl (x.0, behind_stops l A earlier c b a t form k s f st x.1))
       (λ x. inr (x.0, behind_stops l B earlier c b a t form k s f st x.1))
       (halted_choose _ _ _ k s f h)

@@ -6,7 +6,7 @@ pub fn documents_are_lawful()
     ensures { DocumentsAreLawful }
 {}
 
-/// So it is for RSA keys, encrypted keys and packages of keys.
+/// So it is for RSA keys, encrypted keys and packages of keys, and for character strings and times.
 pub fn further_types_are_lawful()
     ensures { FurtherAreLawful }
 {}
