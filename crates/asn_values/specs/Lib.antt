@@ -1,3 +1,4 @@
+pub mod ClosedTypes
 pub mod Containers
 pub mod Fields
 pub mod Framing

@@ -6,6 +6,7 @@ ghost use Rattle.std.specs.Prelude.{◌≡◌, ◌↔◌, IsTrue};
 ghost use Rattle.std.specs.Option.{option_map};
 ghost use Rattle.x690.specs.DerTexts.{der};
 ghost use Rattle.x690.specs.TypeTerms.{OpenType};
+ghost use Rattle.ber_pull.proofs.Fields.{open_closed};
 ghost use Rattle.asn_values.specs.OpenTexts.{identifier_in, open_value};
 
 use crate::der_text::{DerText, der_text};
@@ -75,6 +76,8 @@ impl DerText for Any {
 
 impl Element for Any {
     ghost type_term = { OpenType };
+
+    ghost closed = { open_closed };
 
     #[tactic(auto, unfolding(x690::specs::TypeTerms::fits_tag))]
     fn fits(_tag: Tag) -> bool {

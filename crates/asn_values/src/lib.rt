@@ -33,7 +33,7 @@ mod row;
 pub mod set_of;
 pub mod tagged;
 pub mod tags;
-pub mod text;
 #[cfg(test)]
 mod tests;
+pub mod text;
 mod texts;

@@ -1,4 +1,5 @@
 //! Character strings and times (X.690 8.23, 8.25, 8.26).
+ghost use Rattle.asn_values.specs.ClosedTypes.{strings_closed};
 ghost use Rattle.std.specs.Prelude.{◌≡◌, ◌↔◌, None, Some, IfErr, IfOk, IsSome, IsTrue, OnOk, true};
 ghost use Rattle.tlv_core.specs.declared.reason.Reason.TheVariants.{WrongTag};
 ghost use Rattle.x690.specs.Points.{fault};
@@ -111,6 +112,8 @@ impl DerText for Text {
 
 impl Element for Text {
     ghost type_term = { string_types };
+
+    ghost closed = { strings_closed };
 
     fn fits(tag: Tag) -> bool {
         is_string_tag(tag)
