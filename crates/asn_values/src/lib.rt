@@ -28,6 +28,8 @@ pub mod null;
 pub mod object_identifier;
 pub mod octets;
 mod open_value;
+#[cfg(test)]
+mod open_value_tests;
 mod order;
 mod row;
 pub mod set_of;

@@ -39,7 +39,7 @@ enum Type {
 
 /// The text of the value, or the fault.
 #[derive(Clone, Copy)]
-enum Outcome {
+pub enum Outcome {
     Text(&'static [u8]),
     At(u64, Reason),
 }

@@ -1,0 +1,268 @@
+//! Open values read from octets, whole, in pieces and from sources that fail.
+ghost use Rattle.std.specs.Prelude.{◌≡◌, false};
+
+use crate::any::Any;
+use crate::der_text::der_text;
+use crate::element::Element;
+use crate::tests::Outcome::{self, At, Text};
+use ber_pull::pull::Pull;
+use std::alloc::Global;
+use std::test::Fail;
+use tlv_core::fault::{Fault, ReadError};
+use tlv_core::limits::Limits;
+use tlv_core::reason::Reason;
+use tlv_core::source::{Pieces, Source};
+
+static ROWS: [(&[u8], Outcome); 62] = [
+    (
+        &[0x2C, 0x07, 0x04, 0x01, 0xC3, 0x04, 0x02, 0xA9, 0x21],
+        Text(&[0x0C, 0x03, 0xC3, 0xA9, 0x21]),
+    ),
+    (
+        &[
+            0x31, 0x80, 0x31, 0x06, 0x02, 0x01, 0x02, 0x02, 0x01, 0x01, 0x31, 0x06, 0x02, 0x01,
+            0x01, 0x02, 0x01, 0x02, 0x00, 0x00,
+        ],
+        Text(&[
+            0x31, 0x10, 0x31, 0x06, 0x02, 0x01, 0x01, 0x02, 0x01, 0x02, 0x31, 0x06, 0x02, 0x01,
+            0x01, 0x02, 0x01, 0x02,
+        ]),
+    ),
+    (&[0x03, 0x02, 0x04, 0xAF], Text(&[0x03, 0x02, 0x04, 0xA0])),
+    (
+        &[
+            0x23, 0x80, 0x03, 0x02, 0x00, 0xAA, 0x03, 0x02, 0x03, 0xFF, 0x00, 0x00,
+        ],
+        Text(&[0x03, 0x03, 0x03, 0xAA, 0xF8]),
+    ),
+    (
+        &[0x23, 0x08, 0x03, 0x02, 0x03, 0xF8, 0x03, 0x02, 0x00, 0xAA],
+        At(6, Reason::BadBits),
+    ),
+    (
+        &[0x23, 0x06, 0x03, 0x02, 0x03, 0xF8, 0x03, 0x05],
+        At(6, Reason::PastEnd),
+    ),
+    (&[0x23, 0x00], Text(&[0x03, 0x01, 0x00])),
+    (&[0x24, 0x00], Text(&[0x04, 0x00])),
+    (&[0x9F, 0x1F, 0x01, 0x61], Text(&[0x9F, 0x1F, 0x01, 0x61])),
+    (
+        &[0xBF, 0x81, 0x00, 0x02, 0x05, 0x00],
+        Text(&[0xBF, 0x81, 0x00, 0x02, 0x05, 0x00]),
+    ),
+    (&[0x14, 0x01, 0xE9], Text(&[0x14, 0x01, 0xE9])),
+    (&[0x1E, 0x02, 0x00, 0x41], Text(&[0x1E, 0x02, 0x00, 0x41])),
+    (&[0x07, 0x01, 0x80], Text(&[0x07, 0x01, 0x80])),
+    (&[0x9F, 0x1E, 0x00], At(0, Reason::BadTag)),
+    (&[0x1F, 0x81, 0x80, 0x80, 0x80, 0x00], At(0, Reason::BadTag)),
+    (&[0x20], At(0, Reason::BadTag)),
+    (&[0x00, 0x00], At(0, Reason::BadEnd)),
+    (&[0x09, 0x01, 0x40], At(0, Reason::LeftOut)),
+    (&[0x1F, 0x1F, 0x00], At(0, Reason::LeftOut)),
+    (&[0x28, 0xFF], At(0, Reason::LeftOut)),
+    (&[0x08, 0x00], At(0, Reason::LeftOut)),
+    (&[0x0B, 0x00], At(0, Reason::LeftOut)),
+    (&[0x0D, 0x00], At(0, Reason::LeftOut)),
+    (&[0x0E, 0x00], At(0, Reason::LeftOut)),
+    (&[0x0F, 0x00], At(0, Reason::LeftOut)),
+    (&[0x1D, 0x00], At(0, Reason::LeftOut)),
+    (&[0x02, 0x02, 0x00, 0x7F], At(0, Reason::BadInteger)),
+    (&[0x0A, 0x02, 0x00, 0x7F], At(0, Reason::BadInteger)),
+    (&[0x0A, 0x01, 0x05], Text(&[0x0A, 0x01, 0x05])),
+    (&[0x02, 0x02, 0x00, 0x80], Text(&[0x02, 0x02, 0x00, 0x80])),
+    (&[0x02, 0x02, 0xFF, 0x7F], Text(&[0x02, 0x02, 0xFF, 0x7F])),
+    (&[0x01, 0x00], At(0, Reason::BadBoolean)),
+    (&[0x01, 0x01, 0x01], Text(&[0x01, 0x01, 0xFF])),
+    (&[0x05, 0x01, 0x00], At(0, Reason::BadNull)),
+    (&[0x03, 0x00], At(0, Reason::BadBits)),
+    (&[0x03, 0x01, 0x01], At(0, Reason::BadBits)),
+    (&[0x06, 0x02, 0x2A, 0x80], At(0, Reason::BadOid)),
+    (
+        &[0x06, 0x03, 0x2A, 0x03, 0x04],
+        Text(&[0x06, 0x03, 0x2A, 0x03, 0x04]),
+    ),
+    (&[0x04, 0x80, 0x00, 0x00], At(0, Reason::BadLength)),
+    (&[0x22, 0x03, 0x02, 0x01, 0x00], At(0, Reason::WrongForm)),
+    (&[0x10, 0x00], At(0, Reason::WrongForm)),
+    (&[0x11, 0x00], At(0, Reason::WrongForm)),
+    (&[0x2C, 0x03, 0x0C, 0x01, 0x41], At(2, Reason::WrongTag)),
+    (&[0x0C, 0x03, 0xED, 0xA0, 0x80], At(0, Reason::BadText)),
+    (&[0x0C, 0x02, 0xC0, 0x80], At(0, Reason::BadText)),
+    (
+        &[0x0C, 0x04, 0xF4, 0x90, 0x80, 0x80],
+        At(0, Reason::BadText),
+    ),
+    (
+        &[0x2C, 0x80, 0x04, 0x01, 0xC3, 0x00, 0x00],
+        At(0, Reason::BadText),
+    ),
+    (
+        &[0xB1, 0x06, 0x02, 0x01, 0x02, 0x02, 0x01, 0x01],
+        Text(&[0xB1, 0x06, 0x02, 0x01, 0x02, 0x02, 0x01, 0x01]),
+    ),
+    (
+        &[
+            0x04, 0x89, 0x00, 0x00, 0x00, 0x00, 0x00, 0x00, 0x00, 0x00, 0x01, 0x07,
+        ],
+        Text(&[0x04, 0x01, 0x07]),
+    ),
+    (
+        &[
+            0x04, 0x89, 0x01, 0x00, 0x00, 0x00, 0x00, 0x00, 0x00, 0x00, 0x01, 0x07,
+        ],
+        At(0, Reason::TooLong),
+    ),
+    (
+        &[0x30, 0x80, 0xA0, 0x80, 0x05, 0x00, 0x00, 0x00, 0x00, 0x00],
+        Text(&[0x30, 0x04, 0xA0, 0x02, 0x05, 0x00]),
+    ),
+    (
+        &[
+            0x30, 0x0B, 0x31, 0x09, 0x05, 0x00, 0x02, 0x01, 0x05, 0x01, 0x02, 0x01, 0x01,
+        ],
+        At(9, Reason::BadBoolean),
+    ),
+    (
+        &[
+            0x30, 0x0A, 0x31, 0x08, 0x05, 0x00, 0x02, 0x01, 0x05, 0x01, 0x01, 0x01,
+        ],
+        Text(&[
+            0x30, 0x0A, 0x31, 0x08, 0x01, 0x01, 0xFF, 0x02, 0x01, 0x05, 0x05, 0x00,
+        ]),
+    ),
+    (
+        &[
+            0xA1, 0x0A, 0x31, 0x08, 0x05, 0x00, 0x05, 0x00, 0x05, 0x00, 0x05, 0x00,
+        ],
+        Text(&[
+            0xA1, 0x0A, 0x31, 0x08, 0x05, 0x00, 0x05, 0x00, 0x05, 0x00, 0x05, 0x00,
+        ]),
+    ),
+    (&[0x31, 0x80, 0x00, 0x00], Text(&[0x31, 0x00])),
+    (&[0x30, 0x00], Text(&[0x30, 0x00])),
+    (&[0x30, 0x02, 0x00, 0x00], At(2, Reason::BadEnd)),
+    (&[0x30, 0x80, 0x00, 0x01], At(2, Reason::BadEnd)),
+    (&[0x30, 0x03, 0x02, 0x02, 0x00], At(2, Reason::PastEnd)),
+    (
+        &[0x30, 0x04, 0x30, 0x02, 0x28, 0x00],
+        At(4, Reason::LeftOut),
+    ),
+    (
+        &[0x31, 0x08, 0x04, 0x02, 0x01, 0x00, 0x04, 0x01, 0x01, 0x00],
+        At(9, Reason::BadEnd),
+    ),
+    (
+        &[0x31, 0x07, 0x04, 0x02, 0x01, 0x00, 0x04, 0x01, 0x01],
+        Text(&[0x31, 0x07, 0x04, 0x01, 0x01, 0x04, 0x02, 0x01, 0x00]),
+    ),
+];
+
+/// The open value that the source tells, nested as deep as can be.
+fn open_value<R: Source>(alloc: Global, source: &mut R) -> Result<Any, ReadError>
+    requires { R.has_failed source.old ≡ false }
+{
+    let Some(limits) = Limits::new(64, 1_048_576) else {
+        return Err(ReadError::Memory);
+    };
+    let mut pull = Pull::new(source, limits);
+    let Some(_next) = pull.next_tag()? else {
+        return Err(ReadError::Memory);
+    };
+    Any::read(alloc, &mut pull)
+}
+
+/// Its text.
+fn text_of<R: Source>(alloc: Global, source: &mut R) -> Result<Vec<u8>, ReadError>
+    requires { R.has_failed source.old ≡ false }
+{
+    let value = open_value(alloc, source)?;
+    match der_text(alloc, &value) {
+        Ok(text) => Ok(text),
+        Err(_) => Err(ReadError::Memory),
+    }
+}
+
+fn fault(at: u64, why: Reason) -> ReadError {
+    ReadError::Fault(Fault {
+        at,
+        why,
+        inside: None,
+    })
+}
+
+#[test]
+fn open_values_are_read(rt: HostRuntime) -> Result<(), Fail> {
+    let alloc = rt.alloc();
+    for (octets, outcome) in ROWS {
+        for piece in [1, 7, 64] {
+            let mut source = Pieces::new(octets, piece, false);
+            let read = text_of(alloc, &mut source);
+            match outcome {
+                Text(text) => assert!(rt; read.ok().as_deref() == Some(text), "{octets:?}"),
+                At(at, why) => assert!(rt; read.err() == Some(fault(at, why)), "{octets:?}"),
+            }
+        }
+        if let Text(_) = outcome {
+            for k in 0..octets.len() {
+                let mut ends = Pieces::new(&octets[..k], 7, false);
+                let cut = text_of(alloc, &mut ends).err();
+                assert!(rt;
+                    cut == Some(fault(k as u64, Reason::Truncated)),
+                    "{octets:?}"
+                );
+                let mut fails = Pieces::new(&octets[..k], 1, true);
+                let failed = text_of(alloc, &mut fails).err();
+                assert!(rt;
+                    failed == Some(ReadError::Read { at: k as u64 }),
+                    "{octets:?}"
+                );
+            }
+        }
+    }
+    Ok(())
+}
+
+/// Containers of indefinite length, so many in each other, and the ends of so many.
+fn nested(alloc: Global, containers: usize, ends: usize) -> Result<Vec<u8>, Fail> {
+    let mut octets = Vec::new(alloc);
+    for _ in 0..containers {
+        octets.extend_from_slice(&[0x30, 0x80])?;
+    }
+    for _ in 0..ends {
+        octets.extend_from_slice(&[0, 0])?;
+    }
+    Ok(octets)
+}
+
+#[test]
+fn open_values_are_nested(rt: HostRuntime) -> Result<(), Fail> {
+    let alloc = rt.alloc();
+    let octets = nested(alloc, 64, 64)?;
+    let mut source: &[u8] = &octets;
+    let text = text_of(alloc, &mut source)?;
+    assert_eq!(rt; text.len(), 128);
+    assert_eq!(rt; &text[..4], [0x30, 0x7E, 0x30, 0x7C].as_slice());
+    let octets = nested(alloc, 65, 0)?;
+    let mut source: &[u8] = &octets;
+    assert!(rt; text_of(alloc, &mut source).err() == Some(fault(128, Reason::TooDeep)));
+    Ok(())
+}
+
+#[test]
+fn identifiers_are_told(rt: HostRuntime) -> Result<(), Fail> {
+    let alloc = rt.alloc();
+    let mut identifier: &[u8] = &[0x06, 0x82, 0x00, 0x03, 0x2A, 0x03, 0x04];
+    let identifier = open_value(alloc, &mut identifier)?;
+    assert!(rt;
+        identifier
+            .oid()
+            .is_some_and(|oid| oid.content() == [0x2A, 0x03, 0x04].as_slice())
+    );
+    let mut tagged: &[u8] = &[0x86, 0x03, 0x2A, 0x03, 0x04];
+    let tagged = open_value(alloc, &mut tagged)?;
+    assert!(rt; tagged.oid().is_none());
+    assert!(rt; !tagged.same(&identifier));
+    let mut again: &[u8] = &[0x06, 0x03, 0x2A, 0x03, 0x04];
+    assert!(rt; identifier.same(&open_value(alloc, &mut again)?));
+    Ok(())
+}
