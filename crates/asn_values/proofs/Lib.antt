@@ -9,11 +9,11 @@ pub mod MappedMembers
 pub mod MemberReadings
 pub mod MemberTexts
 pub mod ObjectIdentifierContents
-pub mod OpenTexts
 pub mod PaddedOrder
 pub mod PairedMembers
 pub mod Putting
 pub mod SameMembers
 pub mod ShortElements
 pub mod ShortFields
+pub mod TextValues
 pub mod TypeReadings

@@ -4,6 +4,6 @@ pub mod Fields
 pub mod Framing
 pub mod Leaves
 pub mod Members
-pub mod OpenTexts
 pub mod OpenValues
 pub mod Reading
+pub mod TextValues

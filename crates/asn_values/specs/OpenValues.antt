@@ -1,6 +1,6 @@
 -- What clauses see of open values.
 use Rattle.x690.specs.Values.{Value}
-use Rattle.asn_values.specs.OpenTexts.{open_value}
+use Rattle.asn_values.specs.TextValues.{open_value}
 use Rattle.asn_values.specs.declared.any.Any.{Any}
 
 -- the value of an open value, which its text says

@@ -1,10 +1,9 @@
 -- What readers of values read, by the plain reading at their point.
-use Rattle.std.specs.Prelude.{Bool, List, MatchResult, Result, [], false, length, true, ℕ, ◌++◌, ◌<◌, ◌∷◌, ◌≡◌, ◌⊎◌}
+use Rattle.std.specs.Prelude.{Bool, List, MatchResult, Result, [], false, length, true, ℕ, ◌<◌, ◌∷◌, ◌≡◌, ◌⊎◌}
 use Rattle.tlv_core.specs.Identifier.{Tag}
 use Rattle.tlv_core.specs.declared.fault.ReadError.{ReadError}
 use Rattle.tlv_core.specs.declared.source.Source.{Ghosts}
 use Rattle.x690.specs.Contents as kinds
-use Rattle.x690.specs.DerTexts.{der}
 use Rattle.x690.specs.Contents.{LeafKind}
 use Rattle.x690.specs.ReadContents.{all_members, is_integer_contents, read_leaf}
 use Rattle.x690.specs.ReadHeaders.{Ended}
@@ -67,7 +66,3 @@ AnswersValue old new p value result = MatchResult result (λ x. (v : Value) × S
 -- the same of members and the place where their container ends
 abbrev pub AnswersMembers : {R : Type 0} {s : Ghosts R} {A : Type 0} → Pull R s → Pull R s → Reading (Ended (List Value)) → (A → List Value) → (A → ℕ) → Result A ReadError → Type 0
 AnswersMembers old new p values at result = MatchResult result (λ x. (vs : List Value) × Each Same vs (values x) × Answers old new p (Said (ended vs (at x)))) (λ e. Answers old new p (heard_error e))
-
--- The DER text of what the reading gives went behind what was there, or that error came.
-abbrev pub AnswersText : {R : Type 0} {s : Ghosts R} → Pull R s → Pull R s → Reading Value → List ℕ → List ℕ → Result (Unit {0}) ReadError → Type 0
-AnswersText old new p before after result = MatchResult result (λ _. (v : Value) × (after ≡ before ++ der v) × Answers old new p (Said v)) (λ e. Answers old new p (heard_error e))

@@ -7,7 +7,7 @@ ghost use Rattle.std.specs.Option.{option_map};
 ghost use Rattle.x690.specs.DerTexts.{der};
 ghost use Rattle.x690.specs.TypeTerms.{OpenType};
 ghost use Rattle.ber_pull.proofs.Fields.{open_closed};
-ghost use Rattle.asn_values.specs.OpenTexts.{identifier_in, open_value};
+ghost use Rattle.asn_values.specs.TextValues.{identifier_in, open_value};
 
 use crate::der_text::{DerText, der_text};
 use crate::element::Element;

@@ -10,11 +10,11 @@ use Rattle.ber_pull.specs.Hears.{heard_error}
 use Rattle.ber_pull.specs.Standing.{enclosing}
 use Rattle.ber_pull.specs.declared.state.Given.{Given}
 use Rattle.ber_pull.proofs.Hearing.{hears_as, hears_then_memory}
-use Rattle.asn_values.specs.OpenTexts.{identifier_in, open_value}
+use Rattle.asn_values.specs.TextValues.{identifier_in, open_value}
 use Rattle.asn_values.specs.OpenValues.{open_value_of}
 use Rattle.asn_values.specs.Reading.{read_given, read_given_leaf}
 use Rattle.asn_values.proofs.Answering.{fine_still, given_still, none_by, some_given, unmoved_answers, value_err}
-use Rattle.asn_values.proofs.OpenTexts.{begun, identifier_again, identifier_is, no_identifier, open_is, open_read, SaysAgain}
+use Rattle.asn_values.proofs.TextValues.{begun, identifier_again, identifier_is, no_identifier, open_is, open_read, SaysAgain}
 use Rattle.x690_laws.proofs.Sound.{same_tag_is}
 use Rattle.asn_values.proofs.any.AnyElement.read.Goals as goal
 

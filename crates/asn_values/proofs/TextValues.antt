@@ -31,7 +31,7 @@ use Rattle.ber_pull.specs.View.{Unmoved}
 use Rattle.ber_pull.specs.declared.pull.Pull.{Pull}
 use Rattle.ber_pull.specs.declared.state.Given.{Given}
 use Rattle.ber_pull.proofs.Hearing.{hears_given}
-use Rattle.asn_values.specs.OpenTexts.{identifier_in, open_value, value_given}
+use Rattle.asn_values.specs.TextValues.{identifier_in, open_value, value_given}
 use Rattle.asn_values.specs.Reading.{read_given, read_given_leaf}
 
 mutual
