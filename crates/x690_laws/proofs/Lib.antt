@@ -21,6 +21,7 @@ pub mod LawfulTypes
 pub mod LeafSound
 pub mod Lengths
 pub mod Members
+pub mod OneTexts
 pub mod OneValue
 pub mod Order
 pub mod Pairing
