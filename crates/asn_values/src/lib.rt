@@ -26,6 +26,8 @@ mod members;
 pub mod null;
 pub mod object_identifier;
 pub mod octets;
+mod open_form;
+mod open_value;
 mod order;
 mod row;
 pub mod set_of;
@@ -33,3 +35,4 @@ pub mod tagged;
 pub mod tags;
 #[cfg(test)]
 mod tests;
+mod texts;
