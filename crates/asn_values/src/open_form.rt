@@ -7,6 +7,7 @@ use crate::leaf_reading::Kind;
 use tlv_core::tag::{Class, Tag};
 
 /// What an open value is read as.
+#[derive(Clone, Copy)]
 pub enum OpenForm {
     Leaf(Kind),
     /// An OBJECT IDENTIFIER.

@@ -11,6 +11,7 @@ ghost use Rattle.ber_pull.specs.Standing.{enclosing, failed_with};
 ghost use Rattle.ber_pull.specs.View.{standing, source, SameSource, Repeats, Keeps, ReadsFail, Onward, Answers, Uses, Unmoved};
 ghost use Rattle.ber_pull.specs.declared.state.Given.{Given};
 ghost use Rattle.asn_values.specs.Framing.{framed};
+ghost use Rattle.asn_values.specs.declared.open_form.OpenForm.TheVariants.{Identifier};
 ghost use Rattle.asn_values.specs.OpenTexts.{AnswersText, AnswersTexts, AreTexts, container, read_given_container, read_given_contents, read_given_open, read_given_open_members};
 
 use crate::leaf_reading::read_leaf;
@@ -79,5 +80,180 @@ fn append_element<R: Source>(
     match push_element(text, tag, constructed, contents) {
         Ok(()) => Ok(()),
         Err(_) => Err(pull.no_memory()),
+    }
+}
+
+/// The DER contents of the leaf that is given, whatever its tag; of a form that has no kind its octets as they are.
+fn read_contents<R: Source>(
+    alloc: Global,
+    pull: &mut Pull<'_, R>,
+    form: OpenForm,
+) -> Result<Vec<u8>, ReadError>
+    requires { (standing pull.old).error ≡ None → IsSome (standing pull.old).given }
+    ensures same_source { SameSource pull.old pull.new }
+    ensures repeats { Repeats pull.old pull.new result }
+    ensures reads { (own : Identified) (g : Given) → (standing pull.old).error ≡ None → (standing pull.old).given ≡ Some g → Answers pull.old pull.new (read_given_contents form own (standing pull.old) g) (heard (λ v. Leaf own v.items) result) }
+    ensures stands { OnOk result (Uses pull.old pull.new) }
+    ensures keeps { Keeps pull.new result }
+    ensures read { ReadsFail pull.old pull.new result }
+    ensures onward { Onward pull.old pull.new }
+{
+    match form {
+        OpenForm::Leaf(kind) => read_leaf(alloc, pull, kind),
+        OpenForm::Identifier => read_identifier_contents(alloc, pull),
+        OpenForm::Sequence | OpenForm::SetOf | OpenForm::Plain | OpenForm::Refused => {
+            pull.primitive(alloc)
+        }
+    }
+}
+
+/// The contents of the object identifier that is given, whatever its tag.
+fn read_identifier_contents<R: Source>(
+    alloc: Global,
+    pull: &mut Pull<'_, R>,
+) -> Result<Vec<u8>, ReadError>
+    requires { (standing pull.old).error ≡ None → IsSome (standing pull.old).given }
+    ensures same_source { SameSource pull.old pull.new }
+    ensures repeats { Repeats pull.old pull.new result }
+    ensures reads { (own : Identified) (g : Given) → (standing pull.old).error ≡ None → (standing pull.old).given ≡ Some g → Answers pull.old pull.new (read_given_contents Identifier own (standing pull.old) g) (heard (λ v. Leaf own v.items) result) }
+    ensures stands { OnOk result (Uses pull.old pull.new) }
+    ensures keeps { Keeps pull.new result }
+    ensures read { ReadsFail pull.old pull.new result }
+    ensures onward { Onward pull.old pull.new }
+{
+    let oid = read_identifier(alloc, pull)?;
+    match oid.content().to_vec(alloc) {
+        Ok(contents) => Ok(contents),
+        Err(_) => Err(pull.no_memory()),
+    }
+}
+
+/// Appends the text of the leaf that is given.
+fn append_leaf<R: Source>(
+    alloc: Global,
+    pull: &mut Pull<'_, R>,
+    text: &mut Vec<u8>,
+    tag: Tag,
+    form: OpenForm,
+) -> Result<(), ReadError>
+    requires { (standing pull.old).error ≡ None → IsSome (standing pull.old).given }
+    ensures same_source { SameSource pull.old pull.new }
+    ensures repeats { Repeats pull.old pull.new result }
+    ensures reads { (g : Given) → (standing pull.old).error ≡ None → (standing pull.old).given ≡ Some g → AnswersText pull.old pull.new (read_given_contents form tag (standing pull.old) g) text.old.items text.new.items result }
+    ensures stands { OnOk result (Uses pull.old pull.new) }
+    ensures keeps { Keeps pull.new result }
+    ensures read { ReadsFail pull.old pull.new result }
+    ensures onward { Onward pull.old pull.new }
+{
+    let contents = read_contents(alloc, pull, form)?;
+    append_element(pull, text, tag, false, &contents)
+}
+
+/// The texts of the members as their container has them: those of a SET OF in order (X.690 11.6).
+fn arranged<R: Source>(
+    alloc: Global,
+    pull: &mut Pull<'_, R>,
+    is_set: bool,
+    octets: Vec<u8>,
+    starts: &[usize],
+) -> Result<Vec<u8>, ReadError>
+    requires fine { (standing pull.old).error ≡ None }
+    requires texts { (values : List Value) × AreTexts octets.items starts.now values }
+    ensures same_source { SameSource pull.old pull.new }
+    ensures is { IfOk result (λ contents. (values : List Value) (tag : Identified) → AreTexts octets.items starts.now values → der (container is_set tag (values_of values)) ≡ framed tag contents.items) }
+    ensures still { OnOk result (pull.new ≡ pull.old) }
+    ensures stops { IfErr result (λ e. (e ≡ Memory) × (source pull.new ≡ source pull.old) × (standing pull.new ≡ failed_with e (standing pull.old))) }
+    ensures keeps { Keeps pull.new result }
+    ensures read { ReadsFail pull.old pull.new result }
+    ensures onward { Onward pull.old pull.new }
+{
+    if !is_set {
+        return Ok(octets);
+    }
+    match in_order(alloc, &octets, starts) {
+        Ok(sorted) => Ok(sorted),
+        Err(_) => Err(pull.no_memory()),
+    }
+}
+
+/// The texts of the members of the container that is given, and where each begins.
+#[cycle(open)]
+fn read_members<R: Source>(
+    alloc: Global,
+    pull: &mut Pull<'_, R>,
+) -> Result<(Vec<u8>, Vec<usize>), ReadError>
+    requires { (standing pull.old).error ≡ None → IsSome (standing pull.old).given }
+    ensures same_source { SameSource pull.old pull.new }
+    ensures repeats { Repeats pull.old pull.new result }
+    ensures reads { (deep : ℕ) (g : Given) → (standing pull.old).error ≡ None → (standing pull.old).given ≡ Some g → (standing pull.old).limits.depth ≤ suc deep + length (standing pull.old).containers → AnswersTexts pull.old pull.new (read_given_open_members deep (standing pull.old) g) (λ r. r.0.items) (λ r. r.1.items) result }
+    ensures texts { IfOk result (λ r. (values : List Value) × AreTexts r.0.items r.1.items values) }
+    ensures stands { OnOk result (Uses pull.old pull.new) }
+    ensures keeps { Keeps pull.new result }
+    ensures read { ReadsFail pull.old pull.new result }
+    ensures onward { Onward pull.old pull.new }
+{
+    pull.enter()?;
+    let mut octets = Vec::new(alloc);
+    let mut starts = Vec::new(alloc);
+    while let Some(_next) = pull.next_tag()? {
+        let start = octets.len();
+        append_open(alloc, pull, &mut octets)?;
+        keep(pull, &mut starts, start)?;
+    }
+    pull.leave()?;
+    Ok((octets, starts))
+}
+
+/// Appends the text of the container that is given.
+#[cycle(open)]
+fn append_container<R: Source>(
+    alloc: Global,
+    pull: &mut Pull<'_, R>,
+    text: &mut Vec<u8>,
+    tag: Tag,
+    is_set: bool,
+) -> Result<(), ReadError>
+    requires { (standing pull.old).error ≡ None → IsSome (standing pull.old).given }
+    ensures same_source { SameSource pull.old pull.new }
+    ensures repeats { Repeats pull.old pull.new result }
+    ensures reads { (deep : ℕ) (g : Given) → (standing pull.old).error ≡ None → (standing pull.old).given ≡ Some g → (standing pull.old).limits.depth ≤ suc deep + length (standing pull.old).containers → AnswersText pull.old pull.new (read_given_container deep is_set tag (standing pull.old) g) text.old.items text.new.items result }
+    ensures stands { OnOk result (Uses pull.old pull.new) }
+    ensures keeps { Keeps pull.new result }
+    ensures read { ReadsFail pull.old pull.new result }
+    ensures onward { Onward pull.old pull.new }
+{
+    let (octets, starts) = read_members(alloc, pull)?;
+    let contents = arranged(alloc, pull, is_set, octets, &starts)?;
+    append_element(pull, text, tag, true, &contents)
+}
+
+/// Appends the text of the open value that is given.
+///
+/// Faults, at the identifier: `LeftOut` of a universal tag that isn't read; those of a leaf and its contents, of `Pull::enter`, and of members.
+#[cycle(open)]
+pub fn append_open<R: Source>(
+    alloc: Global,
+    pull: &mut Pull<'_, R>,
+    text: &mut Vec<u8>,
+) -> Result<(), ReadError>
+    requires { (standing pull.old).error ≡ None → IsSome (standing pull.old).given }
+    ensures same_source { SameSource pull.old pull.new }
+    ensures repeats { Repeats pull.old pull.new result }
+    ensures reads { (deep : ℕ) (g : Given) → (standing pull.old).error ≡ None → (standing pull.old).given ≡ Some g → (standing pull.old).limits.depth ≤ deep + length (standing pull.old).containers → AnswersText pull.old pull.new (read_given_open deep (standing pull.old) g) text.old.items text.new.items result }
+    ensures stands { OnOk result (Uses pull.old pull.new) }
+    ensures keeps { Keeps pull.new result }
+    ensures read { ReadsFail pull.old pull.new result }
+    ensures onward { Onward pull.old pull.new }
+{
+    let (at, tag, constructed) = given(pull)?;
+    let form = open_form(tag);
+    match form {
+        OpenForm::Refused => Err(pull.refuse(at, Reason::LeftOut, None)),
+        OpenForm::SetOf => append_container(alloc, pull, text, tag, true),
+        OpenForm::Sequence => append_container(alloc, pull, text, tag, false),
+        OpenForm::Plain if constructed => append_container(alloc, pull, text, tag, false),
+        OpenForm::Plain | OpenForm::Leaf(_) | OpenForm::Identifier => {
+            append_leaf(alloc, pull, text, tag, form)
+        }
     }
 }
