@@ -12,7 +12,7 @@ use Rattle.x690.specs.DerTexts.{arrange, der, der_element, der_texts, texts_of}
 use Rattle.x690.specs.Lists.{join}
 use Rattle.x690.specs.Values.{Sequence, SetOf, Value, values_of}
 use Rattle.x690_laws.proofs.ContentLengths.{arranged_length}
-use Rattle.x690_laws.proofs.Lengths.{der_bag, der_row}
+use Rattle.x690_laws.proofs.Lengths.{der_bag, der_row, ders_values}
 use Rattle.asn_values.specs.Framing.{framed}
 use Rattle.asn_values.specs.Members.{ascends}
 use Rattle.asn_values.proofs.PaddedOrder.{ascends_is}
@@ -20,6 +20,13 @@ use Rattle.asn_values.proofs.PaddedOrder.{ascends_is}
 -- of a SET OF whose members stand in order
 pub set_text : (tag : Tag) (vs : List Value) → ascends (map der vs) ≡ true → der (SetOf tag (values_of vs)) ≡ framed tag (texts_of vs)
 set_text tag vs h = der_bag tag vs (ascends_is (map der vs) h)
+
+-- of a SET OF in whatever order its members came
+pub arranged_text : (tag : Tag) (vs : List Value) → der (SetOf tag (values_of vs)) ≡ framed tag (join (arrange (map der vs)))
+unfolding der der_element der_header
+arranged_text tag vs =
+    let xs = join (arrange (map der vs)) in
+    ap (λ s. der_element tag true (join (arrange s))) (ders_values vs) ∙ sym (append_assoc (identifier tag true) (shortest_length (length xs)) xs)
 
 -- of a single member
 pub one_text : (tag : Tag) (v : Value) → der (Sequence tag (values_of (v ∷ []))) ≡ der_header tag true (length (der v)) ++ der v

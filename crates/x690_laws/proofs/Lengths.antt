@@ -9,7 +9,7 @@ use Rattle.x690.specs.DerTexts.{Ascends, arrange, der, der_element, der_texts, t
 use Rattle.x690.specs.Lists.{join}
 use Rattle.x690.specs.Values.{Leaf, Sequence, SetOf, Value, values_of}
 
-ders_values : (vs : List Value) → der_texts (values_of vs) ≡ map der vs
+pub ders_values : (vs : List Value) → der_texts (values_of vs) ≡ map der vs
 unfolding der
 ders_values [] = refl
 ders_values (v ∷ vs) = ap (λ s. der v ∷ s) (ders_values vs)
