@@ -12,7 +12,7 @@ use Rattle.x690.specs.DerTexts.{Ascends, arrange, der, padded_less}
 use Rattle.x690.specs.Values.{Value, values_of}
 use Rattle.x690_laws.specs.ValueLaws.{plain_less}
 use Rattle.x690_laws.proofs.Texts.{arrangement}
-use Rattle.asn_values.proofs.ContainerTexts.{der_texts_are}
+use Rattle.x690_laws.proofs.Lengths.{ders_values}
 use Rattle.asn_values.proofs.PairedMembers.{permuted}
 
 -- it is the text of a value
@@ -48,5 +48,5 @@ pub sorted_arranged : {A : Type 0} (g : A → List ℕ) (vs : List Value) (xs : 
 sorted_arranged g vs xs p h =
     let all = recursion_from_All IsText (map g xs) (All-permutation IsText (map der vs) (map g xs) p (All-from_recursion IsText (map der vs) (all_texts vs))) in
     let pairs = permuted (map g xs) (map der vs) (IsPermutation-sym (map der vs) (map g xs) p) in
-    arrangement.one_arrangement (values_of vs) (map g xs) (texts_ascend g xs all h) (rw (der_texts_are vs) pairs)
-    ∙ ap arrange (der_texts_are vs)
+    arrangement.one_arrangement (values_of vs) (map g xs) (texts_ascend g xs all h) (rw (ders_values vs) pairs)
+    ∙ ap arrange (ders_values vs)

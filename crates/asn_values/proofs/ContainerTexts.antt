@@ -12,7 +12,7 @@ use Rattle.x690.specs.DerTexts.{arrange, der, der_element, der_texts, texts_of}
 use Rattle.x690.specs.Lists.{join}
 use Rattle.x690.specs.Values.{Sequence, SetOf, Value, values_of}
 use Rattle.x690_laws.proofs.ContentLengths.{arranged_length}
-use Rattle.x690_laws.proofs.Lengths.{der_bag, der_row}
+use Rattle.x690_laws.proofs.Lengths.{der_bag, der_row, ders_values}
 use Rattle.asn_values.specs.Framing.{framed}
 use Rattle.asn_values.specs.Members.{ascends}
 use Rattle.asn_values.proofs.PaddedOrder.{ascends_is}
@@ -24,11 +24,6 @@ set_text tag vs h = der_bag tag vs (ascends_is (map der vs) h)
 -- of a single member
 pub one_text : (tag : Tag) (v : Value) → der (Sequence tag (values_of (v ∷ []))) ≡ der_header tag true (length (der v)) ++ der v
 one_text tag v = der_row tag (v ∷ []) ∙ ap (λ z. der_header tag true (length z) ++ z) (append-nil (der v))
-
-pub der_texts_are : (vs : List Value) → der_texts (values_of vs) ≡ map der vs
-unfolding der
-der_texts_are [] = refl
-der_texts_are (v ∷ vs) = ap (λ z. der v ∷ z) (der_texts_are vs)
 
 texts_flat : (vs : List Value) → texts_of vs ≡ flat_map der vs
 texts_flat [] = refl
@@ -46,7 +41,7 @@ pub arranged_text : (tag : Tag) (vs : List Value) → der (SetOf tag (values_of 
 unfolding der der_element der_header
 arranged_text tag vs =
     let xs = join (arrange (der_texts (values_of vs))) in
-    sym (append_assoc (identifier tag true) (shortest_length (length xs)) xs) ∙ ap (λ z. framed tag (join (arrange z))) (der_texts_are vs)
+    sym (append_assoc (identifier tag true) (shortest_length (length xs)) xs) ∙ ap (λ z. framed tag (join (arrange z))) (ders_values vs)
 
 -- arranged, the texts are as long
 pub length_arranged : (vs : List Value) → length (join (arrange (map der vs))) ≡ length (texts_of vs)

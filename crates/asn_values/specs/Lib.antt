@@ -5,5 +5,6 @@ pub mod Framing
 pub mod Leaves
 pub mod Members
 pub mod OpenValues
+pub mod OpenTexts
 pub mod Reading
 pub mod TextValues

@@ -27,6 +27,7 @@ mod members;
 pub mod null;
 pub mod object_identifier;
 pub mod octets;
+mod open_form;
 mod open_value;
 #[cfg(test)]
 mod open_value_tests;
