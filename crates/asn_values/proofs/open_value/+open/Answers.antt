@@ -159,7 +159,7 @@ read_members-loop-starts-preserved g t c = (
   search rules,
   c.loop-starts.invariant.5,
   (let stands = c.in_ok-_next.ensures.stands c.loop-starts.invariant.2 ∙ ap (λ z. after_next c.next_tag.new.self.state.taken z c.loop-starts.pull.state) c.in-Some.is in
-  omega (arith, c.loop-starts.invariant.6, ap (λ z. length z.containers) stands, ap (λ z. length z.containers) c.in_ok-append_open.ensures.stands, ap (λ z. length z.state.containers) c.in_ok-keep.ensures.still)),
+      omega (arith, c.loop-starts.invariant.6, ap (λ z. length z.containers) stands, ap (λ z. length z.containers) c.in_ok-append_open.ensures.stands, ap (λ z. length z.state.containers) c.in_ok-keep.ensures.still)),
   λ deep given is bound.
       let before = c.loop-starts.invariant.7 deep given is bound in
       let i = before.2 in

@@ -1,4 +1,3 @@
-use Rattle.std.proofs.Common.{rules}
 use Rattle.ber_pull.specs.Calls.{read_primitive}
 use Rattle.ber_pull.proofs.Hearing.{hears_as}
 use Rattle.asn_values.proofs.OpenReadings.{hears_octets, no_kind}
