@@ -9,6 +9,7 @@ pub mod MappedMembers
 pub mod MemberReadings
 pub mod MemberTexts
 pub mod ObjectIdentifierContents
+pub mod OpenMembers
 pub mod OpenReadings
 pub mod PaddedOrder
 pub mod PairedMembers

@@ -4,6 +4,7 @@ use Rattle.std.proofs.lemmas.List.{append_assoc, append-nil, length-append, drop
 use Rattle.x690.specs.DerTexts.{der, texts_of}
 use Rattle.x690.specs.Values.{Value}
 use Rattle.asn_values.specs.Members.{starts_from}
+use Rattle.asn_values.specs.OpenTexts.{AreTexts}
 use Rattle.asn_values.proofs.HeaderOctets.{get_after, get_before}
 
 pub nat_cases : (a b : ℕ) → a ≤ b → (a < b) ⊎ (a ≡ b)
@@ -86,3 +87,18 @@ texts_left_one vs i v h e = texts_left vs i v h e ∙ ap (λ n. length (der v) +
 pub starts_some : (vs : List Value) (ss : List ℕ) → ss ≡ starts_from 0 vs → 0 < length (texts_of vs) → (0 < length ss) × (get_or ss 0 0 ≡ 0)
 starts_some [] ss s h = absurd (omega arith)
 starts_some (v ∷ vs) ss s h = let n = ap length s in (omega arith, ap (λ z. get_or z 0 0) s)
+
+-- one text more behind the others, which begins where they end
+pub texts_last : (vs : List Value) (v : Value) → texts_of (vs ++ v ∷ []) ≡ texts_of vs ++ der v
+texts_last [] v = append-nil (der v)
+texts_last (w ∷ vs) v = ap (λ z. der w ++ z) (texts_last vs v) ∙ sym (append_assoc (der w) (texts_of vs) (der v))
+
+starts_last : (n : ℕ) (vs : List Value) (v : Value) → starts_from n (vs ++ v ∷ []) ≡ starts_from n vs ++ (n + length (texts_of vs)) ∷ []
+starts_last n [] v = ap (λ k. k ∷ []) (let e : n ≡ n + 0 = omega arith in e)
+starts_last n (w ∷ vs) v =
+    let e : n + length (der w) + length (texts_of vs) ≡ n + length (texts_of (w ∷ vs)) = omega (arith, length-append (der w) (texts_of vs)) in
+    ap (λ z. n ∷ z) (starts_last (n + length (der w)) vs v ∙ ap (λ k. starts_from (n + length (der w)) vs ++ k ∷ []) e)
+
+pub are_more : (octets starts octets' starts' : List ℕ) (vs : List Value) (v : Value) (start : ℕ) → AreTexts octets starts vs → octets' ≡ octets ++ der v → starts' ≡ starts ++ start ∷ [] → start ≡ length octets → AreTexts octets' starts' (vs ++ v ∷ [])
+are_more octets starts octets' starts' vs v start are o s n =
+    (o ∙ (ap (λ z. z ++ der v) are.0 ∙ sym (texts_last vs v)), s ∙ (ap (λ z. z ++ start ∷ []) are.1 ∙ (ap (λ k. starts_from 0 vs ++ k ∷ []) (let e : start ≡ 0 + length (texts_of vs) = omega (arith, n, ap length are.0) in e) ∙ sym (starts_last 0 vs v))))

@@ -249,11 +249,10 @@ pub fn append_open<R: Source>(
     let form = open_form(tag);
     match form {
         OpenForm::Refused => Err(pull.refuse(at, Reason::LeftOut, None)),
-        OpenForm::SetOf => append_container(alloc, pull, text, tag, true),
+        OpenForm::Leaf(_) | OpenForm::Identifier => append_leaf(alloc, pull, text, tag, form),
         OpenForm::Sequence => append_container(alloc, pull, text, tag, false),
+        OpenForm::SetOf => append_container(alloc, pull, text, tag, true),
         OpenForm::Plain if constructed => append_container(alloc, pull, text, tag, false),
-        OpenForm::Plain | OpenForm::Leaf(_) | OpenForm::Identifier => {
-            append_leaf(alloc, pull, text, tag, form)
-        }
+        OpenForm::Plain => append_leaf(alloc, pull, text, tag, form),
     }
 }

@@ -1,4 +1,4 @@
-use Rattle.std.proofs.Common.{rules, ◌∙◌, ◌++◌, ap, subst, sym, OnOk}
+use Rattle.std.proofs.Common.{rules}
 use Rattle.x690.specs.Values.{Leaf}
 use Rattle.asn_values.specs.OpenTexts.{read_given_contents}
 use Rattle.x690_laws.proofs.Lengths.{der_leaf}
