@@ -13,4 +13,5 @@ pub mod Putting
 pub mod SameMembers
 pub mod ShortElements
 pub mod ShortFields
+pub mod StringReadings
 pub mod TypeReadings

@@ -31,6 +31,6 @@ mod row;
 pub mod set_of;
 pub mod tagged;
 pub mod tags;
-pub mod text;
 #[cfg(test)]
 mod tests;
+pub mod text;
