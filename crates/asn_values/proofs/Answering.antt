@@ -4,9 +4,11 @@ use Rattle.tlv_core.specs.Identifier.{Tag}
 use Rattle.tlv_core.specs.declared.fault.Fault.{Fault}
 use Rattle.tlv_core.specs.declared.fault.ReadError.{ReadError}
 use Rattle.tlv_core.specs.declared.fault.ReadError.TheVariants as errors
+use Rattle.tlv_core.specs.declared.reason.Reason.TheVariants.{WrongTag}
 use Rattle.tlv_core.specs.declared.source.Source.{Ghosts}
 use Rattle.x690.specs.Layouts.{same_tag}
-use Rattle.x690.specs.Reading.{Reading}
+use Rattle.x690.specs.Points.{fault}
+use Rattle.x690.specs.Reading.{Reading, require}
 use Rattle.x690.specs.ReadHeaders.{Ended}
 use Rattle.x690.specs.Reads.{Heard, Refused}
 use Rattle.x690.specs.Values.{Value}
@@ -17,7 +19,7 @@ use Rattle.ber_pull.specs.declared.pull.Pull.{Pull}
 use Rattle.ber_pull.specs.declared.state.Given.{Given}
 use Rattle.asn_values.specs.Reading.{AnswersMembers, AnswersValue}
 use Rattle.x690_laws.proofs.Sound.{same_tag_is}
-use Rattle.ber_pull.proofs.Hearing.{hears_stop}
+use Rattle.ber_pull.proofs.Hearing.{hears_at, hears_off, hears_stop}
 
 pub place_given : (s : Standing) (g : Given) → s.given ≡ Some g → place s ≡ g.at
 place_given s g is = rw is refl
@@ -26,6 +28,14 @@ place_given s g is = rw is refl
 pub refused_by : {R : Type 0} {s : Ghosts R} {A : Type 0} (p : Reading A) (old mid new : Pull R s) (f : Fault) (e : ReadError)
     → e ≡ errors.Fault f → standing new ≡ failed_with e (standing mid) → source new ≡ source mid → Answers old mid p (Refused f) → Answers old new p (heard_error e)
 refused_by {R} {s} p old mid new f e x stands same h = hears_stop p f e _ _ _ _ _ _ x (ap (λ z. z.taken) stands) (ap s.remaining same) h
+
+-- the element that is given has another tag than is due
+pub wrong_tag : {R : Type 0} {s : Ghosts R} {A : Type 0} (b : Bool) (p : Reading A) (old mid new : Pull R s) (g : Given) (at : ℕ) (e : ReadError)
+    → b ≡ false → (standing old).given ≡ Some g → at ≡ place (standing old) → Unmoved old mid → e ≡ errors.Fault (fault at WrongTag) → standing new ≡ failed_with e (standing mid) → source new ≡ source mid
+    → Answers old new (require b (fault g.at WrongTag) p) (heard_error e)
+wrong_tag {R} {s} b p old mid new g at e off is here same x stands src =
+    refused_by _ old mid new (fault g.at WrongTag) e (x ∙ ap (λ q. errors.Fault (fault q WrongTag)) (here ∙ place_given (standing old) g is)) stands src
+    (hears_at _ _ _ _ _ _ _ _ (ap (λ z. z.taken) same.0) (ap s.remaining same.1) (hears_off _ _ _ _ _ off))
 
 pub both_ways : (a b : Bool) → (a ≡ true → b ≡ true) → (b ≡ true → a ≡ true) → a ≡ b
 both_ways true b f g = sym (f refl)

@@ -18,4 +18,5 @@ pub mod SameMembers
 pub mod ShortElements
 pub mod ShortFields
 pub mod TextValues
+pub mod StringReadings
 pub mod TypeReadings

@@ -1,5 +1,6 @@
 -- What readers of values read, by the plain reading at their point.
 use Rattle.std.specs.Prelude.{Bool, List, MatchResult, Result, [], false, length, true, ℕ, ◌<◌, ◌∷◌, ◌≡◌, ◌⊎◌}
+use Rattle.std.specs.Str.{is_utf8}
 use Rattle.tlv_core.specs.Identifier.{Tag}
 use Rattle.tlv_core.specs.declared.fault.ReadError.{ReadError}
 use Rattle.tlv_core.specs.declared.source.Source.{Ghosts}
@@ -49,7 +50,7 @@ HasContents coded.Integer contents = is_integer_contents contents ≡ true
 HasContents coded.Null contents = contents ≡ []
 HasContents coded.BitString contents = 0 < length contents
 HasContents coded.OctetString contents = Unit {0}
-HasContents coded.Utf8String contents = Unit {0}
+HasContents coded.Utf8String contents = is_utf8 contents ≡ true
 
 -- the members, and the place where their container ends
 abbrev pub ended : List Value → ℕ → Ended (List Value)

@@ -159,6 +159,7 @@ fn read_octets_leaf<R: Source>(
     ensures same_source { SameSource pull.old pull.new }
     ensures repeats { Repeats pull.old pull.new result }
     ensures reads { (own : Identified) (g : Given) → (standing pull.old).error ≡ None → (standing pull.old).given ≡ Some g → Answers pull.old pull.new (read_given_leaf (string_kind utf8) own (standing pull.old) g) (heard (λ v. Leaf own v.items) result) }
+    ensures contents { IfOk result (λ v. reading.is_contents (string_kind utf8) v.items ≡ true) }
     ensures stands { OnOk result (Uses pull.old pull.new) }
     ensures keeps { Keeps pull.new result }
     ensures read { ReadsFail pull.old pull.new result }

@@ -11,6 +11,7 @@ use crate::list::List;
 use crate::null::Null;
 use crate::octets::Octets;
 use crate::set_of::SetOf;
+use crate::text::Text as CharacterString;
 use ber_pull::pull::Pull;
 use std::alloc::Global;
 use std::test::Fail;
@@ -31,6 +32,8 @@ enum Type {
     Identifier,
     BitString,
     OctetString,
+    CharacterString,
+    CharacterStrings,
     Integers,
     Integer1s,
     IntegerSet,
@@ -46,7 +49,7 @@ pub enum Outcome {
 
 use Outcome::{At, Text};
 
-static ROWS: [(Type, &[u8], Outcome); 27] = [
+static ROWS: [(Type, &[u8], Outcome); 45] = [
     (
         Type::Boolean,
         &[0x01, 0x01, 0x01],
@@ -160,10 +163,102 @@ static ROWS: [(Type, &[u8], Outcome); 27] = [
             0x01, 0x02,
         ]),
     ),
+    (
+        Type::CharacterString,
+        &[0x0C, 0x02, 0xC3, 0xA9],
+        Text(&[0x0C, 0x02, 0xC3, 0xA9]),
+    ),
+    (
+        Type::CharacterString,
+        &[0x14, 0x01, 0xE9],
+        Text(&[0x14, 0x01, 0xE9]),
+    ),
+    (
+        Type::CharacterString,
+        &[0x1E, 0x02, 0x00, 0x41],
+        Text(&[0x1E, 0x02, 0x00, 0x41]),
+    ),
+    (
+        Type::CharacterString,
+        &[0x07, 0x81, 0x01, 0x41],
+        Text(&[0x07, 0x01, 0x41]),
+    ),
+    (
+        Type::CharacterString,
+        &[0x2C, 0x07, 0x04, 0x01, 0xC3, 0x04, 0x02, 0xA9, 0x21],
+        Text(&[0x0C, 0x03, 0xC3, 0xA9, 0x21]),
+    ),
+    (
+        Type::CharacterString,
+        &[
+            0x2C, 0x80, 0x04, 0x01, 0xC3, 0x24, 0x03, 0x04, 0x01, 0xA9, 0x00, 0x00,
+        ],
+        Text(&[0x0C, 0x02, 0xC3, 0xA9]),
+    ),
+    (
+        Type::CharacterString,
+        &[0x34, 0x05, 0x04, 0x01, 0xE9, 0x04, 0x00],
+        Text(&[0x14, 0x01, 0xE9]),
+    ),
+    (
+        Type::CharacterString,
+        &[0x0C, 0x01, 0xC3],
+        At(0, Reason::BadText),
+    ),
+    (
+        Type::CharacterString,
+        &[0x2C, 0x03, 0x04, 0x01, 0xC3],
+        At(0, Reason::BadText),
+    ),
+    (
+        Type::CharacterString,
+        &[0x0C, 0x03, 0xED, 0xA0, 0x80],
+        At(0, Reason::BadText),
+    ),
+    (
+        Type::CharacterString,
+        &[0x0C, 0x02, 0xC0, 0x80],
+        At(0, Reason::BadText),
+    ),
+    (
+        Type::CharacterString,
+        &[0x0C, 0x04, 0xF4, 0x90, 0x80, 0x80],
+        At(0, Reason::BadText),
+    ),
+    (
+        Type::CharacterString,
+        &[0x04, 0x01, 0x00],
+        At(0, Reason::WrongTag),
+    ),
+    (
+        Type::CharacterString,
+        &[0x1D, 0x00],
+        At(0, Reason::WrongTag),
+    ),
+    (
+        Type::CharacterString,
+        &[0x8C, 0x01, 0x41],
+        At(0, Reason::WrongTag),
+    ),
+    (
+        Type::CharacterString,
+        &[0x2C, 0x03, 0x0C, 0x01, 0x41],
+        At(2, Reason::WrongTag),
+    ),
+    (
+        Type::CharacterString,
+        &[0x04, 0x80],
+        At(0, Reason::WrongTag),
+    ),
+    (
+        Type::CharacterStrings,
+        &[0x31, 0x06, 0x14, 0x01, 0x41, 0x0C, 0x01, 0x41],
+        Text(&[0x31, 0x06, 0x0C, 0x01, 0x41, 0x14, 0x01, 0x41]),
+    ),
 ];
 
-/// The text of the element that the source tells.
-fn text_of<T: Element, R: Source>(alloc: Global, source: &mut R) -> Result<Vec<u8>, ReadError>
+/// The element that the source tells.
+fn value_of<T: Element, R: Source>(alloc: Global, source: &mut R) -> Result<T, ReadError>
     requires { R.has_failed source.old ≡ false }
 {
     let Some(limits) = Limits::new(32, 1_048_576) else {
@@ -173,7 +268,14 @@ fn text_of<T: Element, R: Source>(alloc: Global, source: &mut R) -> Result<Vec<u
     let Some(_next) = pull.next_tag()? else {
         return Err(ReadError::Memory);
     };
-    let value = T::read(alloc, &mut pull)?;
+    T::read(alloc, &mut pull)
+}
+
+/// The text of the element that the source tells.
+fn text_of<T: Element, R: Source>(alloc: Global, source: &mut R) -> Result<Vec<u8>, ReadError>
+    requires { R.has_failed source.old ≡ false }
+{
+    let value: T = value_of(alloc, source)?;
     match der_text(alloc, &value) {
         Ok(text) => Ok(text),
         Err(_) => Err(ReadError::Memory),
@@ -208,6 +310,8 @@ fn read_as<R: Source>(alloc: Global, source: &mut R, kind: Type) -> Result<Vec<u
         Type::Identifier => text_of::<Oid, R>(alloc, source),
         Type::BitString => text_of::<Bits, R>(alloc, source),
         Type::OctetString => text_of::<Octets, R>(alloc, source),
+        Type::CharacterString => text_of::<CharacterString, R>(alloc, source),
+        Type::CharacterStrings => text_of::<SetOf<CharacterString>, R>(alloc, source),
         Type::Integers => text_of::<List<Int>, R>(alloc, source),
         Type::Integer1s => text_of_some(alloc, source),
         Type::IntegerSet => text_of::<SetOf<Int>, R>(alloc, source),
@@ -337,5 +441,30 @@ fn long_texts_are_told_apart(rt: HostRuntime) -> Result<(), Fail> {
     assert!(rt; set.put(&mut sink).is_ok());
     assert_eq!(rt; sink.written(), 612);
     assert_eq!(rt; target.octets(), der_text(alloc, &set)?.as_slice());
+    Ok(())
+}
+
+/// The character string that these octets spell.
+fn character_string(alloc: Global, octets: &[u8]) -> Result<CharacterString, ReadError> {
+    let mut source = Pieces::new(octets, 7, false);
+    value_of(alloc, &mut source)
+}
+
+#[test]
+fn character_strings_are_told_apart(rt: HostRuntime) -> Result<(), Fail> {
+    let alloc = rt.alloc();
+    let utf8 = character_string(alloc, &[0x0C, 0x01, 0x41])?;
+    let joined = character_string(alloc, &[0x2C, 0x80, 0x04, 0x01, 0x41, 0x00, 0x00])?;
+    let teletex = character_string(alloc, &[0x14, 0x01, 0x41])?;
+    let longer = character_string(alloc, &[0x0C, 0x02, 0x41, 0x42])?;
+    assert_eq!(rt; utf8.tag().number(), 12);
+    assert_eq!(rt; teletex.tag().number(), 20);
+    assert_eq!(rt; utf8.octets(), b"A".as_slice());
+    assert!(rt; utf8.same(&joined));
+    assert!(rt; !utf8.same(&teletex));
+    assert!(rt; !utf8.same(&longer));
+    assert_eq!(rt; longer.size(), 4);
+    assert_eq!(rt; longer.octet(3), Some(0x42));
+    assert_eq!(rt; longer.octet(4), None);
     Ok(())
 }

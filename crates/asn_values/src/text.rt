@@ -1,8 +1,10 @@
 //! Character strings and times (X.690 8.23, 8.25, 8.26).
 ghost use Rattle.asn_values.specs.ClosedTypes.{strings_closed};
-ghost use Rattle.std.specs.Prelude.{◌≡◌, ◌↔◌, None, Some, IfErr, IfOk, IsSome, IsTrue, OnOk, true};
+ghost use Rattle.std.specs.Prelude.{◌≡◌, ◌↔◌, None, Some, IfErr, IfOk, IsSome, IsTrue, IsUtf8, OnOk, true};
 ghost use Rattle.tlv_core.specs.declared.reason.Reason.TheVariants.{WrongTag};
+ghost use Rattle.x690.specs.Layouts.{same_tag, universal};
 ghost use Rattle.x690.specs.Points.{fault};
+ghost use Rattle.x690.specs.ReadContents.{is_contents};
 ghost use Rattle.x690.specs.Reading.{Reading, require};
 ghost use Rattle.x690.specs.StringTypes.{string_types};
 ghost use Rattle.x690.specs.TypeTerms.{fits_tag};
@@ -10,6 +12,7 @@ ghost use Rattle.x690.specs.Values.{Leaf, Value};
 ghost use Rattle.ber_pull.specs.Hears.{heard_error};
 ghost use Rattle.ber_pull.specs.View.{standing, SameSource, Repeats, Keeps, ReadsFail, Onward, Answers, Unmoved};
 ghost use Rattle.ber_pull.specs.declared.state.Given.{Given};
+ghost use Rattle.asn_values.specs.Reading.{kind_of, string_kind};
 
 use crate::der_text::DerText;
 use crate::element::Element;
@@ -32,6 +35,7 @@ pub struct Text {
     tag: Tag,
     octets: Vec<u8>,
     ghost string: { fits_tag string_types tag ≡ true },
+    ghost contents: { is_contents (string_kind (same_tag (universal 12) tag)) octets.items ≡ true },
 }
 
 impl Text {
@@ -45,9 +49,10 @@ impl Text {
         self.tag
     }
 
-    /// The octets.
+    /// The octets, which are UTF-8 where the tag is universal 12.
     pub fn octets(&self) -> &[u8]
-        ensures { result.now ≡ text_octets self.now }
+        ensures value { result.now ≡ text_octets self.now }
+        ensures utf8 { text_tag self.now ≡ universal 12 → IsUtf8 (text_octets self.now) }
     {
         &self.octets
     }
@@ -56,7 +61,7 @@ impl Text {
     pub fn same(&self, other: &Text) -> bool
         ensures { IsTrue result ↔ ((text_tag self.now ≡ text_tag other.now) × (text_octets self.now ≡ text_octets other.now)) }
     {
-        self.tag == other.tag && self.octets == other.octets
+        is_same_tag(self.tag, other.tag) && self.octets == other.octets
     }
 }
 
@@ -66,6 +71,17 @@ fn is_string_tag(tag: Tag) -> bool
     ensures { result ≡ fits_tag string_types tag }
 {
     tag.class() == Class::Universal && matches!(tag.number(), 7 | 12 | 18..=28 | 30)
+}
+
+/// How a string of this tag is read.
+fn kind_by_tag(tag: Tag) -> Kind
+    ensures { kind_of result ≡ string_kind (same_tag (universal 12) tag) }
+{
+    if is_same_tag(universal_tag(12), tag) {
+        Kind::Utf8String
+    } else {
+        Kind::OctetString
+    }
 }
 
 /// The tag of the element that is given, which has to be that of a character string or time: else `WrongTag`.
@@ -121,12 +137,7 @@ impl Element for Text {
 
     fn read<R: Source>(alloc: Global, pull: &mut Pull<'_, R>) -> Result<Text, ReadError> {
         let tag = expect_string(pull)?;
-        let kind = if is_same_tag(universal_tag(12), tag) {
-            Kind::Utf8String
-        } else {
-            Kind::OctetString
-        };
-        let octets = read_leaf(alloc, pull, kind)?;
+        let octets = read_leaf(alloc, pull, kind_by_tag(tag))?;
         Ok(Text { tag, octets })
     }
 }
