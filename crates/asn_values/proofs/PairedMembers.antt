@@ -9,7 +9,7 @@ use Rattle.x690.specs.Values.{Same, SetOf, Value, members, values_of}
 use Rattle.x690_laws.proofs.Pairing.{paired_add, paired_take}
 use Rattle.x690_laws.proofs.Sames.{paired_bag}
 
-abbrev pub Alike : {A : Type 0} → A → A → Type 0
+abbrev Alike : {A : Type 0} → A → A → Type 0
 Alike x y = x ≡ y
 
 paired_self : {A : Type 0} (xs : List A) → Paired Alike xs xs
