@@ -190,6 +190,22 @@ fn fault(at: u64, why: Reason) -> ReadError {
     })
 }
 
+/// Whether each of the octets is needed: the octets cut before it are truncated there, and a source that fails there has failed there.
+fn is_needed(alloc: Global, octets: &[u8]) -> bool {
+    for k in 0..octets.len() {
+        let at = k as u64;
+        let mut ends = Pieces::new(&octets[..k], 7, false);
+        if text_of(alloc, &mut ends).err() != Some(fault(at, Reason::Truncated)) {
+            return false;
+        }
+        let mut fails = Pieces::new(&octets[..k], 1, true);
+        if text_of(alloc, &mut fails).err() != Some(ReadError::Read { at }) {
+            return false;
+        }
+    }
+    true
+}
+
 #[test]
 fn open_values_are_read(rt: HostRuntime) -> Result<(), Fail> {
     let alloc = rt.alloc();
@@ -203,20 +219,7 @@ fn open_values_are_read(rt: HostRuntime) -> Result<(), Fail> {
             }
         }
         if let Text(_) = outcome {
-            for k in 0..octets.len() {
-                let mut ends = Pieces::new(&octets[..k], 7, false);
-                let cut = text_of(alloc, &mut ends).err();
-                assert!(rt;
-                    cut == Some(fault(k as u64, Reason::Truncated)),
-                    "{octets:?}"
-                );
-                let mut fails = Pieces::new(&octets[..k], 1, true);
-                let failed = text_of(alloc, &mut fails).err();
-                assert!(rt;
-                    failed == Some(ReadError::Read { at: k as u64 }),
-                    "{octets:?}"
-                );
-            }
+            assert!(rt; is_needed(alloc, octets), "{octets:?}");
         }
     }
     Ok(())
