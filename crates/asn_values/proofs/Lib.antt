@@ -20,3 +20,4 @@ pub mod ShortFields
 pub mod TextValues
 pub mod StringReadings
 pub mod TypeReadings
+pub mod SoFar
