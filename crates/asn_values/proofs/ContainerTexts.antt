@@ -1,6 +1,6 @@
 -- The texts of containers by those of their members.
-use Rattle.std.proofs.Common.{◌≡◌, ◌∙◌, ◌++◌, List, [], ◌∷◌, true, ap, length, map, sym, arith, refl}
-use Rattle.std.proofs.lemmas.List.{append_assoc, append-nil, length-append}
+use Rattle.std.proofs.Common.{◌≡◌, ◌∙◌, ◌++◌, List, [], ◌∷◌, true, ap, length, map, sym, append_assoc, arith, refl}
+use Rattle.std.proofs.lemmas.List.{append-nil, length-append}
 use Rattle.std.specs.List.{flat_map, sum_by}
 use Rattle.std.proofs.lemmas.List.Concat.{length-flat_map}
 use Rattle.std.specs.List.Sorted.{IsPermutation}
@@ -21,13 +21,6 @@ use Rattle.asn_values.proofs.PaddedOrder.{ascends_is}
 pub set_text : (tag : Tag) (vs : List Value) → ascends (map der vs) ≡ true → der (SetOf tag (values_of vs)) ≡ framed tag (texts_of vs)
 set_text tag vs h = der_bag tag vs (ascends_is (map der vs) h)
 
--- of a SET OF in whatever order its members came
-pub set_ordered : (tag : Tag) (vs : List Value) → der (SetOf tag (values_of vs)) ≡ framed tag (join (arrange (map der vs)))
-unfolding der der_element der_header
-set_ordered tag vs =
-    let xs = join (arrange (map der vs)) in
-    ap (λ s. der_element tag true (join (arrange s))) (ders_values vs) ∙ sym (append_assoc (identifier tag true) (shortest_length (length xs)) xs)
-
 -- of a single member
 pub one_text : (tag : Tag) (v : Value) → der (Sequence tag (values_of (v ∷ []))) ≡ der_header tag true (length (der v)) ++ der v
 one_text tag v = der_row tag (v ∷ []) ∙ ap (λ z. der_header tag true (length z) ++ z) (append-nil (der v))
@@ -43,12 +36,22 @@ length_texts vs = ap length (texts_flat vs) ∙ length-flat_map der vs
 pub texts_permuted : (vs ws : List Value) → IsPermutation vs ws → length (texts_of ws) ≡ length (texts_of vs)
 texts_permuted vs ws h = length_texts ws ∙ (sum_by-IsPermutation (λ v. length (der v)) vs ws h ∙ sym (length_texts vs))
 
--- whatever the order of a SET OF's members
-pub set_length : (tag : Tag) (vs : List Value) → length (der (SetOf tag (values_of vs))) ≡ length (framed tag (texts_of vs))
+-- of a SET OF, whatever the order of its members
+pub arranged_text : (tag : Tag) (vs : List Value) → der (SetOf tag (values_of vs)) ≡ framed tag (join (arrange (map der vs)))
 unfolding der der_element der_header
-set_length tag vs =
+arranged_text tag vs =
     let xs = join (arrange (der_texts (values_of vs))) in
+    sym (append_assoc (identifier tag true) (shortest_length (length xs)) xs) ∙ ap (λ z. framed tag (join (arrange z))) (ders_values vs)
+
+-- arranged, the texts are as long
+pub length_arranged : (vs : List Value) → length (join (arrange (map der vs))) ≡ length (texts_of vs)
+length_arranged vs = arranged_length (map der vs)
+
+pub set_length : (tag : Tag) (vs : List Value) → length (der (SetOf tag (values_of vs))) ≡ length (framed tag (texts_of vs))
+set_length tag vs =
+    let xs = join (arrange (map der vs)) in
     let ys = texts_of vs in
-    let e : length xs ≡ length ys = arranged_length (der_texts (values_of vs)) ∙ ap (λ z. length (join z)) (ders_values vs) in
-    let k = ap (λ n. length (shortest_length n)) e in
-    omega (arith, length-append (identifier tag true) (shortest_length (length xs) ++ xs), length-append (shortest_length (length xs)) xs, length-append (identifier tag true ++ shortest_length (length ys)) ys, length-append (identifier tag true) (shortest_length (length ys)))
+    let t = ap length (arranged_text tag vs) in
+    let e = length_arranged vs in
+    let h = ap (λ n. length (der_header tag true n)) e in
+    omega (arith, length-append (der_header tag true (length xs)) xs, length-append (der_header tag true (length ys)) ys)

@@ -1,5 +1,7 @@
 pub mod Answering
+pub mod ArrangedTexts
 pub mod ContainerTexts
+pub mod CutTexts
 pub mod Handing
 pub mod HeaderOctets
 pub mod LeafReadings

@@ -66,17 +66,21 @@ paired_in_place [] (w ∷ ws) h = absurd h
 paired_in_place (v ∷ vs) [] h = absurd h
 paired_in_place (v ∷ vs) (w ∷ ws) h = (w, ws, inl (refl, refl), h.0, paired_in_place vs ws h.1)
 
-get_or_in : (xs : List Value) (i : ℕ) (d : Value) → i < length xs → get_or xs i d ≡ get_or xs i (get_or xs i d)
+get_or_in : {A : Type 0} (xs : List A) (i : ℕ) (d : A) → i < length xs → get_or xs i d ≡ get_or xs i (get_or xs i d)
 get_or_in [] i d h = absurd (omega arith)
 get_or_in (x ∷ xs) zero d h = refl
 get_or_in (x ∷ xs) (suc i) d h = get_or_in xs i d (omega arith)
 
-swapped : (xs : List Value) (i j : ℕ) → i < length xs → j < length xs → Paired Alike xs (swap xs i j)
+swapped : {A : Type 0} (xs : List A) (i j : ℕ) → i < length xs → j < length xs → Paired Alike xs (swap xs i j)
 swapped [] i j h k = absurd (omega arith)
 swapped (x ∷ xs) i j h k = exchanged (x ∷ xs) i j (get_or (x ∷ xs) i x) (get_or (x ∷ xs) j x) h k (get_or_in (x ∷ xs) i x h) (get_or_in (x ∷ xs) j x k)
 
+-- a list is paired with its members in another order
+pub permuted : {A : Type 0} (xs ys : List A) → IsPermutation xs ys → Paired Alike xs ys
+permuted xs ys p = IsPermutation-keeps xs (λ l. Paired Alike xs l) (paired_self xs) (λ l i j a b q. paired_on Alike xs l (swap l i j) q (swapped l i j a b)) ys p
+
 pub paired_permuted : (vs ws ws' : List Value) → Each Same vs ws → IsPermutation ws ws' → Paired Same vs ws'
-paired_permuted vs ws ws' h p = IsPermutation-keeps ws (λ l. Paired Same vs l) (paired_in_place vs ws h) (λ l i j a b q. paired_on Same vs l (swap l i j) q (swapped l i j a b)) ws' p
+paired_permuted vs ws ws' h p = paired_on Same vs ws ws' (paired_in_place vs ws h) (permuted ws ws' p)
 
 members_are : (vs : List Value) → members (values_of vs) ≡ vs
 members_are [] = refl

@@ -4,7 +4,7 @@ use Rattle.tlv_core.specs.Identifier.{Tag}
 use Rattle.tlv_core.specs.declared.fault.ReadError.{ReadError}
 use Rattle.tlv_core.specs.declared.source.Source.{Ghosts}
 use Rattle.x690.specs.Contents as kinds
-use Rattle.x690.specs.DerTexts.{der, texts_of}
+use Rattle.x690.specs.DerTexts.{der}
 use Rattle.x690.specs.OpenValues as forms
 use Rattle.x690.specs.ReadContents.{all_members, read_open}
 use Rattle.x690.specs.ReadHeaders.{Ended}
@@ -17,7 +17,7 @@ use Rattle.ber_pull.specs.Standing.{Standing, enclosing}
 use Rattle.ber_pull.specs.View.{Answers}
 use Rattle.ber_pull.specs.declared.pull.Pull.{Pull}
 use Rattle.ber_pull.specs.declared.state.Given.{Given}
-use Rattle.asn_values.specs.Members.{starts_from}
+use Rattle.asn_values.specs.Members.{StandIn}
 use Rattle.asn_values.specs.Reading.{ended, kind_of, read_given_leaf}
 use Rattle.asn_values.specs.declared.open_form.OpenForm.{OpenForm}
 use Rattle.asn_values.specs.declared.open_form.OpenForm.TheVariants as coded
@@ -64,10 +64,6 @@ read_given_open deep s g = read_open deep s.limits (enclosing s) g.at g.tag g.co
 abbrev pub AnswersText : {R : Type 0} {s : Ghosts R} → Pull R s → Pull R s → Reading Value → List ℕ → List ℕ → Result (Unit {0}) ReadError → Type 0
 AnswersText old new p before after result = MatchResult result (λ _. (v : Value) × (after ≡ before ++ der v) × Answers old new p (Said v)) (λ e. Answers old new p (heard_error e))
 
--- these are the texts of the values one after another, and where each begins
-abbrev pub AreTexts : List ℕ → List ℕ → List Value → Type 0
-AreTexts octets starts values = (octets ≡ texts_of values) × (starts ≡ starts_from 0 values)
-
 -- the texts of the members that the reading gives, and where each begins, or the error is what it gives
 abbrev pub AnswersTexts : {R A : Type 0} {s : Ghosts R} → Pull R s → Pull R s → Reading (Ended (List Value)) → (A → List ℕ) → (A → List ℕ) → Result A ReadError → Type 0
-AnswersTexts old new p octets starts result = MatchResult result (λ x. (values : List Value) × (place : ℕ) × AreTexts (octets x) (starts x) values × Answers old new p (Said (ended values place))) (λ e. Answers old new p (heard_error e))
+AnswersTexts old new p octets starts result = MatchResult result (λ x. (values : List Value) × (place : ℕ) × StandIn values (octets x) (starts x) × Answers old new p (Said (ended values place))) (λ e. Answers old new p (heard_error e))

@@ -12,7 +12,8 @@ ghost use Rattle.ber_pull.specs.View.{standing, source, SameSource, Repeats, Kee
 ghost use Rattle.ber_pull.specs.declared.state.Given.{Given};
 ghost use Rattle.asn_values.specs.Framing.{framed};
 ghost use Rattle.asn_values.specs.declared.open_form.OpenForm.TheVariants.{Identifier};
-ghost use Rattle.asn_values.specs.OpenTexts.{AnswersText, AnswersTexts, AreTexts, container, read_given_container, read_given_contents, read_given_open, read_given_open_members};
+ghost use Rattle.asn_values.specs.Members.{StandIn};
+ghost use Rattle.asn_values.specs.OpenTexts.{AnswersText, AnswersTexts, container, read_given_container, read_given_contents, read_given_open, read_given_open_members};
 
 use crate::leaf_reading::read_leaf;
 use crate::members::keep;
@@ -158,9 +159,9 @@ fn arranged<R: Source>(
     starts: &[usize],
 ) -> Result<Vec<u8>, ReadError>
     requires fine { (standing pull.old).error ≡ None }
-    requires texts { (values : List Value) × AreTexts octets.items starts.now values }
+    requires texts { (values : List Value) × StandIn values octets.items starts.now }
     ensures same_source { SameSource pull.old pull.new }
-    ensures is { IfOk result (λ contents. (values : List Value) (tag : Identified) → AreTexts octets.items starts.now values → der (container is_set tag (values_of values)) ≡ framed tag contents.items) }
+    ensures is { IfOk result (λ contents. (values : List Value) (tag : Identified) → StandIn values octets.items starts.now → der (container is_set tag (values_of values)) ≡ framed tag contents.items) }
     ensures still { OnOk result (pull.new ≡ pull.old) }
     ensures stops { IfErr result (λ e. (e ≡ Memory) × (source pull.new ≡ source pull.old) × (standing pull.new ≡ failed_with e (standing pull.old))) }
     ensures keeps { Keeps pull.new result }
@@ -186,7 +187,7 @@ fn read_members<R: Source>(
     ensures same_source { SameSource pull.old pull.new }
     ensures repeats { Repeats pull.old pull.new result }
     ensures reads { (deep : ℕ) (g : Given) → (standing pull.old).error ≡ None → (standing pull.old).given ≡ Some g → (standing pull.old).limits.depth ≤ suc deep + length (standing pull.old).containers → AnswersTexts pull.old pull.new (read_given_open_members deep (standing pull.old) g) (λ r. r.0.items) (λ r. r.1.items) result }
-    ensures texts { IfOk result (λ r. (values : List Value) × AreTexts r.0.items r.1.items values) }
+    ensures texts { IfOk result (λ r. (values : List Value) × StandIn values r.0.items r.1.items) }
     ensures stands { OnOk result (Uses pull.old pull.new) }
     ensures keeps { Keeps pull.new result }
     ensures read { ReadsFail pull.old pull.new result }

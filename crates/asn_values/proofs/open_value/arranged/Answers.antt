@@ -4,7 +4,7 @@ use Rattle.x690.specs.Values.{values_of}
 use Rattle.x690_laws.proofs.Lengths.{der_row}
 use Rattle.asn_values.specs.Framing.{framed}
 use Rattle.asn_values.specs.OpenTexts.{container}
-use Rattle.asn_values.proofs.ContainerTexts.{set_ordered}
+use Rattle.asn_values.proofs.ContainerTexts.{arranged_text}
 use Rattle.asn_values.proofs.open_value.arranged.Goals as goal
 
 pub returns-then-not-is_set-clause-is : goal.returns-then-not-is_set-clause-is
@@ -15,4 +15,4 @@ returns-then-not-is_set-clause-is g c = λ values tag are.
 pub returns-in-Ok-clause-is : goal.returns-in-Ok-clause-is
 returns-in-Ok-clause-is g c = λ values tag are.
     let yes : c.args.is_set ≡ true = search rules in
-    ap (λ b. der (container b tag (values_of values))) yes ∙ (set_ordered tag values ∙ ap (framed tag) (sym (c.in-Ok.ensures values (c.deref.ensures.value ∙ are.0) are.1)))
+    ap (λ b. der (container b tag (values_of values))) yes ∙ (arranged_text tag values ∙ ap (framed tag) (sym (c.in-Ok.ensures values (c.deref.ensures.value ∙ are.0, are.1))))
