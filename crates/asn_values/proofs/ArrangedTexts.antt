@@ -16,7 +16,7 @@ use Rattle.x690_laws.proofs.Lengths.{ders_values}
 use Rattle.asn_values.proofs.PairedMembers.{permuted}
 
 -- it is the text of a value
-abbrev IsText : List ℕ → Type 0
+abbrev pub IsText : List ℕ → Type 0
 IsText text = (v : Value) × (text ≡ der v)
 
 -- the order of octet slices

@@ -3,8 +3,7 @@ use Rattle.std.proofs.Common.{◌≡◌, refl, sym, ap, ◌∙◌, ◌+◌, ◌-
 use Rattle.std.proofs.lemmas.List.{append_assoc, append-nil, length-append, drop_all}
 use Rattle.x690.specs.DerTexts.{der, texts_of}
 use Rattle.x690.specs.Values.{Value}
-use Rattle.asn_values.specs.Members.{starts_from}
-use Rattle.asn_values.specs.Members.{StandIn}
+use Rattle.asn_values.specs.Members.{StandIn, starts_from}
 use Rattle.asn_values.proofs.HeaderOctets.{get_after, get_before}
 
 pub nat_cases : (a b : ℕ) → a ≤ b → (a < b) ⊎ (a ≡ b)
@@ -99,6 +98,6 @@ starts_last n (w ∷ vs) v =
     let e : n + length (der w) + length (texts_of vs) ≡ n + length (texts_of (w ∷ vs)) = omega (arith, length-append (der w) (texts_of vs)) in
     ap (λ z. n ∷ z) (starts_last (n + length (der w)) vs v ∙ ap (λ k. starts_from (n + length (der w)) vs ++ k ∷ []) e)
 
-pub are_more : (octets starts octets' starts' : List ℕ) (vs : List Value) (v : Value) (start : ℕ) → StandIn vs octets starts → octets' ≡ octets ++ der v → starts' ≡ starts ++ start ∷ [] → start ≡ length octets → StandIn (vs ++ v ∷ []) octets' starts'
-are_more octets starts octets' starts' vs v start are o s n =
+pub stand_more : (octets starts octets' starts' : List ℕ) (vs : List Value) (v : Value) (start : ℕ) → StandIn vs octets starts → octets' ≡ octets ++ der v → starts' ≡ starts ++ start ∷ [] → start ≡ length octets → StandIn (vs ++ v ∷ []) octets' starts'
+stand_more octets starts octets' starts' vs v start are o s n =
     (o ∙ (ap (λ z. z ++ der v) are.0 ∙ sym (texts_last vs v)), s ∙ (ap (λ z. z ++ start ∷ []) are.1 ∙ (ap (λ k. starts_from 0 vs ++ k ∷ []) (let e : start ≡ 0 + length (texts_of vs) = omega (arith, n, ap length are.0) in e) ∙ sym (starts_last 0 vs v))))

@@ -4,7 +4,7 @@ use Rattle.tlv_core.specs.Identifier.{Tag}
 use Rattle.tlv_core.specs.declared.fault.ReadError.{ReadError}
 use Rattle.tlv_core.specs.declared.source.Source.{Ghosts}
 use Rattle.x690.specs.Contents as kinds
-use Rattle.x690.specs.DerTexts.{der, texts_of}
+use Rattle.x690.specs.DerTexts.{der}
 use Rattle.x690.specs.OpenValues as forms
 use Rattle.x690.specs.ReadContents.{all_members, read_open}
 use Rattle.x690.specs.ReadHeaders.{Ended}

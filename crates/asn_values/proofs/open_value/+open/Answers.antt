@@ -18,7 +18,7 @@ use Rattle.asn_values.specs.Reading.{ended}
 use Rattle.asn_values.specs.Framing.{framed}
 use Rattle.asn_values.proofs.Answering.{none_by, some_given}
 use Rattle.asn_values.proofs.MemberReadings.{all_used, inside_ends, inside_error, inside_here, inside_memory, inside_more, inside_never, inside_start, inside_stops, left, member_reads, still_open}
-use Rattle.asn_values.proofs.MemberTexts.{are_more}
+use Rattle.asn_values.proofs.MemberTexts.{stand_more}
 use Rattle.asn_values.proofs.OpenMembers.{Members, member_more, member_stops, room_now}
 use Rattle.asn_values.proofs.OpenReadings.{leaf_by, octets_by, open_by, open_refused, plain_by, sequence_by, set_by, text_err, text_put, texts_err}
 use Rattle.asn_values.proofs.open_value.+open.Goals as goal
@@ -170,7 +170,7 @@ read_members-loop-starts-preserved g t c = (
       let room = room_now deep c.args.pull.now c.loop-starts.pull c.next_tag.new.self c.append_open.new.pull given before.0 i c.in-Some._next.0 c.in-Some._next.1 next stands bound in
       let read = c.in_ok-append_open.ensures.reads deep new-given (search rules) (ap (λ z. z.given) stands) room in
       let more = member_more deep c.args.pull.now c.loop-starts.pull c.next_tag.new.self c.append_open.new.pull given before.0 i c.in-Some._next.0 c.in-Some._next.1 next stands read.0 read.2 c.in_ok-_next.ensures.same_source c.in_ok-append_open.ensures.same_source c.in_ok-append_open.ensures.stands (search rules) c.in_ok-append_open.ensures.onward.forward (search rules) fits in
-      (before.0 ++ read.0 ∷ [], are_more _ _ _ _ before.0 read.0 c.len-start.result before.1 read.1 c.in_ok-keep.ensures.kept (search rules), subst (λ z. Members deep c.args.pull.now given z (before.0 ++ read.0 ∷ [])) (sym c.in_ok-keep.ensures.still) more),
+      (before.0 ++ read.0 ∷ [], stand_more _ _ _ _ before.0 read.0 c.len-start.result before.1 read.1 c.in_ok-keep.ensures.kept (search rules), subst (λ z. Members deep c.args.pull.now given z (before.0 ++ read.0 ∷ [])) (sym c.in_ok-keep.ensures.still) more),
 )
 
 pub read_members-returns-clause-reads : goal.read_members-returns-clause-reads
