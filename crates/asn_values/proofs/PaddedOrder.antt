@@ -156,13 +156,3 @@ ascends_sorted g (x ∷ y ∷ ys) h =
     both (padded_less (g y) (g x)) (ascends (map g (y ∷ ys)))
     (padded_less_is (g y) (g x) ∙ (ap is_lt (padded_is (g y) (g x)) ∙ h 0 x (omega arith) (omega arith)))
     (ascends_sorted g (y ∷ ys) (λ k d p q. subst (λ n. is_lt (slice_cmp nat_cmp (without_zeros (g (get_or (x ∷ y ∷ ys) n d))) (without_zeros (g (get_or (x ∷ y ∷ ys) (suc k) d)))) ≡ false) (let e : suc k + 1 ≡ suc (k + 1) = omega arith in e) (h (suc k) d (omega arith) (omega arith))))
-
-split : (p q : Bool) → (not p && q) ≡ true → (p ≡ false) × (q ≡ true)
-split true q h = cc
-split false q h = (refl, h)
-
--- the test says what it tests
-pub ascends_is : (ts : List (List ℕ)) → ascends ts ≡ true → Ascends ts
-ascends_is [] h = tt
-ascends_is (t ∷ []) h = tt
-ascends_is (t ∷ u ∷ ts) h = let s = split (padded_less u t) (ascends (u ∷ ts)) h in (s.0, ascends_is (u ∷ ts) s.1)

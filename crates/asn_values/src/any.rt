@@ -2,11 +2,14 @@
 //!
 //! Universal tags say their types (X.680 8.6); elements of other classes keep their octets where they are primitive, and their elements in
 //! order where they are constructed. An open value is kept as its DER text, so that writing and comparing it is a matter of octets.
+ghost use Rattle.std.proofs.Common.{ap, sym, ◌∙◌};
+ghost use Rattle.x690_laws.proofs.OneValue.{same_of};
 ghost use Rattle.std.specs.Prelude.{◌≡◌, ◌↔◌, IsTrue};
 ghost use Rattle.std.specs.Option.{option_map};
 ghost use Rattle.x690.specs.DerTexts.{der};
 ghost use Rattle.x690.specs.TypeTerms.{OpenType};
 ghost use Rattle.ber_pull.proofs.Fields.{open_closed};
+ghost use Rattle.x690.specs.Values.{Same};
 ghost use Rattle.asn_values.specs.TextValues.{identifier_in, open_value};
 
 use crate::der_text::{DerText, der_text};
@@ -44,9 +47,9 @@ impl Any {
         self.oid.as_ref()
     }
 
-    /// Whether the two have one text, and so are the same.
+    /// Whether the two are the same.
     pub fn same(&self, other: &Any) -> bool
-        ensures { IsTrue result ↔ (der (open_value_of self.now) ≡ der (open_value_of other.now)) }
+        ensures { IsTrue result ↔ Same (open_value_of self.now) (open_value_of other.now) }
     {
         self.text == other.text
     }
@@ -56,6 +59,8 @@ impl DerText for Any {
     ghost use Rattle.asn_values.specs.OpenValues.{open_value_of};
 
     ghost value = { open_value_of };
+
+    ghost one_text = { λ x y e. same_of (open_value_of x) (open_value_of y) (ap open_value (sym x.whole ∙ e ∙ y.whole)) };
 
     fn size(&self) -> u64 {
         self.text.len() as u64

@@ -1,4 +1,5 @@
 //! BIT STRING (X.690 8.6, 11.2).
+ghost use Rattle.x690_laws.proofs.OneTexts.{leaf_one_text};
 ghost use Rattle.std.specs.Prelude.{◌≡◌, ◌↔◌, ◌+◌, ◌<◌, ◌^◌, ◌∷◌, None, Some, IsSome, IsTrue, OnOk, drop, get_or, length, slice_get};
 ghost use Rattle.tlv_core.specs.Sinks.{count, Puts};
 ghost use Rattle.ber_pull.proofs.Fields.{leaf_closed};
@@ -103,6 +104,8 @@ impl DerText for Bits {
     ghost use Rattle.asn_values.specs.Leaves.{bit_string_of};
 
     ghost value = { λ bits. Leaf (universal 3) (bit_string_of bits) };
+
+    ghost one_text = { λ x y. leaf_one_text (universal 3) (universal 3) (bit_string_of x) (bit_string_of y) };
 
     fn size(&self) -> u64 {
         self.size_as(universal_tag(3))

@@ -1,4 +1,5 @@
 //! BOOLEAN (X.690 8.2, 11.1).
+ghost use Rattle.x690_laws.proofs.OneTexts.{leaf_one_text};
 ghost use Rattle.std.specs.Prelude.{◌≡◌, ◌↔◌, ◌∷◌, [], IsTrue, cond};
 ghost use Rattle.ber_pull.proofs.Fields.{leaf_closed};
 ghost use Rattle.x690.specs.Layouts.{universal};
@@ -54,6 +55,8 @@ impl DerText for Bool {
     ghost use Rattle.asn_values.specs.Leaves.{truth};
 
     ghost value = { λ b. Leaf (universal 1) (cond (truth b) 255 0 ∷ []) };
+
+    ghost one_text = { λ x y. leaf_one_text (universal 1) (universal 1) (cond (truth x) 255 0 ∷ []) (cond (truth y) 255 0 ∷ []) };
 
     fn size(&self) -> u64 {
         leaf_size(universal_tag(1), &self.contents())

@@ -2,7 +2,7 @@
 ghost use Rattle.std.specs.Prelude.{◌≡◌, ◌+◌, ◌<◌, ◌^◌, ◌↔◌, IfOk, IsTrue, length, slice_get};
 ghost use Rattle.tlv_core.specs.Sinks.{count, Puts};
 ghost use Rattle.x690.specs.DerTexts.{der};
-ghost use Rattle.x690.specs.Values.{Value};
+ghost use Rattle.x690.specs.Values.{Same, Value};
 
 use std::alloc::{AllocError, Global};
 use tlv_core::sink::{Sink, WriteError};
@@ -12,6 +12,9 @@ use tlv_core::target::Target;
 pub trait DerText: Sized + Drop {
     /// What it stands for.
     ghost value: { Self → Value };
+
+    /// Two of the type that have one text are the same.
+    ghost one_text: { (x y : Self) → der (value x) ≡ der (value y) → Same (value x) (value y) };
 
     /// The length of its text, in octets.
     fn size(&self) -> u64
@@ -40,9 +43,9 @@ pub fn der_text<T: DerText>(alloc: Global, value: &T) -> Result<Vec<u8>, AllocEr
     Ok(text)
 }
 
-/// Whether the two have one text.
+/// Whether the two are the same, which is to have one text.
 pub fn same_text<T: DerText>(value: &T, other: &T) -> bool
-    ensures { IsTrue result ↔ (der (T.value value.now) ≡ der (T.value other.now)) }
+    ensures { IsTrue result ↔ Same (T.value value.now) (T.value other.now) }
 {
     let size = value.size();
     if size != other.size() {

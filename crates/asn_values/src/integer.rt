@@ -1,4 +1,5 @@
 //! INTEGER (X.690 8.3).
+ghost use Rattle.x690_laws.proofs.OneTexts.{leaf_one_text};
 ghost use Rattle.std.specs.Prelude.{◌≡◌, ◌↔◌, ◌≤◌, ◌<◌, ◌^◌, Err, IfOk, IsTrue, length, true};
 ghost use Rattle.asn_values.specs.declared.build.BuildError.TheVariants.{Bad, TooBig};
 ghost use Rattle.ber_pull.proofs.Fields.{leaf_closed};
@@ -84,6 +85,8 @@ impl DerText for Int {
     ghost use Rattle.asn_values.specs.Leaves.{integer_of};
 
     ghost value = { λ n. Leaf (universal 2) (integer_of n) };
+
+    ghost one_text = { λ x y. leaf_one_text (universal 2) (universal 2) (integer_of x) (integer_of y) };
 
     fn size(&self) -> u64 {
         leaf_size(universal_tag(2), &self.content)

@@ -1,4 +1,5 @@
 //! SEQUENCE OF (X.690 8.10).
+ghost use Rattle.x690_laws.proofs.OneTexts.{list_one_text};
 ghost use Rattle.std.specs.Prelude.{◌≡◌, ◌↔◌, ◌+◌, ◌<◌, ◌^◌, None, Some, IsSome, IsTrue, OnOk, length, map, slice_get};
 ghost use Rattle.std.specs.Option.{option_map};
 ghost use Rattle.tlv_core.specs.Sinks.{count, Puts};
@@ -9,7 +10,7 @@ ghost use Rattle.x690.specs.TypeTerms.{SequenceOfType};
 ghost use Rattle.ber_pull.specs.View.{standing, SameSource, Repeats, Keeps, ReadsFail, Onward, Uses};
 ghost use Rattle.ber_pull.specs.declared.state.Given.{Given};
 ghost use Rattle.asn_values.specs.Reading.{AnswersValue, read_given};
-ghost use Rattle.x690.specs.Values.{Sequence, values_of};
+ghost use Rattle.x690.specs.Values.{Same, Sequence, values_of};
 
 use crate::der_text::{DerText, same_text};
 use crate::element::Element;
@@ -60,9 +61,9 @@ impl<T: DerText> List<T> {
         }
     }
 
-    /// Whether the two have one text, and so are the same.
+    /// Whether the two are the same.
     pub fn same(&self, other: &List<T>) -> bool
-        ensures { IsTrue result ↔ (der (Sequence (universal 16) (values_of (map T.value (list_items self.now)))) ≡ der (Sequence (universal 16) (values_of (map T.value (list_items other.now))))) }
+        ensures { IsTrue result ↔ Same (Sequence (universal 16) (values_of (map T.value (list_items self.now)))) (Sequence (universal 16) (values_of (map T.value (list_items other.now)))) }
     {
         same_text(self, other)
     }
@@ -89,6 +90,8 @@ impl<T: DerText> List<T> {
 
 impl<T: DerText> DerText for List<T> {
     ghost value = { λ list. Sequence (universal 16) (values_of (map T.value (list_items list))) };
+
+    ghost one_text = { λ x y. list_one_text T.value T.one_text (universal 16) (list_items x) (list_items y) };
 
     fn size(&self) -> u64 {
         self.size_as(universal_tag(16))

@@ -1,4 +1,5 @@
 //! NULL (X.690 8.8).
+ghost use Rattle.x690_laws.proofs.OneTexts.{leaf_one_text};
 ghost use Rattle.std.specs.Prelude.{◌≡◌, [], IsTrue};
 ghost use Rattle.ber_pull.proofs.Fields.{leaf_closed};
 ghost use Rattle.x690.specs.Layouts.{universal};
@@ -34,6 +35,8 @@ impl Null {
 
 impl DerText for Null {
     ghost value = { λ _. Leaf (universal 5) [] };
+
+    ghost one_text = { λ _ _. leaf_one_text (universal 5) (universal 5) [] [] };
 
     fn size(&self) -> u64 {
         leaf_size(universal_tag(5), &[])

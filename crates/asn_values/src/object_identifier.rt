@@ -1,4 +1,5 @@
 //! OBJECT IDENTIFIER (X.690 8.19); the type is `tlv_core`'s `Oid`.
+ghost use Rattle.x690_laws.proofs.OneTexts.{leaf_one_text};
 ghost use Rattle.std.specs.Prelude.{◌≡◌, None, Some, IsSome, OnOk};
 ghost use Rattle.tlv_core.specs.Identifier.{Tag as Identified};
 ghost use Rattle.ber_pull.proofs.Fields.{leaf_closed};
@@ -28,6 +29,8 @@ use tlv_core::target::Target;
 
 impl DerText for Oid {
     ghost value = { λ oid. Leaf (universal 6) oid };
+
+    ghost one_text = { λ x y. leaf_one_text (universal 6) (universal 6) x y };
 
     fn size(&self) -> u64 {
         leaf_size(universal_tag(6), self.content())

@@ -1,4 +1,5 @@
 //! OCTET STRING (X.690 8.7).
+ghost use Rattle.x690_laws.proofs.OneTexts.{leaf_one_text};
 ghost use Rattle.std.specs.Prelude.{◌≡◌, ◌↔◌, ◌<◌, ◌^◌, Err, IfOk, IsTrue, length};
 ghost use Rattle.asn_values.specs.declared.build.BuildError.TheVariants.{TooBig};
 ghost use Rattle.ber_pull.proofs.Fields.{leaf_closed};
@@ -64,6 +65,8 @@ impl DerText for Octets {
     ghost use Rattle.asn_values.specs.Leaves.{octets_of};
 
     ghost value = { λ o. Leaf (universal 4) (octets_of o) };
+
+    ghost one_text = { λ x y. leaf_one_text (universal 4) (universal 4) (octets_of x) (octets_of y) };
 
     fn size(&self) -> u64 {
         leaf_size(universal_tag(4), &self.octets)

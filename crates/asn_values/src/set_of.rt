@@ -1,4 +1,5 @@
 //! SET OF (X.690 8.12, 11.6).
+ghost use Rattle.x690_laws.proofs.OneTexts.{set_one_text};
 ghost use Rattle.std.specs.Prelude.{◌≡◌, ◌↔◌, ◌+◌, ◌<◌, ◌^◌, Err, IfErr, IfOk, None, Some, IsSome, OnOk, IsPermutation, IsTrue, length, map, slice_get, true};
 ghost use Rattle.std.specs.Option.{option_map};
 ghost use Rattle.tlv_core.specs.Sinks.{count, Puts};
@@ -11,8 +12,8 @@ ghost use Rattle.ber_pull.specs.Standing.{failed_with};
 ghost use Rattle.ber_pull.specs.declared.state.Given.{Given};
 ghost use Rattle.tlv_core.specs.declared.fault.ReadError.TheVariants.{Memory};
 ghost use Rattle.asn_values.specs.Reading.{AnswersValue, read_given};
-ghost use Rattle.x690.specs.Values.{SetOf as SetValue, values_of};
-ghost use Rattle.asn_values.specs.Members.{ascends};
+ghost use Rattle.x690.specs.Values.{Same, SetOf as SetValue, values_of};
+ghost use Rattle.asn_values.specs.Members.{ascends, ascends_is};
 ghost use Rattle.asn_values.specs.declared.build.BuildError.TheVariants.{TooBig};
 
 use crate::build::BuildError;
@@ -94,9 +95,9 @@ impl<T: DerText> SetOf<T> {
         }
     }
 
-    /// Whether the two have one text, and so are the same.
+    /// Whether the two are the same.
     pub fn same(&self, other: &SetOf<T>) -> bool
-        ensures { IsTrue result ↔ (der (SetValue (universal 17) (values_of (map T.value (set_items self.now)))) ≡ der (SetValue (universal 17) (values_of (map T.value (set_items other.now))))) }
+        ensures { IsTrue result ↔ Same (SetValue (universal 17) (values_of (map T.value (set_items self.now)))) (SetValue (universal 17) (values_of (map T.value (set_items other.now)))) }
     {
         same_text(self, other)
     }
@@ -128,6 +129,8 @@ impl<T: DerText> DerText for SetOf<T> {
     ghost use Rattle.asn_values.specs.Containers.{set_items};
 
     ghost value = { λ set. SetValue (universal 17) (values_of (map T.value (set_items set))) };
+
+    ghost one_text = { λ x y. set_one_text T.value T.one_text (universal 17) (set_items x) (set_items y) (ascends_is (map der (map T.value (set_items x))) x.in_order) (ascends_is (map der (map T.value (set_items y))) y.in_order) };
 
     fn size(&self) -> u64 {
         self.size_as(universal_tag(17))

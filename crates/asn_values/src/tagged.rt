@@ -1,10 +1,11 @@
 //! Explicit tags (X.690 8.14).
+ghost use Rattle.x690_laws.proofs.OneTexts.{single_one_text};
 ghost use Rattle.std.specs.Prelude.{◌≡◌, ◌↔◌, ◌+◌, ◌<◌, ◌^◌, ◌∷◌, [], IsTrue, length, slice_get};
 ghost use Rattle.tlv_core.specs.Sinks.{count, Puts};
 ghost use Rattle.x690.specs.DerTexts.{der};
 ghost use Rattle.x690.specs.Layouts.{context_specific};
 ghost use Rattle.x690.specs.TypeTerms.{EndOfFields, Required, SequenceType};
-ghost use Rattle.x690.specs.Values.{Sequence, values_of};
+ghost use Rattle.x690.specs.Values.{Same, Sequence, values_of};
 ghost use Rattle.ber_pull.proofs.Fields.{sequence_closed};
 
 use crate::der_text::{DerText, same_text};
@@ -35,9 +36,9 @@ impl<const N: u8, T: DerText> Tagged<N, T> {
         &self.inner
     }
 
-    /// Whether the two have one text, and so are the same.
+    /// Whether the two are the same.
     pub fn same(&self, other: &Tagged<N, T>) -> bool
-        ensures { IsTrue result ↔ (der (Sequence (context_specific N) (values_of (T.value self.now.inner ∷ []))) ≡ der (Sequence (context_specific N) (values_of (T.value other.now.inner ∷ [])))) }
+        ensures { IsTrue result ↔ Same (Sequence (context_specific N) (values_of (T.value self.now.inner ∷ []))) (Sequence (context_specific N) (values_of (T.value other.now.inner ∷ []))) }
     {
         same_text(self, other)
     }
@@ -68,6 +69,8 @@ impl<const N: u8, T: DerText> Tagged<N, T> {
 
 impl<const N: u8, T: DerText> DerText for Tagged<N, T> {
     ghost value = { λ tagged. Sequence (context_specific N) (values_of (T.value tagged.inner ∷ [])) };
+
+    ghost one_text = { λ x y. single_one_text T.value T.one_text (context_specific N) x.inner y.inner };
 
     fn size(&self) -> u64 {
         self.size_as(context_tag(u32::from(N)))

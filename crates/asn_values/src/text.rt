@@ -1,4 +1,5 @@
 //! Character strings and times (X.690 8.23, 8.25, 8.26).
+ghost use Rattle.x690_laws.proofs.OneTexts.{leaf_one_text};
 ghost use Rattle.asn_values.specs.ClosedTypes.{strings_closed};
 ghost use Rattle.std.specs.Prelude.{◌≡◌, ◌↔◌, None, Some, IfErr, IfOk, IsSome, IsTrue, IsUtf8, OnOk, true};
 ghost use Rattle.tlv_core.specs.declared.reason.Reason.TheVariants.{WrongTag};
@@ -112,6 +113,8 @@ impl DerText for Text {
     ghost use Rattle.asn_values.specs.Leaves.{text_octets, text_tag};
 
     ghost value = { λ text. Leaf (text_tag text) (text_octets text) };
+
+    ghost one_text = { λ x y. leaf_one_text (text_tag x) (text_tag y) (text_octets x) (text_octets y) };
 
     fn size(&self) -> u64 {
         leaf_size(self.tag, &self.octets)
