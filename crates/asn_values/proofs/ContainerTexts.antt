@@ -15,7 +15,7 @@ use Rattle.x690_laws.proofs.ContentLengths.{arranged_length}
 use Rattle.x690_laws.proofs.Lengths.{der_bag, der_row}
 use Rattle.asn_values.specs.Framing.{framed}
 use Rattle.asn_values.specs.Members.{ascends}
-use Rattle.asn_values.proofs.PaddedOrder.{ascends_is}
+use Rattle.asn_values.proofs.Ascending.{ascends_is}
 
 -- of a SET OF whose members stand in order
 pub set_text : (tag : Tag) (vs : List Value) → ascends (map der vs) ≡ true → der (SetOf tag (values_of vs)) ≡ framed tag (texts_of vs)

@@ -1,5 +1,5 @@
 -- Members of a container: where their texts begin, and their order.
-use Rattle.std.specs.Prelude.{Bool, List, [], length, not, suc, true, zero, ℕ, ◌&&◌, ◌+◌, ◌∷◌, ◌≡◌}
+use Rattle.std.specs.Prelude.{Bool, List, [], length, not, true, ℕ, ◌&&◌, ◌+◌, ◌∷◌, ◌≡◌}
 use Rattle.x690.specs.DerTexts.{der, padded_less, texts_of}
 use Rattle.x690.specs.Values.{Value}
 
@@ -17,14 +17,3 @@ abbrev pub ascends : List (List ℕ) → Bool
 ascends [] = true
 ascends (text ∷ []) = true
 ascends (text ∷ next ∷ texts) = not (padded_less next text) && ascends (next ∷ texts)
-
--- x in front of a text that doesn't end in an octet 00
-abbrev pub in_front : ℕ → List ℕ → List ℕ
-in_front zero [] = []
-in_front (suc n) [] = suc n ∷ []
-in_front n (y ∷ ys) = n ∷ y ∷ ys
-
--- The text without the octets 00 at its end. Texts in the order of SET OF, in which the shorter is padded with such octets (X.690 11.6), are these in plain order.
-abbrev pub without_zeros : List ℕ → List ℕ
-without_zeros [] = []
-without_zeros (x ∷ xs) = in_front x (without_zeros xs)
