@@ -1,5 +1,5 @@
 -- Texts of values sorted by the plain order of octets: they are arranged as in SET OF.
-use Rattle.std.proofs.Common.{◌≡◌, ◌∙◌, ◌+◌, ap, arith, false, get_or, map, refl, subst, suc, List, [], ◌∷◌, ℕ}
+use Rattle.std.proofs.Common.{◌≡◌, ◌∙◌, ◌+◌, ap, ap₂, arith, false, get_or, map, refl, subst, suc, sym, true, List, [], ◌∷◌, ℕ}
 use Rattle.std.proofs.lemmas.Bool.Decides.{nat_tests}
 use Rattle.std.proofs.lemmas.Cmp.{same_from_slice_cmp}
 use Rattle.std.proofs.lemmas.List.Elements.{All-from_recursion, recursion_from_All}
@@ -13,6 +13,8 @@ use Rattle.x690.specs.Values.{Value, values_of}
 use Rattle.x690_laws.specs.ValueLaws.{plain_less}
 use Rattle.x690_laws.proofs.Texts.{arrangement}
 use Rattle.x690_laws.proofs.Lengths.{ders_values}
+use Rattle.asn_values.specs.Members.{ascends}
+use Rattle.asn_values.proofs.Ascending.{ascends_by}
 use Rattle.asn_values.proofs.PairedMembers.{permuted}
 
 -- it is the text of a value
@@ -31,10 +33,6 @@ not_less xs ys x y h =
     let b = y.1 in
     cc
 
-all_texts : (vs : List Value) → AllByRecursion IsText (map der vs)
-all_texts [] = tt
-all_texts (v ∷ vs) = ((v, refl), all_texts vs)
-
 texts_ascend : {A : Type 0} (g : A → List ℕ) (xs : List A) → AllByRecursion IsText (map g xs) → IsSorted (on g (slice_cmp nat_cmp)) xs → Ascends (map g xs)
 texts_ascend g [] t h = tt
 texts_ascend g (x ∷ []) t h = tt
@@ -43,10 +41,22 @@ texts_ascend g (x ∷ y ∷ ys) t h = (
   texts_ascend g (y ∷ ys) t.1 (λ k d p q. subst (λ n. is_lt (slice_cmp nat_cmp (g (get_or (x ∷ y ∷ ys) n d)) (g (get_or (x ∷ y ∷ ys) (suc k) d))) ≡ false) (let e : suc k + 1 ≡ suc (k + 1) = omega arith in e) (h (suc k) d (omega arith) (omega arith))),
 )
 
+texts_each : {A : Type 0} (g : A → List ℕ) (f : A → Value) → ((x : A) → g x ≡ der (f x)) → (xs : List A) → AllByRecursion IsText (map g xs)
+texts_each g f e [] = tt
+texts_each g f e (x ∷ xs) = ((f x, e x), texts_each g f e xs)
+
+same_map : {A B : Type 0} (g h : A → B) → ((x : A) → g x ≡ h x) → (xs : List A) → map g xs ≡ map h xs
+same_map g h e [] = refl
+same_map g h e (x ∷ xs) = ap₂ (λ a b. a ∷ b) (e x) (same_map g h e xs)
+
+-- members that are sorted by their texts ascend
+pub sorted_ascend : {A : Type 0} (g : A → List ℕ) (f : A → Value) → ((x : A) → g x ≡ der (f x)) → (xs : List A) → IsSorted (on g (slice_cmp nat_cmp)) xs → ascends (map (λ x. der (f x)) xs) ≡ true
+sorted_ascend g f e xs h = ap ascends (sym (same_map g (λ x. der (f x)) e xs)) ∙ ascends_by (map g xs) (texts_ascend g xs (texts_each g f e xs) h)
+
 -- sorted, they are in the order of SET OF
 pub sorted_arranged : {A : Type 0} (g : A → List ℕ) (vs : List Value) (xs : List A) → IsPermutation (map der vs) (map g xs) → IsSorted (on g (slice_cmp nat_cmp)) xs → map g xs ≡ arrange (map der vs)
 sorted_arranged g vs xs p h =
-    let all = recursion_from_All IsText (map g xs) (All-permutation IsText (map der vs) (map g xs) p (All-from_recursion IsText (map der vs) (all_texts vs))) in
+    let all = recursion_from_All IsText (map g xs) (All-permutation IsText (map der vs) (map g xs) p (All-from_recursion IsText (map der vs) (texts_each der (λ v. v) (λ v. refl) vs))) in
     let pairs = permuted (map g xs) (map der vs) (IsPermutation-sym (map der vs) (map g xs) p) in
     arrangement.one_arrangement (values_of vs) (map g xs) (texts_ascend g xs all h) (rw (ders_values vs) pairs)
     ∙ ap arrange (ders_values vs)

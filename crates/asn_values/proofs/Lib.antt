@@ -1,5 +1,6 @@
 pub mod Answering
 pub mod ArrangedTexts
+pub mod Ascending
 pub mod ContainerTexts
 pub mod CutTexts
 pub mod Handing
@@ -9,9 +10,9 @@ pub mod MappedMembers
 pub mod MemberReadings
 pub mod MemberTexts
 pub mod ObjectIdentifierContents
+pub mod OneFields
 pub mod OpenMembers
 pub mod OpenReadings
-pub mod PaddedOrder
 pub mod PairedMembers
 pub mod Putting
 pub mod SameMembers

@@ -1,5 +1,5 @@
 -- Members of a container: where their texts begin, and their order.
-use Rattle.std.specs.Prelude.{Bool, List, [], false, length, not, refl, suc, true, zero, ℕ, ◌&&◌, ◌+◌, ◌∷◌, ◌≡◌}
+use Rattle.std.specs.Prelude.{Bool, List, [], false, length, not, refl, true, ℕ, ◌&&◌, ◌+◌, ◌∷◌, ◌≡◌}
 use Rattle.x690.specs.DerTexts.{Ascends, der, padded_less, texts_of}
 use Rattle.x690.specs.Values.{Value}
 
@@ -27,14 +27,3 @@ pub ascends_is : (texts : List (List ℕ)) → ascends texts ≡ true → Ascend
 ascends_is [] h = tt
 ascends_is (text ∷ []) h = tt
 ascends_is (text ∷ next ∷ texts) h = let both = not_and (padded_less next text) (ascends (next ∷ texts)) h in (both.0, ascends_is (next ∷ texts) both.1)
-
--- x in front of a text that doesn't end in an octet 00
-abbrev pub in_front : ℕ → List ℕ → List ℕ
-in_front zero [] = []
-in_front (suc n) [] = suc n ∷ []
-in_front n (y ∷ ys) = n ∷ y ∷ ys
-
--- The text without the octets 00 at its end. Texts in the order of SET OF, in which the shorter is padded with such octets (X.690 11.6), are these in plain order.
-abbrev pub without_zeros : List ℕ → List ℕ
-without_zeros [] = []
-without_zeros (x ∷ xs) = in_front x (without_zeros xs)

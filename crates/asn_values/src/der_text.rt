@@ -6,7 +6,7 @@ ghost use Rattle.x690.specs.Values.{Same, Value};
 
 use std::alloc::{AllocError, Global};
 use tlv_core::sink::{Sink, WriteError};
-use tlv_core::target::Target;
+use tlv_core::target::{Target, ToWrite};
 
 /// A value with its one text in DER (X.690 10, 11).
 pub trait DerText: Sized + Drop {
@@ -35,17 +35,25 @@ pub fn der_text<T: DerText>(alloc: Global, value: &T) -> Result<Vec<u8>, AllocEr
     ensures { IfOk result (λ text. text.items ≡ der (T.value value.now)) }
 {
     let size = value.size();
-    let mut text = Vec::with_capacity(alloc, size as usize)?;
-    for i in 0..size {
-        let octet = value.octet(i).unwrap_or(0);
-        text.push(octet)?;
+    let text = Vec::with_capacity(alloc, size as usize)?;
+    let mut target = ToWrite::new(text);
+    let mut sink = Sink::new(&mut target);
+    match value.put(&mut sink) {
+        Ok(()) => Ok(target.into_inner()),
+        Err(_) => Err(AllocError),
     }
-    Ok(text)
 }
 
 /// Whether the two are the same, which is to have one text.
 pub fn same_text<T: DerText>(value: &T, other: &T) -> bool
     ensures { IsTrue result ↔ Same (T.value value.now) (T.value other.now) }
+{
+    have_one_text(value, other)
+}
+
+/// Whether the two have one text.
+fn have_one_text<T: DerText>(value: &T, other: &T) -> bool
+    ensures { IsTrue result ↔ (der (T.value value.now) ≡ der (T.value other.now)) }
 {
     let size = value.size();
     if size != other.size() {

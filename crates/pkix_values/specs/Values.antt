@@ -3,13 +3,18 @@ use Rattle.std.specs.Prelude.{Bool as Truth, List, None, Option, Some, [], cond,
 use Rattle.std.specs.Option.{option_map}
 use Rattle.x690.specs.Layouts.{universal}
 use Rattle.x690.specs.Values.{Leaf, Value}
+use Rattle.x690_laws.proofs.OneTexts.{leaf_one_text}
 use Rattle.ber_pull.specs.Fields.{with_field}
+use Rattle.asn_values.proofs.OneFields.{OneText}
 use Rattle.asn_values.specs.Leaves.{octets_of, truth}
 use Rattle.asn_values.specs.declared.boolean.Bool.{Bool}
 use Rattle.asn_values.specs.declared.octets.Octets.{Octets}
 
 abbrev pub truth_value : Bool → Value
 truth_value b = Leaf (universal 1) (cond (truth b) 255 0 ∷ [])
+
+pub truth_one_text : (x y : Bool) → OneText (truth_value x) (truth_value y)
+truth_one_text x y = leaf_one_text (universal 1) (universal 1) (cond (truth x) 255 0 ∷ []) (cond (truth y) 255 0 ∷ [])
 
 -- it is TRUE where it is there
 abbrev pub true_if_there : Option Bool → Truth

@@ -1,13 +1,16 @@
 //! Extension of RFC 5280 section 4.1.
 ghost use Rattle.std.specs.Prelude.{◌≡◌, ◌↔◌, ◌<◌, ◌^◌, ◌∷◌, IsTrue, [], length, true};
 ghost use Rattle.std.specs.Option.{is_some, option_map};
-ghost use Rattle.x690.specs.DerTexts.{der, texts_of};
+ghost use Rattle.x690.specs.DerTexts.{texts_of};
 ghost use Rattle.x690.specs.DocumentTypes.{Extension as ExtensionType};
 ghost use Rattle.x690.specs.Layouts.{universal};
-ghost use Rattle.x690.specs.Values.{Sequence, values_of};
+ghost use Rattle.x690.specs.Values.{Leaf, Same, Sequence, values_of};
+ghost use Rattle.x690_laws.proofs.OneTexts.{leaf_one_text};
+ghost use Rattle.asn_values.proofs.OneFields.{field_one_text, two_or_three_one_text};
+ghost use Rattle.asn_values.specs.Leaves.{octets_of};
 ghost use Rattle.ber_pull.specs.Fields.{but_default};
 ghost use Rattle.pkix_values.specs.ClosedTypes.{extension_closed};
-ghost use Rattle.pkix_values.specs.Values.{extension_values, true_if_there, truth_value};
+ghost use Rattle.pkix_values.specs.Values.{extension_values, true_if_there, truth_one_text, truth_value};
 
 use crate::parts::{Both, Field, OptionalField, put_sequence, sequence_octet, sequence_size};
 use asn_values::boolean::Bool;
@@ -71,7 +74,7 @@ impl Extension {
 
     /// Whether the two are the same.
     pub fn same(&self, other: &Extension) -> bool
-        ensures { IsTrue result ↔ (der (Sequence (universal 16) (values_of (extension_values self.now.id self.now.critical self.now.value))) ≡ der (Sequence (universal 16) (values_of (extension_values other.now.id other.now.critical other.now.value)))) }
+        ensures { IsTrue result ↔ Same (Sequence (universal 16) (values_of (extension_values self.now.id self.now.critical self.now.value))) (Sequence (universal 16) (values_of (extension_values other.now.id other.now.critical other.now.value))) }
     {
         same_text(self, other)
     }
@@ -93,6 +96,9 @@ impl Extension {
 
 impl DerText for Extension {
     ghost value = { λ e. Sequence (universal 16) (values_of (extension_values e.id e.critical e.value)) };
+
+    ghost one_text = { λ x y. two_or_three_one_text (universal 16) (Leaf (universal 6) x.id) (Leaf (universal 6) y.id) (option_map truth_value x.critical) (option_map truth_value y.critical) (Leaf (universal 4) (octets_of x.value)) (Leaf (universal 4) (octets_of y.value))
+        (leaf_one_text (universal 6) (universal 6) x.id y.id) (field_one_text truth_value truth_one_text x.critical y.critical) (leaf_one_text (universal 4) (universal 4) (octets_of x.value) (octets_of y.value)) };
 
     fn size(&self) -> u64 {
         sequence_size(universal_tag(16), &self.parts())

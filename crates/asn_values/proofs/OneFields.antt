@@ -1,0 +1,53 @@
+-- Sequences of the same fields that have one DER text are the same.
+use Rattle.std.proofs.Common.{◌≡◌, ◌++◌, List, [], ◌∷◌, Option, None, Some, map}
+use Rattle.std.specs.Option.{option_map}
+use Rattle.tlv_core.specs.Identifier.{Tag}
+use Rattle.x690.specs.DerTexts.{der}
+use Rattle.x690.specs.Lists.{Each}
+use Rattle.x690.specs.Values.{Same, Sequence, Value, values_of}
+use Rattle.x690_laws.proofs.OneTexts.{each_sequence, sequence_texts}
+use Rattle.ber_pull.specs.Fields.{with_field}
+
+-- with one text they are the same
+abbrev pub OneText : Value → Value → Type 0
+OneText v w = der v ≡ der w → Same v w
+
+-- so it is of a field that may be absent, where it is there in both
+abbrev pub OneField : Option Value → Option Value → Type 0
+OneField None None = Unit {0}
+OneField None (Some w) = Unit {0}
+OneField (Some v) None = Unit {0}
+OneField (Some v) (Some w) = OneText v w
+
+pub field_one_text : {A : Type 0} (value : A → Value) (one : (x y : A) → OneText (value x) (value y)) (o o' : Option A) → OneField (option_map value o) (option_map value o')
+field_one_text value one None None = tt
+field_one_text value one None (Some y) = tt
+field_one_text value one (Some x) None = tt
+field_one_text value one (Some x) (Some y) = one x y
+
+two_same : (a a' b b' : Value) → OneText a a' → OneText b b' → map der (a ∷ b ∷ []) ≡ map der (a' ∷ b' ∷ []) → Each Same (a ∷ b ∷ []) (a' ∷ b' ∷ [])
+two_same a a' b b' f g e = (f cc, (g cc, tt))
+
+pub two_one_text : (t : Tag) (a a' b b' : Value) → OneText a a' → OneText b b' → OneText (Sequence t (values_of (a ∷ b ∷ []))) (Sequence t (values_of (a' ∷ b' ∷ [])))
+two_one_text t a a' b b' f g e = each_sequence t (a ∷ b ∷ []) (a' ∷ b' ∷ []) (two_same a a' b b' f g (sequence_texts t (a ∷ b ∷ []) (a' ∷ b' ∷ []) e))
+
+-- the second may be absent
+one_or_two_same : (a a' : Value) (o o' : Option Value) → OneText a a' → OneField o o' → map der (a ∷ with_field o []) ≡ map der (a' ∷ with_field o' []) → Each Same (a ∷ with_field o []) (a' ∷ with_field o' [])
+one_or_two_same a a' None None f g e = (f cc, tt)
+one_or_two_same a a' None (Some w) f g e = cc
+one_or_two_same a a' (Some v) None f g e = cc
+one_or_two_same a a' (Some v) (Some w) f g e = two_same a a' v w f g e
+
+pub one_or_two_one_text : (t : Tag) (a a' : Value) (o o' : Option Value) → OneText a a' → OneField o o' → OneText (Sequence t (values_of (a ∷ with_field o []))) (Sequence t (values_of (a' ∷ with_field o' [])))
+one_or_two_one_text t a a' o o' f g e = each_sequence t (a ∷ with_field o []) (a' ∷ with_field o' []) (one_or_two_same a a' o o' f g (sequence_texts t (a ∷ with_field o []) (a' ∷ with_field o' []) e))
+
+-- the one between two others may be absent
+two_or_three_same : (a a' : Value) (o o' : Option Value) (b b' : Value) → OneText a a' → OneField o o' → OneText b b' → map der (a ∷ (with_field o [] ++ (b ∷ []))) ≡ map der (a' ∷ (with_field o' [] ++ (b' ∷ []))) → Each Same (a ∷ (with_field o [] ++ (b ∷ []))) (a' ∷ (with_field o' [] ++ (b' ∷ [])))
+two_or_three_same a a' None None b b' f g h e = two_same a a' b b' f h e
+two_or_three_same a a' None (Some w) b b' f g h e = cc
+two_or_three_same a a' (Some v) None b b' f g h e = cc
+two_or_three_same a a' (Some v) (Some w) b b' f g h e = (f cc, (g cc, (h cc, tt)))
+
+pub two_or_three_one_text : (t : Tag) (a a' : Value) (o o' : Option Value) (b b' : Value) → OneText a a' → OneField o o' → OneText b b' → OneText (Sequence t (values_of (a ∷ (with_field o [] ++ (b ∷ []))))) (Sequence t (values_of (a' ∷ (with_field o' [] ++ (b' ∷ [])))))
+two_or_three_one_text t a a' o o' b b' f g h e =
+    each_sequence t (a ∷ (with_field o [] ++ (b ∷ []))) (a' ∷ (with_field o' [] ++ (b' ∷ []))) (two_or_three_same a a' o o' b b' f g h (sequence_texts t (a ∷ (with_field o [] ++ (b ∷ []))) (a' ∷ (with_field o' [] ++ (b' ∷ []))) e))
