@@ -1,4 +1,4 @@
-//! Character strings and times (X.690 8.23, 8.25, 8.26).
+//! Character strings and times (X.690 8.23, 8.25).
 ghost use Rattle.x690_laws.proofs.OneTexts.{leaf_one_text};
 ghost use Rattle.asn_values.specs.ClosedTypes.{strings_closed};
 ghost use Rattle.std.specs.Prelude.{◌≡◌, ◌↔◌, None, Some, IfErr, IfOk, IsSome, IsTrue, IsUtf8, OnOk, true};
@@ -29,7 +29,7 @@ use tlv_core::source::Source;
 use tlv_core::tag::{Class, Tag};
 use tlv_core::target::Target;
 
-/// A character string or time, of whichever type its tag says (X.680 8.4). A UTF8String is UTF-8; of all others the octets are
+/// A character string or time, of whichever type its tag says (X.680 table 1). A UTF8String is UTF-8; of all others the octets are
 /// carried as they are.
 #[derive(Drop)]
 pub struct Text {
