@@ -47,12 +47,3 @@ unfolding read_type fits_tag string_types
 string_is s g =
     ap₂ (choose (same_tag (universal 12) g.tag)) (leaf_by_tag (universal 12) Utf8String s g) (carried_is 7 (18 ∷ 19 ∷ 20 ∷ 21 ∷ 22 ∷ 23 ∷ 24 ∷ 25 ∷ 26 ∷ 27 ∷ 28 ∷ 30 ∷ []) s g)
     ∙ chosen (same_tag (universal 12) g.tag) _ (fault g.at WrongTag) (λ b. read_given_leaf (string_kind b) g.tag s g)
-
--- Their type doesn't look at earlier fields.
-leaf_or_closed : (own : Tag) (kind : LeafKind) (others : List ℕ) → IsClosed (choice_of (LeafType own kind) (map carried_string others))
-leaf_or_closed own kind [] = leaf_closed own kind
-leaf_or_closed own kind (number ∷ others) = choice_closed (LeafType own kind) (choice_of (carried_string number) (map carried_string others)) (leaf_closed own kind) (leaf_or_closed (universal number) OctetString others)
-
-pub string_closed : IsClosed string_types
-unfolding string_types
-string_closed = leaf_or_closed (universal 12) Utf8String carried_numbers
