@@ -1,5 +1,5 @@
 -- Sequences of the same fields that have one DER text are the same.
-use Rattle.std.proofs.Common.{◌≡◌, ◌++◌, List, [], ◌∷◌, Option, None, Some, map}
+use Rattle.std.proofs.Common.{◌≡◌, ◌++◌, [], ◌∷◌, Option, None, Some, map}
 use Rattle.std.specs.Option.{option_map}
 use Rattle.tlv_core.specs.Identifier.{Tag}
 use Rattle.x690.specs.DerTexts.{der}

@@ -1,7 +1,6 @@
 -- One turn of the loop over the members of an open container.
-use Rattle.std.proofs.Common.{◌≡◌, ◌∙◌, ◌∷◌, ◌++◌, ◌+◌, ◌<◌, ◌≤◌, Bool, List, [], None, Some, ℕ, ap, arith, suc, length}
+use Rattle.std.proofs.Common.{◌≡◌, ◌∷◌, ◌++◌, ◌+◌, ◌<◌, ◌≤◌, Bool, List, [], None, Some, ℕ, ap, arith, suc, length}
 use Rattle.tlv_core.specs.Identifier.{Tag}
-use Rattle.tlv_core.specs.Limits.{Limits}
 use Rattle.tlv_core.specs.declared.fault.ReadError.{ReadError}
 use Rattle.tlv_core.specs.declared.source.Source.{Ghosts}
 use Rattle.x690.specs.Points.{Enclosing}

@@ -14,8 +14,8 @@ use Rattle.x690.specs.Points.{Enclosing, fault}
 use Rattle.x690.specs.ReadContents.{all_members, read_open}
 use Rattle.x690.specs.ReadHeaders.{ElementStands, Ended, next_tag, primitive_contents}
 use Rattle.x690.specs.Reading.{Done, Fail, Reading, require, ◌>>=◌}
-use Rattle.x690.specs.Reads.{Heard, Said}
-use Rattle.x690.specs.Values.{Leaf, Sequence, SetOf, Value, values_of}
+use Rattle.x690.specs.Reads.{Said}
+use Rattle.x690.specs.Values.{Leaf, Value, values_of}
 use Rattle.x690_laws.proofs.HeaderSound.{next_took}
 use Rattle.x690_laws.proofs.ShortTexts.{read_texts}
 use Rattle.ber_pull.specs.Calls.{read_primitive}

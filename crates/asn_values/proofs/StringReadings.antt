@@ -8,14 +8,12 @@ use Rattle.x690.specs.Layouts.{same_tag, universal}
 use Rattle.x690.specs.Points.{fault}
 use Rattle.x690.specs.ReadTypes.{read_type}
 use Rattle.x690.specs.Reading.{Reading, choose, require}
-use Rattle.x690.specs.StringTypes.{carried_numbers, carried_string, string_types}
+use Rattle.x690.specs.StringTypes.{carried_string, string_types}
 use Rattle.x690.specs.TypeTerms.{LeafType, choice_of, fits_tag}
 use Rattle.x690.specs.Values.{Value}
 use Rattle.x690_laws.proofs.Sound.{same_tag_is}
-use Rattle.ber_pull.specs.Fields.{IsClosed}
 use Rattle.ber_pull.specs.Standing.{Standing}
 use Rattle.ber_pull.specs.declared.state.Given.{Given}
-use Rattle.ber_pull.proofs.Fields.{choice_closed, leaf_closed}
 use Rattle.asn_values.specs.Reading.{read_given, read_given_leaf, string_kind}
 
 -- one of two readings that fail alike, by a test that both of them make

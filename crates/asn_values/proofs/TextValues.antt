@@ -1,5 +1,5 @@
 -- The DER text of an open value that was read says that value again.
-use Rattle.std.proofs.Common.{◌≡◌, ◌∙◌, ◌+◌, ◌*◌, ◌/◌, ◌%◌, ◌==◌, ◌<◌, ◌≤◌, ℕ, zero, suc, Bool, false, true, cond, nat_lt, List, [], ◌∷◌, ◌++◌, Option, None, Some, IfSome, Err, Ok, Result, append-nil, ap, sym, subst, refl, length, max, arith, ⊎_elim}
+use Rattle.std.proofs.Common.{◌≡◌, ◌∙◌, ◌+◌, ◌*◌, ◌/◌, ◌%◌, ◌==◌, ◌<◌, ◌≤◌, ℕ, zero, suc, Bool, false, true, cond, nat_lt, List, [], ◌∷◌, ◌++◌, Option, None, Some, IfSome, Err, Ok, Result, append-nil, ap, sym, subst, refl, length, arith, ⊎_elim}
 use Rattle.std.proofs.lemmas.List.{length-append}
 use Rattle.tlv_core.specs.Identifier.{IsTag, Tag, base128, identifier, leading_base128}
 use Rattle.tlv_core.specs.Limits.{Limits}
@@ -12,7 +12,7 @@ use Rattle.x690.specs.Contents.{ObjectIdentifier}
 use Rattle.x690.specs.OpenValues.{FitsOpen, open_form}
 use Rattle.x690.specs.Points.{Enclosing, outermost}
 use Rattle.x690.specs.Premises.{Fair}
-use Rattle.x690.specs.ReadContents.{read_leaf, read_open}
+use Rattle.x690.specs.ReadContents.{read_open}
 use Rattle.x690.specs.ReadTypes.{read_document, read_type}
 use Rattle.x690.specs.Reads.{Said}
 use Rattle.x690.specs.Takes.{Takes}

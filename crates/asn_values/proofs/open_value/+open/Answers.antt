@@ -1,4 +1,4 @@
-use Rattle.std.proofs.Common.{rules, arith, ◌≡◌, ◌∙◌, ◌++◌, ◌∷◌, ◌≤◌, ◌+◌, [], IfSome, None, Some, ap, false, length, subst, suc, sym, true}
+use Rattle.std.proofs.Common.{rules, arith, ◌≡◌, ◌∙◌, ◌++◌, ◌∷◌, [], IfSome, None, ap, false, length, subst, sym, true}
 use Rattle.tlv_core.specs.declared.fault.ReadError.TheVariants as errors
 use Rattle.tlv_core.specs.declared.reason.Reason.TheVariants.{LeftOut}
 use Rattle.x690.specs.DerTexts.{der}
@@ -8,16 +8,16 @@ use Rattle.x690.specs.ReadContents.{read_open}
 use Rattle.x690.specs.Reading.{Done}
 use Rattle.x690.specs.Reads.{Said}
 use Rattle.x690.specs.Values.{values_of}
-use Rattle.ber_pull.specs.Hears.{heard_error, next_at}
-use Rattle.ber_pull.specs.Standing.{after_next, enclosing, IsGiven, place}
-use Rattle.ber_pull.specs.View.{Answers, told}
+use Rattle.ber_pull.specs.Hears.{next_at}
+use Rattle.ber_pull.specs.Standing.{after_next, IsGiven, place}
+use Rattle.ber_pull.specs.View.{Answers}
 use Rattle.ber_pull.specs.declared.state.Given.{Given}
 use Rattle.ber_pull.proofs.Hearing.{hears_at, hears_done, hears_error, hears_said, hears_then, hears_then_memory}
 use Rattle.asn_values.specs.OpenTexts.{container, form_of, read_given_container, read_given_contents, read_given_open_members}
 use Rattle.asn_values.specs.Reading.{ended}
 use Rattle.asn_values.specs.Framing.{framed}
 use Rattle.asn_values.proofs.Answering.{none_by, some_given}
-use Rattle.asn_values.proofs.MemberReadings.{all_used, inside_ends, inside_error, inside_here, inside_memory, inside_more, inside_never, inside_start, inside_stops, left, member_reads, still_open}
+use Rattle.asn_values.proofs.MemberReadings.{all_used, inside_ends, inside_error, inside_memory, inside_never, inside_start, left}
 use Rattle.asn_values.proofs.MemberTexts.{stand_more}
 use Rattle.asn_values.proofs.OpenMembers.{Members, member_more, member_stops, room_now}
 use Rattle.asn_values.proofs.OpenReadings.{leaf_by, octets_by, open_by, open_refused, plain_by, sequence_by, set_by, text_err, text_put, texts_err}

@@ -1,4 +1,4 @@
-use Rattle.std.proofs.Common.{rules, ◌≡◌, ◌∙◌, ap, false, subst, sym, true, length}
+use Rattle.std.proofs.Common.{rules, ◌≡◌, ◌∙◌, ap, false, sym, true}
 use Rattle.x690.specs.DerTexts.{der}
 use Rattle.x690.specs.Values.{values_of}
 use Rattle.x690_laws.proofs.Lengths.{der_row}

@@ -1,14 +1,11 @@
-use Rattle.std.proofs.Common.{rules, arith, ◌≡◌, ◌∙◌, ◌++◌, List, ℕ, None, Some, [], ap, subst, sym}
+use Rattle.std.proofs.Common.{rules, arith, ◌≡◌, ◌∙◌, ◌++◌, None, Some, ap, subst, sym}
 use Rattle.x690.specs.Contents.{ObjectIdentifier}
 use Rattle.x690.specs.DerTexts.{der}
 use Rattle.x690.specs.Layouts.{universal}
-use Rattle.x690.specs.ReadContents.{read_open}
 use Rattle.x690.specs.Reads.{Said}
 use Rattle.x690.specs.TypeTerms.{OpenType}
 use Rattle.x690.specs.Values.{Leaf, Same}
 use Rattle.ber_pull.specs.Hears.{heard_error}
-use Rattle.ber_pull.specs.Standing.{enclosing}
-use Rattle.ber_pull.specs.declared.state.Given.{Given}
 use Rattle.ber_pull.proofs.Hearing.{hears_as, hears_then_memory}
 use Rattle.asn_values.specs.TextValues.{identifier_in, open_value}
 use Rattle.asn_values.specs.OpenValues.{open_value_of}
