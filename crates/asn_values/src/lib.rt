@@ -11,6 +11,7 @@
 //! `same` is proved to be "the same text". Open values, strings of other tags, and the reading of `Tagged` are still to come.
 #![tactic(auto)]
 
+pub mod any;
 pub mod bits;
 pub mod boolean;
 pub mod build;
