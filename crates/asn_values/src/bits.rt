@@ -1,6 +1,7 @@
 //! BIT STRING (X.690 8.6, 11.2).
 ghost use Rattle.std.specs.Prelude.{◌≡◌, ◌↔◌, ◌+◌, ◌<◌, ◌^◌, ◌∷◌, None, Some, IsSome, IsTrue, OnOk, drop, get_or, length, slice_get};
 ghost use Rattle.tlv_core.specs.Sinks.{count, Puts};
+ghost use Rattle.ber_pull.proofs.Fields.{leaf_closed};
 ghost use Rattle.x690.specs.DerTexts.{der};
 ghost use Rattle.x690.specs.Layouts.{universal};
 ghost use Rattle.x690.specs.Contents.{BitString};
@@ -118,6 +119,8 @@ impl DerText for Bits {
 
 impl Element for Bits {
     ghost type_term = { LeafType (universal 3) BitString };
+
+    ghost closed = { leaf_closed (universal 3) BitString };
 
     #[tactic(auto, unfolding(x690::specs::TypeTerms::fits_tag))]
     fn fits(tag: Tag) -> bool {

@@ -1,5 +1,6 @@
 //! BOOLEAN (X.690 8.2, 11.1).
 ghost use Rattle.std.specs.Prelude.{◌≡◌, ◌↔◌, ◌∷◌, [], IsTrue, cond};
+ghost use Rattle.ber_pull.proofs.Fields.{leaf_closed};
 ghost use Rattle.x690.specs.Layouts.{universal};
 ghost use Rattle.x690.specs.Contents.{Boolean};
 ghost use Rattle.x690.specs.TypeTerms.{LeafType};
@@ -69,6 +70,8 @@ impl DerText for Bool {
 
 impl Element for Bool {
     ghost type_term = { LeafType (universal 1) Boolean };
+
+    ghost closed = { leaf_closed (universal 1) Boolean };
 
     #[tactic(auto, unfolding(x690::specs::TypeTerms::fits_tag))]
     fn fits(tag: Tag) -> bool {

@@ -1,6 +1,7 @@
 //! What can be read, and has one text in DER.
 ghost use Rattle.std.specs.Prelude.{◌≡◌, None, Some, IsSome, OnOk};
 ghost use Rattle.x690.specs.TypeTerms.{TypeTerm, fits_tag};
+ghost use Rattle.ber_pull.specs.Fields.{IsClosed};
 ghost use Rattle.ber_pull.specs.View.{standing, SameSource, Repeats, Keeps, ReadsFail, Onward, Uses};
 ghost use Rattle.ber_pull.specs.declared.state.Given.{Given};
 ghost use Rattle.asn_values.specs.Reading.{AnswersValue, read_given};
@@ -32,4 +33,7 @@ pub trait Element: DerText {
         ensures keeps { Keeps pull.new result }
         ensures read { ReadsFail pull.old pull.new result }
         ensures onward { Onward pull.old pull.new };
+
+    /// It doesn't look at the earlier fields of a container.
+    ghost closed: { IsClosed type_term };
 }

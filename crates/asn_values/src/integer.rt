@@ -1,6 +1,7 @@
 //! INTEGER (X.690 8.3).
 ghost use Rattle.std.specs.Prelude.{◌≡◌, ◌↔◌, ◌≤◌, ◌<◌, ◌^◌, Err, IfOk, IsTrue, length, true};
 ghost use Rattle.asn_values.specs.declared.build.BuildError.TheVariants.{Bad, TooBig};
+ghost use Rattle.ber_pull.proofs.Fields.{leaf_closed};
 ghost use Rattle.x690.specs.Contents.{Integer, IsInteger};
 ghost use Rattle.x690.specs.DerTexts.{der};
 ghost use Rattle.x690.specs.ReadContents.{is_integer_contents};
@@ -99,6 +100,8 @@ impl DerText for Int {
 
 impl Element for Int {
     ghost type_term = { LeafType (universal 2) Integer };
+
+    ghost closed = { leaf_closed (universal 2) Integer };
 
     #[tactic(auto, unfolding(x690::specs::TypeTerms::fits_tag))]
     fn fits(tag: Tag) -> bool {

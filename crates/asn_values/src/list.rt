@@ -2,6 +2,7 @@
 ghost use Rattle.std.specs.Prelude.{◌≡◌, ◌↔◌, ◌+◌, ◌<◌, ◌^◌, None, Some, IsSome, IsTrue, OnOk, length, map, slice_get};
 ghost use Rattle.std.specs.Option.{option_map};
 ghost use Rattle.tlv_core.specs.Sinks.{count, Puts};
+ghost use Rattle.ber_pull.proofs.Fields.{sequence_of_closed};
 ghost use Rattle.x690.specs.DerTexts.{der};
 ghost use Rattle.x690.specs.Layouts.{universal};
 ghost use Rattle.x690.specs.TypeTerms.{SequenceOfType};
@@ -145,6 +146,8 @@ fn read_list<R: Source, T: Element>(
 
 impl<T: Element> Element for List<T> {
     ghost type_term = { SequenceOfType (universal 16) 0 T.type_term };
+
+    ghost closed = { sequence_of_closed (universal 16) 0 T.type_term };
 
     #[tactic(auto, unfolding(x690::specs::TypeTerms::fits_tag))]
     fn fits(tag: Tag) -> bool {

@@ -1,5 +1,6 @@
 //! NULL (X.690 8.8).
 ghost use Rattle.std.specs.Prelude.{◌≡◌, [], IsTrue};
+ghost use Rattle.ber_pull.proofs.Fields.{leaf_closed};
 ghost use Rattle.x690.specs.Layouts.{universal};
 ghost use Rattle.x690.specs.Contents.{Null as NullKind};
 ghost use Rattle.x690.specs.TypeTerms.{LeafType};
@@ -49,6 +50,8 @@ impl DerText for Null {
 
 impl Element for Null {
     ghost type_term = { LeafType (universal 5) NullKind };
+
+    ghost closed = { leaf_closed (universal 5) NullKind };
 
     #[tactic(auto, unfolding(x690::specs::TypeTerms::fits_tag))]
     fn fits(tag: Tag) -> bool {

@@ -1,6 +1,7 @@
 //! OBJECT IDENTIFIER (X.690 8.19); the type is `tlv_core`'s `Oid`.
 ghost use Rattle.std.specs.Prelude.{◌≡◌, None, Some, IsSome, OnOk};
 ghost use Rattle.tlv_core.specs.Identifier.{Tag as Identified};
+ghost use Rattle.ber_pull.proofs.Fields.{leaf_closed};
 ghost use Rattle.x690.specs.Contents.{ObjectIdentifier};
 ghost use Rattle.x690.specs.Layouts.{universal};
 ghost use Rattle.x690.specs.TypeTerms.{LeafType};
@@ -86,6 +87,8 @@ fn read_identifier_as<R: Source>(
 
 impl Element for Oid {
     ghost type_term = { LeafType (universal 6) ObjectIdentifier };
+
+    ghost closed = { leaf_closed (universal 6) ObjectIdentifier };
 
     #[tactic(auto, unfolding(x690::specs::TypeTerms::fits_tag))]
     fn fits(tag: Tag) -> bool {

@@ -1,6 +1,7 @@
 //! OCTET STRING (X.690 8.7).
 ghost use Rattle.std.specs.Prelude.{◌≡◌, ◌↔◌, ◌<◌, ◌^◌, Err, IfOk, IsTrue, length};
 ghost use Rattle.asn_values.specs.declared.build.BuildError.TheVariants.{TooBig};
+ghost use Rattle.ber_pull.proofs.Fields.{leaf_closed};
 ghost use Rattle.x690.specs.DerTexts.{der};
 ghost use Rattle.x690.specs.Layouts.{universal};
 ghost use Rattle.x690.specs.Contents.{OctetString};
@@ -79,6 +80,8 @@ impl DerText for Octets {
 
 impl Element for Octets {
     ghost type_term = { LeafType (universal 4) OctetString };
+
+    ghost closed = { leaf_closed (universal 4) OctetString };
 
     #[tactic(auto, unfolding(x690::specs::TypeTerms::fits_tag))]
     fn fits(tag: Tag) -> bool {

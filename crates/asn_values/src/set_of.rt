@@ -2,6 +2,7 @@
 ghost use Rattle.std.specs.Prelude.{◌≡◌, ◌↔◌, ◌+◌, ◌<◌, ◌^◌, Err, IfErr, IfOk, None, Some, IsSome, OnOk, IsPermutation, IsTrue, length, map, slice_get, true};
 ghost use Rattle.std.specs.Option.{option_map};
 ghost use Rattle.tlv_core.specs.Sinks.{count, Puts};
+ghost use Rattle.ber_pull.proofs.Fields.{set_of_closed};
 ghost use Rattle.x690.specs.DerTexts.{Ascends, der};
 ghost use Rattle.x690.specs.Layouts.{universal};
 ghost use Rattle.x690.specs.TypeTerms.{SetOfType};
@@ -230,6 +231,8 @@ fn put_in_order<R: Source, T: DerText>(
 
 impl<T: Element> Element for SetOf<T> {
     ghost type_term = { SetOfType (universal 17) 0 T.type_term };
+
+    ghost closed = { set_of_closed (universal 17) 0 T.type_term };
 
     #[tactic(auto, unfolding(x690::specs::TypeTerms::fits_tag))]
     fn fits(tag: Tag) -> bool {

@@ -6,6 +6,7 @@ ghost use Rattle.x690.specs.DocumentTypes.{Extension as ExtensionType};
 ghost use Rattle.x690.specs.Layouts.{universal};
 ghost use Rattle.x690.specs.Values.{Sequence, values_of};
 ghost use Rattle.ber_pull.specs.Fields.{but_default};
+ghost use Rattle.pkix_values.specs.ClosedTypes.{extension_closed};
 ghost use Rattle.pkix_values.specs.Values.{extension_values, true_if_there, truth_value};
 
 use crate::parts::{Both, Field, OptionalField, put_sequence, sequence_octet, sequence_size};
@@ -108,6 +109,8 @@ impl DerText for Extension {
 
 impl Element for Extension {
     ghost type_term = { ExtensionType };
+
+    ghost closed = { extension_closed };
 
     #[tactic(auto, unfolding(x690::specs::TypeTerms::fits_tag, x690::specs::DocumentTypes::Extension))]
     fn fits(tag: Tag) -> bool {
