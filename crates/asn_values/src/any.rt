@@ -1,6 +1,7 @@
 //! Open values (X.680 26), for now a stand-in without a reader.
 ghost use Rattle.std.specs.Prelude.{◌≡◌, ◌↔◌, IsTrue};
 ghost use Rattle.x690.specs.DerTexts.{der};
+ghost use Rattle.ber_pull.proofs.Fields.{open_closed};
 ghost use Rattle.x690.specs.TypeTerms.{OpenType};
 ghost use Rattle.asn_values.specs.OpenValues.{open_value};
 
@@ -59,6 +60,8 @@ impl DerText for Any {
 
 impl Element for Any {
     ghost type_term = { OpenType };
+
+    ghost closed = { open_closed };
 
     #[tactic(auto, unfolding(x690::specs::TypeTerms::fits_tag))]
     fn fits(_tag: Tag) -> bool {
