@@ -5,7 +5,9 @@
 #![tactic(auto)]
 
 pub mod extension;
+pub mod name;
 pub mod pairs;
 pub mod parts;
+pub mod set_of_some;
 #[cfg(test)]
 mod tests;
