@@ -4,7 +4,9 @@
 //! two fields is read as the plain reading of its type says; an `Extension` is read so, and its text leaves out a `critical` that is FALSE.
 #![tactic(auto)]
 
+pub mod algorithm;
 pub mod extension;
+mod identifiers;
 pub mod name;
 pub mod pairs;
 pub mod parts;

@@ -96,3 +96,61 @@ impl Element for NameItem {
         Ok(NameItem { id, value })
     }
 }
+
+/// RelativeDistinguishedName: items that tell it together.
+pub type Rdn = SetOfSome<NameItem>;
+
+/// A name, from the root on.
+#[derive(Drop)]
+pub struct Name {
+    rdns: List<Rdn>,
+}
+
+impl Name {
+    /// Its parts, from the root on.
+    pub fn rdns(&self) -> &List<Rdn>
+        ensures { result.now ≡ self.now.rdns }
+    {
+        &self.rdns
+    }
+
+    /// Whether the two are the same.
+    pub fn same(&self, other: &Name) -> bool
+        ensures { IsTrue result ↔ (der (Sequence (universal 16) (values_of (map (⟦<SetOfSome<NameItem> as DerText>⟧.value) (list_items self.now.rdns)))) ≡ der (Sequence (universal 16) (values_of (map (⟦<SetOfSome<NameItem> as DerText>⟧.value) (list_items other.now.rdns))))) }
+    {
+        self.rdns.same(&other.rdns)
+    }
+}
+
+impl DerText for Name {
+    ghost value = { λ name. Sequence (universal 16) (values_of (map (⟦<SetOfSome<NameItem> as DerText>⟧.value) (list_items name.rdns))) };
+
+    fn size(&self) -> u64 {
+        self.rdns.size()
+    }
+
+    fn put<W: Target>(&self, sink: &mut Sink<'_, W>) -> Result<(), WriteError> {
+        self.rdns.put(sink)
+    }
+
+    fn octet(&self, i: u64) -> Option<u8> {
+        self.rdns.octet(i)
+    }
+}
+
+impl Element for Name {
+    ghost type_term = { NameType };
+
+    ghost closed = { name_closed };
+
+    #[tactic(auto, unfolding(x690::specs::TypeTerms::fits_tag, x690::specs::DocumentTypes::Name))]
+    fn fits(tag: Tag) -> bool {
+        is_same_tag(universal_tag(16), tag)
+    }
+
+    #[tactic(auto, unfolding(x690::specs::DocumentTypes::Name, x690::specs::DocumentTypes::NameItem))]
+    fn read<R: Source>(alloc: Global, pull: &mut Pull<'_, R>) -> Result<Name, ReadError> {
+        let rdns = List::read(alloc, pull)?;
+        Ok(Name { rdns })
+    }
+}
