@@ -5,6 +5,7 @@
 #![tactic(auto)]
 
 pub mod algorithm;
+pub mod attribute;
 pub mod extension;
 mod identifiers;
 pub mod name;
