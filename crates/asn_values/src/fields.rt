@@ -3,15 +3,14 @@
 //! A reader of a type is a list of these calls: `begin` with the type's tag, then `due` or `optional` for each field, then `end`.
 //! Its proof is a list of the rules of `ber_pull`'s `proofs/Fields.antt` in the same order, at each place where it may return:
 //! `begins`, then `due`, `optional` or `default` for each field that was read, then the rule of the call that returned, as
-//! `due_error` or `ends`. Each rule takes the `reads` of its call at what the call before it left (`stands`); `due_closed` and
-//! `optional_closed` say that a field's type doesn't look at the earlier fields, as each type on its own does. A rule on the whole
+//! `due_error` or `ends`. Each rule takes the `reads` of its call at what the call before it left (`stands`). A rule on the whole
 //! value is tested behind `end`, and is `ruled` in the proof. `due` and `optional` also tell that the text of a field is short.
-ghost use Rattle.std.specs.Prelude.{◌≡◌, ◌<◌, ◌^◌, IfOk, IfSome, IsSome, None, OnOk, Some, [], length};
+ghost use Rattle.std.specs.Prelude.{◌≡◌, ◌<◌, ◌^◌, IfOk, IfSome, IsSome, List, None, OnOk, Some, length};
 ghost use Rattle.std.specs.Option.{option_map};
 ghost use Rattle.x690.specs.DerTexts.{der};
 ghost use Rattle.x690.specs.Points.{Enclosing};
 ghost use Rattle.x690.specs.ReadHeaders.{next_tag};
-ghost use Rattle.x690.specs.Values.{Same};
+ghost use Rattle.x690.specs.Values.{Same, Value};
 ghost use Rattle.ber_pull.specs.Fields.{Inside, Within, read_begin, read_due, read_end, read_optional};
 ghost use Rattle.ber_pull.specs.Hears.{heard};
 ghost use Rattle.ber_pull.specs.Standing.{Standing, enclosing, used};
@@ -82,7 +81,7 @@ pub fn due<R: Source, T: Element>(
     requires fine { (standing pull.old).error ≡ None }
     requires inside { IsInside pull.old next.old }
     ensures same_source { SameSource pull.old pull.new }
-    ensures reads { AnswersField pull.old pull.new next.old (λ outer inside. read_due outer.limits T.type_term [] inside (next_of next.old)) Same T.value (next_of next.new) result }
+    ensures reads { (earlier : List Value) → AnswersField pull.old pull.new next.old (λ outer inside. read_due outer.limits T.type_term earlier inside (next_of next.old)) Same T.value (next_of next.new) result }
     ensures short { IfOk result (λ field. length (der (T.value field)) < 2 ^ 32) }
     ensures stands { OnOk result (StaysInside pull.old pull.new next.old next.new) }
     ensures keeps { Keeps pull.new result }
@@ -112,7 +111,7 @@ pub fn optional<R: Source, T: Element>(
     requires fine { (standing pull.old).error ≡ None }
     requires inside { IsInside pull.old next.old }
     ensures same_source { SameSource pull.old pull.new }
-    ensures reads { AnswersField pull.old pull.new next.old (λ outer inside. read_optional outer.limits T.type_term [] inside (next_of next.old)) SameField (option_map T.value) (next_of next.new) result }
+    ensures reads { (earlier : List Value) → AnswersField pull.old pull.new next.old (λ outer inside. read_optional outer.limits T.type_term earlier inside (next_of next.old)) SameField (option_map T.value) (next_of next.new) result }
     ensures short { IfOk result (λ field. IfSome field (λ f. length (der (T.value f)) < 2 ^ 32)) }
     ensures stands { OnOk result (StaysInside pull.old pull.new next.old next.new) }
     ensures keeps { Keeps pull.new result }

@@ -218,16 +218,6 @@ unfolding read_type
 ruled_closed rule T closed alone l earlier c p tag constructed =
     ap₂ (λ reading rule'. reading >>= λ value. apply_rule p (rule' value) value) (closed l earlier c p tag constructed) (alone earlier)
 
-pub due_closed : (l : Limits) (T : TypeTerm) (earlier : List Value) (c : Enclosing) (next : Next) (h : Heard (Value × Next)) (k i : ℕ) (s u : Option (List ℕ)) → IsClosed T → Hears (read_due l T [] c next) k s h i u → Hears (read_due l T earlier c next) k s h i u
-unfolding read_due
-due_closed l T earlier c (ContainerEnds p) h k i s u closed x = x
-due_closed l T earlier c (ElementStands p tag constructed) h k i s u closed x = rw (closed l earlier c p tag constructed) x
-
-pub optional_closed : (l : Limits) (T : TypeTerm) (earlier : List Value) (c : Enclosing) (next : Next) (h : Heard (Option Value × Next)) (k i : ℕ) (s u : Option (List ℕ)) → IsClosed T → Hears (read_optional l T [] c next) k s h i u → Hears (read_optional l T earlier c next) k s h i u
-unfolding read_optional
-optional_closed l T earlier c (ContainerEnds p) h k i s u closed x = x
-optional_closed l T earlier c (ElementStands p tag constructed) h k i s u closed x = rw (closed l earlier c p tag constructed) x
-
 -- A rule at completion.
 
 pub ruled : (l : Limits) (rule : Rule) (T : TypeTerm) (earlier : List Value) (c : Enclosing) (p : ℕ) (tag : Tag) (constructed : Bool) (value : Value) (h : Heard Value) (k j i : ℕ) (s t u : Option (List ℕ)) → Hears (read_type l T earlier c p tag constructed) k s (Said value) j t → Hears (apply_rule p (rule earlier value) value) j t h i u → Hears (read_type l (RuledType rule T) earlier c p tag constructed) k s h i u

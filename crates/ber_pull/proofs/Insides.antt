@@ -11,7 +11,7 @@ use Rattle.x690.specs.Reads.{Heard, NoMemory, ReadFailed, Reads, Refused, Said}
 use Rattle.x690.specs.TypeTerms.{TypeTerm}
 use Rattle.x690.specs.Values.{Value}
 use Rattle.ber_pull.specs.Calls.{read_leaving, read_next}
-use Rattle.ber_pull.specs.Fields.{BeginsBefore, Inside, Within, given_by}
+use Rattle.ber_pull.specs.Fields.{BeginsBefore, Inside, IsClosed, Within, given_by}
 use Rattle.ber_pull.specs.Hears.{Hears, heard, next_at}
 use Rattle.ber_pull.specs.Standing.{IsAtEnd, Standing, after_next, closing, container_of, enclosing, is_ended, moved, opening, place, used}
 use Rattle.ber_pull.specs.declared.state.Container.{Container}
@@ -99,8 +99,8 @@ stands_some p n t e = rw e refl
 pub field_given : (outer : Standing) (inside : Enclosing) (s : Standing) (p : ℕ) (n : Option (Tag × Bool)) (t : Tag × Bool) → Inside outer inside s (next_at p n) → n ≡ Some t → s.given ≡ Some (record { at = p; tag = t.0; constructed = t.1 })
 field_given outer inside s p n t a e = inside_given outer inside s (next_at p n) a ∙ ap (λ w. given_by (next_at p w)) e
 
--- and is read at the point inside
-pub field_as : (outer : Standing) (inside : Enclosing) (s : Standing) (next : Next) (T : TypeTerm) (earlier : List Value) (p : ℕ) (tag : Tag) (constructed : Bool) (h : Heard Value) (k i : ℕ) (o u : Option (List ℕ)) → Inside outer inside s next → Hears (read_type s.limits T earlier (enclosing s) p tag constructed) k o h i u → Hears (read_type outer.limits T earlier inside p tag constructed) k o h i u
-field_as outer inside s next T earlier p tag constructed h k i o u a x =
+-- and is read at the point inside, as behind any earlier fields
+pub field_as : (outer : Standing) (inside : Enclosing) (s : Standing) (next : Next) (T : TypeTerm) (earlier : List Value) (p : ℕ) (tag : Tag) (constructed : Bool) (h : Heard Value) (k i : ℕ) (o u : Option (List ℕ)) → IsClosed T → Inside outer inside s next → Hears (read_type s.limits T [] (enclosing s) p tag constructed) k o h i u → Hears (read_type outer.limits T earlier inside p tag constructed) k o h i u
+field_as outer inside s next T earlier p tag constructed h k i o u closed a x =
     hears_as _ _ h k i o u
-    (ap (λ l. read_type l T earlier (enclosing s) p tag constructed) (inside_limits outer inside s next a) ∙ ap (λ c. read_type outer.limits T earlier c p tag constructed) a.point) x
+    (ap (λ l. read_type l T [] (enclosing s) p tag constructed) (inside_limits outer inside s next a) ∙ ap (λ c. read_type outer.limits T [] c p tag constructed) a.point ∙ sym (closed outer.limits earlier inside p tag constructed)) x

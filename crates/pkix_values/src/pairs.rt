@@ -7,7 +7,7 @@ ghost use Rattle.x690.specs.Layouts.{universal};
 ghost use Rattle.x690.specs.ReadTypes.{read_type};
 ghost use Rattle.x690.specs.TypeTerms.{EndOfFields, Optional, Required};
 ghost use Rattle.x690.specs.Values.{Sequence, Value, values_of};
-ghost use Rattle.ber_pull.specs.Fields.{IsClosed, with_field};
+ghost use Rattle.ber_pull.specs.Fields.{with_field};
 ghost use Rattle.ber_pull.specs.Standing.{enclosing};
 ghost use Rattle.ber_pull.specs.View.{standing, SameSource, Repeats, Keeps, ReadsFail, Onward, Uses};
 ghost use Rattle.asn_values.specs.Reading.{AnswersValue};
@@ -27,7 +27,6 @@ pub fn read_pair<R: Source, A: Element, B: Element>(
     pull: &mut Pull<'_, R>,
 ) -> Result<(A, B), ReadError>
     requires given { (standing pull.old).error ≡ None → IsSome (standing pull.old).given }
-    requires closed { IsClosed B.type_term }
     ensures same_source { SameSource pull.old pull.new }
     ensures repeats { Repeats pull.old pull.new result }
     ensures reads { (given : Given) → (earlier : List Value) → (standing pull.old).error ≡ None → (standing pull.old).given ≡ Some given → AnswersValue pull.old pull.new (read_type (standing pull.old).limits (sequence (Required A.type_term (Required B.type_term EndOfFields))) earlier (enclosing (standing pull.old)) given.at given.tag given.constructed) (λ r. Sequence (universal 16) (values_of (A.value r.0 ∷ B.value r.1 ∷ []))) result }
@@ -50,7 +49,6 @@ pub fn read_one_or_two<R: Source, A: Element, B: Element>(
     pull: &mut Pull<'_, R>,
 ) -> Result<(A, Option<B>), ReadError>
     requires given { (standing pull.old).error ≡ None → IsSome (standing pull.old).given }
-    requires closed { IsClosed B.type_term }
     ensures same_source { SameSource pull.old pull.new }
     ensures repeats { Repeats pull.old pull.new result }
     ensures reads { (given : Given) → (earlier : List Value) → (standing pull.old).error ≡ None → (standing pull.old).given ≡ Some given → AnswersValue pull.old pull.new (read_type (standing pull.old).limits (sequence (Required A.type_term (Optional B.type_term EndOfFields))) earlier (enclosing (standing pull.old)) given.at given.tag given.constructed) (λ r. Sequence (universal 16) (values_of (A.value r.0 ∷ with_field (option_map B.value r.1) []))) result }

@@ -18,31 +18,31 @@ use Rattle.asn_values.proofs.Handing.{field_err}
 use Rattle.asn_values.proofs.fields.due.Goals as goal
 
 pub returns-in-None-clause-reads : goal.returns-in-None-clause-reads
-returns-in-None-clause-reads g c = λ outer inside a.
+returns-in-None-clause-reads g c = λ earlier outer inside a.
     let first = c.refuse.ensures.first c.requires.fine in
     hears_stop _ (fault c.args.next.now.at Missing) _ _ _ _ _ _ _ first.0 (ap (λ s. s.taken) first.1) (ap g.R.Source.remaining c.refuse.ensures.same)
-    (due_missing outer.limits _ [] inside c.args.next.now.at c.args.next.now.tag _ _ c.in-None.is)
+    (due_missing outer.limits _ earlier inside c.args.next.now.at c.args.next.now.tag _ _ c.in-None.is)
 
 pub returns-then-not-fits-clause-reads : goal.returns-then-not-fits-clause-reads
-returns-then-not-fits-clause-reads g c = λ outer inside a.
+returns-then-not-fits-clause-reads g c = λ earlier outer inside a.
     let first = c.refuse-then-not-fits.ensures.first c.requires.fine in
     hears_stop _ (fault c.args.next.now.at WrongTag) _ _ _ _ _ _ _ first.0 (ap (λ s. s.taken) first.1) (ap g.R.Source.remaining c.refuse-then-not-fits.ensures.same)
-    (due_wrong outer.limits _ [] inside c.args.next.now.at c.args.next.now.tag (c.in-Some.tag, c.in-Some.field-0-1) _ _ c.in-Some.is (sym c.fits-fits.ensures ∙ c.if-not-fits.true))
+    (due_wrong outer.limits _ earlier inside c.args.next.now.at c.args.next.now.tag (c.in-Some.tag, c.in-Some.field-0-1) _ _ c.in-Some.is (sym c.fits-fits.ensures ∙ c.if-not-fits.true))
 
 pub returns-in_err-field-clause-reads : goal.returns-in_err-field-clause-reads
-returns-in_err-field-clause-reads g c = λ outer inside a.
+returns-in_err-field-clause-reads g c = λ earlier outer inside a.
     let at = c.args.next.now.at in
     let n = c.args.next.now.tag in
     let t : Tag × Bool = (c.in-Some.tag, c.in-Some.field-0-1) in
     let given : Given = record { at = at; tag = c.in-Some.tag; constructed = c.in-Some.field-0-1 } in
     let is = field_given outer inside c.args.pull.now.state at n t a c.in-Some.is in
     let on = sym c.fits-fits.ensures ∙ c.if-not-fits.false in
-    field_err c.args.pull.now c.read.new.pull (read_due outer.limits g.T.Element.type_term [] inside (next_of c.args.next.now)) Same g.T.DerText.value (next_of c.args.next.now) c.from_residual.result c.in_err-field.field-0.0 (search rules)
-    (due_read outer.limits g.T.Element.type_term [] inside at n t _ _ _ _ _ c.in-Some.is on
-    (hears_error _ _ _ _ _ _ _ (field_as outer inside c.args.pull.now.state (next_of c.args.next.now) g.T.Element.type_term [] at c.in-Some.tag c.in-Some.field-0-1 _ _ _ _ _ a (c.in_err-field.ensures.reads given c.requires.fine is))))
+    field_err c.args.pull.now c.read.new.pull (read_due outer.limits g.T.Element.type_term earlier inside (next_of c.args.next.now)) Same g.T.DerText.value (next_of c.args.next.now) c.from_residual.result c.in_err-field.field-0.0 (search rules)
+    (due_read outer.limits g.T.Element.type_term earlier inside at n t _ _ _ _ _ c.in-Some.is on
+    (hears_error _ _ _ _ _ _ _ (field_as outer inside c.args.pull.now.state (next_of c.args.next.now) g.T.Element.type_term earlier at c.in-Some.tag c.in-Some.field-0-1 _ _ _ _ _ g.met.T.Element.closed a (c.in_err-field.ensures.reads given c.requires.fine is))))
 
 pub returns-in_err-next-clause-reads : goal.returns-in_err-next-clause-reads
-returns-in_err-next-clause-reads g c = λ outer inside a.
+returns-in_err-next-clause-reads g c = λ earlier outer inside a.
     let at = c.args.next.now.at in
     let n = c.args.next.now.tag in
     let t : Tag × Bool = (c.in-Some.tag, c.in-Some.field-0-1) in
@@ -51,13 +51,13 @@ returns-in_err-next-clause-reads g c = λ outer inside a.
     let on = sym c.fits-fits.ensures ∙ c.if-not-fits.false in
     let read = c.in_ok-field.ensures.reads given c.requires.fine is in
     let within = used_within outer inside c.args.pull.now.state (next_of c.args.next.now) c.read.new.pull.state a (stands_some at n t c.in-Some.is) c.in_ok-field.ensures.stands in
-    field_err c.args.pull.now c.ahead.new.pull (read_due outer.limits g.T.Element.type_term [] inside (next_of c.args.next.now)) Same g.T.DerText.value (next_of c.args.next.now) c.from_residual-in_err-next.result c.in_err-next.field-0.0 (search rules)
-    (due_read outer.limits g.T.Element.type_term [] inside at n t _ _ _ _ _ c.in-Some.is on
-    (hears_then _ _ read.0 _ _ _ _ _ _ _ (field_as outer inside c.args.pull.now.state (next_of c.args.next.now) g.T.Element.type_term [] at c.in-Some.tag c.in-Some.field-0-1 _ _ _ _ _ a read.2)
+    field_err c.args.pull.now c.ahead.new.pull (read_due outer.limits g.T.Element.type_term earlier inside (next_of c.args.next.now)) Same g.T.DerText.value (next_of c.args.next.now) c.from_residual-in_err-next.result c.in_err-next.field-0.0 (search rules)
+    (due_read outer.limits g.T.Element.type_term earlier inside at n t _ _ _ _ _ c.in-Some.is on
+    (hears_then _ _ read.0 _ _ _ _ _ _ _ (field_as outer inside c.args.pull.now.state (next_of c.args.next.now) g.T.Element.type_term earlier at c.in-Some.tag c.in-Some.field-0-1 _ _ _ _ _ g.met.T.Element.closed a read.2)
     (hears_error _ _ _ _ _ _ _ (c.in_err-next.ensures.reads outer inside within))))
 
 pub returns-clause-reads : goal.returns-clause-reads
-returns-clause-reads g c = λ outer inside a.
+returns-clause-reads g c = λ earlier outer inside a.
     let at = c.args.next.now.at in
     let n = c.args.next.now.tag in
     let t : Tag × Bool = (c.in-Some.tag, c.in-Some.field-0-1) in
@@ -68,8 +68,8 @@ returns-clause-reads g c = λ outer inside a.
     let within = used_within outer inside c.args.pull.now.state (next_of c.args.next.now) c.read.new.pull.state a (stands_some at n t c.in-Some.is) c.in_ok-field.ensures.stands in (
       read.0,
       read.1,
-      due_read outer.limits g.T.Element.type_term [] inside at n t _ _ _ _ _ c.in-Some.is on
-          (hears_then _ _ read.0 _ _ _ _ _ _ _ (field_as outer inside c.args.pull.now.state (next_of c.args.next.now) g.T.Element.type_term [] at c.in-Some.tag c.in-Some.field-0-1 _ _ _ _ _ a read.2)
+      due_read outer.limits g.T.Element.type_term earlier inside at n t _ _ _ _ _ c.in-Some.is on
+          (hears_then _ _ read.0 _ _ _ _ _ _ _ (field_as outer inside c.args.pull.now.state (next_of c.args.next.now) g.T.Element.type_term earlier at c.in-Some.tag c.in-Some.field-0-1 _ _ _ _ _ g.met.T.Element.closed a read.2)
           (hears_then _ _ (next_of c.in_ok-next.field-0) _ _ _ _ _ _ _ (c.in_ok-next.ensures.reads outer inside within) (hears_done _ _ _))),
     )
 
