@@ -5,14 +5,11 @@ use Rattle.tlv_core.specs.declared.reason.Reason.TheVariants.{Parameters}
 use Rattle.x690.specs.DocumentTypes.{AlgorithmIdentifier}
 use Rattle.x690.specs.Points.{fault}
 use Rattle.x690.specs.Rules.{parameters_rule}
-use Rattle.ber_pull.proofs.Fields.{open_closed, rule_holds, rule_refuses, ruled, ruled_error}
+use Rattle.ber_pull.proofs.Fields.{rule_holds, rule_refuses, ruled, ruled_error}
 use Rattle.asn_values.proofs.Answering.{place_given, refused_by, value_err}
 use Rattle.asn_values.specs.Reading.{read_given}
 use Rattle.pkix_values.proofs.Rules.{parameters_allowed, parameters_refused}
 use Rattle.pkix_values.proofs.algorithm.AlgorithmIdentifierElement.read.Goals as goal
-
-pub read_one_or_two-requires-clause-closed : goal.read_one_or_two-requires-clause-closed
-read_one_or_two-requires-clause-closed g c = open_closed
 
 pub returns-in_err-algorithm-clause-reads : goal.returns-in_err-algorithm-clause-reads
 unfolding AlgorithmIdentifier

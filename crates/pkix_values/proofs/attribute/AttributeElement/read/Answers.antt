@@ -1,12 +1,8 @@
 use Rattle.std.proofs.Common.{rules, ◌∷◌, []}
 use Rattle.x690.specs.DocumentTypes.{Attribute}
-use Rattle.ber_pull.proofs.Fields.{set_of_closed}
 use Rattle.asn_values.proofs.Answering.{value_err}
 use Rattle.asn_values.specs.Reading.{read_given}
 use Rattle.pkix_values.proofs.attribute.AttributeElement.read.Goals as goal
-
-pub read_pair-requires-clause-closed : goal.read_pair-requires-clause-closed
-read_pair-requires-clause-closed g c = set_of_closed _ _ _
 
 pub returns-in_err-id-clause-reads : goal.returns-in_err-id-clause-reads
 unfolding Attribute

@@ -1,12 +1,8 @@
 use Rattle.std.proofs.Common.{rules, ◌∷◌, []}
 use Rattle.x690.specs.DocumentTypes.{NameItem}
-use Rattle.ber_pull.proofs.Fields.{open_closed}
 use Rattle.asn_values.proofs.Answering.{value_err}
 use Rattle.asn_values.specs.Reading.{read_given}
 use Rattle.pkix_values.proofs.name.NameItemElement.read.Goals as goal
-
-pub read_pair-requires-clause-closed : goal.read_pair-requires-clause-closed
-read_pair-requires-clause-closed g c = open_closed
 
 pub returns-in_err-id-clause-reads : goal.returns-in_err-id-clause-reads
 unfolding NameItem
