@@ -11,12 +11,13 @@ ghost use Rattle.x690.specs.DerTexts.{der};
 ghost use Rattle.x690.specs.Points.{Enclosing};
 ghost use Rattle.x690.specs.ReadHeaders.{next_tag};
 ghost use Rattle.x690.specs.Values.{Same, Value};
-ghost use Rattle.ber_pull.specs.Fields.{Inside, Within, read_begin, read_due, read_end, read_optional};
+ghost use Rattle.ber_pull.specs.Fields.{Inside, Within, read_begin, read_due, read_end, read_optional, read_take};
 ghost use Rattle.ber_pull.specs.Hears.{heard};
 ghost use Rattle.ber_pull.specs.Standing.{Standing, enclosing, used};
 ghost use Rattle.ber_pull.specs.View.{standing, SameSource, Repeats, Keeps, ReadsFail, Onward, Answers};
 ghost use Rattle.ber_pull.specs.declared.state.Given.{Given};
 ghost use Rattle.asn_values.specs.Fields.{AnswersField, AnswersInside, IsInside, SameField, StaysInside, next_of};
+ghost use Rattle.asn_values.specs.Reading.{AnswersValue};
 
 use crate::element::Element;
 use crate::leaf_reading::expect_tag;
@@ -70,9 +71,37 @@ pub fn begin<R: Source>(pull: &mut Pull<'_, R>, tag: Tag) -> Result<Next, ReadEr
     Ok(next)
 }
 
+/// A field that is due, by itself: what stands behind it is looked at by `ahead`. A rule on the field is tested between the two.
+///
+/// Faults: `Missing` at the end of the container, `WrongTag` at another element; those of the field.
+pub fn take<R: Source, T: Element>(
+    alloc: Global,
+    pull: &mut Pull<'_, R>,
+    next: Next,
+) -> Result<T, ReadError>
+    requires fine { (standing pull.old).error ≡ None }
+    requires inside { IsInside pull.old next }
+    ensures same_source { SameSource pull.old pull.new }
+    ensures reads { (earlier : List Value) → (outer : Standing) → (inside : Enclosing) → Inside outer inside (standing pull.old) (next_of next) → AnswersValue pull.old pull.new (read_take outer.limits T.type_term earlier inside (next_of next)) T.value result }
+    ensures short { IfOk result (λ field. length (der (T.value field)) < 2 ^ 32) }
+    ensures stands { OnOk result ((outer : Standing) → (inside : Enclosing) → Inside outer inside (standing pull.old) (next_of next) → Within outer inside (standing pull.new)) }
+    ensures keeps { Keeps pull.new result }
+    ensures read { ReadsFail pull.old pull.new result }
+    ensures onward { Onward pull.old pull.new }
+{
+    let fits = match next.tag {
+        Some((tag, _)) => T::fits(tag),
+        None => return Err(pull.refuse(next.at, Reason::Missing, None)),
+    };
+    if !fits {
+        return Err(pull.refuse(next.at, Reason::WrongTag, None));
+    }
+    T::read(alloc, pull)
+}
+
 /// A field that is due.
 ///
-/// Faults: `Missing` at the end of the container, `WrongTag` at another element; those of the field, and of `Pull::next_tag` behind it.
+/// Faults: those of `take`, and of `Pull::next_tag` behind it.
 pub fn due<R: Source, T: Element>(
     alloc: Global,
     pull: &mut Pull<'_, R>,
@@ -88,14 +117,7 @@ pub fn due<R: Source, T: Element>(
     ensures read { ReadsFail pull.old pull.new result }
     ensures onward { Onward pull.old pull.new }
 {
-    let fits = match next.tag {
-        Some((tag, _)) => T::fits(tag),
-        None => return Err(pull.refuse(next.at, Reason::Missing, None)),
-    };
-    if !fits {
-        return Err(pull.refuse(next.at, Reason::WrongTag, None));
-    }
-    let field = T::read(alloc, pull)?;
+    let field = take::<R, T>(alloc, pull, *next)?;
     *next = ahead(pull)?;
     Ok(field)
 }

@@ -18,7 +18,7 @@ use Rattle.x690.specs.Reading.{Done, Fail, Reading, Where, choose, require, run,
 use Rattle.x690.specs.Reads.{Heard, Refused, Said}
 use Rattle.x690.specs.TypeTerms.{Default, DefinedByType, EndOfFields, Fields, LeafType, OpenType, Optional, Required, Rule, RuledType, SequenceOfType, SequenceType, SetOfType, TypeTerm, fits_tag}
 use Rattle.x690.specs.Values.{Sequence, Value, leaf_at, values_of}
-use Rattle.ber_pull.specs.Fields.{IsClosed, but_default, read_begin, read_due, read_end, read_optional, with_field}
+use Rattle.ber_pull.specs.Fields.{IsClosed, but_default, read_begin, read_due, read_end, read_optional, read_take, with_field}
 use Rattle.ber_pull.specs.Hears.{Hears, heard_error, next_at}
 use Rattle.ber_pull.proofs.Hearing.{hears_done, hears_error, hears_fail, hears_first, hears_off, hears_on, hears_same, hears_second, hears_then}
 use Rattle.ber_pull.proofs.Runs.{bind_assoc, bind_same}
@@ -101,6 +101,18 @@ due_alike l T rest earlier c (ElementStands p tag constructed) then' =
     alike_both _ _ _
     (require_then (fits_tag T tag) _ _ _ _ (behind (read_type l T earlier c p tag constructed) (λ v. next_tag l c) (λ v n. Done (v, n)) (then_due l rest earlier c then')))
     (require_then (fits_tag T tag) _ _ _ _ (there (read_type l T earlier c p tag constructed) (next_tag l c) (λ v n. read_fields l rest (earlier ++ (v ∷ [])) c n) then'))
+
+-- the field by itself, and then what stands behind it
+pub take_alike : (l : Limits) (T : TypeTerm) (earlier : List Value) (c : Enclosing) (next : Next) → Alike (read_take l T earlier c next >>= λ v. next_tag l c >>= λ n. Done (v, n)) (read_due l T earlier c next)
+unfolding read_take read_due ◌>>=◌
+take_alike l T earlier c (ContainerEnds p) = λ k s. refl
+take_alike l T earlier c (ElementStands p tag constructed) = require_then (fits_tag T tag) _ _ _ _ (λ k s. refl)
+
+-- the field that is ruled, and the one that the rule judges
+pub ruled_alike : (l : Limits) (rule : Rule) (T : TypeTerm) (earlier : List Value) (c : Enclosing) (p : ℕ) (n : Option (Tag × Bool)) → Alike (read_take l T earlier c (next_at p n) >>= λ v. apply_rule p (rule earlier v) v) (read_take l (RuledType rule T) earlier c (next_at p n))
+unfolding read_take read_type fits_tag ◌>>=◌
+ruled_alike l rule T earlier c p None = λ k s. refl
+ruled_alike l rule T earlier c p (Some t) = require_then (fits_tag T t.0) _ _ _ _ (λ k s. refl)
 
 -- A field that may be absent.
 
@@ -262,17 +274,21 @@ due_second l path octets first second earlier c next h k i s u e same x = hears_
 
 -- What the call on a field owes, by what stands next.
 
-pub due_missing : (l : Limits) (T : TypeTerm) (earlier : List Value) (c : Enclosing) (p : ℕ) (n : Option (Tag × Bool)) (k : ℕ) (s : Option (List ℕ)) → n ≡ None → Hears (read_due l T earlier c (next_at p n)) k s (Refused (fault p Missing)) k s
-unfolding read_due
-due_missing l T earlier c p n k s e = rw e (hears_fail (Value × Next) (fault p Missing) k s)
+pub take_missing : (l : Limits) (T : TypeTerm) (earlier : List Value) (c : Enclosing) (p : ℕ) (n : Option (Tag × Bool)) (k : ℕ) (s : Option (List ℕ)) → n ≡ None → Hears (read_take l T earlier c (next_at p n)) k s (Refused (fault p Missing)) k s
+unfolding read_take
+take_missing l T earlier c p n k s e = rw e (hears_fail Value (fault p Missing) k s)
 
-pub due_wrong : (l : Limits) (T : TypeTerm) (earlier : List Value) (c : Enclosing) (p : ℕ) (n : Option (Tag × Bool)) (t : Tag × Bool) (k : ℕ) (s : Option (List ℕ)) → n ≡ Some t → fits_tag T t.0 ≡ false → Hears (read_due l T earlier c (next_at p n)) k s (Refused (fault p WrongTag)) k s
-unfolding read_due
-due_wrong l T earlier c p n t k s e f = rw e (hears_off _ _ _ k s f)
+pub take_wrong : (l : Limits) (T : TypeTerm) (earlier : List Value) (c : Enclosing) (p : ℕ) (n : Option (Tag × Bool)) (t : Tag × Bool) (k : ℕ) (s : Option (List ℕ)) → n ≡ Some t → fits_tag T t.0 ≡ false → Hears (read_take l T earlier c (next_at p n)) k s (Refused (fault p WrongTag)) k s
+unfolding read_take
+take_wrong l T earlier c p n t k s e f = rw e (hears_off _ _ _ k s f)
 
-pub due_read : (l : Limits) (T : TypeTerm) (earlier : List Value) (c : Enclosing) (p : ℕ) (n : Option (Tag × Bool)) (t : Tag × Bool) (h : Heard (Value × Next)) (k i : ℕ) (s u : Option (List ℕ)) → n ≡ Some t → fits_tag T t.0 ≡ true → Hears (read_type l T earlier c p t.0 t.1 >>= λ v. next_tag l c >>= λ next. Done (v, next)) k s h i u → Hears (read_due l T earlier c (next_at p n)) k s h i u
-unfolding read_due
-due_read l T earlier c p n t h k i s u e f x = rw e (hears_on _ _ _ h k i s u f x)
+pub take_read : (l : Limits) (T : TypeTerm) (earlier : List Value) (c : Enclosing) (p : ℕ) (n : Option (Tag × Bool)) (t : Tag × Bool) (h : Heard Value) (k i : ℕ) (s u : Option (List ℕ)) → n ≡ Some t → fits_tag T t.0 ≡ true → Hears (read_type l T earlier c p t.0 t.1) k s h i u → Hears (read_take l T earlier c (next_at p n)) k s h i u
+unfolding read_take
+take_read l T earlier c p n t h k i s u e f x = rw e (hears_on _ _ _ h k i s u f x)
+
+-- what was taken, and then what stands behind it
+pub take_then : (l : Limits) (T : TypeTerm) (earlier : List Value) (c : Enclosing) (next : Next) (h : Heard (Value × Next)) (k i : ℕ) (s u : Option (List ℕ)) → Hears (read_take l T earlier c next >>= λ v. next_tag l c >>= λ n. Done (v, n)) k s h i u → Hears (read_due l T earlier c next) k s h i u
+take_then l T earlier c next h k i s u x = hears_same _ _ h k i s u (take_alike l T earlier c next) x
 
 pub optional_absent : (l : Limits) (T : TypeTerm) (earlier : List Value) (c : Enclosing) (p : ℕ) (n : Option (Tag × Bool)) (k : ℕ) (s : Option (List ℕ)) → n ≡ None → Hears (read_optional l T earlier c (next_at p n)) k s (Said (None, next_at p n)) k s
 unfolding read_optional

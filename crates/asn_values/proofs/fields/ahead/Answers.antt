@@ -5,7 +5,7 @@ use Rattle.tlv_core.specs.declared.reason.Reason.TheVariants.{Extra, Missing, Wr
 use Rattle.ber_pull.specs.Fields.{Inside}
 use Rattle.ber_pull.specs.Hears.{next_at}
 use Rattle.ber_pull.proofs.Hearing.{hears_as, hears_at, hears_done, hears_err, hears_error, hears_said, hears_stop, hears_then}
-use Rattle.ber_pull.proofs.Fields.{begin_in, begin_wrong, due_missing, due_read, due_wrong, end_extra, end_here, optional_absent, optional_other, optional_read}
+use Rattle.ber_pull.proofs.Fields.{begin_in, begin_wrong, end_extra, end_here, optional_absent, optional_other, optional_read}
 use Rattle.ber_pull.proofs.Insides.{inside_given, leaves, left_here, next_inside, opens_within, stands_some, used_within, within_limits, within_next, within_none}
 use Rattle.x690.specs.ReadHeaders.{next_tag}
 use Rattle.ber_pull.specs.Standing.{enclosing}

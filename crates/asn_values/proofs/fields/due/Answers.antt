@@ -1,86 +1,32 @@
-use Rattle.std.proofs.Common.{rules, arith, ◌≡◌, ℕ, Bool, true, false, List, [], ◌∷◌, Option, Some, None, Ok, Err, IfOk, IsSome, refl, sym, ap, subst, ◌∙◌}
-use Rattle.tlv_core.specs.Identifier.{Tag}
-use Rattle.x690.specs.Points.{fault}
-use Rattle.x690.specs.Reading.{Done}
-use Rattle.tlv_core.specs.declared.reason.Reason.TheVariants.{Extra, Missing, WrongTag}
-use Rattle.ber_pull.specs.Hears.{next_at}
-use Rattle.ber_pull.proofs.Hearing.{hears_done, hears_error, hears_stop, hears_then}
-use Rattle.ber_pull.proofs.Fields.{begin_in, begin_wrong, due_missing, due_read, due_wrong, end_extra, end_here, optional_absent, optional_other, optional_read}
-use Rattle.ber_pull.proofs.Insides.{field_as, field_given, stands_some, used_within}
-use Rattle.std.specs.Option.{option_map}
+use Rattle.std.proofs.Common.{rules}
 use Rattle.x690.specs.Values.{Same}
-use Rattle.ber_pull.specs.Fields.{read_due, read_optional}
-use Rattle.ber_pull.specs.declared.state.Given.{Given}
-use Rattle.asn_values.specs.Fields.{SameField, next_of}
-use Rattle.ber_pull.specs.Fields.{BeginsBefore}
-use Rattle.asn_values.proofs.ShortFields.{field_short}
+use Rattle.ber_pull.specs.Fields.{read_due}
+use Rattle.ber_pull.proofs.Fields.{take_then}
+use Rattle.ber_pull.proofs.Hearing.{hears_done, hears_error, hears_then}
+use Rattle.ber_pull.proofs.Insides.{within_none}
+use Rattle.asn_values.specs.Fields.{next_of}
 use Rattle.asn_values.proofs.Handing.{field_err}
 use Rattle.asn_values.proofs.fields.due.Goals as goal
 
-pub returns-in-None-clause-reads : goal.returns-in-None-clause-reads
-returns-in-None-clause-reads g c = λ earlier outer inside a.
-    let first = c.refuse.ensures.first c.requires.fine in
-    hears_stop _ (fault c.args.next.now.at Missing) _ _ _ _ _ _ _ first.0 (ap (λ s. s.taken) first.1) (ap g.R.Source.remaining c.refuse.ensures.same)
-    (due_missing outer.limits _ earlier inside c.args.next.now.at c.args.next.now.tag _ _ c.in-None.is)
-
-pub returns-then-not-fits-clause-reads : goal.returns-then-not-fits-clause-reads
-returns-then-not-fits-clause-reads g c = λ earlier outer inside a.
-    let first = c.refuse-then-not-fits.ensures.first c.requires.fine in
-    hears_stop _ (fault c.args.next.now.at WrongTag) _ _ _ _ _ _ _ first.0 (ap (λ s. s.taken) first.1) (ap g.R.Source.remaining c.refuse-then-not-fits.ensures.same)
-    (due_wrong outer.limits _ earlier inside c.args.next.now.at c.args.next.now.tag (c.in-Some.tag, c.in-Some.field-0-1) _ _ c.in-Some.is (sym c.fits-fits.ensures ∙ c.if-not-fits.true))
-
 pub returns-in_err-field-clause-reads : goal.returns-in_err-field-clause-reads
 returns-in_err-field-clause-reads g c = λ earlier outer inside a.
-    let at = c.args.next.now.at in
-    let n = c.args.next.now.tag in
-    let t : Tag × Bool = (c.in-Some.tag, c.in-Some.field-0-1) in
-    let given : Given = record { at = at; tag = c.in-Some.tag; constructed = c.in-Some.field-0-1 } in
-    let is = field_given outer inside c.args.pull.now.state at n t a c.in-Some.is in
-    let on = sym c.fits-fits.ensures ∙ c.if-not-fits.false in
-    field_err c.args.pull.now c.read.new.pull (read_due outer.limits g.T.Element.type_term earlier inside (next_of c.args.next.now)) Same g.T.DerText.value (next_of c.args.next.now) c.from_residual.result c.in_err-field.field-0.0 (search rules)
-    (due_read outer.limits g.T.Element.type_term earlier inside at n t _ _ _ _ _ c.in-Some.is on
-    (hears_error _ _ _ _ _ _ _ (field_as outer inside c.args.pull.now.state (next_of c.args.next.now) g.T.Element.type_term earlier at c.in-Some.tag c.in-Some.field-0-1 _ _ _ _ _ g.met.T.Element.closed a (c.in_err-field.ensures.reads given c.requires.fine is))))
+    field_err c.args.pull.now c.take.new.pull (read_due outer.limits g.T.Element.type_term earlier inside (next_of c.args.next.now)) Same g.T.DerText.value (next_of c.args.next.now) c.from_residual.result c.in_err-field.field-0.0 (search rules)
+    (take_then _ _ _ _ _ _ _ _ _ _ (hears_error _ _ _ _ _ _ _ (c.in_err-field.ensures.reads earlier outer inside a)))
+
+pub ahead-requires-clause-used : goal.ahead-requires-clause-used
+ahead-requires-clause-used g c =
+    let outer = c.requires.inside.0 in
+    let inside = c.requires.inside.1 in
+    within_none outer inside c.take.new.pull.state (c.in_ok-field.ensures.stands outer inside c.requires.inside.2)
 
 pub returns-in_err-next-clause-reads : goal.returns-in_err-next-clause-reads
 returns-in_err-next-clause-reads g c = λ earlier outer inside a.
-    let at = c.args.next.now.at in
-    let n = c.args.next.now.tag in
-    let t : Tag × Bool = (c.in-Some.tag, c.in-Some.field-0-1) in
-    let given : Given = record { at = at; tag = c.in-Some.tag; constructed = c.in-Some.field-0-1 } in
-    let is = field_given outer inside c.args.pull.now.state at n t a c.in-Some.is in
-    let on = sym c.fits-fits.ensures ∙ c.if-not-fits.false in
-    let read = c.in_ok-field.ensures.reads given c.requires.fine is in
-    let within = used_within outer inside c.args.pull.now.state (next_of c.args.next.now) c.read.new.pull.state a (stands_some at n t c.in-Some.is) c.in_ok-field.ensures.stands in
+    let read = c.in_ok-field.ensures.reads earlier outer inside a in
     field_err c.args.pull.now c.ahead.new.pull (read_due outer.limits g.T.Element.type_term earlier inside (next_of c.args.next.now)) Same g.T.DerText.value (next_of c.args.next.now) c.from_residual-in_err-next.result c.in_err-next.field-0.0 (search rules)
-    (due_read outer.limits g.T.Element.type_term earlier inside at n t _ _ _ _ _ c.in-Some.is on
-    (hears_then _ _ read.0 _ _ _ _ _ _ _ (field_as outer inside c.args.pull.now.state (next_of c.args.next.now) g.T.Element.type_term earlier at c.in-Some.tag c.in-Some.field-0-1 _ _ _ _ _ g.met.T.Element.closed a read.2)
-    (hears_error _ _ _ _ _ _ _ (c.in_err-next.ensures.reads outer inside within))))
+    (take_then _ _ _ _ _ _ _ _ _ _ (hears_then _ _ read.0 _ _ _ _ _ _ _ read.2 (hears_error _ _ _ _ _ _ _ (c.in_err-next.ensures.reads outer inside (c.in_ok-field.ensures.stands outer inside a)))))
 
 pub returns-clause-reads : goal.returns-clause-reads
 returns-clause-reads g c = λ earlier outer inside a.
-    let at = c.args.next.now.at in
-    let n = c.args.next.now.tag in
-    let t : Tag × Bool = (c.in-Some.tag, c.in-Some.field-0-1) in
-    let given : Given = record { at = at; tag = c.in-Some.tag; constructed = c.in-Some.field-0-1 } in
-    let is = field_given outer inside c.args.pull.now.state at n t a c.in-Some.is in
-    let on = sym c.fits-fits.ensures ∙ c.if-not-fits.false in
-    let read = c.in_ok-field.ensures.reads given c.requires.fine is in
-    let within = used_within outer inside c.args.pull.now.state (next_of c.args.next.now) c.read.new.pull.state a (stands_some at n t c.in-Some.is) c.in_ok-field.ensures.stands in (
-      read.0,
-      read.1,
-      due_read outer.limits g.T.Element.type_term earlier inside at n t _ _ _ _ _ c.in-Some.is on
-          (hears_then _ _ read.0 _ _ _ _ _ _ _ (field_as outer inside c.args.pull.now.state (next_of c.args.next.now) g.T.Element.type_term earlier at c.in-Some.tag c.in-Some.field-0-1 _ _ _ _ _ g.met.T.Element.closed a read.2)
-          (hears_then _ _ (next_of c.in_ok-next.field-0) _ _ _ _ _ _ _ (c.in_ok-next.ensures.reads outer inside within) (hears_done _ _ _))),
-    )
-
-pub returns-clause-short : goal.returns-clause-short
-returns-clause-short g c =
-    let outer = c.requires.inside.0 in
-    let inside = c.requires.inside.1 in
-    let a = c.requires.inside.2 in
-    let at = c.args.next.now.at in
-    let n = c.args.next.now.tag in
-    let t : Tag × Bool = (c.in-Some.tag, c.in-Some.field-0-1) in
-    let given : Given = record { at = at; tag = c.in-Some.tag; constructed = c.in-Some.field-0-1 } in
-    let read = c.in_ok-field.ensures.reads given c.requires.fine (field_given outer inside c.args.pull.now.state at n t a c.in-Some.is) in
-    field_short g.T.Element.type_term c.args.pull.now.state at c.in-Some.tag c.in-Some.field-0-1 read.0 (g.T.DerText.value c.in_ok-field.field) _ _ _ (subst (λ w. BeginsBefore c.args.pull.now.state (next_at at w)) c.in-Some.is a.begins) read.2 read.1
+    let read = c.in_ok-field.ensures.reads earlier outer inside a in
+    let behind = c.in_ok-next.ensures.reads outer inside (c.in_ok-field.ensures.stands outer inside a) in
+    (read.0, read.1, take_then _ _ _ _ _ _ _ _ _ _ (hears_then _ _ read.0 _ _ _ _ _ _ _ read.2 (hears_then _ _ (next_of c.in_ok-next.field-0) _ _ _ _ _ _ _ behind (hears_done _ _ _))))

@@ -4,7 +4,7 @@ use Rattle.x690.specs.Reading.{Done}
 use Rattle.tlv_core.specs.declared.reason.Reason.TheVariants.{Extra, Missing, WrongTag}
 use Rattle.ber_pull.specs.Hears.{next_at}
 use Rattle.ber_pull.proofs.Hearing.{hears_as, hears_at, hears_done, hears_err, hears_error, hears_said, hears_stop, hears_then}
-use Rattle.ber_pull.proofs.Fields.{begin_in, begin_wrong, due_missing, due_read, due_wrong, end_extra, end_here, optional_absent, optional_other, optional_read}
+use Rattle.ber_pull.proofs.Fields.{begin_in, begin_wrong, end_extra, end_here, optional_absent, optional_other, optional_read}
 use Rattle.ber_pull.proofs.Insides.{inside_given, leaves, left_here, next_inside, opens_within, stands_none, stands_some, used_within, within_next, within_none}
 use Rattle.asn_values.specs.Fields.{next_of}
 use Rattle.asn_values.proofs.fields.end.Goals as goal

@@ -5,7 +5,7 @@ use Rattle.x690.specs.Reading.{Done}
 use Rattle.tlv_core.specs.declared.reason.Reason.TheVariants.{Extra, Missing, WrongTag}
 use Rattle.ber_pull.specs.Hears.{next_at}
 use Rattle.ber_pull.proofs.Hearing.{hears_done, hears_error, hears_stop, hears_then}
-use Rattle.ber_pull.proofs.Fields.{begin_in, begin_wrong, due_missing, due_read, due_wrong, end_extra, end_here, optional_absent, optional_other, optional_read}
+use Rattle.ber_pull.proofs.Fields.{begin_in, begin_wrong, end_extra, end_here, optional_absent, optional_other, optional_read}
 use Rattle.ber_pull.proofs.Insides.{field_as, field_given, stands_some, used_within}
 use Rattle.std.specs.Option.{option_map}
 use Rattle.x690.specs.Values.{Same}
