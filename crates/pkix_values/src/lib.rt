@@ -11,6 +11,7 @@ mod identifiers;
 pub mod name;
 pub mod pairs;
 pub mod parts;
+pub mod public_key;
 pub mod set_of_some;
 #[cfg(test)]
 mod tests;
