@@ -1,6 +1,6 @@
 -- Types that don't look at the earlier fields of a container.
 use Rattle.std.specs.Prelude.{refl}
-use Rattle.x690.specs.DocumentTypes.{AlgorithmIdentifier, Attribute, Extension, Name, NameItem, RequestAttribute, SubjectPublicKeyInfo}
+use Rattle.x690.specs.DocumentTypes.{AlgorithmIdentifier, Extension, Name, NameItem, RequestAttribute, SubjectPublicKeyInfo}
 use Rattle.x690.specs.Rules.{parameters_rule}
 use Rattle.ber_pull.specs.Fields.{IsClosed}
 use Rattle.ber_pull.proofs.Fields.{ruled_closed, sequence_closed, sequence_of_closed}
@@ -24,10 +24,6 @@ algorithm_closed = ruled_closed parameters_rule _ (sequence_closed _ _) (λ earl
 pub public_key_closed : IsClosed SubjectPublicKeyInfo
 unfolding SubjectPublicKeyInfo
 public_key_closed = sequence_closed _ _
-
-pub attribute_closed : IsClosed Attribute
-unfolding Attribute
-attribute_closed = sequence_closed _ _
 
 pub request_attribute_closed : IsClosed RequestAttribute
 unfolding RequestAttribute

@@ -1,11 +1,11 @@
 -- The values of the types, field by field.
-use Rattle.std.specs.Prelude.{Bool as Truth, List, None, Option, Some, [], cond, length, not, true, ℕ, ◌&&◌, ◌++◌, ◌-◌, ◌||◌, ◌∷◌}
+use Rattle.std.specs.Prelude.{Bool as Truth, List, None, Option, Some, [], cond, length, map, not, true, ℕ, ◌&&◌, ◌++◌, ◌-◌, ◌||◌, ◌∷◌}
 use Rattle.std.specs.Option.{option_map}
 use Rattle.x690.specs.Identifiers.{length_under, rfc8410_algorithms, rfc8410_lengths}
 use Rattle.x690.specs.Layouts.{universal}
 use Rattle.x690.specs.Lists.{one_of}
 use Rattle.x690.specs.Rules.{has_length, no_unused}
-use Rattle.x690.specs.Values.{Leaf, Value}
+use Rattle.x690.specs.Values.{Leaf, SetOf, Value, values_of}
 use Rattle.ber_pull.specs.Fields.{with_field}
 use Rattle.asn_values.specs.Leaves.{octets_of, truth}
 use Rattle.asn_values.specs.declared.boolean.Bool.{Bool}
@@ -27,3 +27,7 @@ extension_values id critical value = Leaf (universal 6) id ∷ (with_field (opti
 abbrev pub key_fits : List ℕ → List ℕ → Truth
 key_fits algorithm contents =
     not (one_of algorithm rfc8410_algorithms) || (has_length (length_under rfc8410_lengths algorithm) (length contents - 1) && no_unused contents)
+
+-- the type of an attribute, and its values
+abbrev pub attribute_values : {A : Type 0} → (A → Value) → List ℕ → List A → List Value
+attribute_values value id items = Leaf (universal 6) id ∷ SetOf (universal 17) (values_of (map value items)) ∷ []

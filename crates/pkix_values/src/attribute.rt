@@ -1,10 +1,13 @@
 //! Attribute of RFC 2986 section 4.1.
-ghost use Rattle.std.specs.Prelude.{◌≡◌, ◌↔◌, ◌<◌, ◌^◌, ◌∷◌, IsTrue, [], length};
+ghost use Rattle.std.specs.Prelude.{◌≡◌, ◌↔◌, ◌<◌, ◌^◌, IsTrue, length};
 ghost use Rattle.x690.specs.DerTexts.{der, texts_of};
-ghost use Rattle.x690.specs.DocumentTypes.{Attribute as AttributeType};
+ghost use Rattle.x690.specs.DocumentTypes.{object_identifier, sequence, set_of_some, ◌⨾◌};
 ghost use Rattle.x690.specs.Layouts.{universal};
-ghost use Rattle.x690.specs.Values.{Leaf, Sequence, values_of};
-ghost use Rattle.pkix_values.specs.ClosedTypes.{attribute_closed};
+ghost use Rattle.x690.specs.TypeTerms.{EndOfFields, Required};
+ghost use Rattle.x690.specs.Values.{Sequence, values_of};
+ghost use Rattle.asn_values.specs.Containers.{set_items};
+ghost use Rattle.ber_pull.proofs.Fields.{sequence_closed};
+ghost use Rattle.pkix_values.specs.Values.{attribute_values};
 
 use crate::pairs::read_pair;
 use crate::parts::{Both, Field, put_sequence, sequence_octet, sequence_size};
@@ -23,15 +26,26 @@ use tlv_core::source::Source;
 use tlv_core::tag::Tag;
 use tlv_core::target::Target;
 
-/// An attribute: of what type it is, and its values.
+/// An attribute: of what type it is, and its values, of which there is at least one.
+pub type Attribute = AttributeOf<Any>;
+
+/// An attribute whose values are of the type `T`.
 #[derive(Drop)]
-pub struct Attribute {
+pub struct AttributeOf<T: DerText> {
     id: Oid,
-    values: SetOfSome<Any>,
-    ghost small: { length (texts_of (Leaf (universal 6) id ∷ ⟦<SetOfSome<Any> as DerText>⟧.value values ∷ [])) < 2 ^ 63 },
+    values: SetOfSome<T>,
+    ghost small: { length (texts_of (attribute_values T.value id (set_items values.items))) < 2 ^ 63 },
 }
 
-impl Attribute {
+impl<T: DerText> AttributeOf<T> {
+    /// The attribute of this type with these values.
+    pub(crate) fn new(id: Oid, values: SetOfSome<T>) -> AttributeOf<T>
+        requires { length (texts_of (attribute_values T.value id (set_items values.items))) < 2 ^ 63 }
+        ensures { (result.id ≡ id) × (result.values ≡ values) }
+    {
+        AttributeOf { id, values }
+    }
+
     /// Its type.
     pub fn id(&self) -> &Oid
         ensures { result.now ≡ self.now.id }
@@ -40,20 +54,20 @@ impl Attribute {
     }
 
     /// Its values, in the order of their texts.
-    pub fn values(&self) -> &SetOf<Any>
+    pub fn values(&self) -> &SetOf<T>
         ensures { result.now ≡ self.now.values.items }
     {
         self.values.items()
     }
 
     /// Whether the two are the same.
-    pub fn same(&self, other: &Attribute) -> bool
-        ensures { IsTrue result ↔ (der (Sequence (universal 16) (values_of (Leaf (universal 6) self.now.id ∷ ⟦<SetOfSome<Any> as DerText>⟧.value self.now.values ∷ []))) ≡ der (Sequence (universal 16) (values_of (Leaf (universal 6) other.now.id ∷ ⟦<SetOfSome<Any> as DerText>⟧.value other.now.values ∷ [])))) }
+    pub fn same(&self, other: &AttributeOf<T>) -> bool
+        ensures { IsTrue result ↔ (der (Sequence (universal 16) (values_of (attribute_values T.value self.now.id (set_items self.now.values.items)))) ≡ der (Sequence (universal 16) (values_of (attribute_values T.value other.now.id (set_items other.now.values.items))))) }
     {
         same_text(self, other)
     }
 
-    fn parts(&self) -> Both<Field<'_, Oid>, Field<'_, SetOfSome<Any>>>
+    fn parts(&self) -> Both<Field<'_, Oid>, Field<'_, SetOfSome<T>>>
         ensures id { result.first.0.now ≡ self.now.id }
         ensures values { result.rest.0.now ≡ self.now.values }
     {
@@ -64,8 +78,8 @@ impl Attribute {
     }
 }
 
-impl DerText for Attribute {
-    ghost value = { λ a. Sequence (universal 16) (values_of (Leaf (universal 6) a.id ∷ ⟦<SetOfSome<Any> as DerText>⟧.value a.values ∷ [])) };
+impl<T: DerText> DerText for AttributeOf<T> {
+    ghost value = { λ a. Sequence (universal 16) (values_of (attribute_values T.value a.id (set_items a.values.items))) };
 
     fn size(&self) -> u64 {
         sequence_size(universal_tag(16), &self.parts())
@@ -80,18 +94,18 @@ impl DerText for Attribute {
     }
 }
 
-impl Element for Attribute {
-    ghost type_term = { AttributeType };
+impl<T: Element> Element for AttributeOf<T> {
+    ghost type_term = { sequence (Required object_identifier ⨾ Required (set_of_some T.type_term) ⨾ EndOfFields) };
 
-    ghost closed = { attribute_closed };
+    ghost closed = { sequence_closed _ _ };
 
-    #[tactic(auto, unfolding(x690::specs::TypeTerms::fits_tag, x690::specs::DocumentTypes::Attribute))]
+    #[tactic(auto, unfolding(x690::specs::TypeTerms::fits_tag))]
     fn fits(tag: Tag) -> bool {
         is_same_tag(universal_tag(16), tag)
     }
 
-    fn read<R: Source>(alloc: Global, pull: &mut Pull<'_, R>) -> Result<Attribute, ReadError> {
-        let (id, values) = read_pair::<R, Oid, SetOfSome<Any>>(alloc, pull)?;
-        Ok(Attribute { id, values })
+    fn read<R: Source>(alloc: Global, pull: &mut Pull<'_, R>) -> Result<AttributeOf<T>, ReadError> {
+        let (id, values) = read_pair::<R, Oid, SetOfSome<T>>(alloc, pull)?;
+        Ok(AttributeOf { id, values })
     }
 }

@@ -6,12 +6,14 @@
 
 pub mod algorithm;
 pub mod attribute;
+mod either;
 pub mod extension;
 mod identifiers;
 pub mod name;
 pub mod pairs;
 pub mod parts;
 pub mod public_key;
+pub mod request_attribute;
 pub mod set_of_some;
 #[cfg(test)]
 mod tests;
