@@ -1,5 +1,5 @@
 -- The rules, of values that are the same as those that were read.
-use Rattle.std.proofs.Common.{◌≡◌, ◌∙◌, Bool, true, false, List, [], ◌∷◌, Option, Some, None, ℕ, refl, not, ◌||◌}
+use Rattle.std.proofs.Common.{◌≡◌, ◌∙◌, Bool, true, false, List, [], ◌∷◌, Option, Some, None, ℕ, ap, refl, not, ◌||◌}
 use Rattle.std.specs.Option.{is_some, option_map}
 use Rattle.tlv_core.specs.Identifier.{Tag}
 use Rattle.tlv_core.specs.Limits.{Limits}
@@ -14,6 +14,7 @@ use Rattle.x690.specs.Reads.{Heard, Said}
 use Rattle.x690.specs.Rules.{else_refused, key_bits_rule, parameters_rule}
 use Rattle.x690.specs.TypeTerms.{Rule, RuledType, TypeTerm}
 use Rattle.x690.specs.Values.{Leaf, Same, Sequence, Value, leaf_at, values_of}
+use Rattle.x690_laws.proofs.OneValue.{leaf_at_same}
 use Rattle.x690_laws.proofs.Fairs.{fair_key_bits, fair_parameters}
 use Rattle.ber_pull.specs.Fields.{read_take, with_field}
 use Rattle.ber_pull.specs.Hears.{Hears, heard_error, next_at}
@@ -56,3 +57,8 @@ take_ruled l rule T earlier c p n value h k j i s t u x y = hears_same _ _ h k i
 
 pub take_ruled_error : (l : Limits) (rule : Rule) (T : TypeTerm) (earlier : List Value) (c : Enclosing) (p : ℕ) (n : Option (Tag × Bool)) (e : ReadError) (k i : ℕ) (s u : Option (List ℕ)) → Hears (read_take l T earlier c (next_at p n)) k s (heard_error e) i u → Hears (read_take l (RuledType rule T) earlier c (next_at p n)) k s (heard_error e) i u
 take_ruled_error l rule T earlier c p n e k i s u x = hears_same _ _ (heard_error e) k i s u (ruled_alike l rule T earlier c p n) (hears_error _ (λ v. apply_rule p (rule earlier v) v) e k i s u x)
+
+-- The first field, an OBJECT IDENTIFIER, is listed.
+pub id_listed : (v : Value) (id : List ℕ) (listed : List (List ℕ)) → Same v (Leaf (universal 6) id) → one_of (leaf_at (0 ∷ []) (v ∷ [])) listed ≡ one_of id listed
+unfolding leaf_at
+id_listed v id listed same = ap (λ octets. one_of octets listed) (leaf_at_same (0 ∷ []) (v ∷ []) (Leaf (universal 6) id ∷ []) (same, tt))
