@@ -14,3 +14,4 @@ pub mod SameMembers
 pub mod ShortElements
 pub mod ShortFields
 pub mod TypeReadings
+pub mod SoFar

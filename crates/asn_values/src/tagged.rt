@@ -3,12 +3,20 @@ ghost use Rattle.std.specs.Prelude.{◌≡◌, ◌↔◌, ◌+◌, ◌<◌, ◌^
 ghost use Rattle.tlv_core.specs.Sinks.{count, Puts};
 ghost use Rattle.x690.specs.DerTexts.{der};
 ghost use Rattle.x690.specs.Layouts.{context_specific};
+ghost use Rattle.x690.specs.TypeTerms.{EndOfFields, Required, SequenceType};
 ghost use Rattle.x690.specs.Values.{Sequence, values_of};
+ghost use Rattle.ber_pull.proofs.Fields.{sequence_closed};
 
 use crate::der_text::{DerText, same_text};
+use crate::element::Element;
+use crate::fields::{begin, due, end};
 use crate::framing::{Stands, element_size, find_octet, put_header};
-use crate::tags::context_tag;
+use crate::tags::{context_tag, is_same_tag};
+use ber_pull::pull::Pull;
+use std::alloc::Global;
+use tlv_core::fault::ReadError;
 use tlv_core::sink::{Sink, WriteError};
+use tlv_core::source::Source;
 use tlv_core::tag::Tag;
 use tlv_core::target::Target;
 
@@ -71,5 +79,23 @@ impl<const N: u8, T: DerText> DerText for Tagged<N, T> {
 
     fn octet(&self, i: u64) -> Option<u8> {
         self.octet_as(i, context_tag(u32::from(N)))
+    }
+}
+
+impl<const N: u8, T: Element> Element for Tagged<N, T> {
+    ghost type_term = { SequenceType (context_specific N) (Required T.type_term EndOfFields) };
+
+    ghost closed = { sequence_closed (context_specific N) (Required T.type_term EndOfFields) };
+
+    #[tactic(auto, unfolding(x690::specs::TypeTerms::fits_tag))]
+    fn fits(tag: Tag) -> bool {
+        is_same_tag(context_tag(u32::from(N)), tag)
+    }
+
+    fn read<R: Source>(alloc: Global, pull: &mut Pull<'_, R>) -> Result<Tagged<N, T>, ReadError> {
+        let mut next = begin(pull, context_tag(u32::from(N)))?;
+        let inner = due::<R, T>(alloc, pull, &mut next)?;
+        end(pull, next)?;
+        Ok(Tagged { inner })
     }
 }

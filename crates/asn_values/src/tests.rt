@@ -11,6 +11,7 @@ use crate::list::List;
 use crate::null::Null;
 use crate::octets::Octets;
 use crate::set_of::SetOf;
+use crate::tagged::Tagged;
 use ber_pull::pull::Pull;
 use std::alloc::Global;
 use std::test::Fail;
@@ -34,7 +35,10 @@ enum Type {
     Integers,
     Integer1s,
     IntegerSet,
+    IntegerSet1s,
     StringSets,
+    /// `[0] EXPLICIT OBJECT IDENTIFIER`
+    Tagged0Identifier,
 }
 
 /// The text of the value, or the fault.
@@ -46,7 +50,7 @@ enum Outcome {
 
 use Outcome::{At, Text};
 
-static ROWS: [(Type, &[u8], Outcome); 27] = [
+static ROWS: [(Type, &[u8], Outcome); 37] = [
     (
         Type::Boolean,
         &[0x01, 0x01, 0x01],
@@ -160,7 +164,62 @@ static ROWS: [(Type, &[u8], Outcome); 27] = [
             0x01, 0x02,
         ]),
     ),
+    (
+        Type::IntegerSet1s,
+        &[0x31, 0x80, 0x02, 0x01, 0x05, 0x00, 0x00],
+        Text(&[0x31, 0x03, 0x02, 0x01, 0x05]),
+    ),
+    (Type::IntegerSet1s, &[0x31, 0x00], At(0, Reason::EmptySet)),
+    (
+        Type::IntegerSet1s,
+        &[0x31, 0x80, 0x00, 0x00],
+        At(0, Reason::EmptySet),
+    ),
+    (
+        Type::Tagged0Identifier,
+        &[
+            0xA0, 0x80, 0x06, 0x05, 0x2B, 0x81, 0x04, 0x00, 0x0A, 0x00, 0x00,
+        ],
+        Text(&[0xA0, 0x07, 0x06, 0x05, 0x2B, 0x81, 0x04, 0x00, 0x0A]),
+    ),
+    (
+        Type::Tagged0Identifier,
+        &[0xA1, 0x03, 0x06, 0x01, 0x2A],
+        At(0, Reason::WrongTag),
+    ),
+    (
+        Type::Tagged0Identifier,
+        &[0x80, 0x01, 0x2A],
+        At(0, Reason::WrongForm),
+    ),
+    (
+        Type::Tagged0Identifier,
+        &[0xA0, 0x00],
+        At(2, Reason::Missing),
+    ),
+    (
+        Type::Tagged0Identifier,
+        &[0xA0, 0x80, 0x00, 0x00],
+        At(2, Reason::Missing),
+    ),
+    (
+        Type::Tagged0Identifier,
+        &[0xA0, 0x03, 0x02, 0x01, 0x05],
+        At(2, Reason::WrongTag),
+    ),
+    (
+        Type::Tagged0Identifier,
+        &[0xA0, 0x06, 0x06, 0x01, 0x2A, 0x06, 0x01, 0x2A],
+        At(5, Reason::Extra),
+    ),
 ];
+
+fn written<T: DerText>(alloc: Global, value: &T) -> Result<Vec<u8>, ReadError> {
+    match der_text(alloc, value) {
+        Ok(text) => Ok(text),
+        Err(_) => Err(ReadError::Memory),
+    }
+}
 
 /// The text of the element that the source tells.
 fn text_of<T: Element, R: Source>(alloc: Global, source: &mut R) -> Result<Vec<u8>, ReadError>
@@ -174,14 +233,15 @@ fn text_of<T: Element, R: Source>(alloc: Global, source: &mut R) -> Result<Vec<u
         return Err(ReadError::Memory);
     };
     let value = T::read(alloc, &mut pull)?;
-    match der_text(alloc, &value) {
-        Ok(text) => Ok(text),
-        Err(_) => Err(ReadError::Memory),
-    }
+    written(alloc, &value)
 }
 
-/// A list with at least one member.
-fn text_of_some<R: Source>(alloc: Global, source: &mut R) -> Result<Vec<u8>, ReadError>
+/// A list, or a set, of at least one INTEGER.
+fn text_of_some<R: Source>(
+    alloc: Global,
+    source: &mut R,
+    is_set: bool,
+) -> Result<Vec<u8>, ReadError>
     requires { R.has_failed source.old ≡ false }
 {
     let Some(limits) = Limits::new(32, 1_048_576) else {
@@ -191,11 +251,12 @@ fn text_of_some<R: Source>(alloc: Global, source: &mut R) -> Result<Vec<u8>, Rea
     let Some(_next) = pull.next_tag()? else {
         return Err(ReadError::Memory);
     };
-    let value: List<Int> = List::read_some(alloc, &mut pull)?;
-    match der_text(alloc, &value) {
-        Ok(text) => Ok(text),
-        Err(_) => Err(ReadError::Memory),
+    if is_set {
+        let set: SetOf<Int> = SetOf::read_some(alloc, &mut pull)?;
+        return written(alloc, &set);
     }
+    let list: List<Int> = List::read_some(alloc, &mut pull)?;
+    written(alloc, &list)
 }
 
 fn read_as<R: Source>(alloc: Global, source: &mut R, kind: Type) -> Result<Vec<u8>, ReadError>
@@ -209,9 +270,11 @@ fn read_as<R: Source>(alloc: Global, source: &mut R, kind: Type) -> Result<Vec<u
         Type::BitString => text_of::<Bits, R>(alloc, source),
         Type::OctetString => text_of::<Octets, R>(alloc, source),
         Type::Integers => text_of::<List<Int>, R>(alloc, source),
-        Type::Integer1s => text_of_some(alloc, source),
+        Type::Integer1s => text_of_some(alloc, source, false),
         Type::IntegerSet => text_of::<SetOf<Int>, R>(alloc, source),
+        Type::IntegerSet1s => text_of_some(alloc, source, true),
         Type::StringSets => text_of::<SetOf<SetOf<Octets>>, R>(alloc, source),
+        Type::Tagged0Identifier => text_of::<Tagged<0, Oid>, R>(alloc, source),
     }
 }
 

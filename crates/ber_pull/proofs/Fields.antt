@@ -14,14 +14,14 @@ use Rattle.x690.specs.Lists.{one_of}
 use Rattle.x690.specs.Points.{Enclosing, fault}
 use Rattle.x690.specs.ReadHeaders.{ContainerEnds, ElementStands, LengthForm, Next, entered, in_container, next_tag, read_length}
 use Rattle.x690.specs.ReadTypes.{apply_rule, is_this_leaf, read_fields, read_type}
-use Rattle.x690.specs.Reading.{Done, Fail, Reading, Where, choose, require, run, ◌>>=◌}
+use Rattle.x690.specs.Reading.{Done, Fail, Halted, Outcome, Reading, Took, Where, choose, require, run, ◌>>=◌}
 use Rattle.x690.specs.Reads.{Heard, Refused, Said}
 use Rattle.x690.specs.TypeTerms.{Default, DefinedByType, EndOfFields, Fields, LeafType, OpenType, Optional, Required, Rule, RuledType, SequenceOfType, SequenceType, SetOfType, TypeTerm, fits_tag}
 use Rattle.x690.specs.Values.{Sequence, Value, leaf_at, values_of}
 use Rattle.ber_pull.specs.Fields.{IsClosed, but_default, read_begin, read_due, read_end, read_optional, read_take, with_field}
 use Rattle.ber_pull.specs.Hears.{Hears, heard_error, next_at}
 use Rattle.ber_pull.proofs.Hearing.{hears_done, hears_error, hears_fail, hears_first, hears_off, hears_on, hears_same, hears_second, hears_then}
-use Rattle.ber_pull.proofs.Runs.{bind_assoc, bind_same}
+use Rattle.ber_pull.proofs.Runs.{bind_assoc, bind_same, halt_bind, run_bind}
 
 -- readings that give the same on all octets
 abbrev pub Alike : {A : Type 0} → Reading A → Reading A → Type 0
@@ -46,6 +46,14 @@ choose_then false p p' f q q' e e' k s = e' k s
 done_then : {A B : Type 0} (a : A) (f : A → Reading B) → Alike (Done a >>= f) (f a)
 unfolding ◌>>=◌
 done_then a f k s = refl
+
+-- alike readings, before the same rest
+pub bind_first : {A B : Type 0} (p q : Reading A) (f : A → Reading B) → Alike p q → Alike (p >>= f) (q >>= f)
+bind_first {A} {B} p q f e k s = go (run q k s) refl
+  where
+    go : (o : Outcome A) → run q k s ≡ o → run (p >>= f) k s ≡ run (q >>= f) k s
+    go (Took a j r) x = run_bind p f k s a j r (e k s ∙ x) ∙ sym (run_bind q f k s a j r x)
+    go (Halted g) x = halt_bind p f k s g (e k s ∙ x) ∙ sym (halt_bind q f k s g x)
 
 -- An element and what stands behind it, and then the rest.
 behind : {A B X Z : Type 0} (p : Reading A) (q : A → Reading B) (w : A → B → Reading X) (f : X → Reading Z) → Alike ((p >>= λ a. q a >>= λ b. w a b) >>= f) (p >>= λ a. q a >>= λ b. w a b >>= f)
@@ -103,13 +111,13 @@ due_alike l T rest earlier c (ElementStands p tag constructed) then' =
     (require_then (fits_tag T tag) _ _ _ _ (there (read_type l T earlier c p tag constructed) (next_tag l c) (λ v n. read_fields l rest (earlier ++ (v ∷ [])) c n) then'))
 
 -- the field by itself, and then what stands behind it
-pub take_alike : (l : Limits) (T : TypeTerm) (earlier : List Value) (c : Enclosing) (next : Next) → Alike (read_take l T earlier c next >>= λ v. next_tag l c >>= λ n. Done (v, n)) (read_due l T earlier c next)
+take_alike : (l : Limits) (T : TypeTerm) (earlier : List Value) (c : Enclosing) (next : Next) → Alike (read_take l T earlier c next >>= λ v. next_tag l c >>= λ n. Done (v, n)) (read_due l T earlier c next)
 unfolding read_take read_due ◌>>=◌
 take_alike l T earlier c (ContainerEnds p) = λ k s. refl
 take_alike l T earlier c (ElementStands p tag constructed) = require_then (fits_tag T tag) _ _ _ _ (λ k s. refl)
 
 -- the field that is ruled, and the one that the rule judges
-pub ruled_alike : (l : Limits) (rule : Rule) (T : TypeTerm) (earlier : List Value) (c : Enclosing) (p : ℕ) (n : Option (Tag × Bool)) → Alike (read_take l T earlier c (next_at p n) >>= λ v. apply_rule p (rule earlier v) v) (read_take l (RuledType rule T) earlier c (next_at p n))
+ruled_alike : (l : Limits) (rule : Rule) (T : TypeTerm) (earlier : List Value) (c : Enclosing) (p : ℕ) (n : Option (Tag × Bool)) → Alike (read_take l T earlier c (next_at p n) >>= λ v. apply_rule p (rule earlier v) v) (read_take l (RuledType rule T) earlier c (next_at p n))
 unfolding read_take read_type fits_tag ◌>>=◌
 ruled_alike l rule T earlier c p None = λ k s. refl
 ruled_alike l rule T earlier c p (Some t) = require_then (fits_tag T t.0) _ _ _ _ (λ k s. refl)
@@ -165,6 +173,18 @@ begins l own own' fields earlier c p tag constructed inside next h k j i s t u i
     hears_same _ _ h k i s u (begin_alike l own fields earlier c p tag constructed)
     (hears_then _ (then_begin l fields own) (inside, next) h k j i s t u (subst (λ w. Hears (read_begin l w c p tag constructed) k s (Said (inside, next)) j t) is x) y)
 
+-- and so of a SEQUENCE with a rule on its value
+pub begins_ruled : (l : Limits) (rule : Rule) (own own' : Tag) (fields : Fields) (earlier : List Value) (c : Enclosing) (p : ℕ) (tag : Tag) (constructed : Bool) (inside : Enclosing) (next : Next) (h : Heard Value) (k j i : ℕ) (s t u : Option (List ℕ)) → own' ≡ own → Hears (read_begin l own' c p tag constructed) k s (Said (inside, next)) j t → Hears (read_fields l fields [] inside next >>= λ vs. apply_rule p (rule earlier (Sequence own (values_of vs))) (Sequence own (values_of vs))) j t h i u → Hears (read_type l (RuledType rule (SequenceType own fields)) earlier c p tag constructed) k s h i u
+unfolding read_type ◌>>=◌
+begins_ruled l rule own own' fields earlier c p tag constructed inside next h k j i s t u is x y =
+    let judge : Value → Reading Value = λ v. apply_rule p (rule earlier v) v in
+    let rest : Enclosing × Next → Reading Value = λ r. read_fields l fields [] r.0 r.1 >>= λ vs. judge (Sequence own (values_of vs)) in
+    let begun = read_begin l own c p tag constructed in
+    hears_same (begun >>= rest) _ h k i s u
+    (alike_then _ _ _ (bind_same begun rest (λ r. then_begin l fields own r >>= judge) (λ r k' s'. sym (bind_assoc (read_fields l fields [] r.0 r.1) (λ vs. Done (Sequence own (values_of vs))) judge k' s')))
+    (alike_then _ _ _ (λ k' s'. sym (bind_assoc begun (then_begin l fields own) judge k' s')) (bind_first _ _ judge (begin_alike l own fields earlier c p tag constructed))))
+    (hears_then begun rest (inside, next) h k j i s t u (subst (λ w. Hears (read_begin l w c p tag constructed) k s (Said (inside, next)) j t) is x) y)
+
 pub begins_error : (l : Limits) (own own' : Tag) (fields : Fields) (earlier : List Value) (c : Enclosing) (p : ℕ) (tag : Tag) (constructed : Bool) (e : ReadError) (k i : ℕ) (s u : Option (List ℕ)) → own' ≡ own → Hears (read_begin l own' c p tag constructed) k s (heard_error e) i u → Hears (read_type l (SequenceType own fields) earlier c p tag constructed) k s (heard_error e) i u
 begins_error l own own' fields earlier c p tag constructed e k i s u is x =
     hears_same _ _ (heard_error e) k i s u (begin_alike l own fields earlier c p tag constructed)
@@ -177,6 +197,38 @@ due l T rest earlier c next then' value next' h k j i s t u x y =
 pub due_error : {B : Type 0} (l : Limits) (T : TypeTerm) (rest : Fields) (earlier : List Value) (c : Enclosing) (next : Next) (then' : List Value → Reading B) (e : ReadError) (k i : ℕ) (s u : Option (List ℕ)) → Hears (read_due l T earlier c next) k s (heard_error e) i u → Hears (read_fields l (Required T rest) earlier c next >>= then') k s (heard_error e) i u
 due_error l T rest earlier c next then' e k i s u x =
     hears_same _ _ (heard_error e) k i s u (due_alike l T rest earlier c next then') (hears_error _ (then_due l rest earlier c then') e k i s u x)
+
+-- The field that is due by itself, then what stands behind it, then the rest: with a rule that judges it between.
+
+abbrev pub then_take : {B : Type 0} → Limits → Fields → List Value → Enclosing → (List Value → Reading B) → Value → Reading B
+then_take l rest earlier c then' v = next_tag l c >>= λ n. read_fields l rest (earlier ++ (v ∷ [])) c n >>= λ vs. then' (v ∷ vs)
+
+take_fields : {B : Type 0} (l : Limits) (T : TypeTerm) (rest : Fields) (earlier : List Value) (c : Enclosing) (next : Next) (then' : List Value → Reading B) → Alike (read_take l T earlier c next >>= then_take l rest earlier c then') (read_fields l (Required T rest) earlier c next >>= then')
+unfolding ◌>>=◌
+take_fields l T rest earlier c next then' =
+    let both = behind (read_take l T earlier c next) (λ v. next_tag l c) (λ v n. Done (v, n)) (then_due l rest earlier c then') in
+    alike_then _ _ _ (λ k s. sym (both k s)) (alike_then _ _ _ (bind_first _ _ (then_due l rest earlier c then') (take_alike l T earlier c next)) (due_alike l T rest earlier c next then'))
+
+ruled_fields : {B : Type 0} (l : Limits) (rule : Rule) (T : TypeTerm) (rest : Fields) (earlier : List Value) (c : Enclosing) (p : ℕ) (n : Option (Tag × Bool)) (then' : List Value → Reading B) → Alike (read_take l T earlier c (next_at p n) >>= λ v. apply_rule p (rule earlier v) v >>= then_take l rest earlier c then') (read_fields l (Required (RuledType rule T) rest) earlier c (next_at p n) >>= then')
+ruled_fields l rule T rest earlier c p n then' =
+    let both = bind_assoc (read_take l T earlier c (next_at p n)) (λ v. apply_rule p (rule earlier v) v) (then_take l rest earlier c then') in
+    alike_then _ _ _ (λ k s. sym (both k s)) (alike_then _ _ _ (bind_first _ _ (then_take l rest earlier c then') (ruled_alike l rule T earlier c p n)) (take_fields l (RuledType rule T) rest earlier c (next_at p n) then'))
+
+pub take : {B : Type 0} (l : Limits) (T : TypeTerm) (rest : Fields) (earlier : List Value) (c : Enclosing) (next : Next) (then' : List Value → Reading B) (value : Value) (h : Heard B) (k j i : ℕ) (s t u : Option (List ℕ)) → Hears (read_take l T earlier c next) k s (Said value) j t → Hears (then_take l rest earlier c then' value) j t h i u → Hears (read_fields l (Required T rest) earlier c next >>= then') k s h i u
+take l T rest earlier c next then' value h k j i s t u x y =
+    hears_same _ _ h k i s u (take_fields l T rest earlier c next then') (hears_then _ (then_take l rest earlier c then') value h k j i s t u x y)
+
+pub take_error : {B : Type 0} (l : Limits) (T : TypeTerm) (rest : Fields) (earlier : List Value) (c : Enclosing) (next : Next) (then' : List Value → Reading B) (e : ReadError) (k i : ℕ) (s u : Option (List ℕ)) → Hears (read_take l T earlier c next) k s (heard_error e) i u → Hears (read_fields l (Required T rest) earlier c next >>= then') k s (heard_error e) i u
+take_error l T rest earlier c next then' e k i s u x =
+    hears_same _ _ (heard_error e) k i s u (take_fields l T rest earlier c next then') (hears_error _ (then_take l rest earlier c then') e k i s u x)
+
+pub take_ruled : {B : Type 0} (l : Limits) (rule : Rule) (T : TypeTerm) (rest : Fields) (earlier : List Value) (c : Enclosing) (p : ℕ) (n : Option (Tag × Bool)) (then' : List Value → Reading B) (value : Value) (h : Heard B) (k j i : ℕ) (s t u : Option (List ℕ)) → Hears (read_take l T earlier c (next_at p n)) k s (Said value) j t → Hears (apply_rule p (rule earlier value) value >>= then_take l rest earlier c then') j t h i u → Hears (read_fields l (Required (RuledType rule T) rest) earlier c (next_at p n) >>= then') k s h i u
+take_ruled l rule T rest earlier c p n then' value h k j i s t u x y =
+    hears_same _ _ h k i s u (ruled_fields l rule T rest earlier c p n then') (hears_then _ (λ v. apply_rule p (rule earlier v) v >>= then_take l rest earlier c then') value h k j i s t u x y)
+
+pub take_ruled_error : {B : Type 0} (l : Limits) (rule : Rule) (T : TypeTerm) (rest : Fields) (earlier : List Value) (c : Enclosing) (p : ℕ) (n : Option (Tag × Bool)) (then' : List Value → Reading B) (e : ReadError) (k i : ℕ) (s u : Option (List ℕ)) → Hears (read_take l T earlier c (next_at p n)) k s (heard_error e) i u → Hears (read_fields l (Required (RuledType rule T) rest) earlier c (next_at p n) >>= then') k s (heard_error e) i u
+take_ruled_error l rule T rest earlier c p n then' e k i s u x =
+    hears_same _ _ (heard_error e) k i s u (ruled_fields l rule T rest earlier c p n then') (hears_error _ (λ v. apply_rule p (rule earlier v) v >>= then_take l rest earlier c then') e k i s u x)
 
 pub optional : {B : Type 0} (l : Limits) (T : TypeTerm) (rest : Fields) (earlier : List Value) (c : Enclosing) (next : Next) (then' : List Value → Reading B) (value : Option Value) (next' : Next) (h : Heard B) (k j i : ℕ) (s t u : Option (List ℕ)) → Hears (read_optional l T earlier c next) k s (Said (value, next')) j t → Hears (read_fields l rest (earlier ++ with_field value []) c next' >>= λ vs. then' (with_field value vs)) j t h i u → Hears (read_fields l (Optional T rest) earlier c next >>= then') k s h i u
 optional l T rest earlier c next then' value next' h k j i s t u x y =
@@ -266,11 +318,16 @@ unfolding read_due read_type fits_tag choose
 defined_second l path octets first second earlier c (ContainerEnds p) e same = λ k s. refl
 defined_second l path octets first second earlier c (ElementStands p tag constructed) e same = rw (e, same tag, or_self (fits_tag first tag)) (λ k s. refl)
 
-pub due_first : (l : Limits) (path : List ℕ) (octets : List (List ℕ)) (first second : TypeTerm) (earlier : List Value) (c : Enclosing) (next : Next) (h : Heard (Value × Next)) (k i : ℕ) (s u : Option (List ℕ)) → one_of (leaf_at path earlier) octets ≡ true → ((tag : Tag) → fits_tag second tag ≡ fits_tag first tag) → Hears (read_due l first earlier c next) k s h i u → Hears (read_due l (DefinedByType path octets first second) earlier c next) k s h i u
-due_first l path octets first second earlier c next h k i s u e same x = hears_same _ _ h k i s u (defined_first l path octets first second earlier c next e same) x
+by_due : {B : Type 0} (l : Limits) (T T' : TypeTerm) (rest : Fields) (earlier : List Value) (c : Enclosing) (next : Next) (then' : List Value → Reading B) → Alike (read_due l T earlier c next) (read_due l T' earlier c next) → Alike (read_fields l (Required T rest) earlier c next >>= then') (read_fields l (Required T' rest) earlier c next >>= then')
+by_due l T T' rest earlier c next then' e =
+    let first = due_alike l T rest earlier c next then' in
+    alike_then _ _ _ (λ k s. sym (first k s)) (alike_then _ _ _ (bind_first _ _ (then_due l rest earlier c then') e) (due_alike l T' rest earlier c next then'))
 
-pub due_second : (l : Limits) (path : List ℕ) (octets : List (List ℕ)) (first second : TypeTerm) (earlier : List Value) (c : Enclosing) (next : Next) (h : Heard (Value × Next)) (k i : ℕ) (s u : Option (List ℕ)) → one_of (leaf_at path earlier) octets ≡ false → ((tag : Tag) → fits_tag second tag ≡ fits_tag first tag) → Hears (read_due l second earlier c next) k s h i u → Hears (read_due l (DefinedByType path octets first second) earlier c next) k s h i u
-due_second l path octets first second earlier c next h k i s u e same x = hears_same _ _ h k i s u (defined_second l path octets first second earlier c next e same) x
+pub due_first : {B : Type 0} (l : Limits) (path : List ℕ) (octets : List (List ℕ)) (first second : TypeTerm) (rest : Fields) (earlier : List Value) (c : Enclosing) (next : Next) (then' : List Value → Reading B) (h : Heard B) (k i : ℕ) (s u : Option (List ℕ)) → one_of (leaf_at path earlier) octets ≡ true → ((tag : Tag) → fits_tag second tag ≡ fits_tag first tag) → Hears (read_fields l (Required first rest) earlier c next >>= then') k s h i u → Hears (read_fields l (Required (DefinedByType path octets first second) rest) earlier c next >>= then') k s h i u
+due_first l path octets first second rest earlier c next then' h k i s u e same x = hears_same _ _ h k i s u (by_due l first _ rest earlier c next then' (defined_first l path octets first second earlier c next e same)) x
+
+pub due_second : {B : Type 0} (l : Limits) (path : List ℕ) (octets : List (List ℕ)) (first second : TypeTerm) (rest : Fields) (earlier : List Value) (c : Enclosing) (next : Next) (then' : List Value → Reading B) (h : Heard B) (k i : ℕ) (s u : Option (List ℕ)) → one_of (leaf_at path earlier) octets ≡ false → ((tag : Tag) → fits_tag second tag ≡ fits_tag first tag) → Hears (read_fields l (Required second rest) earlier c next >>= then') k s h i u → Hears (read_fields l (Required (DefinedByType path octets first second) rest) earlier c next >>= then') k s h i u
+due_second l path octets first second rest earlier c next then' h k i s u e same x = hears_same _ _ h k i s u (by_due l second _ rest earlier c next then' (defined_second l path octets first second earlier c next e same)) x
 
 -- What the call on a field owes, by what stands next.
 

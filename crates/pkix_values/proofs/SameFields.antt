@@ -1,46 +1,14 @@
--- Fields that are the same, and how long their texts are.
-use Rattle.std.proofs.Common.{◌≡◌, ◌∙◌, ◌+◌, ◌<◌, ◌^◌, ◌++◌, Bool as Truth, true, false, List, [], ◌∷◌, Option, Some, None, IfSome, ℕ, refl, sym, ap, ap₂, subst, length, arith}
+-- How long the texts of fields are.
+use Rattle.std.proofs.Common.{◌≡◌, ◌<◌, ◌^◌, ◌++◌, Bool as Truth, true, false, List, [], ◌∷◌, Option, Some, None, IfSome, ℕ, sym, subst, length, arith}
 use Rattle.std.proofs.lemmas.List.{length-append}
 use Rattle.std.specs.Option.{option_map}
 use Rattle.tlv_core.specs.Identifier.{Tag}
 use Rattle.x690.specs.DerTexts.{der, texts_of}
-use Rattle.x690.specs.Lists.{Each}
 use Rattle.x690.specs.ReadTypes.{is_this_leaf}
-use Rattle.x690.specs.Values.{Leaf, Same, Sequence, SetOf, Value}
-use Rattle.x690_laws.proofs.Sames.{equivalence}
+use Rattle.x690.specs.Values.{Value}
 use Rattle.ber_pull.specs.Fields.{but_default, with_field}
 use Rattle.asn_values.specs.declared.boolean.Bool.{Bool}
-use Rattle.asn_values.specs.Fields.{SameField}
 use Rattle.pkix_values.specs.Values.{truth_value}
-
--- an optional field in front of others
-pub each_joined : (o o' : Option Value) (vs ws : List Value) → SameField o o' → Each Same vs ws → Each Same (with_field o vs) (with_field o' [] ++ ws)
-each_joined None None vs ws h e = e
-each_joined None (Some v) vs ws h e = absurd h
-each_joined (Some v) None vs ws h e = absurd h
-each_joined (Some v) (Some w) vs ws h e = (h, e)
-
--- a value that is the same as a leaf is that leaf
-same_leaf : (v : Value) (t : Tag) (o : List ℕ) → Same v (Leaf t o) → v ≡ Leaf t o
-unfolding Same
-same_leaf (Leaf t' o') t o h = ap₂ Leaf h.0 h.1
-same_leaf (Sequence t' vs) t o h = absurd h
-same_leaf (SetOf t' vs) t o h = absurd h
-
-pub same_truth : (o : Option Value) (b : Option Bool) → SameField o (option_map truth_value b) → o ≡ option_map truth_value b
-same_truth None None h = refl
-same_truth None (Some b) h = absurd h
-same_truth (Some v) None h = absurd h
-same_truth (Some v) (Some b) h = ap Some (same_leaf v _ _ h)
-
-pub same_fields : (o o' : Option Value) → o ≡ o' → SameField o o'
-same_fields o o' e = subst (SameField o) e (go o)
-  where
-    go : (o : Option Value) → SameField o o
-    go None = tt
-    go (Some v) = equivalence.same_refl v
-
--- lengths
 
 abbrev pub IsShort : Option Value → Type 0
 IsShort o = IfSome o (λ v. length (der v) < 2 ^ 32)

@@ -1,4 +1,4 @@
-use Rattle.std.proofs.Common.{arith, ◌≡◌, ◌∙◌, ◌-◌, ◌<◌, ◌≤◌, ap, length, slice_get, sym}
+use Rattle.std.proofs.Common.{arith, ◌∙◌, ◌-◌, ap, slice_get, sym}
 use Rattle.x690.specs.DerTexts.{texts_of}
 use Rattle.asn_values.proofs.HeaderOctets.{get_after, get_before}
 use Rattle.pkix_values.proofs.PartTexts.{length_both, texts_both}
