@@ -1,10 +1,12 @@
 -- A SEQUENCE that is read field by field: what was read so far, and what is left to read.
--- A proof begins with `after_begin`, goes on with the rule of each call that gave a value, and ends with that of the one that returned.
+-- The proof of a reader is a list of these rules: `after_begin`, then `after_` each call that gave a value, then `answered`, or `stopped_at_` the
+-- call that failed. A rule on a field goes between `take` and `ahead`, one on the whole behind `end`.
 use Rattle.std.proofs.Common.{◌≡◌, ◌∙◌, ◌++◌, ℕ, Bool, true, false, List, [], ◌∷◌, Option, Some, None, Result, Err, ap, ap₂, append_assoc, append-nil, refl, subst, sym}
 use Rattle.std.specs.Result.{MatchResult}
 use Rattle.tlv_core.specs.Identifier.{Tag}
 use Rattle.tlv_core.specs.Limits.{Limits}
 use Rattle.tlv_core.specs.declared.fault.ReadError.{ReadError}
+use Rattle.tlv_core.specs.declared.fault.ReadError.TheVariants as errors
 use Rattle.tlv_core.specs.declared.reason.Reason.{Reason}
 use Rattle.x690.specs.Lists.{Each, one_of}
 use Rattle.x690.specs.Points.{Enclosing, fault}
@@ -59,6 +61,23 @@ after_begin {own} {own'} {fields} {outer} {new} {inside} {next} {u} earlier p ta
 pub stopped_at_begin : {own own' : Tag} (fields : Fields) (earlier : List Value) (l : Limits) (c : Enclosing) (p : ℕ) (tag : Tag) (constructed : Bool) (e : ReadError) (k i : ℕ) (s u : Option (List ℕ)) → own' ≡ own → Hears (read_begin l own' c p tag constructed) k s (heard_error e) i u → Hears (read_type l (SequenceType own fields) earlier c p tag constructed) k s (heard_error e) i u
 stopped_at_begin {own} {own'} fields earlier l c p tag constructed e k i s u is x = rules.begins_error l own own' fields earlier c p tag constructed e k i s u is x
 
+-- with a rule on the value of the whole
+abbrev pub ruled_sequence : ℕ → Rule → List Value → Tag → List Value → Reading Value
+ruled_sequence p rule earlier own values = apply_rule p (rule earlier (Sequence own (values_of values))) (Sequence own (values_of values))
+
+pub after_begin_ruled : {own own' : Tag} {fields : Fields} {outer new : Standing} {inside : Enclosing} {next : Next} {u : Option (List ℕ)} (rule : Rule) (earlier : List Value) (p : ℕ) (tag : Tag) (constructed : Bool) (s : Option (List ℕ)) → own' ≡ own → Hears (read_begin outer.limits own' (enclosing outer) p tag constructed) outer.taken s (Said (inside, next)) new.taken u → Inside outer inside new next → SoFar outer.taken s (read_type outer.limits (RuledType rule (SequenceType own fields)) earlier (enclosing outer) p tag constructed) (ruled_sequence p rule earlier own) fields [] next new u
+after_begin_ruled {own} {own'} {fields} {outer} {new} {inside} {next} {u} rule earlier p tag constructed s is x stands = record {
+  values = [];
+  same = tt;
+  outer = outer;
+  inside = inside;
+  stands = stands;
+  onward = record { rest = λ h i u' y. rules.begins_ruled outer.limits rule own own' fields earlier (enclosing outer) p tag constructed inside next h _ _ _ _ _ _ is x y };
+}
+
+pub stopped_at_begin_ruled : {own own' : Tag} (rule : Rule) (fields : Fields) (earlier : List Value) (l : Limits) (c : Enclosing) (p : ℕ) (tag : Tag) (constructed : Bool) (e : ReadError) (k i : ℕ) (s u : Option (List ℕ)) → own' ≡ own → Hears (read_begin l own' c p tag constructed) k s (heard_error e) i u → Hears (read_type l (RuledType rule (SequenceType own fields)) earlier c p tag constructed) k s (heard_error e) i u
+stopped_at_begin_ruled {own} {own'} rule fields earlier l c p tag constructed e k i s u is x = rules.ruled_error l rule (SequenceType own fields) earlier c p tag constructed e k i s u (stopped_at_begin fields earlier l c p tag constructed e k i s u is x)
+
 -- A field that is due.
 
 module _ {k : ℕ} {s : Option (List ℕ)} {whole : Reading Value} {finish : List Value → Reading Value} {rest : Fields} {T : TypeTerm} {ws : List Value} {next : Next} {now : Standing} {t : Option (List ℕ)} (a : SoFar k s whole finish (Required T rest) ws next now t) where
@@ -79,6 +98,136 @@ module _ {k : ℕ} {s : Option (List ℕ)} {whole : Reading Value} {finish : Lis
 
   pub stopped_at_due : (e : ReadError) (i : ℕ) (u : Option (List ℕ)) → ((earlier : List Value) (outer : Standing) (inside : Enclosing) → Inside outer inside now next → Hears (read_due outer.limits T earlier inside next) now.taken t (heard_error e) i u) → Hears whole k s (heard_error e) i u
   stopped_at_due e i u reads = a.onward.rest (heard_error e) i u (rules.due_error a.outer.limits T rest a.values a.inside next _ e _ i _ u (reads a.values a.outer a.inside a.stands))
+
+-- A field that is due, by itself: a rule on it is tested before what stands behind it is looked at.
+
+-- An element was read for a field that is due: `w`. Nothing behind it was looked at; `judge` of it, and what is left, answer the whole.
+pub record InHand (k : ℕ) (s : Option (List ℕ)) (whole : Reading Value) (finish : List Value → Reading Value) (judge : List Value → Value → Reading Value) (rest : Fields) (ws : List Value) (w : Value) (now : Standing) (t : Option (List ℕ)) : Type 0 where
+  pub values : List Value
+  pub same : Each Same values ws
+  pub value : Value
+  pub alike : Same value w
+  pub outer : Standing
+  pub inside : Enclosing
+  pub stands : Within outer inside now
+  pub onward : Continues whole k s (judge values value >>= rules.then_take outer.limits rest values inside (λ more. finish (values ++ more))) now.taken t
+
+-- no rule
+abbrev pub unjudged : List Value → Value → Reading Value
+unjudged earlier value = Done value
+
+-- the rule on the field that stands at `p`
+abbrev pub judged : ℕ → Rule → List Value → Value → Reading Value
+judged p rule earlier value = apply_rule p (rule earlier value) value
+
+module _ {k : ℕ} {s : Option (List ℕ)} {whole : Reading Value} {finish : List Value → Reading Value} {rest : Fields} {T : TypeTerm} {ws : List Value} {next : Next} {now : Standing} {t : Option (List ℕ)} (a : SoFar k s whole finish (Required T rest) ws next now t) where
+  pub after_take : {new : Standing} {u : Option (List ℕ)} (w : Value) → ((earlier : List Value) (outer : Standing) (inside : Enclosing) → Inside outer inside now next → (v : Value) × Same v w × Hears (read_take outer.limits T earlier inside next) now.taken t (Said v) new.taken u) → ((outer : Standing) (inside : Enclosing) → Inside outer inside now next → Within outer inside new) → InHand k s whole finish unjudged rest ws w new u
+  unfolding ◌>>=◌
+  after_take {new} {u} w reads stands =
+      let f = reads a.values a.outer a.inside a.stands in record {
+        values = a.values;
+        same = a.same;
+        value = f.0;
+        alike = f.1;
+        outer = a.outer;
+        inside = a.inside;
+        stands = stands a.outer a.inside a.stands;
+        onward = record { rest = λ h i u' y. a.onward.rest h i u' (rules.take a.outer.limits T rest a.values a.inside next _ f.0 h _ _ i _ _ u' f.2 y) };
+      }
+
+  pub stopped_at_take : (e : ReadError) (i : ℕ) (u : Option (List ℕ)) → ((earlier : List Value) (outer : Standing) (inside : Enclosing) → Inside outer inside now next → Hears (read_take outer.limits T earlier inside next) now.taken t (heard_error e) i u) → Hears whole k s (heard_error e) i u
+  stopped_at_take e i u reads = a.onward.rest (heard_error e) i u (rules.take_error a.outer.limits T rest a.values a.inside next _ e _ i _ u (reads a.values a.outer a.inside a.stands))
+
+module _ {k : ℕ} {s : Option (List ℕ)} {whole : Reading Value} {finish : List Value → Reading Value} {rule : Rule} {rest : Fields} {T : TypeTerm} {ws : List Value} {now : Standing} {t : Option (List ℕ)} (p : ℕ) (n : Option (Tag × Bool)) (a : SoFar k s whole finish (Required (RuledType rule T) rest) ws (next_at p n) now t) where
+  pub after_take_to_judge : {new : Standing} {u : Option (List ℕ)} (w : Value) → ((earlier : List Value) (outer : Standing) (inside : Enclosing) → Inside outer inside now (next_at p n) → (v : Value) × Same v w × Hears (read_take outer.limits T earlier inside (next_at p n)) now.taken t (Said v) new.taken u) → ((outer : Standing) (inside : Enclosing) → Inside outer inside now (next_at p n) → Within outer inside new) → InHand k s whole finish (judged p rule) rest ws w new u
+  after_take_to_judge {new} {u} w reads stands =
+      let f = reads a.values a.outer a.inside a.stands in record {
+        values = a.values;
+        same = a.same;
+        value = f.0;
+        alike = f.1;
+        outer = a.outer;
+        inside = a.inside;
+        stands = stands a.outer a.inside a.stands;
+        onward = record { rest = λ h i u' y. a.onward.rest h i u' (rules.take_ruled a.outer.limits rule T rest a.values a.inside p n _ f.0 h _ _ i _ _ u' f.2 y) };
+      }
+
+  pub stopped_at_take_to_judge : (e : ReadError) (i : ℕ) (u : Option (List ℕ)) → ((earlier : List Value) (outer : Standing) (inside : Enclosing) → Inside outer inside now (next_at p n) → Hears (read_take outer.limits T earlier inside (next_at p n)) now.taken t (heard_error e) i u) → Hears whole k s (heard_error e) i u
+  stopped_at_take_to_judge e i u reads = a.onward.rest (heard_error e) i u (rules.take_ruled_error a.outer.limits rule T rest a.values a.inside p n _ e _ i _ u (reads a.values a.outer a.inside a.stands))
+
+module _ {k : ℕ} {s : Option (List ℕ)} {whole : Reading Value} {finish : List Value → Reading Value} {rest : Fields} {ws : List Value} {w : Value} {now : Standing} {t : Option (List ℕ)} (p : ℕ) (rule : Rule) (fair : FairRule rule) (a : InHand k s whole finish (judged p rule) rest ws w now t) where
+  -- the rule lets it pass
+  pub passed : rule ws w ≡ None → InHand k s whole finish unjudged rest ws w now t
+  unfolding apply_rule
+  passed e = record {
+    values = a.values;
+    same = a.same;
+    value = a.value;
+    alike = a.alike;
+    outer = a.outer;
+    inside = a.inside;
+    stands = a.stands;
+    onward = record {
+      rest = λ h i u y. a.onward.rest h i u
+          (subst (λ o. Hears (apply_rule p o a.value >>= rules.then_take a.outer.limits rest a.values a.inside (λ more. finish (a.values ++ more))) now.taken t h i u) (sym (fair a.values ws a.value w a.same a.alike ∙ e)) y);
+    };
+  }
+
+  -- or doesn't
+  pub turned_down : (why : Reason) → rule ws w ≡ Some why → Hears whole k s (Refused (fault p why)) now.taken t
+  turned_down why e = a.onward.rest _ now.taken t
+      (hears_error (judged p rule a.values a.value) (rules.then_take a.outer.limits rest a.values a.inside (λ more. finish (a.values ++ more))) (errors.Fault (fault p why)) now.taken now.taken t t
+      (rules.rule_refuses p (rule a.values a.value) why a.value now.taken t (fair a.values ws a.value w a.same a.alike ∙ e)))
+
+module _ {k : ℕ} {s : Option (List ℕ)} {whole : Reading Value} {finish : List Value → Reading Value} {rest : Fields} {ws : List Value} {w : Value} {now : Standing} {t : Option (List ℕ)} (a : InHand k s whole finish unjudged rest ws w now t) where
+  pub after_ahead : {next : Next} {new : Standing} {u : Option (List ℕ)} → ((outer : Standing) (inside : Enclosing) → Within outer inside now → Hears (next_tag outer.limits inside) now.taken t (Said next) new.taken u) → ((outer : Standing) (inside : Enclosing) → Within outer inside now → Inside outer inside new next) → SoFar k s whole finish rest (ws ++ (w ∷ [])) next new u
+  unfolding ◌>>=◌
+  after_ahead {next} {new} {u} reads stands = record {
+    values = a.values ++ (a.value ∷ []);
+    same = each_last _ _ _ _ a.same a.alike;
+    outer = a.outer;
+    inside = a.inside;
+    stands = stands a.outer a.inside a.stands;
+    onward = record {
+      rest = λ h i u' y. a.onward.rest h i u'
+          (hears_then (next_tag a.outer.limits a.inside) (λ n. read_fields a.outer.limits rest (a.values ++ (a.value ∷ [])) a.inside n >>= λ more. finish (a.values ++ (a.value ∷ more))) next h _ _ i _ _ u' (reads a.outer a.inside a.stands)
+          (hears_same _ _ h new.taken i u u' (bind_same (read_fields a.outer.limits rest (a.values ++ (a.value ∷ [])) a.inside next) _ _ (λ more j o. ap (λ z. run (finish z) j o) (append_assoc a.values (a.value ∷ []) more))) y));
+    };
+  }
+
+  pub stopped_at_ahead : (e : ReadError) (i : ℕ) (u : Option (List ℕ)) → ((outer : Standing) (inside : Enclosing) → Within outer inside now → Hears (next_tag outer.limits inside) now.taken t (heard_error e) i u) → Hears whole k s (heard_error e) i u
+  unfolding ◌>>=◌
+  stopped_at_ahead e i u reads = a.onward.rest (heard_error e) i u
+      (hears_error (next_tag a.outer.limits a.inside) (λ n. read_fields a.outer.limits rest (a.values ++ (a.value ∷ [])) a.inside n >>= λ more. finish (a.values ++ (a.value ∷ more))) e _ i _ u (reads a.outer a.inside a.stands))
+
+-- A choice by an earlier field, between types that begin alike.
+
+module _ {k : ℕ} {s : Option (List ℕ)} {whole : Reading Value} {finish : List Value → Reading Value} {path : List ℕ} {octets : List (List ℕ)} {first second : TypeTerm} {rest : Fields} {ws : List Value} {next : Next} {now : Standing} {t : Option (List ℕ)} (alike : (tag : Tag) → fits_tag second tag ≡ fits_tag first tag) (a : SoFar k s whole finish (Required (DefinedByType path octets first second) rest) ws next now t) where
+  pub as_first : one_of (leaf_at path ws) octets ≡ true → SoFar k s whole finish (Required first rest) ws next now t
+  as_first e = record {
+    values = a.values;
+    same = a.same;
+    outer = a.outer;
+    inside = a.inside;
+    stands = a.stands;
+    onward = record {
+      rest = λ h i u y. a.onward.rest h i u
+          (rules.due_first a.outer.limits path octets first second rest a.values a.inside next _ h _ i _ u (ap (λ o. one_of o octets) (leaf_at_same path a.values ws a.same) ∙ e) alike y);
+    };
+  }
+
+  pub as_second : one_of (leaf_at path ws) octets ≡ false → SoFar k s whole finish (Required second rest) ws next now t
+  as_second e = record {
+    values = a.values;
+    same = a.same;
+    outer = a.outer;
+    inside = a.inside;
+    stands = a.stands;
+    onward = record {
+      rest = λ h i u y. a.onward.rest h i u
+          (rules.due_second a.outer.limits path octets first second rest a.values a.inside next _ h _ i _ u (ap (λ o. one_of o octets) (leaf_at_same path a.values ws a.same) ∙ e) alike y);
+    };
+  }
 
 -- A field that may be absent.
 
@@ -188,3 +337,18 @@ answered {k} {s} {whole} {own} {ws} {j} {t} a = (Sequence own (values_of a.value
 -- or its value, said in another way
 pub answered_as : {k : ℕ} {s : Option (List ℕ)} {whole : Reading Value} {own : Tag} {ws ws' : List Value} {j : ℕ} {t : Option (List ℕ)} → ws ≡ ws' → AllRead k s whole (as_sequence own) ws j t → (v : Value) × Same v (Sequence own (values_of ws')) × Hears whole k s (Said v) j t
 answered_as {k} {s} {whole} {own} {ws} {ws'} {j} {t} e a = answered (subst (λ w. AllRead k s whole (as_sequence own) w j t) e a)
+
+-- With a rule on the whole.
+
+module _ {k : ℕ} {s : Option (List ℕ)} {whole : Reading Value} {ws : List Value} {j : ℕ} {t : Option (List ℕ)} (p : ℕ) (rule : Rule) (earlier : List Value) (own : Tag) (fair : FairRule rule) (a : AllRead k s whole (ruled_sequence p rule earlier own) ws j t) where
+  pub answered_by_rule : rule earlier (Sequence own (values_of ws)) ≡ None → (v : Value) × Same v (Sequence own (values_of ws)) × Hears whole k s (Said v) j t
+  answered_by_rule e =
+      let value = Sequence own (values_of a.values) in
+      let same = same_lists own a.values ws a.same in
+      (value, same, a.onward.rest _ j t (rules.rule_holds p (rule earlier value) value j t (fair earlier earlier value (Sequence own (values_of ws)) (each_refl earlier) same ∙ e)))
+
+  pub refused_by_rule : (why : Reason) → rule earlier (Sequence own (values_of ws)) ≡ Some why → Hears whole k s (Refused (fault p why)) j t
+  refused_by_rule why e =
+      let value = Sequence own (values_of a.values) in
+      let same = same_lists own a.values ws a.same in
+      a.onward.rest _ j t (rules.rule_refuses p (rule earlier value) why value j t (fair earlier earlier value (Sequence own (values_of ws)) (each_refl earlier) same ∙ e))
