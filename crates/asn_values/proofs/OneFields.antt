@@ -1,11 +1,12 @@
 -- Sequences of the same fields that have one DER text are the same.
-use Rattle.std.proofs.Common.{◌≡◌, ◌++◌, [], ◌∷◌, Option, None, Some, map}
+use Rattle.std.proofs.Common.{◌≡◌, ◌++◌, List, [], ◌∷◌, Option, None, Some, map, ℕ}
 use Rattle.std.specs.Option.{option_map}
 use Rattle.tlv_core.specs.Identifier.{Tag}
 use Rattle.x690.specs.DerTexts.{der}
+use Rattle.x690.specs.Layouts.{universal}
 use Rattle.x690.specs.Lists.{Each}
-use Rattle.x690.specs.Values.{Same, Sequence, Value, values_of}
-use Rattle.x690_laws.proofs.OneTexts.{each_sequence, sequence_texts}
+use Rattle.x690.specs.Values.{Leaf, Same, Sequence, Value, values_of}
+use Rattle.x690_laws.proofs.OneTexts.{each_sequence, one_contents, sequence_texts}
 use Rattle.ber_pull.specs.Fields.{with_field}
 
 -- with one text they are the same
@@ -51,3 +52,10 @@ two_or_three_same a a' (Some v) (Some w) b b' f g h e = (f cc, (g cc, (h cc, tt)
 pub two_or_three_one_text : (t : Tag) (a a' : Value) (o o' : Option Value) (b b' : Value) → OneText a a' → OneField o o' → OneText b b' → OneText (Sequence t (values_of (a ∷ (with_field o [] ++ (b ∷ []))))) (Sequence t (values_of (a' ∷ (with_field o' [] ++ (b' ∷ [])))))
 two_or_three_one_text t a a' o o' b b' f g h e =
     each_sequence t (a ∷ (with_field o [] ++ (b ∷ []))) (a' ∷ (with_field o' [] ++ (b' ∷ []))) (two_or_three_same a a' o o' b b' f g h (sequence_texts t (a ∷ (with_field o [] ++ (b ∷ []))) (a' ∷ (with_field o' [] ++ (b' ∷ []))) e))
+
+-- sequences of two fields with one text have one OBJECT IDENTIFIER as the first, if it is one in both
+pub one_first_identifier : (t : Tag) (a a' : List ℕ) (v v' : Value) → der (Sequence t (values_of (Leaf (universal 6) a ∷ v ∷ []))) ≡ der (Sequence t (values_of (Leaf (universal 6) a' ∷ v' ∷ []))) → a ≡ a'
+one_first_identifier t a a' v v' e = first_leaf a a' v v' (sequence_texts t (Leaf (universal 6) a ∷ v ∷ []) (Leaf (universal 6) a' ∷ v' ∷ []) e)
+  where
+    first_leaf : (a a' : List ℕ) (v v' : Value) → map der (Leaf (universal 6) a ∷ v ∷ []) ≡ map der (Leaf (universal 6) a' ∷ v' ∷ []) → a ≡ a'
+    first_leaf a a' v v' e = one_contents (universal 6) (universal 6) a a' cc

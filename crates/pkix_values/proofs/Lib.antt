@@ -1,2 +1,4 @@
 pub mod PartTexts
+pub mod Rules
 pub mod SameFields
+pub mod SameOctets

@@ -1,2 +1,3 @@
 pub mod ClosedTypes
+pub mod Eithers
 pub mod Values

@@ -1,8 +1,11 @@
 -- The values of the types, field by field.
-use Rattle.std.specs.Prelude.{Bool as Truth, List, None, Option, Some, [], cond, true, ℕ, ◌++◌, ◌∷◌}
+use Rattle.std.specs.Prelude.{Bool as Truth, List, None, Option, Some, [], cond, length, map, not, true, ℕ, ◌&&◌, ◌++◌, ◌-◌, ◌||◌, ◌∷◌}
 use Rattle.std.specs.Option.{option_map}
+use Rattle.x690.specs.Identifiers.{length_under, rfc8410_algorithms, rfc8410_lengths}
 use Rattle.x690.specs.Layouts.{universal}
-use Rattle.x690.specs.Values.{Leaf, Value}
+use Rattle.x690.specs.Lists.{one_of}
+use Rattle.x690.specs.Rules.{has_length, no_unused}
+use Rattle.x690.specs.Values.{Leaf, SetOf, Value, values_of}
 use Rattle.x690_laws.proofs.OneTexts.{leaf_one_text}
 use Rattle.ber_pull.specs.Fields.{with_field}
 use Rattle.asn_values.proofs.OneFields.{OneText}
@@ -24,3 +27,12 @@ true_if_there (Some b) = truth b
 -- extnID, critical where it isn't the default, extnValue
 abbrev pub extension_values : List ℕ → Option Bool → Octets → List Value
 extension_values id critical value = Leaf (universal 6) id ∷ (with_field (option_map truth_value critical) [] ++ (Leaf (universal 4) (octets_of value) ∷ []))
+
+-- the contents of a BIT STRING are those of a public key under the algorithm: under one of RFC 8410's of the table's length, without unused bits
+abbrev pub key_fits : List ℕ → List ℕ → Truth
+key_fits algorithm contents =
+    not (one_of algorithm rfc8410_algorithms) || (has_length (length_under rfc8410_lengths algorithm) (length contents - 1) && no_unused contents)
+
+-- the type of an attribute, and its values
+abbrev pub attribute_values : {A : Type 0} → (A → Value) → List ℕ → List A → List Value
+attribute_values value id items = Leaf (universal 6) id ∷ SetOf (universal 17) (values_of (map value items)) ∷ []

@@ -4,8 +4,16 @@
 //! two fields is read as the plain reading of its type says; an `Extension` is read so, and its text leaves out a `critical` that is FALSE.
 #![tactic(auto)]
 
+pub mod algorithm;
+pub mod attribute;
+mod either;
 pub mod extension;
+mod identifiers;
+pub mod name;
 pub mod pairs;
 pub mod parts;
+pub mod public_key;
+pub mod request_attribute;
+pub mod set_of_some;
 #[cfg(test)]
 mod tests;

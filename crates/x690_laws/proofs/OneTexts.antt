@@ -21,6 +21,10 @@ each_sequence t vs ws h = same_sequence t (values_of vs) (values_of ws) (rw (ite
 each_set : (t : Tag) (vs ws : List Value) → Each Same vs ws → Same (SetOf t (values_of vs)) (SetOf t (values_of ws))
 each_set t vs ws h = same_set t (values_of vs) (values_of ws) (rw (items_values vs, items_values ws) (each_paired Same vs ws h))
 
+pub one_contents : (t u : Tag) (a b : List ℕ) → der (Leaf t a) ≡ der (Leaf u b) → a ≡ b
+unfolding der
+one_contents t u a b e = (element_one t u false false a b e).contents
+
 pub leaf_one_text : (t u : Tag) (a b : List ℕ) → der (Leaf t a) ≡ der (Leaf u b) → Same (Leaf t a) (Leaf u b)
 unfolding der Same
 leaf_one_text t u a b e = let one = element_one t u false false a b e in (one.tags, one.contents)

@@ -1,0 +1,13 @@
+use Rattle.std.proofs.Common.{rules, []}
+use Rattle.x690.specs.DocumentTypes.{object_identifier, sequence, set_of_some, ◌⨾◌}
+use Rattle.x690.specs.TypeTerms.{EndOfFields, Required}
+use Rattle.asn_values.specs.Reading.{read_given}
+use Rattle.asn_values.proofs.Answering.{value_err}
+use Rattle.pkix_values.proofs.attribute.AttributeOfElement.read.Goals as goal
+
+pub returns-in_err-id-clause-reads : goal.returns-in_err-id-clause-reads
+returns-in_err-id-clause-reads g c = λ given fine is.
+    value_err c.args.pull.now c.read_pair.new.pull (read_given (sequence (Required object_identifier ⨾ Required (set_of_some g.T.Element.type_term) ⨾ EndOfFields)) c.args.pull.now.state given) _ c.from_residual.result c.in_err-id.field-0.0 (search rules) (c.in_err-id.ensures.reads given [] fine is)
+
+pub returns-clause-reads : goal.returns-clause-reads
+returns-clause-reads g c = λ given fine is. c.in_ok-id.ensures.reads given [] fine is

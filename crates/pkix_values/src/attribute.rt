@@ -1,0 +1,115 @@
+//! Attribute of RFC 2986 section 4.1.
+ghost use Rattle.x690_laws.proofs.OneTexts.{leaf_one_text};
+ghost use Rattle.asn_values.proofs.OneFields.{two_one_text};
+ghost use Rattle.std.specs.Prelude.{◌≡◌, ◌↔◌, ◌<◌, ◌^◌, IsTrue, length, map};
+ghost use Rattle.x690.specs.DerTexts.{texts_of};
+ghost use Rattle.x690.specs.DocumentTypes.{object_identifier, sequence, set_of_some, ◌⨾◌};
+ghost use Rattle.x690.specs.Layouts.{universal};
+ghost use Rattle.x690.specs.TypeTerms.{EndOfFields, Required};
+ghost use Rattle.x690.specs.Values.{Leaf, Same, Sequence, SetOf as SetValue, values_of};
+ghost use Rattle.asn_values.specs.Containers.{set_items};
+ghost use Rattle.ber_pull.proofs.Fields.{sequence_closed};
+ghost use Rattle.pkix_values.specs.Values.{attribute_values};
+
+use crate::pairs::read_pair;
+use crate::parts::{Both, Field, put_sequence, sequence_octet, sequence_size};
+use crate::set_of_some::SetOfSome;
+use asn_values::any::Any;
+use asn_values::der_text::{DerText, same_text};
+use asn_values::element::Element;
+use asn_values::set_of::SetOf;
+use asn_values::tags::{is_same_tag, universal_tag};
+use ber_pull::pull::Pull;
+use std::alloc::Global;
+use tlv_core::fault::ReadError;
+use tlv_core::oid::Oid;
+use tlv_core::sink::{Sink, WriteError};
+use tlv_core::source::Source;
+use tlv_core::tag::Tag;
+use tlv_core::target::Target;
+
+/// An attribute: of what type it is, and its values, of which there is at least one.
+pub type Attribute = AttributeOf<Any>;
+
+/// An attribute whose values are of the type `T`.
+#[derive(Drop)]
+pub struct AttributeOf<T: DerText> {
+    id: Oid,
+    values: SetOfSome<T>,
+    ghost small: { length (texts_of (attribute_values T.value id (set_items values.items))) < 2 ^ 63 },
+}
+
+impl<T: DerText> AttributeOf<T> {
+    /// The attribute of this type with these values.
+    pub(crate) fn new(id: Oid, values: SetOfSome<T>) -> AttributeOf<T>
+        requires { length (texts_of (attribute_values T.value id (set_items values.items))) < 2 ^ 63 }
+        ensures { (result.id ≡ id) × (result.values ≡ values) }
+    {
+        AttributeOf { id, values }
+    }
+
+    /// Its type.
+    pub fn id(&self) -> &Oid
+        ensures { result.now ≡ self.now.id }
+    {
+        &self.id
+    }
+
+    /// Its values, in the order of their texts.
+    pub fn values(&self) -> &SetOf<T>
+        ensures { result.now ≡ self.now.values.items }
+    {
+        self.values.items()
+    }
+
+    /// Whether the two are the same.
+    pub fn same(&self, other: &AttributeOf<T>) -> bool
+        ensures { IsTrue result ↔ Same (Sequence (universal 16) (values_of (attribute_values T.value self.now.id (set_items self.now.values.items)))) (Sequence (universal 16) (values_of (attribute_values T.value other.now.id (set_items other.now.values.items)))) }
+    {
+        same_text(self, other)
+    }
+
+    fn parts(&self) -> Both<Field<'_, Oid>, Field<'_, SetOfSome<T>>>
+        ensures id { result.first.0.now ≡ self.now.id }
+        ensures values { result.rest.0.now ≡ self.now.values }
+    {
+        Both {
+            first: Field(&self.id),
+            rest: Field(&self.values),
+        }
+    }
+}
+
+impl<T: DerText> DerText for AttributeOf<T> {
+    ghost value = { λ a. Sequence (universal 16) (values_of (attribute_values T.value a.id (set_items a.values.items))) };
+
+    ghost one_text = { λ x y. two_one_text (universal 16) (Leaf (universal 6) x.id) (Leaf (universal 6) y.id) (SetValue (universal 17) (values_of (map T.value (set_items x.values.items)))) (SetValue (universal 17) (values_of (map T.value (set_items y.values.items)))) (leaf_one_text (universal 6) (universal 6) x.id y.id) (⟦<SetOfSome<T> as DerText>⟧.one_text x.values y.values) };
+
+    fn size(&self) -> u64 {
+        sequence_size(universal_tag(16), &self.parts())
+    }
+
+    fn put<W: Target>(&self, sink: &mut Sink<'_, W>) -> Result<(), WriteError> {
+        put_sequence(universal_tag(16), &self.parts(), sink)
+    }
+
+    fn octet(&self, i: u64) -> Option<u8> {
+        sequence_octet(universal_tag(16), &self.parts(), i)
+    }
+}
+
+impl<T: Element> Element for AttributeOf<T> {
+    ghost type_term = { sequence (Required object_identifier ⨾ Required (set_of_some T.type_term) ⨾ EndOfFields) };
+
+    ghost closed = { sequence_closed _ _ };
+
+    #[tactic(auto, unfolding(x690::specs::TypeTerms::fits_tag))]
+    fn fits(tag: Tag) -> bool {
+        is_same_tag(universal_tag(16), tag)
+    }
+
+    fn read<R: Source>(alloc: Global, pull: &mut Pull<'_, R>) -> Result<AttributeOf<T>, ReadError> {
+        let (id, values) = read_pair::<R, Oid, SetOfSome<T>>(alloc, pull)?;
+        Ok(AttributeOf { id, values })
+    }
+}

@@ -1,0 +1,156 @@
+//! SubjectPublicKeyInfo of RFC 5280 section 4.1.2.7.
+ghost use Rattle.x690_laws.proofs.OneTexts.{leaf_one_text};
+ghost use Rattle.asn_values.proofs.OneFields.{two_one_text};
+ghost use Rattle.std.specs.Prelude.{◌≡◌, ◌↔◌, ◌<◌, ◌^◌, ◌∷◌, IfOk, IsTrue, List, None, OnOk, [], length, true};
+ghost use Rattle.std.specs.Option.{option_map};
+ghost use Rattle.x690.specs.DerTexts.{der, texts_of};
+ghost use Rattle.x690.specs.DocumentTypes.{SubjectPublicKeyInfo as SubjectPublicKeyInfoType, bit_string};
+ghost use Rattle.x690.specs.Layouts.{universal};
+ghost use Rattle.x690.specs.Lists.{Each};
+ghost use Rattle.x690.specs.Rules.{key_bits_rule};
+ghost use Rattle.x690.specs.TypeTerms.{RuledType};
+ghost use Rattle.x690.specs.Values.{Leaf, Same, Sequence, Value, values_of};
+ghost use Rattle.ber_pull.specs.Fields.{read_due};
+ghost use Rattle.ber_pull.specs.View.{standing, SameSource, Keeps, ReadsFail, Onward};
+ghost use Rattle.asn_values.specs.Fields.{AnswersField, IsInside, StaysInside, next_of};
+ghost use Rattle.asn_values.specs.Leaves.{bit_string_of};
+ghost use Rattle.pkix_values.specs.ClosedTypes.{public_key_closed};
+ghost use Rattle.pkix_values.specs.Values.{key_fits};
+
+use crate::algorithm::AlgorithmIdentifier;
+use crate::identifiers::public_key_length;
+use crate::parts::{Both, Field, put_sequence, sequence_octet, sequence_size};
+use asn_values::bits::Bits;
+use asn_values::der_text::{DerText, same_text};
+use asn_values::element::Element;
+use asn_values::fields::{Next, ahead, begin, due, end, take};
+use asn_values::tags::{is_same_tag, universal_tag};
+use ber_pull::pull::Pull;
+use std::alloc::Global;
+use tlv_core::fault::ReadError;
+use tlv_core::oid::Oid;
+use tlv_core::reason::Reason;
+use tlv_core::sink::{Sink, WriteError};
+use tlv_core::source::Source;
+use tlv_core::tag::Tag;
+use tlv_core::target::Target;
+
+/// A public key, and the algorithm that it is for.
+#[derive(Drop)]
+pub struct SubjectPublicKeyInfo {
+    algorithm: AlgorithmIdentifier,
+    key: Bits,
+    ghost fits: { key_fits algorithm.algorithm (bit_string_of key) ≡ true },
+    ghost small: { length (texts_of (⟦<AlgorithmIdentifier as DerText>⟧.value algorithm ∷ Leaf (universal 3) (bit_string_of key) ∷ [])) < 2 ^ 63 },
+}
+
+/// Whether the key is as RFC 8410 has it, where the algorithm is one of its four: of the length that goes with it, without unused bits.
+fn is_key_of(algorithm: &Oid, key: &Bits) -> bool
+    ensures { result ≡ key_fits algorithm.now (bit_string_of key.now) }
+{
+    match public_key_length(algorithm) {
+        Some(length) => key.octets().len() == length && key.unused() == 0,
+        None => true,
+    }
+}
+
+/// The key, which is due: `due`, and `KeyLength` where it isn't one of the algorithm.
+fn due_key<R: Source>(
+    alloc: Global,
+    pull: &mut Pull<'_, R>,
+    next: &mut Next,
+    algorithm: &AlgorithmIdentifier,
+) -> Result<Bits, ReadError>
+    requires fine { (standing pull.old).error ≡ None }
+    requires inside { IsInside pull.old next.old }
+    ensures same_source { SameSource pull.old pull.new }
+    ensures reads { (earlier : List Value) → Each Same earlier (⟦<AlgorithmIdentifier as DerText>⟧.value algorithm.now ∷ []) → AnswersField pull.old pull.new next.old (λ outer inside. read_due outer.limits (RuledType (key_bits_rule (0 ∷ 0 ∷ [])) bit_string) earlier inside (next_of next.old)) Same (λ key. Leaf (universal 3) (bit_string_of key)) (next_of next.new) result }
+    ensures fits { IfOk result (λ key. key_fits algorithm.now.algorithm (bit_string_of key) ≡ true) }
+    ensures short { IfOk result (λ key. length (der (Leaf (universal 3) (bit_string_of key))) < 2 ^ 32) }
+    ensures stands { OnOk result (StaysInside pull.old pull.new next.old next.new) }
+    ensures keeps { Keeps pull.new result }
+    ensures read { ReadsFail pull.old pull.new result }
+    ensures onward { Onward pull.old pull.new }
+{
+    let at = next.at;
+    let key = take::<R, Bits>(alloc, pull, *next)?;
+    if !is_key_of(algorithm.algorithm(), &key) {
+        return Err(pull.refuse(at, Reason::KeyLength, None));
+    }
+    *next = ahead(pull)?;
+    Ok(key)
+}
+
+impl SubjectPublicKeyInfo {
+    /// What the key is for.
+    pub fn algorithm(&self) -> &AlgorithmIdentifier
+        ensures { result.now ≡ self.now.algorithm }
+    {
+        &self.algorithm
+    }
+
+    /// The key. Under the algorithms of RFC 8410 it has the length that goes with the algorithm, and no unused bits.
+    pub fn key(&self) -> &Bits
+        ensures value { result.now ≡ self.now.key }
+        ensures fits { key_fits self.now.algorithm.algorithm (bit_string_of result.now) ≡ true }
+    {
+        &self.key
+    }
+
+    /// Whether the two are the same.
+    pub fn same(&self, other: &SubjectPublicKeyInfo) -> bool
+        ensures { IsTrue result ↔ Same (Sequence (universal 16) (values_of (⟦<AlgorithmIdentifier as DerText>⟧.value self.now.algorithm ∷ Leaf (universal 3) (bit_string_of self.now.key) ∷ []))) (Sequence (universal 16) (values_of (⟦<AlgorithmIdentifier as DerText>⟧.value other.now.algorithm ∷ Leaf (universal 3) (bit_string_of other.now.key) ∷ []))) }
+    {
+        same_text(self, other)
+    }
+
+    fn parts(&self) -> Both<Field<'_, AlgorithmIdentifier>, Field<'_, Bits>>
+        ensures algorithm { result.first.0.now ≡ self.now.algorithm }
+        ensures key { result.rest.0.now ≡ self.now.key }
+    {
+        Both {
+            first: Field(&self.algorithm),
+            rest: Field(&self.key),
+        }
+    }
+}
+
+impl DerText for SubjectPublicKeyInfo {
+    ghost value = { λ info. Sequence (universal 16) (values_of (⟦<AlgorithmIdentifier as DerText>⟧.value info.algorithm ∷ Leaf (universal 3) (bit_string_of info.key) ∷ [])) };
+
+    ghost one_text = { λ x y. two_one_text (universal 16) (⟦<AlgorithmIdentifier as DerText>⟧.value x.algorithm) (⟦<AlgorithmIdentifier as DerText>⟧.value y.algorithm) (Leaf (universal 3) (bit_string_of x.key)) (Leaf (universal 3) (bit_string_of y.key)) (⟦<AlgorithmIdentifier as DerText>⟧.one_text x.algorithm y.algorithm) (leaf_one_text (universal 3) (universal 3) (bit_string_of x.key) (bit_string_of y.key)) };
+
+    fn size(&self) -> u64 {
+        sequence_size(universal_tag(16), &self.parts())
+    }
+
+    fn put<W: Target>(&self, sink: &mut Sink<'_, W>) -> Result<(), WriteError> {
+        put_sequence(universal_tag(16), &self.parts(), sink)
+    }
+
+    fn octet(&self, i: u64) -> Option<u8> {
+        sequence_octet(universal_tag(16), &self.parts(), i)
+    }
+}
+
+impl Element for SubjectPublicKeyInfo {
+    ghost type_term = { SubjectPublicKeyInfoType };
+
+    ghost closed = { public_key_closed };
+
+    #[tactic(auto, unfolding(x690::specs::TypeTerms::fits_tag, x690::specs::DocumentTypes::SubjectPublicKeyInfo))]
+    fn fits(tag: Tag) -> bool {
+        is_same_tag(universal_tag(16), tag)
+    }
+
+    fn read<R: Source>(
+        alloc: Global,
+        pull: &mut Pull<'_, R>,
+    ) -> Result<SubjectPublicKeyInfo, ReadError> {
+        let mut next = begin(pull, universal_tag(16))?;
+        let algorithm = due::<R, AlgorithmIdentifier>(alloc, pull, &mut next)?;
+        let key = due_key(alloc, pull, &mut next, &algorithm)?;
+        end(pull, next)?;
+        Ok(SubjectPublicKeyInfo { algorithm, key })
+    }
+}

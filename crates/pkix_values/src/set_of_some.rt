@@ -1,0 +1,75 @@
+//! SET OF with at least one member (X.680 28, with SIZE (1..MAX)).
+ghost use Rattle.std.specs.Prelude.{◌≡◌, ◌↔◌, IsTrue, map};
+ghost use Rattle.x690.specs.DocumentTypes.{set_of_some};
+ghost use Rattle.x690.specs.Layouts.{universal};
+ghost use Rattle.x690.specs.Values.{Same, SetOf as SetValue, values_of};
+ghost use Rattle.asn_values.specs.Containers.{set_items};
+ghost use Rattle.ber_pull.proofs.Fields.{set_of_closed};
+
+use asn_values::der_text::DerText;
+use asn_values::element::Element;
+use asn_values::set_of::SetOf;
+use asn_values::tags::{is_same_tag, universal_tag};
+use ber_pull::pull::Pull;
+use std::alloc::Global;
+use tlv_core::fault::ReadError;
+use tlv_core::sink::{Sink, WriteError};
+use tlv_core::source::Source;
+use tlv_core::tag::Tag;
+use tlv_core::target::Target;
+
+/// A SET OF with at least one member.
+#[derive(Drop)]
+pub struct SetOfSome<T: DerText> {
+    items: SetOf<T>,
+}
+
+impl<T: DerText> SetOfSome<T> {
+    /// The members.
+    pub fn items(&self) -> &SetOf<T>
+        ensures { result.now ≡ self.now.items }
+    {
+        &self.items
+    }
+
+    /// Whether the two are the same.
+    pub fn same(&self, other: &SetOfSome<T>) -> bool
+        ensures { IsTrue result ↔ Same (SetValue (universal 17) (values_of (map T.value (set_items self.now.items)))) (SetValue (universal 17) (values_of (map T.value (set_items other.now.items)))) }
+    {
+        self.items.same(&other.items)
+    }
+}
+
+impl<T: DerText> DerText for SetOfSome<T> {
+    ghost value = { λ some. SetValue (universal 17) (values_of (map T.value (set_items some.items))) };
+
+    ghost one_text = { λ x y. ⟦<SetOf<T> as DerText>⟧.one_text x.items y.items };
+
+    fn size(&self) -> u64 {
+        self.items.size()
+    }
+
+    fn put<W: Target>(&self, sink: &mut Sink<'_, W>) -> Result<(), WriteError> {
+        self.items.put(sink)
+    }
+
+    fn octet(&self, i: u64) -> Option<u8> {
+        self.items.octet(i)
+    }
+}
+
+impl<T: Element> Element for SetOfSome<T> {
+    ghost type_term = { set_of_some T.type_term };
+
+    ghost closed = { set_of_closed (universal 17) 1 T.type_term };
+
+    #[tactic(auto, unfolding(x690::specs::TypeTerms::fits_tag))]
+    fn fits(tag: Tag) -> bool {
+        is_same_tag(universal_tag(17), tag)
+    }
+
+    fn read<R: Source>(alloc: Global, pull: &mut Pull<'_, R>) -> Result<SetOfSome<T>, ReadError> {
+        let items = SetOf::read_some(alloc, pull)?;
+        Ok(SetOfSome { items })
+    }
+}
