@@ -34,20 +34,12 @@ pub type Attribute = AttributeOf<Any>;
 /// An attribute whose values are of the type `T`.
 #[derive(Drop)]
 pub struct AttributeOf<T: DerText> {
-    id: Oid,
-    values: SetOfSome<T>,
+    pub(crate) id: Oid,
+    pub(crate) values: SetOfSome<T>,
     ghost small: { length (texts_of (attribute_values T.value id (set_items values.items))) < 2 ^ 63 },
 }
 
 impl<T: DerText> AttributeOf<T> {
-    /// The attribute of this type with these values.
-    pub(crate) fn new(id: Oid, values: SetOfSome<T>) -> AttributeOf<T>
-        requires { length (texts_of (attribute_values T.value id (set_items values.items))) < 2 ^ 63 }
-        ensures { (result.id ≡ id) × (result.values ≡ values) }
-    {
-        AttributeOf { id, values }
-    }
-
     /// Its type.
     pub fn id(&self) -> &Oid
         ensures { result.now ≡ self.now.id }

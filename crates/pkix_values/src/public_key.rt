@@ -1,18 +1,11 @@
 //! SubjectPublicKeyInfo of RFC 5280 section 4.1.2.7.
 ghost use Rattle.x690_laws.proofs.OneTexts.{leaf_one_text};
 ghost use Rattle.asn_values.proofs.OneFields.{two_one_text};
-ghost use Rattle.std.specs.Prelude.{◌≡◌, ◌↔◌, ◌<◌, ◌^◌, ◌∷◌, IfOk, IsTrue, List, None, OnOk, [], length, true};
-ghost use Rattle.std.specs.Option.{option_map};
+ghost use Rattle.std.specs.Prelude.{◌≡◌, ◌↔◌, ◌<◌, ◌^◌, ◌∷◌, IsTrue, [], length, true};
 ghost use Rattle.x690.specs.DerTexts.{der, texts_of};
-ghost use Rattle.x690.specs.DocumentTypes.{SubjectPublicKeyInfo as SubjectPublicKeyInfoType, bit_string};
+ghost use Rattle.x690.specs.DocumentTypes.{SubjectPublicKeyInfo as SubjectPublicKeyInfoType};
 ghost use Rattle.x690.specs.Layouts.{universal};
-ghost use Rattle.x690.specs.Lists.{Each};
-ghost use Rattle.x690.specs.Rules.{key_bits_rule};
-ghost use Rattle.x690.specs.TypeTerms.{RuledType};
-ghost use Rattle.x690.specs.Values.{Leaf, Same, Sequence, Value, values_of};
-ghost use Rattle.ber_pull.specs.Fields.{read_due};
-ghost use Rattle.ber_pull.specs.View.{standing, SameSource, Keeps, ReadsFail, Onward};
-ghost use Rattle.asn_values.specs.Fields.{AnswersField, IsInside, StaysInside, next_of};
+ghost use Rattle.x690.specs.Values.{Leaf, Same, Sequence, values_of};
 ghost use Rattle.asn_values.specs.Leaves.{bit_string_of};
 ghost use Rattle.pkix_values.specs.ClosedTypes.{public_key_closed};
 ghost use Rattle.pkix_values.specs.Values.{key_fits};
@@ -23,7 +16,7 @@ use crate::parts::{Both, Field, put_sequence, sequence_octet, sequence_size};
 use asn_values::bits::Bits;
 use asn_values::der_text::{DerText, same_text};
 use asn_values::element::Element;
-use asn_values::fields::{Next, ahead, begin, due, end, take};
+use asn_values::fields::{ahead, begin, due, end, take};
 use asn_values::tags::{is_same_tag, universal_tag};
 use ber_pull::pull::Pull;
 use std::alloc::Global;
@@ -52,33 +45,6 @@ fn is_key_of(algorithm: &Oid, key: &Bits) -> bool
         Some(length) => key.octets().len() == length && key.unused() == 0,
         None => true,
     }
-}
-
-/// The key, which is due: `due`, and `KeyLength` where it isn't one of the algorithm.
-fn due_key<R: Source>(
-    alloc: Global,
-    pull: &mut Pull<'_, R>,
-    next: &mut Next,
-    algorithm: &AlgorithmIdentifier,
-) -> Result<Bits, ReadError>
-    requires fine { (standing pull.old).error ≡ None }
-    requires inside { IsInside pull.old next.old }
-    ensures same_source { SameSource pull.old pull.new }
-    ensures reads { (earlier : List Value) → Each Same earlier (⟦<AlgorithmIdentifier as DerText>⟧.value algorithm.now ∷ []) → AnswersField pull.old pull.new next.old (λ outer inside. read_due outer.limits (RuledType (key_bits_rule (0 ∷ 0 ∷ [])) bit_string) earlier inside (next_of next.old)) Same (λ key. Leaf (universal 3) (bit_string_of key)) (next_of next.new) result }
-    ensures fits { IfOk result (λ key. key_fits algorithm.now.algorithm (bit_string_of key) ≡ true) }
-    ensures short { IfOk result (λ key. length (der (Leaf (universal 3) (bit_string_of key))) < 2 ^ 32) }
-    ensures stands { OnOk result (StaysInside pull.old pull.new next.old next.new) }
-    ensures keeps { Keeps pull.new result }
-    ensures read { ReadsFail pull.old pull.new result }
-    ensures onward { Onward pull.old pull.new }
-{
-    let at = next.at;
-    let key = take::<R, Bits>(alloc, pull, *next)?;
-    if !is_key_of(algorithm.algorithm(), &key) {
-        return Err(pull.refuse(at, Reason::KeyLength, None));
-    }
-    *next = ahead(pull)?;
-    Ok(key)
 }
 
 impl SubjectPublicKeyInfo {
@@ -149,8 +115,13 @@ impl Element for SubjectPublicKeyInfo {
     ) -> Result<SubjectPublicKeyInfo, ReadError> {
         let mut next = begin(pull, universal_tag(16))?;
         let algorithm = due::<R, AlgorithmIdentifier>(alloc, pull, &mut next)?;
-        let key = due_key(alloc, pull, &mut next, &algorithm)?;
-        end(pull, next)?;
+        let at = next.at;
+        let key = take::<R, Bits>(alloc, pull, next)?;
+        if !is_key_of(algorithm.algorithm(), &key) {
+            return Err(pull.refuse(at, Reason::KeyLength, None));
+        }
+        let behind = ahead(pull)?;
+        end(pull, behind)?;
         Ok(SubjectPublicKeyInfo { algorithm, key })
     }
 }

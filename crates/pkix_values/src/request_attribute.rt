@@ -1,18 +1,18 @@
 //! Attributes of certification requests (RFC 2986 section 4.1, RFC 2985 section 5.4.2).
 ghost use Rattle.asn_values.proofs.OneFields.{one_first_identifier};
-ghost use Rattle.std.specs.Prelude.{◌≡◌, ◌↔◌, ◌<◌, ◌^◌, ◌∷◌, IfOk, IsTrue, [], length, map, not};
+ghost use Rattle.std.specs.Prelude.{◌≡◌, ◌↔◌, ◌∷◌, IsTrue, [], not};
 ghost use Rattle.std.specs.Option.{is_some, option_map};
-ghost use Rattle.x690.specs.DerTexts.{der, texts_of};
+ghost use Rattle.x690.specs.Values.{Same};
+ghost use Rattle.x690.specs.Layouts.{universal};
+ghost use Rattle.x690.specs.DerTexts.{der};
 ghost use Rattle.x690.specs.DocumentTypes.{RequestAttribute as RequestAttributeType};
 ghost use Rattle.x690.specs.Identifiers.{extension_request};
-ghost use Rattle.x690.specs.Layouts.{universal};
 ghost use Rattle.x690.specs.Lists.{one_of};
-ghost use Rattle.x690.specs.Values.{Leaf, Same, Sequence, values_of};
 ghost use Rattle.pkix_values.specs.ClosedTypes.{request_attribute_closed};
 ghost use Rattle.pkix_values.specs.Eithers.{either, either_one_text, first_of, is_first, second_of};
 
 use crate::attribute::{Attribute, AttributeOf};
-use crate::either::{Either, due_either};
+use crate::either::Either;
 use crate::extension::Extension;
 use crate::identifiers::is_extension_request;
 use crate::set_of_some::SetOfSome;
@@ -78,22 +78,6 @@ impl RequestAttribute {
     {
         same_text(self, other)
     }
-
-    /// The attribute of this type with these values.
-    fn of_values(
-        id: Oid,
-        values: Either<SetOfSome<List<Extension>>, SetOfSome<Any>>,
-    ) -> RequestAttribute
-        requires by_type { is_first values ≡ one_of id (extension_request ∷ []) }
-        requires small { length (texts_of (Leaf (universal 6) id ∷ either (⟦<SetOfSome<List<Extension>> as DerText>⟧.value) (⟦<SetOfSome<Any> as DerText>⟧.value) values ∷ [])) < 2 ^ 63 }
-        ensures { either (⟦<AttributeOf<List<Extension>> as DerText>⟧.value) (⟦<AttributeOf<Any> as DerText>⟧.value) result.form ≡ Sequence (universal 16) (values_of (Leaf (universal 6) id ∷ either (⟦<SetOfSome<List<Extension>> as DerText>⟧.value) (⟦<SetOfSome<Any> as DerText>⟧.value) values ∷ [])) }
-    {
-        let form = match values {
-            Either::First(values) => Either::First(AttributeOf::new(id, values)),
-            Either::Second(values) => Either::Second(AttributeOf::new(id, values)),
-        };
-        RequestAttribute { form }
-    }
 }
 
 impl DerText for RequestAttribute {
@@ -139,14 +123,16 @@ impl Element for RequestAttribute {
     ) -> Result<RequestAttribute, ReadError> {
         let mut next = begin(pull, universal_tag(16))?;
         let id = due::<R, Oid>(alloc, pull, &mut next)?;
-        let has_extensions = is_extension_request(&id);
-        let values = due_either::<R, SetOfSome<List<Extension>>, SetOfSome<Any>>(
-            alloc,
-            pull,
-            &mut next,
-            has_extensions,
-        )?;
-        end(pull, next)?;
-        Ok(RequestAttribute::of_values(id, values))
+        if is_extension_request(&id) {
+            let values = due::<R, SetOfSome<List<Extension>>>(alloc, pull, &mut next)?;
+            end(pull, next)?;
+            let form = Either::First(AttributeOf { id, values });
+            Ok(RequestAttribute { form })
+        } else {
+            let values = due::<R, SetOfSome<Any>>(alloc, pull, &mut next)?;
+            end(pull, next)?;
+            let form = Either::Second(AttributeOf { id, values });
+            Ok(RequestAttribute { form })
+        }
     }
 }

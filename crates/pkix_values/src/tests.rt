@@ -1,12 +1,16 @@
 //! Values from octets to their texts, in pieces and from sources that fail at each octet.
 ghost use Rattle.std.specs.Prelude.{◌≡◌, ◌<◌, false};
 
-use crate::extension::Extension;
+mod algorithms;
+mod attributes;
+mod extensions;
+mod keys;
+mod names;
+
 use asn_values::der_text::DerText;
 use asn_values::element::Element;
 use ber_pull::pull::Pull;
 use std::alloc::{AllocError, Global};
-use std::test::Fail;
 use tlv_core::fault::{Fault, ReadError};
 use tlv_core::limits::Limits;
 use tlv_core::reason::Reason;
@@ -85,6 +89,27 @@ fn is_answered<T: Element>(alloc: Global, row: &Row, piece: usize) -> Result<boo
     }
 }
 
+/// Whether octets that are too few are answered so, where the source ends behind them and where it fails there.
+fn is_cut_short<T: Element>(alloc: Global, octets: &[u8]) -> bool {
+    let at = octets.len() as u64;
+    let mut ends = Pieces::new(octets, 64, false);
+    let ended: Result<Option<T>, ReadError> = read(alloc, &mut ends);
+    let mut fails = Pieces::new(octets, 64, true);
+    let failed: Result<Option<T>, ReadError> = read(alloc, &mut fails);
+    let truncated = Fault {
+        at,
+        why: Reason::Truncated,
+        inside: None,
+    };
+    ended.err() == Some(ReadError::Fault(truncated)) && failed.err() == Some(ReadError::Read { at })
+}
+
+/// The value that the octets spell.
+fn value_of<T: Element>(alloc: Global, octets: &[u8]) -> Result<Option<T>, ReadError> {
+    let mut source = octets;
+    read(alloc, &mut source)
+}
+
 /// The first row, and the number of octets told, that isn't answered as it is to be; all octets of the rows are needed.
 fn first_wrong<T: Element>(
     alloc: Global,
@@ -97,77 +122,10 @@ fn first_wrong<T: Element>(
             }
         }
         for told in 0..row.octets.len() {
-            let mut source = Pieces::new(&row.octets[..told], 64, true);
-            let read: Result<Option<T>, ReadError> = read(alloc, &mut source);
-            match read {
-                Err(ReadError::Read { at }) if at == told as u64 => (),
-                _ => return Ok(Some((i, told))),
+            if !is_cut_short::<T>(alloc, &row.octets[..told]) {
+                return Ok(Some((i, told)));
             }
         }
     }
     Ok(None)
-}
-
-/// Extension, SEQUENCE { extnID, critical DEFAULT FALSE, extnValue } (RFC 5280 section 4.1; X.690 11.5).
-static EXTENSIONS: [Row; 9] = [
-    Row {
-        octets: &[
-            0x30, 0x0C, 0x06, 0x03, 0x55, 0x1D, 0x13, 0x01, 0x01, 0xFF, 0x04, 0x02, 0x30, 0x00,
-        ],
-        answer: Answer::Text(&[
-            0x30, 0x0C, 0x06, 0x03, 0x55, 0x1D, 0x13, 0x01, 0x01, 0xFF, 0x04, 0x02, 0x30, 0x00,
-        ]),
-    },
-    // the default is left out
-    Row {
-        octets: &[
-            0x30, 0x0C, 0x06, 0x03, 0x55, 0x1D, 0x13, 0x01, 0x01, 0x00, 0x04, 0x02, 0x30, 0x00,
-        ],
-        answer: Answer::Text(&[
-            0x30, 0x09, 0x06, 0x03, 0x55, 0x1D, 0x13, 0x04, 0x02, 0x30, 0x00,
-        ]),
-    },
-    // an indefinite length, TRUE as 01, a string in segments
-    Row {
-        octets: &[
-            0x30, 0x80, 0x06, 0x03, 0x55, 0x1D, 0x13, 0x01, 0x01, 0x01, 0x24, 0x80, 0x04, 0x01,
-            0x30, 0x04, 0x01, 0x00, 0x00, 0x00, 0x00, 0x00,
-        ],
-        answer: Answer::Text(&[
-            0x30, 0x0C, 0x06, 0x03, 0x55, 0x1D, 0x13, 0x01, 0x01, 0xFF, 0x04, 0x02, 0x30, 0x00,
-        ]),
-    },
-    // the value lacks: at the end of the container, the first of the octets 00
-    Row {
-        octets: &[0x30, 0x80, 0x06, 0x03, 0x55, 0x1D, 0x13, 0x00, 0x00],
-        answer: Answer::Refused(7, Reason::Missing),
-    },
-    Row {
-        octets: &[0x30, 0x05, 0x06, 0x03, 0x55, 0x1D, 0x13],
-        answer: Answer::Refused(7, Reason::Missing),
-    },
-    Row {
-        octets: &[0x30, 0x07, 0x06, 0x03, 0x55, 0x1D, 0x13, 0x02],
-        answer: Answer::Refused(7, Reason::WrongTag),
-    },
-    Row {
-        octets: &[
-            0x30, 0x0B, 0x06, 0x03, 0x55, 0x1D, 0x13, 0x04, 0x02, 0x30, 0x00, 0x05,
-        ],
-        answer: Answer::Refused(11, Reason::Extra),
-    },
-    Row {
-        octets: &[0x31],
-        answer: Answer::Refused(0, Reason::WrongTag),
-    },
-    Row {
-        octets: &[0x10],
-        answer: Answer::Refused(0, Reason::WrongForm),
-    },
-];
-
-#[test]
-fn extensions(rt: HostRuntime) -> Result<(), Fail> {
-    assert_eq!(rt; first_wrong::<Extension>(rt.alloc(), &EXTENSIONS)?, None);
-    Ok(())
 }
