@@ -9,6 +9,7 @@
 #![tactic(auto)]
 
 mod cursor;
+pub mod document;
 mod key_text;
 pub mod laws;
 pub mod normalise;
