@@ -4,4 +4,5 @@ pub mod GeneralKeys
 pub mod Keys
 pub mod PlainKeys
 pub mod ReadValues
+pub mod TypedDocuments
 pub mod WholeKeys

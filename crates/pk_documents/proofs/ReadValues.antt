@@ -7,7 +7,7 @@ use Rattle.tlv_core.specs.declared.fault.ReadError.{ReadError}
 use Rattle.tlv_core.specs.declared.fault.ReadError.TheVariants as errors
 use Rattle.tlv_core.specs.declared.reason.Reason.TheVariants.{TextTooLong, Truncated}
 use Rattle.tlv_core.specs.declared.source.Source.{Ghosts}
-use Rattle.x690.specs.Answers.{Refused, Spelled, answer}
+use Rattle.x690.specs.Answers.{Spelled}
 use Rattle.x690.specs.DerTexts.{der}
 use Rattle.x690.specs.Fitting.{Spells}
 use Rattle.x690.specs.Layouts.{LaidOut}

@@ -1,4 +1,4 @@
-use Rattle.std.proofs.Common.{rules, ◌≡◌, ◌∙◌, ◌<◌, ◌≤◌, Bool, Err, None, Ok, Some, ap, arith, length, refl, sym}
+use Rattle.std.proofs.Common.{rules, ◌∙◌, ◌<◌, ◌≤◌, Bool, Err, Ok, ap, arith, length}
 use Rattle.tlv_core.specs.Identifier.{Tag}
 use Rattle.tlv_core.specs.declared.fault.ReadError.TheVariants as errors
 use Rattle.tlv_core.specs.declared.reason.Reason.TheVariants.{TextTooLong}
