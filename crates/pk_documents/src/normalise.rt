@@ -11,6 +11,7 @@ use crate::document::read_value;
 use crate::key_text::key_text;
 use asn_values::der_text::der_text;
 use asn_values::element::Element;
+use pkix_values::public_key_stand_in::SubjectPublicKeyInfo;
 use std::alloc::{AllocError, Global};
 use thiserror::Error;
 use tlv_core::fault::ReadError;
@@ -21,6 +22,8 @@ use tlv_core::limits::Limits;
 pub enum Kind {
     /// OneAsymmetricKey (RFC 5958 section 2).
     Key,
+    /// SubjectPublicKeyInfo (RFC 5280 section 4.1.2.7).
+    Public,
 }
 
 /// Why a document was not normalised.
@@ -66,6 +69,7 @@ pub fn normalise(
 {
     match kind {
         Kind::Key => normalise_plain_key(alloc, src, dst, limits),
+        Kind::Public => normalise_value::<SubjectPublicKeyInfo>(alloc, src, dst, limits),
     }
 }
 

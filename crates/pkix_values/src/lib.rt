@@ -7,5 +7,6 @@
 pub mod extension;
 pub mod pairs;
 pub mod parts;
+pub mod public_key_stand_in;
 #[cfg(test)]
 mod tests;
