@@ -14,3 +14,5 @@ mod key_text;
 pub mod laws;
 pub mod normalise;
 mod plain_key;
+#[cfg(test)]
+mod tests;

@@ -111,11 +111,10 @@ fn normalise_plain_key(
         Ok(key) => key,
         Err(fault) => return Err(NormaliseError::Read(ReadError::Fault(fault))),
     };
-    let taken = cursor.at;
     *src = cursor.rest;
     let octets = key_text(alloc, &key)?;
     let written = append(dst, &octets)?;
-    Ok((taken, written))
+    Ok((cursor.at, written))
 }
 
 /// Appends the text, and answers its length.

@@ -1,4 +1,4 @@
-use Rattle.std.proofs.Common.{rules, ◌∙◌, ◌++◌, ap, refl}
+use Rattle.std.proofs.Common.{rules, refl}
 use Rattle.pk_documents.specs.Normalised.{TakesSpelling}
 use Rattle.pk_documents.specs.PlainKey.{SpellsPlainKey, plain_key}
 use Rattle.pk_documents.proofs.Documents.{document_of, unspelled, normalised, from_start, none_from_start}
@@ -32,5 +32,5 @@ returns-clause-normalised c =
     let part = from_start _ _ _ _ _ _ _ c.new-cursor.ensures.rest c.new-cursor.ensures.at c.in-Ok.ensures.ok in (
       plain_key key.algorithm key.secret.now,
       normalised c.args.limits key.algorithm key.secret.now _ _ _ _ _ c.plain_key.new.self.at c.in_ok-written.written part c.in-Ok.ensures.deep refl
-          (c.in_ok-written.ensures.text ∙ ap (λ x. c.args.dst.now.items ++ x) (c.deref.ensures.value ∙ c.in_ok-octets.ensures)) (search rules),
+          (search rules) (search rules),
     )

@@ -1,4 +1,4 @@
-use Rattle.std.proofs.Common.{rules, ◌∙◌, ◌++◌, ap}
+use Rattle.std.proofs.Common.{rules}
 use Rattle.pk_documents.proofs.TypedDocuments.{normalised_as, refused_as}
 use Rattle.pk_documents.proofs.normalise.normalise_value.Goals as goal
 
@@ -10,4 +10,4 @@ returns-in_err-value-clause-refused g c =
 pub returns-clause-normalised : goal.returns-clause-normalised
 returns-clause-normalised g c =
     normalised_as c.args.limits g.T.Element.type_term (g.T.DerText.value c.in_ok-value.value) c.args.src.now.now _ c.args.dst.now.items _ c.in_ok-value.taken c.in_ok-written.written c.requires (search rules) c.in_ok-value.ensures.reads
-    (c.in_ok-written.ensures.text ∙ ap (λ x. c.args.dst.now.items ++ x) (c.deref.ensures.value ∙ c.in_ok-text.ensures)) (search rules)
+    (search rules) (search rules)
