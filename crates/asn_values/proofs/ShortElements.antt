@@ -15,7 +15,7 @@ use Rattle.x690_laws.proofs.ShortTexts.{read_texts}
 use Rattle.ber_pull.specs.Hears.{Hears}
 use Rattle.ber_pull.proofs.Hearing.{hears_as, hears_given, hears_then}
 
-due_is : (l : Limits) (type : TypeTerm) (c : Enclosing) → next_tag l c >>= (λ next. elim next [ ContainerEnds place ↦ Fail (fault place Missing) | ElementStands place tag constructed ↦ read_type l type [] c place tag constructed ]) ≡ read_element l type [] c
+pub due_is : (l : Limits) (type : TypeTerm) (c : Enclosing) → next_tag l c >>= (λ next. elim next [ ContainerEnds place ↦ Fail (fault place Missing) | ElementStands place tag constructed ↦ read_type l type [] c place tag constructed ]) ≡ read_element l type [] c
 unfolding due_element
 due_is l type c = refl
 

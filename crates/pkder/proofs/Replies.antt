@@ -4,24 +4,28 @@ use Rattle.tlv_core.specs.declared.reason.Reason.TheVariants.{Trailing}
 use Rattle.tlv_core.specs.declared.fault.ReadError.TheVariants.{Fault as FaultRead, Read as ReadAt, Memory as MemoryRead}
 use Rattle.tlv_core.specs.Limits.{Limits}
 use Rattle.x690.specs.Values.{Value}
-use Rattle.pk_documents.specs.Normalised.{Refused, Normalised}
+use Rattle.pk_documents.specs.Normalised.{Normalised, Refused, SpellsDocument}
 use Rattle.pk_documents.specs.declared.normalise.Kind.{Kind}
+use Rattle.pk_documents.specs.declared.normalise.Kind.TheVariants.{Key, Public}
 use Rattle.pk_documents.specs.declared.normalise.NormaliseError.{NormaliseError}
 use Rattle.pk_documents.specs.declared.normalise.NormaliseError.TheVariants.{Read, Write}
-use Rattle.pkder.specs.declared.line.Task.{Task}
-use Rattle.pkder.specs.Replies.{Replied, FollowsValue, refusal_of}
+use Rattle.pkder.specs.Replies.{FollowsValue, RepliedTo, refusal_of}
 
-pub refusal_replies : (task : Task) (error : NormaliseError) (before after old : List ℕ) → Refused task.kind task.limits error before after → Replied task (refusal_of error) before old old
-refusal_replies task (Read (FaultRead fault)) before after old h = (refl, h.0, inl h.1)
-refusal_replies task (Read (ReadAt at)) before after old h = absurd h
-refusal_replies task (Read MemoryRead) before after old h = absurd h
-refusal_replies task (Write error) before after old h = refl
+pub refusal_replies : (kind : Kind) (limits : Limits) (error : NormaliseError) (before after old : List ℕ) → Refused kind limits error before after → RepliedTo kind limits (refusal_of error) before old old
+refusal_replies Key limits (Read (FaultRead found)) before after old h = (refl, h.0, inl h.1)
+refusal_replies Key limits (Read (ReadAt at)) before after old h = absurd h
+refusal_replies Key limits (Read MemoryRead) before after old h = absurd h
+refusal_replies Key limits (Write error) before after old h = refl
+refusal_replies Public limits (Read (FaultRead found)) before after old h = (refl, h.0, inl h.1)
+refusal_replies Public limits (Read (ReadAt at)) before after old h = absurd h
+refusal_replies Public limits (Read MemoryRead) before after old h = refl
+refusal_replies Public limits (Write error) before after old h = refl
 
 not_empty : (rest : List ℕ) → (length rest == 0) ≡ false → rest ≢ []
 not_empty [] h e = cc
 not_empty (x ∷ rest) h e = cc
 
-pub follows : (kind : Kind) (limits : Limits) (value : Value) (before after old new : List ℕ) (taken written : ℕ) → Normalised kind limits value before after old new taken written → (length after == 0) ≡ false
+pub follows : (kind : Kind) (limits : Limits) (value : Value) (before after old new : List ℕ) (taken written : ℕ) → Normalised (SpellsDocument kind) limits value before after old new taken written → (length after == 0) ≡ false
     → FollowsValue kind limits (record { at = taken; why = Trailing; inside = None }) before
 follows kind limits value before after old new taken written n more = record {
   value = value;

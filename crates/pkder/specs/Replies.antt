@@ -5,7 +5,7 @@ use Rattle.tlv_core.specs.Faults.{InsideMatches}
 use Rattle.tlv_core.specs.declared.fault.Fault.{Fault as AFault}
 use Rattle.tlv_core.specs.declared.reason.Reason.TheVariants.{Trailing}
 use Rattle.x690.specs.Values.{Value}
-use Rattle.pk_documents.specs.Normalised.{SpellsDocument, Normalised, Unspelled}
+use Rattle.pk_documents.specs.Normalised.{FaultOf, Normalised, SpellsDocument}
 use Rattle.tlv_core.specs.declared.fault.ReadError.TheVariants.{Fault as FaultRead, Read as ReadAt, Memory as MemoryRead}
 use Rattle.pk_documents.specs.declared.normalise.Kind.{Kind}
 use Rattle.pk_documents.specs.declared.normalise.NormaliseError.{NormaliseError}
@@ -24,15 +24,18 @@ pub record FollowsValue (kind : Kind) (limits : Limits) (fault : AFault) (before
   pub more : rest ≢ []
   pub fault_is : fault ≡ record { at = length octets; why = Trailing; inside = None }
 
--- Of the input `before`, the outcome and what stands behind `old` in `new`. Done is the whole of normalising: all of the input was taken;
+-- Of the input `before`, of a kind, the outcome and what stands behind `old` in `new`. Done is the whole of normalising: all of the input was taken;
 -- a fault says that the input begins with no spelling, or that octets follow one; nothing but Done writes.
+abbrev pub RepliedTo : Kind → Limits → Outcome → List ℕ → List ℕ → List ℕ → Type 0
+RepliedTo kind limits Done before old new = (value : Value) × Normalised (SpellsDocument kind) limits value before [] old new (length before) (length new - length old)
+RepliedTo kind limits (Fault found) before old new = (new ≡ old) × InsideMatches found × (FaultOf kind limits found before ⊎ FollowsValue kind limits found before)
+RepliedTo kind limits Memory before old new = new ≡ old
+RepliedTo kind limits (NotDer at) before old new = ⊥
+RepliedTo kind limits (ReadFailed at) before old new = ⊥
+RepliedTo kind limits (WriteFailed after) before old new = ⊥
+
 abbrev pub Replied : Task → Outcome → List ℕ → List ℕ → List ℕ → Type 0
-Replied task Done before old new = (value : Value) × Normalised task.kind task.limits value before [] old new (length before) (length new - length old)
-Replied task (Fault fault) before old new = (new ≡ old) × InsideMatches fault × (Unspelled task.kind task.limits before ⊎ FollowsValue task.kind task.limits fault before)
-Replied task Memory before old new = new ≡ old
-Replied task (NotDer at) before old new = ⊥
-Replied task (ReadFailed at) before old new = ⊥
-Replied task (WriteFailed after) before old new = ⊥
+Replied task outcome before old new = RepliedTo task.kind task.limits outcome before old new
 
 -- the outcome of a document that was not normalised
 abbrev pub refusal_of : NormaliseError → Outcome

@@ -584,25 +584,44 @@ fn says_each_outcome(rt: HostRuntime) -> Result<(), Fail> {
     Ok(())
 }
 
-/// Lines that name a task, with its depth and octets.
-static GOOD: [(&str, u8, u32); 4] = [
-    ("pkder normalise --kind key", 32, 1048576),
+/// Lines that name a task, with its kind, depth and octets.
+static GOOD: [(&str, Kind, u8, u32); 6] = [
+    ("pkder normalise --kind key", Kind::Key, 32, 1048576),
     (
         "pkder normalise --kind key --depth 64 --octets 2147483647",
+        Kind::Key,
         64,
         2147483647,
     ),
-    ("pkder normalise --depth=5 --kind=key", 5, 1048576),
-    ("pkder normalise --octets 1 --depth 1 --kind key", 1, 1),
+    (
+        "pkder normalise --depth=5 --kind=key",
+        Kind::Key,
+        5,
+        1048576,
+    ),
+    (
+        "pkder normalise --octets 1 --depth 1 --kind key",
+        Kind::Key,
+        1,
+        1,
+    ),
+    ("pkder normalise --kind public", Kind::Public, 32, 1048576),
+    (
+        "pkder normalise --octets 20 --kind public",
+        Kind::Public,
+        32,
+        20,
+    ),
 ];
 
 /// Lines that are refused: no words, no kind, an unknown word, a value out of range, an option given twice.
-static BAD: [&str; 12] = [
+static BAD: [&str; 13] = [
     "pkder",
     "pkder normalise",
     "pkder check --kind key",
     "pkder normalise --kind pem",
     "pkder normalise --kind ec",
+    "pkder normalise --kind Public",
     "pkder normalise --kind key --depth 65",
     "pkder normalise --kind key --depth 0",
     "pkder normalise --kind key --octets 0",
@@ -623,11 +642,11 @@ fn words_of(alloc: Global, line: &str) -> Result<Vec<String>, Fail> {
 #[test]
 fn understands_each_line(rt: HostRuntime) -> Result<(), Fail> {
     let alloc = rt.alloc();
-    for (line, depth, octets) in &GOOD {
+    for (line, kind, depth, octets) in &GOOD {
         let words = words_of(alloc, line)?;
         let wanted = Task {
             action: Action::Normalise,
-            kind: Kind::Key,
+            kind: *kind,
             limits: Limits::new(*depth, *octets).ok_or("limits")?,
         };
         assert_eq!(rt;

@@ -25,11 +25,11 @@ use Rattle.x690_laws.proofs.Texts.{same_der}
 use Rattle.x690_laws.specs.AnswerLaws.{InsideOfAnswers, NeededOctets, OneAnswer, RefusedIsSpelledByNone, SpellingIsAnswered, TextAnswersItself, TextsTellValues}
 
 -- the answer, of the outcome of the reading
-judged : Limits → Outcome Value → Answer
+pub judged : Limits → Outcome Value → Answer
 judged l (Halted f) = Refused f
 judged l (Took v n r) = elim (nat_le (length (der v)) l.octets) [ true ↦ Spelled (der v) n | false ↦ Refused (fault 0 TextTooLong) ]
 
-answered : (l : Limits) (T : TypeTerm) (b : List ℕ) (o : Outcome Value) → run (read_element l T [] outermost) 0 b ≡ o → answer l T b ≡ judged l o
+pub answered : (l : Limits) (T : TypeTerm) (b : List ℕ) (o : Outcome Value) → run (read_element l T [] outermost) 0 b ≡ o → answer l T b ≡ judged l o
 unfolding answer read_document judged
 answered l T b o e = go (run (read_element l T [] outermost) 0 b) ∙ ap (judged l) e
   where
@@ -37,7 +37,7 @@ answered l T b o e = go (run (read_element l T [] outermost) 0 b) ∙ ap (judged
     go (Halted f) = refl
     go (Took v n r) = refl
 
-halted_is : (l : Limits) (f : Fault) → judged l (Halted f) ≡ Refused f
+pub halted_is : (l : Limits) (f : Fault) → judged l (Halted f) ≡ Refused f
 unfolding judged
 halted_is l f = refl
 
@@ -56,10 +56,10 @@ rest_apart : (l : Limits) (v : Value) (q : ℕ) (r r' : List ℕ) → judged l (
 unfolding judged
 rest_apart l v q r r' = refl
 
-nothing_around : Proper outermost
+pub nothing_around : Proper outermost
 nothing_around e h = cc
 
-fits_text : (l : Limits) (v : Value) (n : ℕ) (r : List ℕ) → length (der v) ≤ l.octets → judged l (Took v n r) ≡ Spelled (der v) n
+pub fits_text : (l : Limits) (v : Value) (n : ℕ) (r : List ℕ) → length (der v) ≤ l.octets → judged l (Took v n r) ≡ Spelled (der v) n
 unfolding judged
 fits_text l v n r le = go (nat_le (length (der v)) l.octets) (grind (arith, nat_tests))
   where
@@ -67,7 +67,7 @@ fits_text l v n r le = go (nat_le (length (der v)) l.octets) (grind (arith, nat_
     go true e = refl
     go false e = cc
 
-long_text : (l : Limits) (v : Value) (n : ℕ) (r : List ℕ) → l.octets < length (der v) → judged l (Took v n r) ≡ Refused (fault 0 TextTooLong)
+pub long_text : (l : Limits) (v : Value) (n : ℕ) (r : List ℕ) → l.octets < length (der v) → judged l (Took v n r) ≡ Refused (fault 0 TextTooLong)
 unfolding judged
 long_text l v n r lt = go (nat_le (length (der v)) l.octets) (grind (arith, nat_tests))
   where

@@ -7,7 +7,7 @@ pub returns-in-Err : goal.returns-in-Err
 returns-in-Err c =
     let old = c.args.dst.now.items in
     subst (λ o. Replied c.args.task.now o c.args.src.now.now old old) (sym c.refusal.ensures)
-    (refusal_replies c.args.task.now c.in-Err.error c.args.src.now.now _ old c.in-Err.ensures.refused)
+    (refusal_replies c.args.task.now.kind c.args.task.now.limits c.in-Err.error c.args.src.now.now _ old c.in-Err.ensures.refused)
 
 pub returns-then-not-is_empty : goal.returns-then-not-is_empty
 returns-then-not-is_empty c =

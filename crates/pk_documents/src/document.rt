@@ -1,0 +1,42 @@
+//! One value of a type, read from the start of what a source tells.
+ghost use Rattle.std.specs.Prelude.{◌≡◌, MatchResult, false};
+ghost use Rattle.pk_documents.specs.ReadValues.{ReadsValue, StopsReading, IsFailedRead};
+
+use asn_values::element::Element;
+use ber_pull::pull::Pull;
+use std::alloc::Global;
+use tlv_core::fault::{Fault, ReadError};
+use tlv_core::limits::Limits;
+use tlv_core::reason::Reason;
+use tlv_core::source::Source;
+
+/// Reads one value, and answers it with the number of octets taken; not one octet past it is taken.
+///
+/// Faults: the first one that the octets have as a document of the type, and last of all `TextTooLong` at place 0, where the
+/// DER text of the value is longer than the limit of octets.
+pub fn read_value<R: Source, T: Element>(
+    alloc: Global,
+    src: &mut R,
+    limits: Limits,
+) -> Result<(T, u64), ReadError>
+    requires { R.has_failed src.old ≡ false }
+    // What was taken spells the value; a fault is the answer to the octets told; where a read failed, the octets before are too few.
+    ensures reads { MatchResult result (λ read. ReadsValue limits T.type_term (T.value read.0) (R.remaining src.old) (R.remaining src.new) read.1) (λ error. StopsReading limits T.type_term error (R.remaining src.old) (R.remaining src.new)) }
+    // A failed read is answered where the source failed, and nowhere else.
+    ensures read { MatchResult result (λ _. R.has_failed src.new ≡ false) (IsFailedRead (R.has_failed src.new)) }
+{
+    let mut pull = Pull::new(src, limits);
+    let Some(_) = pull.next_tag()? else {
+        unreachable!()
+    };
+    let value = T::read(alloc, &mut pull)?;
+    if value.size() > u64::from(limits.octets()) {
+        return Err(ReadError::Fault(Fault {
+            at: 0,
+            why: Reason::TextTooLong,
+            inside: None,
+        }));
+    }
+    let taken = pull.at();
+    Ok((value, taken))
+}
