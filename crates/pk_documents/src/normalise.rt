@@ -11,7 +11,7 @@ use crate::document::read_value;
 use crate::key_text::key_text;
 use asn_values::der_text::der_text;
 use asn_values::element::Element;
-use pkix_values::public_key_stand_in::SubjectPublicKeyInfo;
+use pkix_values::public_key::SubjectPublicKeyInfo;
 use std::alloc::{AllocError, Global};
 use thiserror::Error;
 use tlv_core::fault::ReadError;

@@ -1,7 +1,8 @@
-//! The types that keys, requests and certificates share (RFC 5280, RFC 2986). So far: extensions.
+//! The types that keys, requests and certificates share (RFC 5280, RFC 2986): algorithm identifiers, names, public keys, attributes and extensions.
 //!
-//! Proved here: the text of a SEQUENCE is the header of its tag and length, and then the text of each field that is there; a SEQUENCE of
-//! two fields is read as the plain reading of its type says; an `Extension` is read so, and its text leaves out a `critical` that is FALSE.
+//! Each is an `Element` of `asn_values`. Proved here, for each of them: a reader answers what the plain reading of its type gives for the octets, the first
+//! fault included, and its rules with it (no parameters under the algorithms of RFC 8410, and the length of a public key under them); it is written as its DER
+//! text, which leaves out a `critical` that is FALSE; `same` is the same value. `parts` writes a SEQUENCE by its fields, `pairs` reads those of two.
 #![tactic(auto)]
 
 pub mod algorithm;
