@@ -41,7 +41,7 @@ normalised_as l T w before after old new taken written lawful fine r text count 
     let most = fine.most_octets in
     let short : l.octets < 2147483648 = omega arith in
     let text_is : der w ≡ der v = sym (same_der v w r.same) in
-    let back = text_spells l T v r.octets lawful.distinct short r.spells in (
+    let back = text_spells l T v r.octets lawful.distinct (omega arith) r.spells in (
       v,
       record {
         octets = r.octets;
