@@ -1,5 +1,5 @@
 -- Answers and errors of a field that are handed on; fields that are the same.
-use Rattle.std.proofs.Common.{◌≡◌, ℕ, List, [], ◌∷◌, IfOk, Option, Some, None, Result, Ok, Err, sym, subst}
+use Rattle.std.proofs.Common.{◌≡◌, ℕ, List, IfOk, Option, Some, None, Result, Ok, Err, sym, subst}
 use Rattle.std.specs.Result.{MatchResult}
 use Rattle.tlv_core.specs.declared.fault.ReadError.{ReadError}
 use Rattle.tlv_core.specs.declared.source.Source.{Ghosts}

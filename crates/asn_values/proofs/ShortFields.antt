@@ -1,10 +1,10 @@
 -- How long the text of a field is that was read.
-use Rattle.std.proofs.Common.{◌≡◌, ◌+◌, ◌<◌, ◌≤◌, ◌^◌, Bool, List, [], ℕ, IfSome, None, Some, Option, ap, length, arith}
-use Rattle.tlv_core.specs.Identifier.{Tag, identifier}
+use Rattle.std.proofs.Common.{◌<◌, ◌^◌, Bool, List, [], ℕ, IfSome, None, Some, Option, ap, length, arith}
+use Rattle.tlv_core.specs.Identifier.{Tag}
 use Rattle.tlv_core.specs.Limits.{Limits}
 use Rattle.x690.specs.DerTexts.{der}
 use Rattle.x690.specs.Points.{Enclosing}
-use Rattle.x690.specs.ReadHeaders.{ElementStands, Next, next_tag}
+use Rattle.x690.specs.ReadHeaders.{ElementStands, next_tag}
 use Rattle.x690.specs.ReadTypes.{read_type}
 use Rattle.x690.specs.Reads.{Said}
 use Rattle.x690.specs.TypeTerms.{TypeTerm}

@@ -14,7 +14,7 @@ use Rattle.x690.specs.Premises.{FairRule}
 use Rattle.x690.specs.ReadHeaders.{Next, next_tag}
 use Rattle.x690.specs.ReadTypes.{apply_rule, is_this_leaf, read_fields, read_type}
 use Rattle.x690.specs.Reading.{Done, Reading, run, ◌>>=◌}
-use Rattle.x690.specs.Reads.{Heard, Refused, Said}
+use Rattle.x690.specs.Reads.{Refused, Said}
 use Rattle.x690.specs.TypeTerms.{Default, DefinedByType, EndOfFields, Fields, Optional, Required, Rule, RuledType, SequenceType, TypeTerm, fits_tag}
 use Rattle.x690.specs.Values.{Leaf, Same, Sequence, SetOf, Value, leaf_at, values_of}
 use Rattle.x690_laws.proofs.OneValue.{leaf_at_same}

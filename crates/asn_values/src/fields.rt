@@ -1,10 +1,10 @@
 //! The fields of a SEQUENCE, one call each, in the order of its ASN.1 (X.690 8.9).
 //!
 //! A reader of a type is a list of these calls: `begin` with the type's tag, then `due` or `optional` for each field, then `end`.
-//! Its proof is a list of the rules of `ber_pull`'s `proofs/Fields.antt` in the same order, at each place where it may return:
-//! `begins`, then `due`, `optional` or `default` for each field that was read, then the rule of the call that returned, as
-//! `due_error` or `ends`. Each rule takes the `reads` of its call at what the call before it left (`stands`). A rule on the whole
-//! value is tested behind `end`, and is `ruled` in the proof. `due` and `optional` also tell that the text of a field is short.
+//! Its proof is a list of the rules of `proofs/SoFar.antt` in the same order: `after_` each call that gave a value, which keep in a
+//! record what was read so far and what is left, and `answered`, or `stopped_at_` the call that failed, where it returns.
+//! A rule on a field is tested between `take` and `ahead`, which `due` is put together from; one on the whole value behind `end`.
+//! `take`, `due` and `optional` also tell that the text of a field is short.
 ghost use Rattle.std.specs.Prelude.{◌≡◌, ◌<◌, ◌^◌, IfOk, IfSome, IsSome, List, None, OnOk, Some, length};
 ghost use Rattle.std.specs.Option.{option_map};
 ghost use Rattle.x690.specs.DerTexts.{der};

@@ -305,29 +305,36 @@ fn values_are_read(rt: HostRuntime) -> Result<(), Fail> {
     Ok(())
 }
 
+/// Whether each beginning of the octets is Truncated, and a read that fails behind it is answered there.
+fn stops_where_it_is_cut(alloc: Global, octets: &[u8], kind: Type) -> bool {
+    for k in 0..octets.len() {
+        let at = k as u64;
+        let truncated = Fault {
+            at,
+            why: Reason::Truncated,
+            inside: None,
+        };
+        let mut ends = Pieces::new(&octets[..k], 7, false);
+        if read_as(alloc, &mut ends, kind).err() != Some(ReadError::Fault(truncated)) {
+            return false;
+        }
+        let mut fails = Pieces::new(&octets[..k], 1, true);
+        if read_as(alloc, &mut fails, kind).err() != Some(ReadError::Read { at }) {
+            return false;
+        }
+    }
+    true
+}
+
 #[test]
 fn values_are_cut_short(rt: HostRuntime) -> Result<(), Fail> {
     let alloc = rt.alloc();
     for (kind, octets, outcome) in ROWS {
         if let Text(_) = outcome {
-            for k in 0..octets.len() {
-                let at = k as u64;
-                let mut ends = Pieces::new(&octets[..k], 7, false);
-                let truncated = Fault {
-                    at,
-                    why: Reason::Truncated,
-                    inside: None,
-                };
-                assert!(rt;
-                    read_as(alloc, &mut ends, kind).err() == Some(ReadError::Fault(truncated)),
-                    "{kind:?} of {octets:?}"
-                );
-                let mut fails = Pieces::new(&octets[..k], 1, true);
-                assert!(rt;
-                    read_as(alloc, &mut fails, kind).err() == Some(ReadError::Read { at }),
-                    "{kind:?} of {octets:?}"
-                );
-            }
+            assert!(rt;
+                stops_where_it_is_cut(alloc, octets, kind),
+                "{kind:?} of {octets:?}"
+            );
         }
     }
     Ok(())

@@ -1,16 +1,11 @@
-use Rattle.std.proofs.Common.{rules, arith, ◌≡◌, ℕ, Bool, true, false, List, [], ◌∷◌, Option, Some, None, Ok, Err, IfOk, IsSome, refl, sym, ap, subst, ◌∙◌}
-use Rattle.x690.specs.Points.{fault}
-use Rattle.x690.specs.Reading.{Done}
-use Rattle.tlv_core.specs.declared.reason.Reason.TheVariants.{Extra, Missing, WrongTag}
+use Rattle.std.proofs.Common.{rules, sym, ap, subst, ◌∙◌}
 use Rattle.ber_pull.specs.Fields.{Inside}
 use Rattle.ber_pull.specs.Hears.{next_at}
-use Rattle.ber_pull.proofs.Hearing.{hears_as, hears_at, hears_done, hears_err, hears_error, hears_said, hears_stop, hears_then}
-use Rattle.ber_pull.proofs.Fields.{begin_in, begin_wrong, end_extra, end_here, optional_absent, optional_other, optional_read}
-use Rattle.ber_pull.proofs.Insides.{inside_given, leaves, left_here, next_inside, opens_within, stands_some, used_within, within_limits, within_next, within_none}
+use Rattle.ber_pull.proofs.Hearing.{hears_as, hears_err, hears_said}
+use Rattle.ber_pull.proofs.Insides.{next_inside, within_limits, within_next, within_none}
 use Rattle.x690.specs.ReadHeaders.{next_tag}
 use Rattle.ber_pull.specs.Standing.{enclosing}
 use Rattle.asn_values.proofs.ShortFields.{begins_here}
-use Rattle.asn_values.specs.Fields.{next_of}
 use Rattle.asn_values.proofs.fields.ahead.Goals as goal
 
 pub returns-in_err-tag-clause-reads : goal.returns-in_err-tag-clause-reads

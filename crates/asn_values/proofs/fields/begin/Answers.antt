@@ -1,12 +1,9 @@
-use Rattle.std.proofs.Common.{rules, arith, ◌≡◌, ℕ, Bool, true, false, List, [], ◌∷◌, Option, Some, None, Ok, Err, IfOk, IsSome, refl, sym, ap, subst, ◌∙◌}
-use Rattle.x690.specs.Reading.{Done}
-use Rattle.tlv_core.specs.declared.reason.Reason.TheVariants.{Extra, Missing, WrongTag}
-use Rattle.ber_pull.specs.Hears.{next_at}
-use Rattle.ber_pull.proofs.Hearing.{hears_as, hears_at, hears_done, hears_err, hears_error, hears_said, hears_stop, hears_then}
-use Rattle.ber_pull.proofs.Fields.{begin_in, begin_wrong, end_extra, end_here, optional_absent, optional_other, optional_read}
-use Rattle.ber_pull.proofs.Insides.{inside_given, leaves, left_here, next_inside, opens_within, stands_none, stands_some, used_within, within_next, within_none}
+use Rattle.std.proofs.Common.{rules, sym, ap, subst, ◌∙◌}
+use Rattle.ber_pull.proofs.Hearing.{hears_done, hears_err, hears_error, hears_said, hears_then}
+use Rattle.ber_pull.proofs.Fields.{begin_in, begin_wrong}
+use Rattle.ber_pull.proofs.Insides.{opens_within}
 use Rattle.ber_pull.specs.Calls.{read_entering}
-use Rattle.ber_pull.specs.Fields.{Inside, read_begin}
+use Rattle.ber_pull.specs.Fields.{Inside}
 use Rattle.ber_pull.specs.Standing.{enclosing, opening, used}
 use Rattle.asn_values.proofs.Answering.{fine_still, given_still, unmoved_answers}
 use Rattle.asn_values.specs.Fields.{next_of}

@@ -1,12 +1,9 @@
-use Rattle.std.proofs.Common.{rules, arith, ◌≡◌, ℕ, Bool, true, false, List, [], ◌∷◌, Option, Some, None, Ok, Err, IfOk, IsSome, refl, sym, ap, subst, ◌∙◌}
+use Rattle.std.proofs.Common.{sym, ap, ◌∙◌}
 use Rattle.x690.specs.Points.{fault}
-use Rattle.x690.specs.Reading.{Done}
-use Rattle.tlv_core.specs.declared.reason.Reason.TheVariants.{Extra, Missing, WrongTag}
-use Rattle.ber_pull.specs.Hears.{next_at}
-use Rattle.ber_pull.proofs.Hearing.{hears_as, hears_at, hears_done, hears_err, hears_error, hears_said, hears_stop, hears_then}
-use Rattle.ber_pull.proofs.Fields.{begin_in, begin_wrong, end_extra, end_here, optional_absent, optional_other, optional_read}
-use Rattle.ber_pull.proofs.Insides.{inside_given, leaves, left_here, next_inside, opens_within, stands_none, stands_some, used_within, within_next, within_none}
-use Rattle.asn_values.specs.Fields.{next_of}
+use Rattle.tlv_core.specs.declared.reason.Reason.TheVariants.{Extra}
+use Rattle.ber_pull.proofs.Hearing.{hears_stop}
+use Rattle.ber_pull.proofs.Fields.{end_extra, end_here}
+use Rattle.ber_pull.proofs.Insides.{left_here, stands_none}
 use Rattle.asn_values.proofs.fields.end.Goals as goal
 
 pub returns-then-is_some-clause-reads : goal.returns-then-is_some-clause-reads

@@ -1,15 +1,11 @@
-use Rattle.std.proofs.Common.{rules, arith, ◌≡◌, ℕ, Bool, true, false, List, [], ◌∷◌, Option, Some, None, Ok, Err, IfOk, IsSome, refl, sym, ap, subst, ◌∙◌}
+use Rattle.std.proofs.Common.{rules, Bool, Some, None, sym, subst, ◌∙◌}
 use Rattle.tlv_core.specs.Identifier.{Tag}
-use Rattle.x690.specs.Points.{fault}
-use Rattle.x690.specs.Reading.{Done}
-use Rattle.tlv_core.specs.declared.reason.Reason.TheVariants.{Extra, Missing, WrongTag}
 use Rattle.ber_pull.specs.Hears.{next_at}
-use Rattle.ber_pull.proofs.Hearing.{hears_done, hears_error, hears_stop, hears_then}
-use Rattle.ber_pull.proofs.Fields.{begin_in, begin_wrong, end_extra, end_here, optional_absent, optional_other, optional_read}
+use Rattle.ber_pull.proofs.Hearing.{hears_done, hears_error, hears_then}
+use Rattle.ber_pull.proofs.Fields.{optional_absent, optional_other, optional_read}
 use Rattle.ber_pull.proofs.Insides.{field_as, field_given, stands_some, used_within}
 use Rattle.std.specs.Option.{option_map}
-use Rattle.x690.specs.Values.{Same}
-use Rattle.ber_pull.specs.Fields.{read_due, read_optional}
+use Rattle.ber_pull.specs.Fields.{read_optional}
 use Rattle.ber_pull.specs.declared.state.Given.{Given}
 use Rattle.asn_values.specs.Fields.{SameField, next_of}
 use Rattle.ber_pull.specs.Fields.{BeginsBefore}

@@ -1,13 +1,12 @@
-use Rattle.std.proofs.Common.{Bool, [], ap, length, subst, sym, ◌<◌, ◌^◌, ◌∙◌, ◌≡◌}
+use Rattle.std.proofs.Common.{Bool, ap, length, subst, sym, ◌<◌, ◌^◌, ◌∙◌}
 use Rattle.x690.specs.DerTexts.{der}
-use Rattle.ber_pull.specs.Standing.{enclosing}
 use Rattle.tlv_core.specs.Identifier.{Tag}
 use Rattle.x690.specs.Points.{fault}
 use Rattle.tlv_core.specs.declared.reason.Reason.TheVariants.{Missing, WrongTag}
 use Rattle.ber_pull.specs.Hears.{next_at}
 use Rattle.ber_pull.proofs.Hearing.{hears_stop}
 use Rattle.ber_pull.proofs.Fields.{take_missing, take_read, take_wrong}
-use Rattle.ber_pull.proofs.Insides.{field_as, field_given, stands_some, used_within}
+use Rattle.ber_pull.proofs.Insides.{field_as, field_given}
 use Rattle.ber_pull.specs.declared.state.Given.{Given}
 use Rattle.asn_values.specs.Fields.{next_of}
 use Rattle.ber_pull.specs.Fields.{BeginsBefore}
