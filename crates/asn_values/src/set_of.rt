@@ -1,6 +1,6 @@
 //! SET OF (X.690 8.12, 11.6).
 ghost use Rattle.x690_laws.proofs.OneTexts.{set_one_text};
-ghost use Rattle.std.specs.Prelude.{◌≡◌, ◌↔◌, ◌+◌, ◌<◌, ◌^◌, Err, IfErr, IfOk, None, Some, IsSome, OnOk, IsPermutation, IsTrue, length, map, slice_get, true};
+ghost use Rattle.std.specs.Prelude.{◌≡◌, ◌↔◌, ◌+◌, ◌<◌, ◌≤◌, ◌^◌, Err, IfErr, IfOk, None, Some, IsSome, OnOk, IsPermutation, IsTrue, length, map, slice_get, true};
 ghost use Rattle.std.specs.Option.{option_map};
 ghost use Rattle.tlv_core.specs.Sinks.{count, Puts};
 ghost use Rattle.ber_pull.proofs.Fields.{set_of_closed};
@@ -175,6 +175,7 @@ impl<T: Element> SetOf<T> {
         ensures same_source { SameSource pull.old pull.new }
         ensures repeats { Repeats pull.old pull.new result }
         ensures reads { (g : Given) → (standing pull.old).error ≡ None → (standing pull.old).given ≡ Some g → AnswersValue pull.old pull.new (read_given (SetOfType (universal 17) 1 T.type_term) (standing pull.old) g) (λ set. SetValue (universal 17) (values_of (map T.value (set_items set)))) result }
+        ensures some { IfOk result (λ set. 0 < length (set_items set)) }
         ensures stands { OnOk result (Uses pull.old pull.new) }
         ensures keeps { Keeps pull.new result }
         ensures read { ReadsFail pull.old pull.new result }
@@ -194,6 +195,7 @@ impl<T: Element> SetOf<T> {
         ensures same_source { SameSource pull.old pull.new }
         ensures repeats { Repeats pull.old pull.new result }
         ensures reads { (g : Given) → (standing pull.old).error ≡ None → (standing pull.old).given ≡ Some g → AnswersValue pull.old pull.new (read_given (SetOfType tag least T.type_term) (standing pull.old) g) (λ set. SetValue tag (values_of (map T.value (set_items set)))) result }
+        ensures least { IfOk result (λ set. least ≤ length (set_items set)) }
         ensures stands { OnOk result (Uses pull.old pull.new) }
         ensures keeps { Keeps pull.new result }
         ensures read { ReadsFail pull.old pull.new result }

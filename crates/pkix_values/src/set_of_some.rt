@@ -1,5 +1,5 @@
 //! SET OF with at least one member (X.680 28, with SIZE (1..MAX)).
-ghost use Rattle.std.specs.Prelude.{◌≡◌, ◌↔◌, IsTrue, map};
+ghost use Rattle.std.specs.Prelude.{◌≡◌, ◌↔◌, ◌<◌, IsTrue, length, map};
 ghost use Rattle.x690.specs.DocumentTypes.{set_of_some};
 ghost use Rattle.x690.specs.Layouts.{universal};
 ghost use Rattle.x690.specs.Values.{Same, SetOf as SetValue, values_of};
@@ -22,12 +22,14 @@ use tlv_core::target::Target;
 #[derive(Drop)]
 pub struct SetOfSome<T: DerText> {
     items: SetOf<T>,
+    ghost some: { 0 < length (set_items items) },
 }
 
 impl<T: DerText> SetOfSome<T> {
     /// The members.
     pub fn items(&self) -> &SetOf<T>
-        ensures { result.now ≡ self.now.items }
+        ensures value { result.now ≡ self.now.items }
+        ensures some { 0 < length (set_items result.now) }
     {
         &self.items
     }

@@ -15,7 +15,7 @@ use Rattle.asn_values.proofs.Answering.{fine_still, given_still, refused_by, unm
 use Rattle.asn_values.proofs.PairedMembers.{same_sets}
 use Rattle.asn_values.proofs.SameMembers.{each_length}
 use Rattle.asn_values.proofs.ContainerTexts.{texts_permuted}
-use Rattle.std.proofs.lemmas.List.Sorted.{IsPermutation-map}
+use Rattle.std.proofs.lemmas.List.Sorted.{IsPermutation-map, length_permutation}
 use Rattle.asn_values.proofs.TypeReadings.{set_of, set_type_is}
 use Rattle.asn_values.proofs.set_of.SetOf.read_set.Goals as goal
 
@@ -122,3 +122,10 @@ returns-clause-reads g c = λ given fine is.
           (hears_as _ _ _ _ _ _ _ (set_type_is own least type s given) (hears_on _ _ _ _ _ _ _ _ ok.1
           (hears_then (read_given_members type s given) (set_of own least given.at) (ended read.0 c.in_ok-items._end) _ _ _ _ _ _ _ (unmoved_answers (λ z. read_given_members type z given) c.args.pull.now c.expect_tag.new.pull c.read_members.new.pull _ still read.2) (hears_on _ _ _ _ _ _ _ _ enough (hears_done _ _ _))))),
     )
+
+pub returns-clause-least : goal.returns-clause-least
+returns-clause-least g c =
+    let enough : c.args.least ≤ length c.in_ok-items.items.items = search rules in
+    let sorted = length_permutation _ _ c.in_ok-sorted.ensures.same in
+    let row = ap (λ v. length v.items) c.in_ok-row.ensures.made in
+    subst (λ n. c.args.least ≤ n) (sym (row ∙ sorted)) enough
