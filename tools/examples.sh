@@ -28,6 +28,13 @@ done < "$here/answers.tsv"
 if [ $? = 3 ] && [ "$(cat "$dir/err")" = "write failed after 0" ]; then passed=$((passed + 1)); else failed=$((failed + 1)); echo "a full device"; fi
 "$program" normalise --kind key < "$here" > "$dir/out" 2> "$dir/err"
 if [ $? = 3 ] && [ ! -s "$dir/out" ] && [ "$(cat "$dir/err")" = "read failed at 0" ]; then passed=$((passed + 1)); else failed=$((failed + 1)); echo "a reader that fails"; fi
+# a public key of 65,536 octets in the indefinite form: its text has one octet more than it has
+{ printf '\060\200\060\005\006\003\052\003\004\003\203\001\000\001\000'; head -c 65536 /dev/zero; printf '\000\000'; } > "$dir/long"
+{ printf '\060\203\001\000\015\060\005\006\003\052\003\004\003\203\001\000\001\000'; head -c 65536 /dev/zero; } > "$dir/due"
+"$program" normalise --kind public --octets 65554 < "$dir/long" > "$dir/out" 2> "$dir/err"
+if [ $? = 0 ] && cmp -s "$dir/out" "$dir/due" && [ ! -s "$dir/err" ]; then passed=$((passed + 1)); else failed=$((failed + 1)); echo "a long key"; fi
+"$program" normalise --kind public --octets 65553 < "$dir/long" > "$dir/out" 2> "$dir/err"
+if [ $? = 2 ] && [ ! -s "$dir/out" ] && [ "$(cat "$dir/err")" = "fault at 0: TextTooLong" ]; then passed=$((passed + 1)); else failed=$((failed + 1)); echo "a long key and its limit"; fi
 "$program" > "$dir/out" 2> "$dir/err"
 if [ $? = 4 ] && [ ! -s "$dir/out" ] && [ -s "$dir/err" ]; then passed=$((passed + 1)); else failed=$((failed + 1)); echo "no words"; fi
 "$program" normalise --help > "$dir/out" 2> "$dir/err"
