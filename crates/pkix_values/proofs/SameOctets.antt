@@ -1,5 +1,5 @@
 -- The test on octets.
-use Rattle.std.proofs.Common.{◌≡◌, ◌↔◌, IsTrue, Bool, List, ℕ, true, refl, subst, sym, ◌∙◌, ap}
+use Rattle.std.proofs.Common.{◌≡◌, ◌↔◌, IsTrue, Bool, List, ℕ, true, subst}
 use Rattle.x690.specs.Lists.{same_octets}
 use Rattle.x690_laws.proofs.Soundness.{equal_octets, octets_equal}
 use Rattle.asn_values.proofs.Answering.{both_ways}

@@ -1,10 +1,8 @@
-use Rattle.std.proofs.Common.{rules, ◌≡◌, ◌∙◌, ap, ◌∷◌, []}
-use Rattle.std.specs.Option.{option_map}
+use Rattle.std.proofs.Common.{rules, ◌≡◌, ◌∙◌, ap, []}
 use Rattle.tlv_core.specs.declared.fault.ReadError.TheVariants as errors
 use Rattle.tlv_core.specs.declared.reason.Reason.TheVariants.{Parameters}
 use Rattle.x690.specs.DocumentTypes.{AlgorithmIdentifier}
 use Rattle.x690.specs.Points.{fault}
-use Rattle.x690.specs.Rules.{parameters_rule}
 use Rattle.ber_pull.proofs.Fields.{rule_holds, rule_refuses, ruled, ruled_error}
 use Rattle.asn_values.proofs.Answering.{place_given, refused_by, value_err}
 use Rattle.asn_values.specs.Reading.{read_given}

@@ -1,4 +1,4 @@
-use Rattle.std.proofs.Common.{rules, ◌∷◌, []}
+use Rattle.std.proofs.Common.{rules, []}
 use Rattle.x690.specs.DocumentTypes.{NameItem}
 use Rattle.asn_values.proofs.Answering.{value_err}
 use Rattle.asn_values.specs.Reading.{read_given}
