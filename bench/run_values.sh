@@ -10,4 +10,5 @@ cc -O2 -Wall -c -o "$here/out/openssl_set.o" "$here/openssl_set.c"
 rustc --edition 2024 -O -C codegen-units=1 -o "$here/out/values" "$here/values.rs" \
     -L "$crate/out" -l static=asn_values_bench -L "$kit/c" -l static=libc_c -l crypto -C link-arg="$here/out/openssl_set.o" \
     -C link-arg=-Wl,--wrap=malloc,--wrap=realloc,--wrap=free
-"$here/out/values"
+# malloc keeps what is freed: else pages that are mapped anew in each run take as long as the reading of great documents.
+MALLOC_TRIM_THRESHOLD_=1000000000 MALLOC_MMAP_THRESHOLD_=1000000000 "$here/out/values" "$@"

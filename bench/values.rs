@@ -1,8 +1,7 @@
 // Values of asn_values read from octets in memory and their texts written: how long it takes, how that grows with the document,
-// and how much memory is taken for each octet. Figures of time are the least of many runs.
+// and how much memory is taken for each octet. Times are the least of many runs, in time of the processor, since machines are shared.
 // `values` runs all; `values NAME` runs the rows whose name begins so, for a profiler.
 use std::hint::black_box;
-use std::time::Instant;
 
 unsafe extern "C" {
     fn asn_values_bench_any(src: *const u8, len: usize, text: *mut u8, room: usize) -> u64;
@@ -12,6 +11,7 @@ unsafe extern "C" {
     fn openssl_set(src: *const u8, len: usize, text: *mut u8) -> u64;
     fn count_memory();
     fn most_memory() -> usize;
+    fn processor_seconds() -> f64;
 }
 
 type Call = unsafe extern "C" fn(*const u8, usize, *mut u8, usize) -> u64;
@@ -72,14 +72,15 @@ fn measure(call: Call, given: &[u8], due: Option<&[u8]>) -> (f64, f64) {
     unsafe { count_memory() };
     let length = run();
     let memory = unsafe { most_memory() } as f64 / given.len() as f64;
-    let (mut least, begin) = (f64::MAX, Instant::now());
+    let seconds = || unsafe { processor_seconds() };
+    let (mut least, begin) = (f64::MAX, seconds());
     for runs in 0..200 {
-        if runs > 10 && begin.elapsed().as_secs_f64() > 3.0 {
+        if runs > 10 && seconds() - begin > 1.0 {
             break;
         }
-        let start = Instant::now();
+        let start = seconds();
         black_box(run());
-        least = least.min(start.elapsed().as_secs_f64() * 1e3);
+        least = least.min((seconds() - start) * 1e3);
     }
     match due {
         Some(due) => assert!(text[..length] == *due),
