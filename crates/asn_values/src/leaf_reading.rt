@@ -60,6 +60,7 @@ pub fn expect_tag<R: Source>(pull: &mut Pull<'_, R>, own: Tag) -> Result<u64, Re
 }
 
 /// Whether the octets are the contents of a primitive leaf of the kind.
+#[inline(always)]
 fn is_contents(kind: Kind, contents: &[u8]) -> bool
     requires { reading.segment_tag (kind_of kind) ≡ None }
     ensures { result ≡ reading.is_contents (kind_of kind) contents.now }
@@ -99,6 +100,7 @@ fn der_contents(kind: Kind, mut contents: Vec<u8>) -> Vec<u8>
 }
 
 /// The DER contents of the leaf that is given, of a kind that is always primitive.
+#[inline(always)]
 fn read_primitive_leaf<R: Source>(
     alloc: Global,
     pull: &mut Pull<'_, R>,
@@ -174,6 +176,7 @@ fn read_octets_leaf<R: Source>(
 }
 
 /// The DER contents of the leaf that is given, whatever its tag.
+#[inline(always)]
 pub fn read_leaf<R: Source>(
     alloc: Global,
     pull: &mut Pull<'_, R>,

@@ -29,6 +29,7 @@ use tlv_core::source::Source;
 use tlv_core::tag::Tag;
 
 /// The place, the tag and the form of the element that is given.
+#[inline(always)]
 fn given<R: Source>(pull: &mut Pull<'_, R>) -> Result<(u64, Tag, bool), ReadError>
     requires { (standing pull.old).error ≡ None → IsSome (standing pull.old).given }
     ensures same_source { SameSource pull.old pull.new }
@@ -49,6 +50,7 @@ fn given<R: Source>(pull: &mut Pull<'_, R>) -> Result<(u64, Tag, bool), ReadErro
 }
 
 /// Header and contents behind what is there.
+#[inline(always)]
 fn push_element(
     text: &mut Vec<u8>,
     tag: Tag,
@@ -62,6 +64,7 @@ fn push_element(
 }
 
 /// Header and contents behind what is there; the reader fails where it finds no memory.
+#[inline(always)]
 fn append_element<R: Source>(
     pull: &mut Pull<'_, R>,
     text: &mut Vec<u8>,
@@ -85,6 +88,7 @@ fn append_element<R: Source>(
 }
 
 /// The DER contents of the leaf that is given, whatever its tag; of a form that has no kind its octets as they are.
+#[inline(always)]
 fn read_contents<R: Source>(
     alloc: Global,
     pull: &mut Pull<'_, R>,
@@ -130,6 +134,7 @@ fn read_identifier_contents<R: Source>(
 }
 
 /// Appends the text of the leaf that is given.
+#[inline(always)]
 fn append_leaf<R: Source>(
     alloc: Global,
     pull: &mut Pull<'_, R>,

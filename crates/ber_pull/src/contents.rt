@@ -1,5 +1,5 @@
 //! Contents octets, in pieces into a buffer that grows with what came.
-ghost use Rattle.std.specs.Prelude.{◌≡◌, ◌<◌, ◌≤◌, ◌+◌, ◌-◌, None, Some, IfOk, IfSome, IsSome, OnOk, length};
+ghost use Rattle.std.specs.Prelude.{◌≡◌, ◌<◌, ◌≤◌, ◌+◌, ◌-◌, ℕ, None, Some, IfOk, IfSome, IsSome, OnOk, length};
 ghost use Rattle.x690.specs.ReadHeaders.{next_octets, primitive_contents};
 ghost use Rattle.ber_pull.specs.Calls.{read_primitive};
 ghost use Rattle.ber_pull.specs.Hears.{heard};
@@ -14,6 +14,9 @@ use tlv_core::source::{Failed, Source};
 
 /// How many octets are asked for at once, at most.
 const PIECE: usize = 1024;
+
+/// Pieces of no more than this get a room of their own, since clearing the great one takes longer than reading them.
+const SHORT: usize = 32;
 
 impl<R: Source> Pull<'_, R> {
     ghost use Rattle.ber_pull.specs.View.{standing, SameSource, Repeats, Keeps, ReadsFail, Onward, Answers, Moves, Uses};
@@ -92,9 +95,28 @@ impl<R: Source> Pull<'_, R> {
         ensures read { ReadsFail self.old self.new result }
         ensures onward { Onward self.old self.new }
     {
+        if most <= SHORT {
+            let mut room = [0u8; SHORT];
+            return self.fill(octets, &mut room[..most]);
+        }
         let mut room = [0u8; PIECE];
         let size = most.min(PIECE);
-        match self.src.read(&mut room[..size]) {
+        self.fill(octets, &mut room[..size])
+    }
+
+    /// Some of the next octets, at least one and at most as many as the room, behind those that came before.
+    fn fill(&mut self, octets: &mut Vec<u8>, room: &mut [u8]) -> Result<(), ReadError>
+        requires live { (standing self.old).error ≡ None }
+        requires some { 0 < length room.old }
+        requires short { length room.old ≤ 1024 }
+        requires within { (standing self.old).taken + length room.old ≤ (standing self.old).limits.octets }
+        ensures same_source { SameSource self.old self.new }
+        ensures adds { (most : ℕ) → length room.old ≤ most → AddsPiece self.old self.new octets.old.items octets.new.items most result }
+        ensures stands { Moves self.old self.new result }
+        ensures read { ReadsFail self.old self.new result }
+        ensures onward { Onward self.old self.new }
+    {
+        match self.src.read(room) {
             Ok(0) => {
                 let at = self.state.taken();
                 Err(self.stop(at, Reason::Truncated))
