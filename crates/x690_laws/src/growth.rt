@@ -5,7 +5,7 @@
 //! what makes up for it are the identifier and length octets that are there anyway. So no bound on the depth or on the nesting of octet strings is needed.
 ghost use Rattle.x690_laws.specs.GrowthLaws.{Growth, GrowthByHalf, GrowthByTwo, HalfIsReached, ReadTexts, TakenTexts};
 
-/// Where fewer than 2^31 octets lay out a tree of a type that says a value, the DER text of the value is at most 5 times as long as they are.
+/// Where fewer than 2^60 octets lay out a tree of a type that says a value, the DER text of the value is at most 5 times as long as they are.
 pub fn the_text_is_at_most_five_times_as_long()
     ensures { Growth }
 {}
