@@ -6,6 +6,7 @@ cd "$(dirname "$0")/.."
 (cd crates/pkder && rt run -- normalise --kind key < ../../examples/smallest.der > /dev/null)
 sh tools/examples.sh crates/pkder/out/pkder
 sh tools/refuse_each_allocation.sh crates/pkder/out/pkder examples/long-lengths.der normalise --kind key
+sh tools/refuse_each_allocation.sh crates/pkder/out/pkder examples/public-indefinite.der normalise --kind public
 log=$(mktemp)
 trap 'rm -f "$log"' EXIT
 rt ci | tee "$log"
