@@ -1,9 +1,9 @@
 mod public_keys;
 
-use crate::tests::public_keys::PUBLIC_ROWS;
 use crate::line::{Action, LineFault, Task, task_of};
 use crate::outcome::{Outcome, outcome_text, status};
 use crate::run::run;
+use crate::tests::public_keys::PUBLIC_ROWS;
 use pk_documents::normalise::{Kind, NormaliseError, normalise};
 use std::alloc::Global;
 use std::test::Fail;
