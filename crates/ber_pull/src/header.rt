@@ -87,7 +87,7 @@ impl<R: Source> Pull<'_, R> {
     }
 
     /// The number of the tag whose first octet is taken.
-    #[inline]
+    #[inline(always)]
     pub(crate) fn tag_number(&mut self, start: u32, first: u8) -> Result<u32, ReadError>
         requires { (standing self.old).error ≡ None }
         ensures same_source { SameSource self.old self.new }
@@ -107,6 +107,7 @@ impl<R: Source> Pull<'_, R> {
     }
 
     /// A tag number of 31 or more, in base 128.
+    #[cold]
     fn high_tag_number(&mut self, start: u32) -> Result<u32, ReadError>
         requires { (standing self.old).error ≡ None }
         ensures same_source { SameSource self.old self.new }
@@ -159,6 +160,7 @@ impl<R: Source> Pull<'_, R> {
     }
 
     /// The length of a primitive element.
+    #[inline(always)]
     pub(crate) fn definite_length(&mut self, start: u32) -> Result<u32, ReadError>
         requires { (standing self.old).error ≡ None }
         ensures same_source { SameSource self.old self.new }
@@ -177,7 +179,7 @@ impl<R: Source> Pull<'_, R> {
     }
 
     /// The number of contents octets, behind the first length octet.
-    #[inline]
+    #[inline(always)]
     fn number(&mut self, start: u32, first: u8) -> Result<u32, ReadError>
         requires { (standing self.old).error ≡ None }
         ensures same_source { SameSource self.old self.new }
@@ -196,6 +198,7 @@ impl<R: Source> Pull<'_, R> {
     }
 
     /// The number of `count` big-endian octets, or some number of 2^32 or more in place of one.
+    #[cold]
     fn big_endian(&mut self, start: u32, count: u8) -> Result<u64, ReadError>
         requires { (standing self.old).error ≡ None }
         ensures same_source { SameSource self.old self.new }
@@ -215,6 +218,7 @@ impl<R: Source> Pull<'_, R> {
     }
 
     /// The number, where so many octets from here on stay within the container and the limit.
+    #[inline(always)]
     fn fit(&mut self, start: u32, number: u64) -> Result<u32, ReadError>
         requires live { (standing self.old).error ≡ None }
         requires below { number < 2 ^ 40 }

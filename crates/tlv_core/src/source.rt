@@ -37,6 +37,11 @@ impl Source for &[u8] {
     ghost has_failed = { λ _. false };
 
     fn read(&mut self, room: &mut [u8]) -> Result<usize, Failed> {
+        if room.len() == 1 && !self.is_empty() {
+            room[0] = self[0];
+            *self = &self[1..];
+            return Ok(1);
+        }
         match Read::read(self, room) {
             Ok(count) => Ok(count),
             Err(_) => unreachable!(),
