@@ -35,6 +35,22 @@ impl<R: Source> Pull<'_, R> {
         ensures read { ReadsFail self.old self.new result }
         ensures onward { Onward self.old self.new }
     {
+        let mut octets = Vec::new(alloc);
+        self.primitive_into(&mut octets)?;
+        Ok(octets)
+    }
+
+    /// The same, in place of what the vector holds: its room is used again, so that many small elements need no allocation each.
+    pub fn primitive_into(&mut self, octets: &mut Vec<u8>) -> Result<(), ReadError>
+        requires { (standing self.old).error ≡ None → IsSome (standing self.old).given }
+        ensures same_source { SameSource self.old self.new }
+        ensures repeats { Repeats self.old self.new result }
+        ensures reads { (g : Given) → (standing self.old).error ≡ None → (standing self.old).given ≡ Some g → Answers self.old self.new (read_primitive (standing self.old) g) (heard (λ _. octets.new.items) result) }
+        ensures stands { OnOk result (Uses self.old self.new) }
+        ensures keeps { Keeps self.new result }
+        ensures read { ReadsFail self.old self.new result }
+        ensures onward { Onward self.old self.new }
+    {
         if let Some(error) = self.state.error() {
             return Err(error);
         }
@@ -42,46 +58,46 @@ impl<R: Source> Pull<'_, R> {
         if given.constructed {
             return Err(self.stop(given.at, Reason::WrongForm));
         }
-        self.primitive_contents(alloc, given.at)
+        self.primitive_contents(octets, given.at)
     }
 
     /// The length and the contents of the primitive element whose identifier at `start` is given.
     pub(crate) fn primitive_contents(
         &mut self,
-        alloc: Global,
+        octets: &mut Vec<u8>,
         start: u32,
-    ) -> Result<Vec<u8>, ReadError>
+    ) -> Result<(), ReadError>
         requires { (standing self.old).error ≡ None }
         ensures same_source { SameSource self.old self.new }
-        ensures reads { Answers self.old self.new (primitive_contents (standing self.old).limits (enclosing (standing self.old)) start) (heard (λ v. v.items) result) }
+        ensures reads { Answers self.old self.new (primitive_contents (standing self.old).limits (enclosing (standing self.old)) start) (heard (λ _. octets.new.items) result) }
         ensures stands { OnOk result (Uses self.old self.new) }
         ensures keeps { Keeps self.new result }
         ensures read { ReadsFail self.old self.new result }
         ensures onward { Onward self.old self.new }
     {
         let count = self.definite_length(start)?;
-        let octets = self.contents(alloc, count)?;
+        self.contents(octets, count)?;
         self.state.use_given();
-        Ok(octets)
+        Ok(())
     }
 
-    /// The next `count` octets.
-    fn contents(&mut self, alloc: Global, count: u32) -> Result<Vec<u8>, ReadError>
+    /// The next `count` octets, in place of what the vector holds.
+    fn contents(&mut self, octets: &mut Vec<u8>, count: u32) -> Result<(), ReadError>
         requires live { (standing self.old).error ≡ None }
         requires within { (standing self.old).taken + count ≤ (standing self.old).limits.octets }
         ensures same_source { SameSource self.old self.new }
-        ensures reads { Answers self.old self.new (next_octets count) (heard (λ v. v.items) result) }
+        ensures reads { Answers self.old self.new (next_octets count) (heard (λ _. octets.new.items) result) }
         ensures stands { Moves self.old self.new result }
         ensures read { ReadsFail self.old self.new result }
         ensures onward { Onward self.old self.new }
     {
         let size = count as usize;
-        let mut octets = Vec::new(alloc);
+        octets.clear();
         while octets.len() < size {
             let left = size - octets.len();
-            self.piece(&mut octets, left)?;
+            self.piece(octets, left)?;
         }
-        Ok(octets)
+        Ok(())
     }
 
     /// Some of the next `most` octets, at least one, behind those that came before.

@@ -232,7 +232,8 @@ impl<R: Source> Pull<'_, R> {
         ensures read { ReadsFail self.old self.new result }
         ensures onward { Onward self.old self.new }
     {
-        let contents = self.primitive_contents(alloc, start)?;
+        let mut contents = Vec::new(alloc);
+        self.primitive_contents(&mut contents, start)?;
         if !joined.may_follow(&contents) {
             return Err(self.stop(start, Reason::BadBits));
         }

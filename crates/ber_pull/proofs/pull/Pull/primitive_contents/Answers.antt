@@ -8,14 +8,14 @@ unfolding primitive_contents
 returns-in_err-count-clause-reads g c =
     hears_err _ _ c.from_residual.result c.in_err-count.field-0.0 _ _ _ _ (search rules) (hears_error _ _ _ _ _ _ _ c.in_err-count.ensures.reads)
 
-pub returns-in_err-octets-clause-reads : goal.returns-in_err-octets-clause-reads
+pub returns-in_err-contents-clause-reads : goal.returns-in_err-contents-clause-reads
 unfolding primitive_contents
-returns-in_err-octets-clause-reads g c =
-    hears_err _ _ c.from_residual-in_err-octets.result c.in_err-octets.field-0.0 _ _ _ _ (search rules)
-    (hears_then _ _ c.in_ok-count.count _ _ _ _ _ _ _ c.in_ok-count.ensures.reads c.in_err-octets.ensures.reads)
+returns-in_err-contents-clause-reads g c =
+    hears_err _ _ c.from_residual-in_err-contents.result c.in_err-contents.field-0.0 _ _ _ _ (search rules)
+    (hears_then _ _ c.in_ok-count.count _ _ _ _ _ _ _ c.in_ok-count.ensures.reads c.in_err-contents.ensures.reads)
 
 pub returns-clause-reads : goal.returns-clause-reads
 unfolding primitive_contents
 returns-clause-reads g c =
     hears_at _ _ _ _ _ _ _ _ (ap (λ s. s.taken) c.use_given.ensures) refl
-    (hears_then _ _ c.in_ok-count.count _ _ _ _ _ _ _ c.in_ok-count.ensures.reads c.in_ok-octets.ensures.reads)
+    (hears_then _ _ c.in_ok-count.count _ _ _ _ _ _ _ c.in_ok-count.ensures.reads c.in_ok-contents.ensures.reads)

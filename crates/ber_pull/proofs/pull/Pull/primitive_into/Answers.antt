@@ -7,7 +7,7 @@ use Rattle.ber_pull.proofs.Hearing.{hears_as, hears_off, hears_on, hears_stop}
 use Rattle.std.proofs.Common.{not}
 use Rattle.x690.specs.ReadHeaders.{primitive_contents}
 use Rattle.ber_pull.specs.Calls.{read_primitive}
-use Rattle.ber_pull.proofs.pull.Pull.primitive.Goals as goal
+use Rattle.ber_pull.proofs.pull.Pull.primitive_into.Goals as goal
 
 pub returns-then-given-clause-reads : goal.returns-then-given-clause-reads
 unfolding read_primitive
