@@ -33,9 +33,9 @@ use Rattle.asn_values.specs.declared.open_form.OpenForm.TheVariants as coded
 use Rattle.asn_values.proofs.Answering.{fine_still, given_still, refused_by, unmoved_answers}
 
 -- the octets of a primitive element, as a leaf
-pub hears_octets : (own : Tag) (p : Reading (List ℕ)) (r : Result (Vec ℕ Global) ReadError) (k i : ℕ) (s u : Option (List ℕ)) → Hears p k s (heard (λ v. v.items) r) i u → Hears (p >>= λ o. Done (Leaf own o)) k s (heard (λ v. Leaf own v.items) r) i u
-hears_octets own p (Ok v) k i s u x = hears_then p (λ o. Done (Leaf own o)) v.items _ _ _ _ _ _ _ x (hears_done _ _ _)
-hears_octets own p (Err e) k i s u x = hears_error p (λ o. Done (Leaf own o)) e _ _ _ _ x
+pub hears_octets : (own : Tag) (p : Reading (List ℕ)) (contents : List ℕ) (r : Result (Unit {0}) ReadError) (k i : ℕ) (s u : Option (List ℕ)) → Hears p k s (heard (λ _. contents) r) i u → Hears (p >>= λ o. Done (Leaf own o)) k s (heard (λ _. Leaf own contents) r) i u
+hears_octets own p contents (Ok v) k i s u x = hears_then p (λ o. Done (Leaf own o)) contents _ _ _ _ _ _ _ x (hears_done _ _ _)
+hears_octets own p contents (Err e) k i s u x = hears_error p (λ o. Done (Leaf own o)) e _ _ _ _ x
 
 -- Texts behind what is there.
 

@@ -1,5 +1,5 @@
 -- What readers of open values append, by the plain reading at their point.
-use Rattle.std.specs.Prelude.{Bool, List, MatchResult, Result, false, true, ℕ, ◌++◌, ◌≡◌}
+use Rattle.std.specs.Prelude.{Bool, IfSome, List, MatchResult, Result, false, true, ℕ, ◌++◌, ◌≡◌}
 use Rattle.tlv_core.specs.Identifier.{Tag}
 use Rattle.tlv_core.specs.declared.fault.ReadError.{ReadError}
 use Rattle.tlv_core.specs.declared.source.Source.{Ghosts}
@@ -13,7 +13,7 @@ use Rattle.x690.specs.Reads.{Said}
 use Rattle.x690.specs.Values.{Leaf, Sequence, SetOf, Value, Values, values_of}
 use Rattle.ber_pull.specs.Calls.{read_primitive}
 use Rattle.ber_pull.specs.Hears.{heard_error}
-use Rattle.ber_pull.specs.Standing.{Standing, enclosing}
+use Rattle.ber_pull.specs.Standing.{IsGiven, Standing, enclosing}
 use Rattle.ber_pull.specs.View.{Answers}
 use Rattle.ber_pull.specs.declared.pull.Pull.{Pull}
 use Rattle.ber_pull.specs.declared.state.Given.{Given}
@@ -29,6 +29,10 @@ form_of coded.Sequence = forms.OpenSequence
 form_of coded.SetOf = forms.OpenSetOf
 form_of coded.Plain = forms.OpenPlain
 form_of coded.Refused = forms.OpenRefused
+
+-- an identifier of this tag and form is given
+abbrev pub IsNext : Tag → Bool → Standing → Type 0
+IsNext tag constructed s = IsGiven tag s × IfSome s.given (λ g. (g.tag ≡ tag) × (g.constructed ≡ constructed))
 
 -- the octets of the primitive element that is given, as they are
 abbrev pub read_given_octets : Tag → Standing → Given → Reading Value

@@ -90,7 +90,7 @@ impl Element for Any {
     }
 
     fn read<R: Source>(alloc: Global, pull: &mut Pull<'_, R>) -> Result<Any, ReadError> {
-        let Some((tag, _)) = pull.next_tag()? else {
+        let Some((tag, constructed)) = pull.next_tag()? else {
             unreachable!()
         };
         if is_same_tag(universal_tag(6), tag) {
@@ -103,8 +103,9 @@ impl Element for Any {
                 Err(_) => Err(pull.no_memory()),
             };
         }
+        let mut room = Vec::new(alloc);
         let mut text = Vec::new(alloc);
-        append_open(alloc, pull, &mut text)?;
+        append_open(alloc, pull, &mut room, &mut text, tag, constructed)?;
         Ok(Any { text, oid: None })
     }
 }

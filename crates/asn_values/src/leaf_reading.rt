@@ -87,42 +87,42 @@ fn bad_contents(kind: Kind) -> Reason
     }
 }
 
-/// The contents in DER: TRUE is FF (X.690 11.1).
-fn der_contents(kind: Kind, mut contents: Vec<u8>) -> Vec<u8>
+/// Makes the contents those of DER: TRUE is FF (X.690 11.1).
+fn make_der(kind: Kind, contents: &mut Vec<u8>)
     requires primitive { reading.segment_tag (kind_of kind) ≡ None }
-    requires fit { reading.is_contents (kind_of kind) contents.items ≡ true }
-    ensures { result.items ≡ reading.der_contents (kind_of kind) contents.items }
+    requires fit { reading.is_contents (kind_of kind) contents.old.items ≡ true }
+    ensures { contents.new.items ≡ reading.der_contents (kind_of kind) contents.old.items }
 {
     if matches!(kind, Kind::Boolean) && contents[0] != 0 {
         contents[0] = 255;
     }
-    contents
 }
 
-/// The DER contents of the leaf that is given, of a kind that is always primitive.
+/// The DER contents of the leaf that is given, of a kind that is always primitive, in place of what the vector holds.
 #[inline(always)]
 fn read_primitive_leaf<R: Source>(
-    alloc: Global,
     pull: &mut Pull<'_, R>,
     kind: Kind,
-) -> Result<Vec<u8>, ReadError>
+    contents: &mut Vec<u8>,
+) -> Result<(), ReadError>
     requires primitive { reading.segment_tag (kind_of kind) ≡ None }
     requires given { (standing pull.old).error ≡ None → IsSome (standing pull.old).given }
     ensures same_source { SameSource pull.old pull.new }
     ensures repeats { Repeats pull.old pull.new result }
-    ensures reads { (own : Identified) (g : Given) → (standing pull.old).error ≡ None → (standing pull.old).given ≡ Some g → Answers pull.old pull.new (read_given_leaf (kind_of kind) own (standing pull.old) g) (heard (λ v. Leaf own v.items) result) }
-    ensures contents { IfOk result (λ v. HasContents kind v.items) }
+    ensures reads { (own : Identified) (g : Given) → (standing pull.old).error ≡ None → (standing pull.old).given ≡ Some g → Answers pull.old pull.new (read_given_leaf (kind_of kind) own (standing pull.old) g) (heard (λ _. Leaf own contents.new.items) result) }
+    ensures contents { OnOk result (HasContents kind contents.new.items) }
     ensures stands { OnOk result (Uses pull.old pull.new) }
     ensures keeps { Keeps pull.new result }
     ensures read { ReadsFail pull.old pull.new result }
     ensures onward { Onward pull.old pull.new }
 {
     let at = pull.at();
-    let contents = pull.primitive(alloc)?;
-    if !is_contents(kind, &contents) {
+    pull.primitive_into(contents)?;
+    if !is_contents(kind, contents) {
         return Err(pull.refuse(at, bad_contents(kind), None));
     }
-    Ok(der_contents(kind, contents))
+    make_der(kind, contents);
+    Ok(())
 }
 
 /// The DER contents of the BIT STRING that is given: the number of unused bits, and the octets.
@@ -175,8 +175,34 @@ fn read_octets_leaf<R: Source>(
     Ok(octets)
 }
 
-/// The DER contents of the leaf that is given, whatever its tag.
+/// The DER contents of the leaf that is given, whatever its tag, in place of what the vector holds.
 #[inline(always)]
+pub fn read_leaf_into<R: Source>(
+    alloc: Global,
+    pull: &mut Pull<'_, R>,
+    kind: Kind,
+    contents: &mut Vec<u8>,
+) -> Result<(), ReadError>
+    requires { (standing pull.old).error ≡ None → IsSome (standing pull.old).given }
+    ensures same_source { SameSource pull.old pull.new }
+    ensures repeats { Repeats pull.old pull.new result }
+    ensures reads { (own : Identified) (g : Given) → (standing pull.old).error ≡ None → (standing pull.old).given ≡ Some g → Answers pull.old pull.new (read_given_leaf (kind_of kind) own (standing pull.old) g) (heard (λ _. Leaf own contents.new.items) result) }
+    ensures contents { OnOk result (HasContents kind contents.new.items) }
+    ensures stands { OnOk result (Uses pull.old pull.new) }
+    ensures keeps { Keeps pull.new result }
+    ensures read { ReadsFail pull.old pull.new result }
+    ensures onward { Onward pull.old pull.new }
+{
+    match kind {
+        Kind::BitString => *contents = read_bits_leaf(alloc, pull)?,
+        Kind::OctetString => *contents = read_octets_leaf(alloc, pull, false)?,
+        Kind::Utf8String => *contents = read_octets_leaf(alloc, pull, true)?,
+        Kind::Boolean | Kind::Integer | Kind::Null => read_primitive_leaf(pull, kind, contents)?,
+    }
+    Ok(())
+}
+
+/// The DER contents of the leaf that is given, whatever its tag.
 pub fn read_leaf<R: Source>(
     alloc: Global,
     pull: &mut Pull<'_, R>,
@@ -192,12 +218,9 @@ pub fn read_leaf<R: Source>(
     ensures read { ReadsFail pull.old pull.new result }
     ensures onward { Onward pull.old pull.new }
 {
-    match kind {
-        Kind::BitString => read_bits_leaf(alloc, pull),
-        Kind::OctetString => read_octets_leaf(alloc, pull, false),
-        Kind::Utf8String => read_octets_leaf(alloc, pull, true),
-        Kind::Boolean | Kind::Integer | Kind::Null => read_primitive_leaf(alloc, pull, kind),
-    }
+    let mut contents = Vec::new(alloc);
+    read_leaf_into(alloc, pull, kind, &mut contents)?;
+    Ok(contents)
 }
 
 /// The DER contents of the leaf that is given, of this tag and kind.

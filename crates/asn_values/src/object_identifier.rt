@@ -2,6 +2,7 @@
 ghost use Rattle.x690_laws.proofs.OneTexts.{leaf_one_text};
 ghost use Rattle.std.specs.Prelude.{◌≡◌, None, Some, IsSome, OnOk};
 ghost use Rattle.tlv_core.specs.Identifier.{Tag as Identified};
+ghost use Rattle.tlv_core.specs.ObjectIdentifier.{IsObjectIdentifier};
 ghost use Rattle.ber_pull.proofs.Fields.{leaf_closed};
 ghost use Rattle.x690.specs.Contents.{ObjectIdentifier};
 ghost use Rattle.x690.specs.Layouts.{universal};
@@ -20,7 +21,7 @@ use crate::tags::{is_same_tag, universal_tag};
 use ber_pull::pull::Pull;
 use std::alloc::Global;
 use tlv_core::fault::ReadError;
-use tlv_core::oid::{Oid, OidError};
+use tlv_core::oid::{Oid, OidError, is_object_identifier};
 use tlv_core::reason::Reason;
 use tlv_core::sink::{Sink, WriteError};
 use tlv_core::source::Source;
@@ -59,13 +60,36 @@ pub(crate) fn read_identifier<R: Source>(
     ensures read { ReadsFail pull.old pull.new result }
     ensures onward { Onward pull.old pull.new }
 {
-    let at = pull.at();
-    let contents = pull.primitive(alloc)?;
+    let mut contents = Vec::new(alloc);
+    read_identifier_into(pull, &mut contents)?;
     match Oid::from_content(alloc, &contents) {
         Ok(oid) => Ok(oid),
-        Err(OidError::Bad) => Err(pull.refuse(at, Reason::BadOid, None)),
+        Err(OidError::Bad) => unreachable!(),
         Err(OidError::Memory) => Err(pull.no_memory()),
     }
+}
+
+/// The contents of the object identifier that is given, whatever its tag, in place of what the vector holds.
+pub(crate) fn read_identifier_into<R: Source>(
+    pull: &mut Pull<'_, R>,
+    contents: &mut Vec<u8>,
+) -> Result<(), ReadError>
+    requires { (standing pull.old).error ≡ None → IsSome (standing pull.old).given }
+    ensures same_source { SameSource pull.old pull.new }
+    ensures repeats { Repeats pull.old pull.new result }
+    ensures reads { (own : Identified) (g : Given) → (standing pull.old).error ≡ None → (standing pull.old).given ≡ Some g → Answers pull.old pull.new (read_given_leaf ObjectIdentifier own (standing pull.old) g) (heard (λ _. Leaf own contents.new.items) result) }
+    ensures contents { OnOk result (IsObjectIdentifier contents.new.items) }
+    ensures stands { OnOk result (Uses pull.old pull.new) }
+    ensures keeps { Keeps pull.new result }
+    ensures read { ReadsFail pull.old pull.new result }
+    ensures onward { Onward pull.old pull.new }
+{
+    let at = pull.at();
+    pull.primitive_into(contents)?;
+    if !is_object_identifier(contents) {
+        return Err(pull.refuse(at, Reason::BadOid, None));
+    }
+    Ok(())
 }
 
 /// The object identifier that is given, of this tag.

@@ -13,11 +13,11 @@ ghost use Rattle.ber_pull.specs.declared.state.Given.{Given};
 ghost use Rattle.asn_values.specs.Framing.{framed};
 ghost use Rattle.asn_values.specs.declared.open_form.OpenForm.TheVariants.{Identifier};
 ghost use Rattle.asn_values.specs.Members.{StandIn};
-ghost use Rattle.asn_values.specs.OpenTexts.{AnswersText, AnswersTexts, container, read_given_container, read_given_contents, read_given_open, read_given_open_members};
+ghost use Rattle.asn_values.specs.OpenTexts.{AnswersText, AnswersTexts, IsNext, container, read_given_container, read_given_contents, read_given_open, read_given_open_members};
 
-use crate::leaf_reading::read_leaf;
+use crate::leaf_reading::read_leaf_into;
 use crate::members::keep;
-use crate::object_identifier::read_identifier;
+use crate::object_identifier::read_identifier_into;
 use crate::open_form::{OpenForm, open_form};
 use crate::texts::in_order;
 use ber_pull::pull::Pull;
@@ -27,27 +27,6 @@ use tlv_core::fault::ReadError;
 use tlv_core::reason::Reason;
 use tlv_core::source::Source;
 use tlv_core::tag::Tag;
-
-/// The place, the tag and the form of the element that is given.
-#[inline(always)]
-fn given<R: Source>(pull: &mut Pull<'_, R>) -> Result<(u64, Tag, bool), ReadError>
-    requires { (standing pull.old).error ≡ None → IsSome (standing pull.old).given }
-    ensures same_source { SameSource pull.old pull.new }
-    ensures is { (g : Given) → (standing pull.old).error ≡ None → (standing pull.old).given ≡ Some g → IfOk result (λ r. r ≡ (g.at, g.tag, g.constructed)) }
-    ensures same { Unmoved pull.old pull.new }
-    ensures fine { OnOk result ((standing pull.old).error ≡ None) }
-    ensures fits { OnOk result (length (standing pull.old).containers < (standing pull.old).limits.depth) }
-    ensures stops { IfErr result (λ e. (standing pull.old).error ≡ Some e) }
-    ensures keeps { Keeps pull.new result }
-    ensures read { ReadsFail pull.old pull.new result }
-    ensures onward { Onward pull.old pull.new }
-{
-    let at = pull.at();
-    let Some((tag, constructed)) = pull.next_tag()? else {
-        unreachable!()
-    };
-    Ok((at, tag, constructed))
-}
 
 /// Header and contents behind what is there.
 #[inline(always)]
@@ -87,49 +66,29 @@ fn append_element<R: Source>(
     }
 }
 
-/// The DER contents of the leaf that is given, whatever its tag; of a form that has no kind its octets as they are.
+/// The DER contents of the leaf that is given, whatever its tag, in place of what the vector holds; of a form that has no kind its octets as they are.
 #[inline(always)]
 fn read_contents<R: Source>(
     alloc: Global,
     pull: &mut Pull<'_, R>,
     form: OpenForm,
-) -> Result<Vec<u8>, ReadError>
+    contents: &mut Vec<u8>,
+) -> Result<(), ReadError>
     requires { (standing pull.old).error ≡ None → IsSome (standing pull.old).given }
     ensures same_source { SameSource pull.old pull.new }
     ensures repeats { Repeats pull.old pull.new result }
-    ensures reads { (own : Identified) (g : Given) → (standing pull.old).error ≡ None → (standing pull.old).given ≡ Some g → Answers pull.old pull.new (read_given_contents form own (standing pull.old) g) (heard (λ v. Leaf own v.items) result) }
+    ensures reads { (own : Identified) (g : Given) → (standing pull.old).error ≡ None → (standing pull.old).given ≡ Some g → Answers pull.old pull.new (read_given_contents form own (standing pull.old) g) (heard (λ _. Leaf own contents.new.items) result) }
     ensures stands { OnOk result (Uses pull.old pull.new) }
     ensures keeps { Keeps pull.new result }
     ensures read { ReadsFail pull.old pull.new result }
     ensures onward { Onward pull.old pull.new }
 {
     match form {
-        OpenForm::Leaf(kind) => read_leaf(alloc, pull, kind),
-        OpenForm::Identifier => read_identifier_contents(alloc, pull),
+        OpenForm::Leaf(kind) => read_leaf_into(alloc, pull, kind, contents),
+        OpenForm::Identifier => read_identifier_into(pull, contents),
         OpenForm::Sequence | OpenForm::SetOf | OpenForm::Plain | OpenForm::Refused => {
-            pull.primitive(alloc)
+            pull.primitive_into(contents)
         }
-    }
-}
-
-/// The contents of the object identifier that is given, whatever its tag.
-fn read_identifier_contents<R: Source>(
-    alloc: Global,
-    pull: &mut Pull<'_, R>,
-) -> Result<Vec<u8>, ReadError>
-    requires { (standing pull.old).error ≡ None → IsSome (standing pull.old).given }
-    ensures same_source { SameSource pull.old pull.new }
-    ensures repeats { Repeats pull.old pull.new result }
-    ensures reads { (own : Identified) (g : Given) → (standing pull.old).error ≡ None → (standing pull.old).given ≡ Some g → Answers pull.old pull.new (read_given_contents Identifier own (standing pull.old) g) (heard (λ v. Leaf own v.items) result) }
-    ensures stands { OnOk result (Uses pull.old pull.new) }
-    ensures keeps { Keeps pull.new result }
-    ensures read { ReadsFail pull.old pull.new result }
-    ensures onward { Onward pull.old pull.new }
-{
-    let oid = read_identifier(alloc, pull)?;
-    match oid.content().to_vec(alloc) {
-        Ok(contents) => Ok(contents),
-        Err(_) => Err(pull.no_memory()),
     }
 }
 
@@ -138,6 +97,7 @@ fn read_identifier_contents<R: Source>(
 fn append_leaf<R: Source>(
     alloc: Global,
     pull: &mut Pull<'_, R>,
+    room: &mut Vec<u8>,
     text: &mut Vec<u8>,
     tag: Tag,
     form: OpenForm,
@@ -151,8 +111,8 @@ fn append_leaf<R: Source>(
     ensures read { ReadsFail pull.old pull.new result }
     ensures onward { Onward pull.old pull.new }
 {
-    let contents = read_contents(alloc, pull, form)?;
-    append_element(pull, text, tag, false, &contents)
+    read_contents(alloc, pull, form, room)?;
+    append_element(pull, text, tag, false, room)
 }
 
 /// The texts of the members as their container has them: those of a SET OF in order (X.690 11.6).
@@ -187,6 +147,7 @@ fn arranged<R: Source>(
 fn read_members<R: Source>(
     alloc: Global,
     pull: &mut Pull<'_, R>,
+    room: &mut Vec<u8>,
 ) -> Result<(Vec<u8>, Vec<usize>), ReadError>
     requires { (standing pull.old).error ≡ None → IsSome (standing pull.old).given }
     ensures same_source { SameSource pull.old pull.new }
@@ -201,9 +162,9 @@ fn read_members<R: Source>(
     pull.enter()?;
     let mut octets = Vec::new(alloc);
     let mut starts = Vec::new(alloc);
-    while let Some(_next) = pull.next_tag()? {
+    while let Some((tag, constructed)) = pull.next_tag()? {
         let start = octets.len();
-        append_open(alloc, pull, &mut octets)?;
+        append_open(alloc, pull, room, &mut octets, tag, constructed)?;
         keep(pull, &mut starts, start)?;
     }
     pull.leave()?;
@@ -215,6 +176,7 @@ fn read_members<R: Source>(
 fn append_container<R: Source>(
     alloc: Global,
     pull: &mut Pull<'_, R>,
+    room: &mut Vec<u8>,
     text: &mut Vec<u8>,
     tag: Tag,
     is_set: bool,
@@ -228,21 +190,25 @@ fn append_container<R: Source>(
     ensures read { ReadsFail pull.old pull.new result }
     ensures onward { Onward pull.old pull.new }
 {
-    let (octets, starts) = read_members(alloc, pull)?;
+    let (octets, starts) = read_members(alloc, pull, room)?;
     let contents = arranged(alloc, pull, is_set, octets, &starts)?;
     append_element(pull, text, tag, true, &contents)
 }
 
-/// Appends the text of the open value that is given.
+/// Appends the text of the open value that is given, of this tag and form. Contents of leaves are read in `room`, which is used again for each.
 ///
 /// Faults, at the identifier: `LeftOut` of a universal tag that isn't read; those of a leaf and its contents, of `Pull::enter`, and of members.
 #[cycle(open)]
 pub fn append_open<R: Source>(
     alloc: Global,
     pull: &mut Pull<'_, R>,
+    room: &mut Vec<u8>,
     text: &mut Vec<u8>,
+    tag: Tag,
+    constructed: bool,
 ) -> Result<(), ReadError>
-    requires { (standing pull.old).error ≡ None → IsSome (standing pull.old).given }
+    requires given { (standing pull.old).error ≡ None → IsSome (standing pull.old).given }
+    requires next { (standing pull.old).error ≡ None → IsNext tag constructed (standing pull.old) }
     ensures same_source { SameSource pull.old pull.new }
     ensures repeats { Repeats pull.old pull.new result }
     ensures reads { (deep : ℕ) (g : Given) → (standing pull.old).error ≡ None → (standing pull.old).given ≡ Some g → (standing pull.old).limits.depth ≤ deep + length (standing pull.old).containers → AnswersText pull.old pull.new (read_given_open deep (standing pull.old) g) text.old.items text.new.items result }
@@ -251,14 +217,16 @@ pub fn append_open<R: Source>(
     ensures read { ReadsFail pull.old pull.new result }
     ensures onward { Onward pull.old pull.new }
 {
-    let (at, tag, constructed) = given(pull)?;
     let form = open_form(tag);
     match form {
-        OpenForm::Refused => Err(pull.refuse(at, Reason::LeftOut, None)),
-        OpenForm::Leaf(_) | OpenForm::Identifier => append_leaf(alloc, pull, text, tag, form),
-        OpenForm::Sequence => append_container(alloc, pull, text, tag, false),
-        OpenForm::SetOf => append_container(alloc, pull, text, tag, true),
-        OpenForm::Plain if constructed => append_container(alloc, pull, text, tag, false),
-        OpenForm::Plain => append_leaf(alloc, pull, text, tag, form),
+        OpenForm::Refused => {
+            let at = pull.at();
+            Err(pull.refuse(at, Reason::LeftOut, None))
+        }
+        OpenForm::Leaf(_) | OpenForm::Identifier => append_leaf(alloc, pull, room, text, tag, form),
+        OpenForm::Sequence => append_container(alloc, pull, room, text, tag, false),
+        OpenForm::SetOf => append_container(alloc, pull, room, text, tag, true),
+        OpenForm::Plain if constructed => append_container(alloc, pull, room, text, tag, false),
+        OpenForm::Plain => append_leaf(alloc, pull, room, text, tag, form),
     }
 }

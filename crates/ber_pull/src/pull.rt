@@ -77,6 +77,7 @@ impl<'a, R: Source> Pull<'a, R> {
         ensures ended { (standing self.old).error ≡ None → IsAtEnd (standing self.old) → (result ≡ Ok None) × Unmoved self.old self.new }
         ensures ends { (standing self.old).given ≡ None → IfOk result (λ next. next ≡ None → IsAtEnd (standing self.new)) }
         ensures fits { IfOk result (λ next. IfSome next (λ t. IsGiven t.0 (standing self.new))) }
+        ensures tells { IfOk result (λ next. IfSome next (λ t. IfSome (standing self.new).given (λ g. (g.tag ≡ t.0) × (g.constructed ≡ t.1)))) }
         ensures advances { (standing self.old).given ≡ None → IfOk result (λ next. IsSome next → (standing self.old).taken < (standing self.new).taken) }
         ensures keeps { Keeps self.new result }
         ensures read { ReadsFail self.old self.new result }

@@ -137,8 +137,8 @@ fn leading_subidentifier(arcs: &[u128]) -> Option<u128>
     arcs[1].checked_add(40 * arcs[0])
 }
 
-/// Whether the octets are the contents of an object identifier.
-fn is_object_identifier(octets: &[u8]) -> bool
+/// Whether the octets are the contents of an object identifier (X.690 8.19) whose subidentifiers are below 2^128.
+pub fn is_object_identifier(octets: &[u8]) -> bool
     ensures { IsTrue result ↔ IsObjectIdentifier octets.now }
 {
     let Some((_, used)) = first_subidentifier(octets) else {

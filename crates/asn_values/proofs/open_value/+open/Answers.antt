@@ -1,4 +1,4 @@
-use Rattle.std.proofs.Common.{rules, arith, ◌≡◌, ◌∙◌, ◌++◌, ◌∷◌, [], IfSome, None, ap, false, length, subst, sym, true}
+use Rattle.std.proofs.Common.{rules, arith, ◌≡◌, ◌∙◌, ◌++◌, ◌∷◌, [], IfSome, None, ap, false, length, refl, subst, sym, true}
 use Rattle.tlv_core.specs.declared.fault.ReadError.TheVariants as errors
 use Rattle.tlv_core.specs.declared.reason.Reason.TheVariants.{LeftOut}
 use Rattle.x690.specs.DerTexts.{der}
@@ -16,7 +16,7 @@ use Rattle.ber_pull.proofs.Hearing.{hears_at, hears_done, hears_error, hears_sai
 use Rattle.asn_values.specs.OpenTexts.{container, form_of, read_given_container, read_given_contents, read_given_open_members}
 use Rattle.asn_values.specs.Reading.{ended}
 use Rattle.asn_values.specs.Framing.{framed}
-use Rattle.asn_values.proofs.Answering.{none_by, some_given}
+use Rattle.asn_values.proofs.Answering.{none_by, place_given, some_given}
 use Rattle.asn_values.proofs.MemberReadings.{all_used, inside_ends, inside_error, inside_memory, inside_never, inside_start, left}
 use Rattle.asn_values.proofs.MemberTexts.{stand_more}
 use Rattle.asn_values.proofs.OpenMembers.{Members, member_more, member_stops, room_now}
@@ -54,45 +54,51 @@ append_container-returns-clause-reads g t c = λ deep given fine is bound.
 
 pub append_open-returns-in-Refused-clause-reads : goal.append_open-returns-in-Refused-clause-reads
 append_open-returns-in-Refused-clause-reads g t c = λ deep given fine is bound.
-    let tied = c.in_ok-at.ensures.is given fine is in
+    let next = c.requires.next fine in
+    let tied = subst (λ o. IfSome o (λ g. (g.tag ≡ c.args.tag) × (g.constructed ≡ c.args.constructed))) is next.1 in
     let first = c.refuse.ensures.first (search rules) in
-    open_refused c.args.pull.now c.given.new.pull c.refuse.new.self c.in_ok-at.ensures.same c.in_ok-at.ensures.fits deep given fine is bound c.refuse.result
-    (ap open_form (sym (ap (λ r. r.1) tied)) ∙ (sym c.open_form-form.ensures ∙ ap form_of c.in-Refused.is))
-    (first.0 ∙ ap (λ p. errors.Fault (fault p LeftOut)) (ap (λ r. r.0) tied)) first.1 c.refuse.ensures.same
+    open_refused c.args.pull.now c.args.pull.now c.refuse.new.self (refl, refl) next.0.depth_fits deep given fine is bound c.refuse.result
+    (ap open_form tied.0 ∙ (sym c.open_form-form.ensures ∙ ap form_of c.in-Refused.is))
+    (first.0 ∙ ap (λ p. errors.Fault (fault p LeftOut)) (c.at-at.ensures.value ∙ place_given c.args.pull.now.state given is)) first.1 c.refuse.ensures.same
 
 pub append_open-returns-in-SetOf-clause-reads : goal.append_open-returns-in-SetOf-clause-reads
 append_open-returns-in-SetOf-clause-reads g t c = λ deep given fine is bound.
-    let tied = c.in_ok-at.ensures.is given fine is in
-    open_by c.args.pull.now c.given.new.pull c.append_container-in-SetOf.new.pull c.in_ok-at.ensures.same c.in_ok-at.ensures.fits deep given fine is bound (λ d s. read_given_container d true c.in_ok-at.tag s given) _ _ _
-    (λ d. set_by d c.args.pull.now.state given c.in_ok-at.tag (ap (λ r. r.1) tied) (sym c.open_form-form.ensures ∙ ap form_of c.in-SetOf.is))
+    let next = c.requires.next fine in
+    let tied = subst (λ o. IfSome o (λ g. (g.tag ≡ c.args.tag) × (g.constructed ≡ c.args.constructed))) is next.1 in
+    open_by c.args.pull.now c.args.pull.now c.append_container-in-SetOf.new.pull (refl, refl) next.0.depth_fits deep given fine is bound (λ d s. read_given_container d true c.args.tag s given) _ _ _
+    (λ d. set_by d c.args.pull.now.state given c.args.tag (sym tied.0) (sym c.open_form-form.ensures ∙ ap form_of c.in-SetOf.is))
     (λ d fine' is' bound'. c.append_container-in-SetOf.ensures.reads d given fine' is' bound')
 
 pub append_open-returns-in-Sequence-clause-reads : goal.append_open-returns-in-Sequence-clause-reads
 append_open-returns-in-Sequence-clause-reads g t c = λ deep given fine is bound.
-    let tied = c.in_ok-at.ensures.is given fine is in
-    open_by c.args.pull.now c.given.new.pull c.append_container.new.pull c.in_ok-at.ensures.same c.in_ok-at.ensures.fits deep given fine is bound (λ d s. read_given_container d false c.in_ok-at.tag s given) _ _ _
-    (λ d. sequence_by d c.args.pull.now.state given c.in_ok-at.tag (ap (λ r. r.1) tied) (sym c.open_form-form.ensures ∙ ap form_of c.in-Sequence.is))
+    let next = c.requires.next fine in
+    let tied = subst (λ o. IfSome o (λ g. (g.tag ≡ c.args.tag) × (g.constructed ≡ c.args.constructed))) is next.1 in
+    open_by c.args.pull.now c.args.pull.now c.append_container.new.pull (refl, refl) next.0.depth_fits deep given fine is bound (λ d s. read_given_container d false c.args.tag s given) _ _ _
+    (λ d. sequence_by d c.args.pull.now.state given c.args.tag (sym tied.0) (sym c.open_form-form.ensures ∙ ap form_of c.in-Sequence.is))
     (λ d fine' is' bound'. c.append_container.ensures.reads d given fine' is' bound')
 
 pub append_open-returns-in-Plain-clause-reads : goal.append_open-returns-in-Plain-clause-reads
 append_open-returns-in-Plain-clause-reads g t c = λ deep given fine is bound.
-    let tied = c.in_ok-at.ensures.is given fine is in
-    open_by c.args.pull.now c.given.new.pull c.append_container-in-Plain.new.pull c.in_ok-at.ensures.same c.in_ok-at.ensures.fits deep given fine is bound (λ d s. read_given_container d false c.in_ok-at.tag s given) _ _ _
-    (λ d. plain_by d c.args.pull.now.state given c.in_ok-at.tag (ap (λ r. r.1) tied) (sym (ap (λ r. r.2) tied) ∙ c.if-constructed.true) (sym c.open_form-form.ensures ∙ ap form_of c.in-Plain.is))
+    let next = c.requires.next fine in
+    let tied = subst (λ o. IfSome o (λ g. (g.tag ≡ c.args.tag) × (g.constructed ≡ c.args.constructed))) is next.1 in
+    open_by c.args.pull.now c.args.pull.now c.append_container-in-Plain.new.pull (refl, refl) next.0.depth_fits deep given fine is bound (λ d s. read_given_container d false c.args.tag s given) _ _ _
+    (λ d. plain_by d c.args.pull.now.state given c.args.tag (sym tied.0) (tied.1 ∙ c.if-constructed.true) (sym c.open_form-form.ensures ∙ ap form_of c.in-Plain.is))
     (λ d fine' is' bound'. c.append_container-in-Plain.ensures.reads d given fine' is' bound')
 
 pub append_open-returns-in-Plain-2-clause-reads : goal.append_open-returns-in-Plain-2-clause-reads
 append_open-returns-in-Plain-2-clause-reads g t c = λ deep given fine is bound.
-    let tied = c.in_ok-at.ensures.is given fine is in
-    open_by c.args.pull.now c.given.new.pull c.append_leaf-in-Plain-2.new.pull c.in_ok-at.ensures.same c.in_ok-at.ensures.fits deep given fine is bound (λ d s. read_given_contents c.open_form-form.result c.in_ok-at.tag s given) _ _ _
-    (λ d. octets_by d c.args.pull.now.state given c.in_ok-at.tag c.open_form-form.result (ap (λ r. r.1) tied) (sym (ap (λ r. r.2) tied) ∙ c.if-constructed.false) c.in-Plain-2.is c.open_form-form.ensures)
+    let next = c.requires.next fine in
+    let tied = subst (λ o. IfSome o (λ g. (g.tag ≡ c.args.tag) × (g.constructed ≡ c.args.constructed))) is next.1 in
+    open_by c.args.pull.now c.args.pull.now c.append_leaf-in-Plain-2.new.pull (refl, refl) next.0.depth_fits deep given fine is bound (λ d s. read_given_contents c.open_form-form.result c.args.tag s given) _ _ _
+    (λ d. octets_by d c.args.pull.now.state given c.args.tag c.open_form-form.result (sym tied.0) (tied.1 ∙ c.if-constructed.false) c.in-Plain-2.is c.open_form-form.ensures)
     (λ d fine' is' bound'. c.append_leaf-in-Plain-2.ensures.reads given fine' is')
 
 pub append_open-returns-in-Leaf-clause-reads : goal.append_open-returns-in-Leaf-clause-reads
 append_open-returns-in-Leaf-clause-reads g t c = λ deep given fine is bound.
-    let tied = c.in_ok-at.ensures.is given fine is in
-    open_by c.args.pull.now c.given.new.pull c.append_leaf.new.pull c.in_ok-at.ensures.same c.in_ok-at.ensures.fits deep given fine is bound (λ d s. read_given_contents c.open_form-form.result c.in_ok-at.tag s given) _ _ _
-    (λ d. leaf_by d c.args.pull.now.state given c.in_ok-at.tag c.open_form-form.result (ap (λ r. r.1) tied) c.in-Leaf.is c.open_form-form.ensures)
+    let next = c.requires.next fine in
+    let tied = subst (λ o. IfSome o (λ g. (g.tag ≡ c.args.tag) × (g.constructed ≡ c.args.constructed))) is next.1 in
+    open_by c.args.pull.now c.args.pull.now c.append_leaf.new.pull (refl, refl) next.0.depth_fits deep given fine is bound (λ d s. read_given_contents c.open_form-form.result c.args.tag s given) _ _ _
+    (λ d. leaf_by d c.args.pull.now.state given c.args.tag c.open_form-form.result (sym tied.0) c.in-Leaf.is c.open_form-form.ensures)
     (λ d fine' is' bound'. c.append_leaf.ensures.reads given fine' is')
 
 pub read_members-returns-in_err-enter-clause-reads : goal.read_members-returns-in_err-enter-clause-reads
@@ -117,35 +123,35 @@ read_members-loop-starts-init g t c =
           ([], search rules, inside_start (λ inside. read_open deep limits inside) c.args.pull.now c.enter.new.self given stands.0 is (search rules) c.in_ok-enter.ensures.same_source stands.1 c.in_ok-enter.ensures.advances (c.in_ok-enter.ensures.reads given fine is)),
     )
 
-pub read_members-returns-in_err-_next-clause-reads : goal.read_members-returns-in_err-_next-clause-reads
-read_members-returns-in_err-_next-clause-reads g t c = λ deep given fine is bound.
+pub read_members-returns-in_err-tag-clause-reads : goal.read_members-returns-in_err-tag-clause-reads
+read_members-returns-in_err-tag-clause-reads g t c = λ deep given fine is bound.
     let i = (c.loop-starts.invariant.7 deep given is bound).2 in
-    texts_err c.args.pull.now c.next_tag.new.self (read_given_open_members deep c.args.pull.now.state given) _ _ c.from_residual-in_err-_next.result c.in_err-_next.field-0.0 (search rules)
-    (inside_error _ _ c.args.pull.now c.loop-starts.pull _ i c.next_tag.new.self c.in_err-_next.field-0.0 (c.in_err-_next.ensures.reads i.fine))
+    texts_err c.args.pull.now c.next_tag.new.self (read_given_open_members deep c.args.pull.now.state given) _ _ c.from_residual-in_err-tag.result c.in_err-tag.field-0.0 (search rules)
+    (inside_error _ _ c.args.pull.now c.loop-starts.pull _ i c.next_tag.new.self c.in_err-tag.field-0.0 (c.in_err-tag.ensures.reads i.fine))
 
 pub read_members-returns-in_err-append_open-clause-reads : goal.read_members-returns-in_err-append_open-clause-reads
 read_members-returns-in_err-append_open-clause-reads g t c = λ deep given fine is bound.
     let before = c.loop-starts.invariant.7 deep given is bound in
     let i = before.2 in
-    let next = hears_said _ _ _ _ _ _ _ (ap (next_at (place c.loop-starts.pull.state)) c.in-Some.is) (c.in_ok-_next.ensures.reads i.fine) in
-    let stands = c.in_ok-_next.ensures.stands i.none_given ∙ ap (λ z. after_next c.next_tag.new.self.state.taken z c.loop-starts.pull.state) c.in-Some.is in
-    let new-given : Given = record { at = c.loop-starts.pull.state.taken; tag = c.in-Some._next.0; constructed = c.in-Some._next.1 } in
-    let room = room_now deep c.args.pull.now c.loop-starts.pull c.next_tag.new.self c.append_open.new.pull given before.0 i c.in-Some._next.0 c.in-Some._next.1 next stands bound in
+    let next = hears_said _ _ _ _ _ _ _ (ap (next_at (place c.loop-starts.pull.state)) c.in-Some.is) (c.in_ok-tag.ensures.reads i.fine) in
+    let stands = c.in_ok-tag.ensures.stands i.none_given ∙ ap (λ z. after_next c.next_tag.new.self.state.taken z c.loop-starts.pull.state) c.in-Some.is in
+    let new-given : Given = record { at = c.loop-starts.pull.state.taken; tag = c.in-Some.tag; constructed = c.in-Some.constructed } in
+    let room = room_now deep c.args.pull.now c.loop-starts.pull c.next_tag.new.self c.append_open.new.pull given before.0 i c.in-Some.tag c.in-Some.constructed next stands bound in
     let read = c.in_err-append_open.ensures.reads deep new-given (search rules) (ap (λ z. z.given) stands) room in
     texts_err c.args.pull.now c.append_open.new.pull (read_given_open_members deep c.args.pull.now.state given) _ _ c.from_residual-in_err-append_open.result c.in_err-append_open.field-0.0 (search rules)
-    (member_stops deep c.args.pull.now c.loop-starts.pull c.next_tag.new.self c.append_open.new.pull given before.0 i c.in-Some._next.0 c.in-Some._next.1 next stands c.in_err-append_open.field-0.0 read)
+    (member_stops deep c.args.pull.now c.loop-starts.pull c.next_tag.new.self c.append_open.new.pull given before.0 i c.in-Some.tag c.in-Some.constructed next stands c.in_err-append_open.field-0.0 read)
 
 pub read_members-returns-in_err-keep-clause-reads : goal.read_members-returns-in_err-keep-clause-reads
 read_members-returns-in_err-keep-clause-reads g t c = λ deep given fine is bound.
     let before = c.loop-starts.invariant.7 deep given is bound in
     let i = before.2 in
-    let next = hears_said _ _ _ _ _ _ _ (ap (next_at (place c.loop-starts.pull.state)) c.in-Some.is) (c.in_ok-_next.ensures.reads i.fine) in
-    let stands = c.in_ok-_next.ensures.stands i.none_given ∙ ap (λ z. after_next c.next_tag.new.self.state.taken z c.loop-starts.pull.state) c.in-Some.is in
-    let fits = subst (λ o. IfSome o (λ t. IsGiven t.0 c.next_tag.new.self.state)) c.in-Some.is c.in_ok-_next.ensures.fits in
-    let new-given : Given = record { at = c.loop-starts.pull.state.taken; tag = c.in-Some._next.0; constructed = c.in-Some._next.1 } in
-    let room = room_now deep c.args.pull.now c.loop-starts.pull c.next_tag.new.self c.append_open.new.pull given before.0 i c.in-Some._next.0 c.in-Some._next.1 next stands bound in
+    let next = hears_said _ _ _ _ _ _ _ (ap (next_at (place c.loop-starts.pull.state)) c.in-Some.is) (c.in_ok-tag.ensures.reads i.fine) in
+    let stands = c.in_ok-tag.ensures.stands i.none_given ∙ ap (λ z. after_next c.next_tag.new.self.state.taken z c.loop-starts.pull.state) c.in-Some.is in
+    let fits = subst (λ o. IfSome o (λ t. IsGiven t.0 c.next_tag.new.self.state)) c.in-Some.is c.in_ok-tag.ensures.fits in
+    let new-given : Given = record { at = c.loop-starts.pull.state.taken; tag = c.in-Some.tag; constructed = c.in-Some.constructed } in
+    let room = room_now deep c.args.pull.now c.loop-starts.pull c.next_tag.new.self c.append_open.new.pull given before.0 i c.in-Some.tag c.in-Some.constructed next stands bound in
     let read = c.in_ok-append_open.ensures.reads deep new-given (search rules) (ap (λ z. z.given) stands) room in
-    let more = member_more deep c.args.pull.now c.loop-starts.pull c.next_tag.new.self c.append_open.new.pull given before.0 i c.in-Some._next.0 c.in-Some._next.1 next stands read.0 read.2 c.in_ok-_next.ensures.same_source c.in_ok-append_open.ensures.same_source c.in_ok-append_open.ensures.stands (search rules) c.in_ok-append_open.ensures.onward.forward (search rules) fits in
+    let more = member_more deep c.args.pull.now c.loop-starts.pull c.next_tag.new.self c.append_open.new.pull given before.0 i c.in-Some.tag c.in-Some.constructed next stands read.0 read.2 c.in_ok-tag.ensures.same_source c.in_ok-append_open.ensures.same_source c.in_ok-append_open.ensures.stands (search rules) c.in_ok-append_open.ensures.onward.forward (search rules) fits in
     let stop = c.in_err-keep.ensures.stops in
     texts_err c.args.pull.now c.keep.new.pull (read_given_open_members deep c.args.pull.now.state given) _ _ c.from_residual-in_err-keep.result c.in_err-keep.field-0.0 (search rules)
     (inside_memory _ _ c.args.pull.now c.append_open.new.pull (before.0 ++ read.0 ∷ []) more c.keep.new.pull c.in_err-keep.field-0.0 stop.0 (ap (λ z. z.taken) stop.2) (ap g.R.Source.remaining stop.1))
@@ -158,18 +164,18 @@ read_members-loop-starts-preserved g t c = (
   search rules,
   search rules,
   c.loop-starts.invariant.5,
-  (let stands = c.in_ok-_next.ensures.stands c.loop-starts.invariant.2 ∙ ap (λ z. after_next c.next_tag.new.self.state.taken z c.loop-starts.pull.state) c.in-Some.is in
+  (let stands = c.in_ok-tag.ensures.stands c.loop-starts.invariant.2 ∙ ap (λ z. after_next c.next_tag.new.self.state.taken z c.loop-starts.pull.state) c.in-Some.is in
       omega (arith, c.loop-starts.invariant.6, ap (λ z. length z.containers) stands, ap (λ z. length z.containers) c.in_ok-append_open.ensures.stands, ap (λ z. length z.state.containers) c.in_ok-keep.ensures.still)),
   λ deep given is bound.
       let before = c.loop-starts.invariant.7 deep given is bound in
       let i = before.2 in
-      let next = hears_said _ _ _ _ _ _ _ (ap (next_at (place c.loop-starts.pull.state)) c.in-Some.is) (c.in_ok-_next.ensures.reads i.fine) in
-      let stands = c.in_ok-_next.ensures.stands i.none_given ∙ ap (λ z. after_next c.next_tag.new.self.state.taken z c.loop-starts.pull.state) c.in-Some.is in
-      let fits = subst (λ o. IfSome o (λ t. IsGiven t.0 c.next_tag.new.self.state)) c.in-Some.is c.in_ok-_next.ensures.fits in
-      let new-given : Given = record { at = c.loop-starts.pull.state.taken; tag = c.in-Some._next.0; constructed = c.in-Some._next.1 } in
-      let room = room_now deep c.args.pull.now c.loop-starts.pull c.next_tag.new.self c.append_open.new.pull given before.0 i c.in-Some._next.0 c.in-Some._next.1 next stands bound in
+      let next = hears_said _ _ _ _ _ _ _ (ap (next_at (place c.loop-starts.pull.state)) c.in-Some.is) (c.in_ok-tag.ensures.reads i.fine) in
+      let stands = c.in_ok-tag.ensures.stands i.none_given ∙ ap (λ z. after_next c.next_tag.new.self.state.taken z c.loop-starts.pull.state) c.in-Some.is in
+      let fits = subst (λ o. IfSome o (λ t. IsGiven t.0 c.next_tag.new.self.state)) c.in-Some.is c.in_ok-tag.ensures.fits in
+      let new-given : Given = record { at = c.loop-starts.pull.state.taken; tag = c.in-Some.tag; constructed = c.in-Some.constructed } in
+      let room = room_now deep c.args.pull.now c.loop-starts.pull c.next_tag.new.self c.append_open.new.pull given before.0 i c.in-Some.tag c.in-Some.constructed next stands bound in
       let read = c.in_ok-append_open.ensures.reads deep new-given (search rules) (ap (λ z. z.given) stands) room in
-      let more = member_more deep c.args.pull.now c.loop-starts.pull c.next_tag.new.self c.append_open.new.pull given before.0 i c.in-Some._next.0 c.in-Some._next.1 next stands read.0 read.2 c.in_ok-_next.ensures.same_source c.in_ok-append_open.ensures.same_source c.in_ok-append_open.ensures.stands (search rules) c.in_ok-append_open.ensures.onward.forward (search rules) fits in
+      let more = member_more deep c.args.pull.now c.loop-starts.pull c.next_tag.new.self c.append_open.new.pull given before.0 i c.in-Some.tag c.in-Some.constructed next stands read.0 read.2 c.in_ok-tag.ensures.same_source c.in_ok-append_open.ensures.same_source c.in_ok-append_open.ensures.stands (search rules) c.in_ok-append_open.ensures.onward.forward (search rules) fits in
       (before.0 ++ read.0 ∷ [], stand_more _ _ _ _ before.0 read.0 c.len-start.result before.1 read.1 c.in_ok-keep.ensures.kept (search rules), subst (λ z. Members deep c.args.pull.now given z (before.0 ++ read.0 ∷ [])) (sym c.in_ok-keep.ensures.still) more),
 )
 
@@ -177,8 +183,8 @@ pub read_members-returns-clause-reads : goal.read_members-returns-clause-reads
 read_members-returns-clause-reads g t c = λ deep given fine is bound.
     let before = c.loop-starts.invariant.7 deep given is bound in
     let i = before.2 in
-    let next = hears_said _ _ _ _ _ _ _ (ap (next_at (place c.loop-starts.pull.state)) c.in_default.is) (c.in_ok-_next.ensures.reads i.fine) in
-    let end = c.in_ok-_next.ensures.ends i.none_given c.in_default.is in
+    let next = hears_said _ _ _ _ _ _ _ (ap (next_at (place c.loop-starts.pull.state)) c.in_default.is) (c.in_ok-tag.ensures.reads i.fine) in
+    let end = c.in_ok-tag.ensures.ends i.none_given c.in_default.is in
     let done = c.in_ok-leave.ensures.ended (search rules) end in
     (before.0, place c.loop-starts.pull.state, before.1, hears_at _ _ _ _ _ _ _ _ (ap (λ z. z.taken) done.2) (ap g.R.Source.remaining done.1) (inside_ends _ _ c.args.pull.now c.loop-starts.pull before.0 i c.next_tag.new.self (place c.loop-starts.pull.state) next))
 
@@ -194,8 +200,8 @@ read_members-returns-clause-stands g t c =
     let s = c.args.pull.now.state in
     let given = some_given s.given (c.requires c.loop-starts.invariant.5) in
     let i = (c.loop-starts.invariant.7 s.limits.depth given.0 given.1 (omega arith)).2 in
-    let stands = c.in_ok-_next.ensures.stands i.none_given ∙ ap (λ z. after_next c.next_tag.new.self.state.taken z c.loop-starts.pull.state) c.in_default.is in
-    let done = (c.in_ok-leave.ensures.ended (search rules) (c.in_ok-_next.ensures.ends i.none_given c.in_default.is)).2 in
+    let stands = c.in_ok-tag.ensures.stands i.none_given ∙ ap (λ z. after_next c.next_tag.new.self.state.taken z c.loop-starts.pull.state) c.in_default.is in
+    let done = (c.in_ok-leave.ensures.ended (search rules) (c.in_ok-tag.ensures.ends i.none_given c.in_default.is)).2 in
     all_used c.leave.new.self.state s
     (ap (λ z. z.limits) done ∙ (ap (λ z. z.limits) stands ∙ i.limits))
     (ap (λ z. z.given) done ∙ (ap (λ z. z.given) stands ∙ i.none_given))

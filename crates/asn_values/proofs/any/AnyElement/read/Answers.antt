@@ -20,7 +20,7 @@ returns-in_err-oid-clause-reads g c = λ given fine is.
     let old = c.args.pull.now in
     let mid = c.next_tag.new.self in
     let s = old.state in
-    let b = begun old mid given c.in_ok-tag.field-0 c.in-Some.tag c.in-Some.field-0-1 c.in-Some.is (c.in_ok-tag.ensures.given given fine is) c.in_ok-tag.ensures.fits in
+    let b = begun old mid given c.in_ok-tag.field-0 c.in-Some.tag c.in-Some.constructed c.in-Some.is (c.in_ok-tag.ensures.given given fine is) c.in_ok-tag.ensures.fits in
     let read = c.in_err-oid.ensures.reads given.tag given (fine_still old mid b.still fine) (given_still old mid given b.still is) in
     value_err old c.read_identifier.new.pull (read_given OpenType s given) open_value_of c.from_residual-in_err-oid.result c.in_err-oid.field-0.0 (search rules)
     (hears_as _ _ _ _ _ _ _ (identifier_is s given b.fits (rw (← b.tag_is) (search rules)))
@@ -31,7 +31,7 @@ returns-in_err-append_open-clause-reads g c = λ given fine is.
     let old = c.args.pull.now in
     let mid = c.next_tag.new.self in
     let s = old.state in
-    let b = begun old mid given c.in_ok-tag.field-0 c.in-Some.tag c.in-Some.field-0-1 c.in-Some.is (c.in_ok-tag.ensures.given given fine is) c.in_ok-tag.ensures.fits in
+    let b = begun old mid given c.in_ok-tag.field-0 c.in-Some.tag c.in-Some.constructed c.in-Some.is (c.in_ok-tag.ensures.given given fine is) c.in_ok-tag.ensures.fits in
     let read = c.in_err-append_open.ensures.reads mid.state.limits.depth given (fine_still old mid b.still fine) (given_still old mid given b.still is) (omega arith) in
     value_err old c.append_open.new.pull (read_given OpenType s given) open_value_of c.from_residual-in_err-append_open.result c.in_err-append_open.field-0.0 (search rules)
     (unmoved_answers (λ z. read_given OpenType z given) old mid c.append_open.new.pull (heard_error c.in_err-append_open.field-0.0) b.still (hears_as _ _ _ _ _ _ _ (open_is mid.state given) read))
@@ -43,7 +43,7 @@ invariant_of-result-2 g c =
     let s = old.state in
     let fine : s.error ≡ None = none_by s.error (λ e h. let r = (c.in_ok-tag.ensures.repeats e h).0 in cc) in
     let given = some_given s.given (c.requires fine) in
-    let b = begun old mid given.0 c.in_ok-tag.field-0 c.in-Some.tag c.in-Some.field-0-1 c.in-Some.is (c.in_ok-tag.ensures.given given.0 fine given.1) c.in_ok-tag.ensures.fits in
+    let b = begun old mid given.0 c.in_ok-tag.field-0 c.in-Some.tag c.in-Some.constructed c.in-Some.is (c.in_ok-tag.ensures.given given.0 fine given.1) c.in_ok-tag.ensures.fits in
     let read = c.in_ok-append_open.ensures.reads mid.state.limits.depth given.0 (fine_still old mid b.still fine) (given_still old mid given.0 b.still given.1) (omega arith) in
     let text : c.append_open.new.text.items ≡ der read.0 = read.1 ∙ ap (λ z. z ++ der read.0) c.new-text.ensures.items in
     let known = open_read s given.0 read.0 _ _ _ _ b.fits (unmoved_answers (λ z. read_given OpenType z given.0) old mid c.append_open.new.pull (Said read.0) b.still (hears_as _ _ _ _ _ _ _ (open_is mid.state given.0) read.2)) in
@@ -59,7 +59,7 @@ invariant_of-result g c =
     let s = old.state in
     let fine : s.error ≡ None = none_by s.error (λ e h. let r = (c.in_ok-tag.ensures.repeats e h).0 in cc) in
     let given = some_given s.given (c.requires fine) in
-    let b = begun old mid given.0 c.in_ok-tag.field-0 c.in-Some.tag c.in-Some.field-0-1 c.in-Some.is (c.in_ok-tag.ensures.given given.0 fine given.1) c.in_ok-tag.ensures.fits in
+    let b = begun old mid given.0 c.in_ok-tag.field-0 c.in-Some.tag c.in-Some.constructed c.in-Some.is (c.in_ok-tag.ensures.given given.0 fine given.1) c.in_ok-tag.ensures.fits in
     let read = c.in_ok-oid.ensures.reads given.0.tag given.0 (fine_still old mid b.still fine) (given_still old mid given.0 b.still given.1) in
     let tag = same_tag_is (universal 6) given.0.tag (rw (← b.tag_is) (search rules)) in
     let known = open_read s given.0 (Leaf given.0.tag c.in_ok-oid.oid) _ _ _ _ b.fits (hears_as _ _ _ _ _ _ _ (identifier_is s given.0 b.fits (rw (← b.tag_is) (search rules)))
@@ -75,7 +75,7 @@ returns-in-Ok-clause-reads g c = λ given fine is.
     let old = c.args.pull.now in
     let mid = c.next_tag.new.self in
     let s = old.state in
-    let b = begun old mid given c.in_ok-tag.field-0 c.in-Some.tag c.in-Some.field-0-1 c.in-Some.is (c.in_ok-tag.ensures.given given fine is) c.in_ok-tag.ensures.fits in
+    let b = begun old mid given c.in_ok-tag.field-0 c.in-Some.tag c.in-Some.constructed c.in-Some.is (c.in_ok-tag.ensures.given given fine is) c.in_ok-tag.ensures.fits in
     let read = c.in_ok-oid.ensures.reads given.tag given (fine_still old mid b.still fine) (given_still old mid given b.still is) in
     let tag = same_tag_is (universal 6) given.tag (rw (← b.tag_is) (search rules)) in
     let whole = hears_as _ _ _ _ _ _ _ (identifier_is s given b.fits (rw (← b.tag_is) (search rules)))
@@ -89,7 +89,7 @@ returns-in-Err-clause-reads g c = λ given fine is.
     let old = c.args.pull.now in
     let mid = c.next_tag.new.self in
     let s = old.state in
-    let b = begun old mid given c.in_ok-tag.field-0 c.in-Some.tag c.in-Some.field-0-1 c.in-Some.is (c.in_ok-tag.ensures.given given fine is) c.in_ok-tag.ensures.fits in
+    let b = begun old mid given c.in_ok-tag.field-0 c.in-Some.tag c.in-Some.constructed c.in-Some.is (c.in_ok-tag.ensures.given given fine is) c.in_ok-tag.ensures.fits in
     let read = c.in_ok-oid.ensures.reads given.tag given (fine_still old mid b.still fine) (given_still old mid given b.still is) in
     let first = c.no_memory.ensures.first (search rules) in
     hears_then_memory _ _ _ c.no_memory.result _ _ _ _ _ _ first.0 (ap (λ z. z.taken) first.1) (ap g.R.Source.remaining c.no_memory.ensures.same)
@@ -100,7 +100,7 @@ returns-clause-reads g c = λ given fine is.
     let old = c.args.pull.now in
     let mid = c.next_tag.new.self in
     let s = old.state in
-    let b = begun old mid given c.in_ok-tag.field-0 c.in-Some.tag c.in-Some.field-0-1 c.in-Some.is (c.in_ok-tag.ensures.given given fine is) c.in_ok-tag.ensures.fits in
+    let b = begun old mid given c.in_ok-tag.field-0 c.in-Some.tag c.in-Some.constructed c.in-Some.is (c.in_ok-tag.ensures.given given fine is) c.in_ok-tag.ensures.fits in
     let read = c.in_ok-append_open.ensures.reads mid.state.limits.depth given (fine_still old mid b.still fine) (given_still old mid given b.still is) (omega arith) in
     let text : c.append_open.new.text.items ≡ der read.0 = read.1 ∙ ap (λ z. z ++ der read.0) c.new-text.ensures.items in
     let whole = unmoved_answers (λ z. read_given OpenType z given) old mid c.append_open.new.pull (Said read.0) b.still (hears_as _ _ _ _ _ _ _ (open_is mid.state given) read.2) in
