@@ -22,7 +22,7 @@ use crate::open_form::{OpenForm, open_form};
 use crate::texts::in_order;
 use ber_pull::pull::Pull;
 use std::alloc::{AllocError, Global};
-use tlv_core::der::header;
+use tlv_core::der::{header, short_header};
 use tlv_core::fault::ReadError;
 use tlv_core::reason::Reason;
 use tlv_core::source::Source;
@@ -38,7 +38,11 @@ fn push_element(
 ) -> Result<(), AllocError>
     ensures { OnOk result (text.new.items ≡ text.old.items ++ (der_header tag constructed (length contents.now) ++ contents.now)) }
 {
-    text.extend_from_slice(header(tag, constructed, contents.len() as u64).octets())?;
+    let length = contents.len() as u64;
+    match short_header(tag, constructed, length) {
+        Some(octets) => text.extend_from_slice(&octets)?,
+        None => text.extend_from_slice(header(tag, constructed, length).octets())?,
+    }
     text.extend_from_slice(contents)
 }
 

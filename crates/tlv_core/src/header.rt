@@ -100,7 +100,7 @@ impl Header {
 }
 
 /// The first identifier octet: class, form and the five bits that are left.
-fn lead(tag: Tag, constructed: bool, low: u8) -> u8
+pub(crate) fn lead(tag: Tag, constructed: bool, low: u8) -> u8
     requires { low < 32 }
     ensures { result ≡ tag.class * 64 + cond constructed 32 0 + low }
 {
