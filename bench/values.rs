@@ -147,19 +147,24 @@ fn any_of_hostile_shapes(wanted: impl Fn(&str) -> bool) {
     }
 }
 
-/// Members of one type, also hostile ones: what a list and a set hold for each.
+/// Members of one type, also hostile ones: what a list and a set hold for each. One more than a power of two is an unlucky number, since
+/// a vector that grows has doubled.
 fn members(wanted: impl Fn(&str) -> bool) {
-    let rows: [(&str, Call, u8, &[u8]); 6] = [
-        ("List of OCTET STRINGs of none", asn_values_bench_list, 0x30, &[4, 0]),
-        ("List of OCTET STRINGs of 1 octet", asn_values_bench_list, 0x30, &[4, 1, 9]),
-        ("SetOf of OCTET STRINGs of none", asn_values_bench_set, 0x31, &[4, 0]),
-        ("SetOf of OCTET STRINGs of 1 octet", asn_values_bench_set, 0x31, &[4, 1, 9]),
-        ("SetOf of open NULLs", asn_values_bench_open_set, 0x31, &[5, 0]),
-        ("SetOf of open OBJECT IDENTIFIERs of 2 arcs", asn_values_bench_open_set, 0x31, &[6, 1, 0x2A]),
+    let rows: [(&str, Call, u8, &[u8], usize); 10] = [
+        ("List of OCTET STRINGs of none", asn_values_bench_list, 0x30, &[4, 0], MIB / 2),
+        ("List of OCTET STRINGs of 1 octet", asn_values_bench_list, 0x30, &[4, 1, 9], MIB / 3),
+        ("SetOf of OCTET STRINGs of none", asn_values_bench_set, 0x31, &[4, 0], MIB / 2),
+        ("SetOf of 2^18 + 1 OCTET STRINGs of none", asn_values_bench_set, 0x31, &[4, 0], (1 << 18) + 1),
+        ("SetOf of OCTET STRINGs of 1 octet", asn_values_bench_set, 0x31, &[4, 1, 9], MIB / 3),
+        ("SetOf of 2^17 + 1 OCTET STRINGs of 1 octet", asn_values_bench_set, 0x31, &[4, 1, 9], (1 << 17) + 1),
+        ("SetOf of open NULLs", asn_values_bench_open_set, 0x31, &[5, 0], MIB / 2),
+        ("SetOf of 2^18 + 1 open NULLs", asn_values_bench_open_set, 0x31, &[5, 0], (1 << 18) + 1),
+        ("SetOf of open OBJECT IDENTIFIERs of 2 arcs", asn_values_bench_open_set, 0x31, &[6, 1, 0x2A], MIB / 3),
+        ("SetOf of 2^17 + 1 open OBJECT IDENTIFIERs of 2 arcs", asn_values_bench_open_set, 0x31, &[6, 1, 0x2A], (1 << 17) + 1),
     ];
-    for (name, call, tag, member) in rows {
+    for (name, call, tag, member, count) in rows {
         if wanted(name) {
-            row(name, call, |n| filled(tag, member, n * MIB));
+            row(name, call, |n| element(tag, &member.repeat(n * count)));
         }
     }
 }

@@ -63,6 +63,23 @@ stands_between vs os ss i e stand h ends =
     ends in
     subst (λ z. Between vs z i (get_or ss i 0) e) (sym stand.0) (between vs i (get_or ss i 0) e inside (omega arith) (omega arith))
 
+-- the first text of several, and the others
+pub record First {A : Type 0} (f : A → Value) (x : A) (more : List A) (os : List ℕ) (n : ℕ) : Type 0 where
+  pub within : n ≤ length os
+  pub text : take n os ≡ der (f x)
+  pub others : drop n os ≡ texts_of (map f more)
+
+pub first_text : {A : Type 0} (f : A → Value) (xs more : List A) (x : A) (os : List ℕ) (n : ℕ) → os ≡ texts_of (map f xs) → xs ≡ x ∷ more → n ≡ length (der (f x)) → First f x more os n
+first_text f xs more x os n are is size =
+    let e : os ≡ der (f x) ++ texts_of (map f more) = are ∙ ap (λ z. texts_of (map f z)) is in
+    let k = ap length e in
+    let l = length-append (der (f x)) (texts_of (map f more)) in
+    record {
+      within = omega arith;
+      text = ap (take n) e ∙ take_at (der (f x)) (texts_of (map f more)) n (sym size);
+      others = ap (drop n) e ∙ drop_at (der (f x)) (texts_of (map f more)) n (sym size);
+    }
+
 -- one text more
 pub cut_more : {A : Type 0} (g : A → List ℕ) (xs : List A) (x : A) (ts : List (List ℕ)) (i : ℕ) → i < length ts → map g xs ≡ take i ts → g x ≡ get_or ts i [] → map g (xs ++ x ∷ []) ≡ take (i + 1) ts
 cut_more g xs x ts i h e f = map_last g xs x ∙ (ap (λ z. z ++ g x ∷ []) e ∙ (ap (λ z. take i ts ++ z ∷ []) f ∙ sym (take_more ts i [] h)))

@@ -4,12 +4,13 @@
 //! order where they are constructed. An open value is kept as its DER text, so that writing and comparing it is a matter of octets.
 ghost use Rattle.std.proofs.Common.{ap, sym, ◌∙◌};
 ghost use Rattle.x690_laws.proofs.OneValue.{same_of};
-ghost use Rattle.std.specs.Prelude.{◌≡◌, ◌↔◌, IsTrue};
+ghost use Rattle.std.specs.Prelude.{◌≡◌, ◌↔◌, IfOk, IsTrue};
 ghost use Rattle.std.specs.Option.{option_map};
 ghost use Rattle.x690.specs.DerTexts.{der};
+ghost use Rattle.x690.specs.Layouts.{universal};
 ghost use Rattle.x690.specs.TypeTerms.{OpenType};
 ghost use Rattle.ber_pull.proofs.Fields.{open_closed};
-ghost use Rattle.x690.specs.Values.{Same};
+ghost use Rattle.x690.specs.Values.{Leaf, Same};
 ghost use Rattle.asn_values.specs.TextValues.{identifier_in, open_value};
 
 use crate::der_text::{DerText, der_text};
@@ -18,7 +19,7 @@ use crate::object_identifier::read_identifier;
 use crate::open_value::append_open;
 use crate::tags::{is_same_tag, universal_tag};
 use ber_pull::pull::Pull;
-use std::alloc::Global;
+use std::alloc::{AllocError, Global};
 use tlv_core::fault::ReadError;
 use tlv_core::oid::Oid;
 use tlv_core::sink::{Sink, WriteError};
@@ -31,10 +32,10 @@ use tlv_core::target::Target;
 pub struct Any {
     /// Its DER text.
     text: Vec<u8>,
-    /// There where it is an OBJECT IDENTIFIER.
-    oid: Option<Oid>,
+    /// There where it is an OBJECT IDENTIFIER; boxed, so that other values take less memory.
+    oid: Option<Box<Oid>>,
     ghost whole: { der (open_value text.items) ≡ text.items },
-    ghost identified: { oid ≡ identifier_in (open_value text.items) },
+    ghost identified: { option_map (λ b. b.value) oid ≡ identifier_in (open_value text.items) },
 }
 
 impl Any {
@@ -44,7 +45,7 @@ impl Any {
     pub fn oid(&self) -> Option<&Oid>
         ensures { option_map (λ r. r.now) result ≡ identifier_in (open_value_of self.now) }
     {
-        self.oid.as_ref()
+        self.oid.as_deref()
     }
 
     /// Whether the two are the same.
@@ -53,6 +54,16 @@ impl Any {
     {
         self.text == other.text
     }
+}
+
+/// The text of an identifier, and the identifier in a box.
+fn boxed_with_text(alloc: Global, oid: Oid) -> Result<(Vec<u8>, Box<Oid>), AllocError>
+    ensures text { IfOk result (λ both. both.0.items ≡ der (Leaf (universal 6) oid)) }
+    ensures boxed { IfOk result (λ both. both.1.value ≡ oid) }
+{
+    let text = der_text(alloc, &oid)?;
+    let boxed = Box::new(alloc, oid)?;
+    Ok((text, boxed))
 }
 
 impl DerText for Any {
@@ -95,10 +106,10 @@ impl Element for Any {
         };
         if is_same_tag(universal_tag(6), tag) {
             let oid = read_identifier(alloc, pull)?;
-            return match der_text(alloc, &oid) {
-                Ok(text) => Ok(Any {
+            return match boxed_with_text(alloc, oid) {
+                Ok((text, boxed)) => Ok(Any {
                     text,
-                    oid: Some(oid),
+                    oid: Some(boxed),
                 }),
                 Err(_) => Err(pull.no_memory()),
             };

@@ -1,6 +1,6 @@
 // Members one after another, with where the text of each begins.
-ghost use Rattle.std.specs.Prelude.{◌≡◌, ◌+◌, ◌^◌, ◌<◌, ◌≤◌, IfOk, IfSome, IsNone, get_or, length, map, slice_get};
-ghost use Rattle.tlv_core.specs.Sinks.{count, Puts};
+ghost use Rattle.std.specs.Prelude.{◌≡◌, ◌+◌, ◌^◌, ◌<◌, ◌≤◌, IfOk, IfSome, IsNone, false, get_or, length, map, slice_get};
+ghost use Rattle.tlv_core.specs.Sinks.{count, is_broken, Puts};
 ghost use Rattle.x690.specs.DerTexts.{texts_of};
 ghost use Rattle.asn_values.specs.Framing.{framed};
 ghost use Rattle.asn_values.specs.Members.{starts_from};
@@ -10,7 +10,7 @@ use crate::framing::{Stands, element_size, find_octet, put_header};
 use std::alloc::{AllocError, Global};
 use tlv_core::sink::{Sink, WriteError};
 use tlv_core::tag::Tag;
-use tlv_core::target::Target;
+use tlv_core::target::{Target, ToWrite};
 
 /// Where the text of each item begins, and the length of all.
 pub fn starts_of<T: DerText>(alloc: Global, items: &[T]) -> Result<(Vec<u64>, u64), AllocError>
@@ -18,13 +18,51 @@ pub fn starts_of<T: DerText>(alloc: Global, items: &[T]) -> Result<(Vec<u64>, u6
     ensures starts { IfOk result (λ r. r.0.items ≡ starts_from 0 (map T.value items.now)) }
     ensures content { IfOk result (λ r. r.1 ≡ length (texts_of (map T.value items.now))) }
 {
-    let mut starts = Vec::new(alloc);
+    let mut starts = Vec::with_capacity(alloc, items.len())?;
     let mut content = 0u64;
     for item in items {
         starts.push(content)?;
         content += item.size();
     }
     Ok((starts, content))
+}
+
+/// The length of the texts of the items.
+fn texts_size<T: DerText>(items: &[T]) -> u64
+    requires { length (texts_of (map T.value items.now)) < 2 ^ 63 }
+    ensures { result ≡ length (texts_of (map T.value items.now)) }
+{
+    let mut size = 0u64;
+    for item in items {
+        size += item.size();
+    }
+    size
+}
+
+/// Writes the texts of the items, one after another.
+fn put_texts<T: DerText, W: Target>(items: &[T], sink: &mut Sink<'_, W>) -> Result<(), WriteError>
+    requires room { count sink.old + length (texts_of (map T.value items.now)) < 2 ^ 64 }
+    requires fine { is_broken sink.old ≡ false }
+    ensures { Puts (texts_of (map T.value items.now)) sink.old sink.new result }
+{
+    for item in items {
+        item.put(sink)?;
+    }
+    Ok(())
+}
+
+/// The texts of the items, one after another. Their whole length is asked of the memory first.
+pub fn texts<T: DerText>(alloc: Global, items: &[T]) -> Result<Vec<u8>, AllocError>
+    requires { length (texts_of (map T.value items.now)) < 2 ^ 63 }
+    ensures { IfOk result (λ octets. octets.items ≡ texts_of (map T.value items.now)) }
+{
+    let octets = Vec::with_capacity(alloc, texts_size(items) as usize)?;
+    let mut target = ToWrite::new(octets);
+    let mut sink = Sink::new(&mut target);
+    match put_texts(items, &mut sink) {
+        Ok(()) => Ok(target.into_inner()),
+        Err(_) => Err(AllocError),
+    }
 }
 
 /// The longest text of a value that a constructor makes, in octets.
@@ -104,10 +142,7 @@ impl<T: DerText> Row<T> {
         ensures { Puts (framed tag (texts_of (map T.value self.now.items.items))) sink.old sink.new result }
     {
         put_header(tag, true, self.content, sink)?;
-        for item in &self.items {
-            item.put(sink)?;
-        }
-        Ok(())
+        put_texts(&self.items, sink)
     }
 
     /// An octet of the text with this tag.

@@ -4,7 +4,7 @@ ghost use Rattle.std.specs.Prelude.{◌≡◌, ◌↔◌, ◌+◌, ◌<◌, ◌�
 ghost use Rattle.std.specs.Option.{option_map};
 ghost use Rattle.tlv_core.specs.Sinks.{count, Puts};
 ghost use Rattle.ber_pull.proofs.Fields.{set_of_closed};
-ghost use Rattle.x690.specs.DerTexts.{Ascends, der};
+ghost use Rattle.x690.specs.DerTexts.{Ascends, der, texts_of};
 ghost use Rattle.x690.specs.Layouts.{universal};
 ghost use Rattle.x690.specs.TypeTerms.{SetOfType};
 ghost use Rattle.ber_pull.specs.View.{standing, source, SameSource, Repeats, Keeps, ReadsFail, Onward, Uses};
@@ -218,7 +218,8 @@ fn put_in_order<R: Source, T: DerText>(
     pull: &mut Pull<'_, R>,
     items: Vec<T>,
 ) -> Result<Vec<T>, ReadError>
-    requires { (standing pull.old).error ≡ None }
+    requires fine { (standing pull.old).error ≡ None }
+    requires short { length (texts_of (map T.value items.items)) < 2 ^ 63 }
     ensures same_source { SameSource pull.old pull.new }
     ensures same { IfOk result (λ sorted. IsPermutation items.items sorted.items) }
     ensures in_order { IfOk result (λ sorted. ascends (map der (map T.value sorted.items)) ≡ true) }

@@ -66,8 +66,8 @@ invariant_of-result g c =
     (unmoved_answers (λ z. read_given_leaf ObjectIdentifier given.0.tag z given.0) old mid c.read_identifier.new.pull (Said (Leaf given.0.tag c.in_ok-oid.oid)) b.still read)) in
     let again = subst (λ t. SaysAgain (Leaf t c.in_ok-oid.oid)) (sym tag) known.again in
     record {
-      whole = subst (λ z. der (open_value z) ≡ z) (sym c.in-Ok.ensures) again.text;
-      identified = subst (λ z. Some c.in_ok-oid.oid ≡ identifier_in (open_value z)) (sym c.in-Ok.ensures) (identifier_again (Leaf (universal 6) c.in_ok-oid.oid) again);
+      whole = subst (λ z. der (open_value z) ≡ z) (sym c.in-Ok.ensures.text) again.text;
+      identified = ap Some c.in-Ok.ensures.boxed ∙ subst (λ z. Some c.in_ok-oid.oid ≡ identifier_in (open_value z)) (sym c.in-Ok.ensures.text) (identifier_again (Leaf (universal 6) c.in_ok-oid.oid) again);
     }
 
 pub returns-in-Ok-clause-reads : goal.returns-in-Ok-clause-reads
@@ -81,7 +81,7 @@ returns-in-Ok-clause-reads g c = λ given fine is.
     let whole = hears_as _ _ _ _ _ _ _ (identifier_is s given b.fits (rw (← b.tag_is) (search rules)))
     (unmoved_answers (λ z. read_given_leaf ObjectIdentifier given.tag z given) old mid c.read_identifier.new.pull (Said (Leaf given.tag c.in_ok-oid.oid)) b.still read) in
     let known = open_read s given (Leaf given.tag c.in_ok-oid.oid) _ _ _ _ b.fits whole in
-    let text : c.in-Ok.text.items ≡ der (Leaf given.tag c.in_ok-oid.oid) = c.in-Ok.ensures ∙ ap (λ t. der (Leaf t c.in_ok-oid.oid)) tag in
+    let text : c.in-Ok.text.items ≡ der (Leaf given.tag c.in_ok-oid.oid) = c.in-Ok.ensures.text ∙ ap (λ t. der (Leaf t c.in_ok-oid.oid)) tag in
     (Leaf given.tag c.in_ok-oid.oid, subst (λ z. Same (Leaf given.tag c.in_ok-oid.oid) (open_value z)) (sym text) known.again.same, whole)
 
 pub returns-in-Err-clause-reads : goal.returns-in-Err-clause-reads
