@@ -1,4 +1,4 @@
-// What the benchmark of asn_values needs of C: a SET OF read and written by OpenSSL, which sorts it, the octets of memory that are taken,
+// What the benchmark of asn_values needs of C: a SET OF read and written by OpenSSL, which sorts it, a SEQUENCE of any elements likewise, the octets of memory that are taken,
 // and the processor's time.
 #include <malloc.h>
 #include <openssl/asn1t.h>
@@ -18,6 +18,18 @@ uint64_t openssl_set(const unsigned char *src, size_t length, unsigned char *tex
     }
     int written = ASN1_item_i2d(set, &text, ASN1_ITEM_rptr(STRINGS));
     ASN1_item_free(set, ASN1_ITEM_rptr(STRINGS));
+    return written < 0 ? 0 : (uint64_t)written;
+}
+
+// The SEQUENCE of elements of any type that `src` holds, read and written likewise. What is inside an element that is a container itself is copied
+// as it is.
+uint64_t openssl_sequence(const unsigned char *src, size_t length, unsigned char *text) {
+    ASN1_SEQUENCE_ANY *elements = d2i_ASN1_SEQUENCE_ANY(NULL, &src, (long)length);
+    if (elements == NULL) {
+        return 0;
+    }
+    int written = i2d_ASN1_SEQUENCE_ANY(elements, &text);
+    sk_ASN1_TYPE_pop_free(elements, ASN1_TYPE_free);
     return written < 0 ? 0 : (uint64_t)written;
 }
 

@@ -9,6 +9,7 @@ unsafe extern "C" {
     fn asn_values_bench_list(src: *const u8, len: usize, text: *mut u8, room: usize) -> u64;
     fn asn_values_bench_open_set(src: *const u8, len: usize, text: *mut u8, room: usize) -> u64;
     fn openssl_set(src: *const u8, len: usize, text: *mut u8) -> u64;
+    fn openssl_sequence(src: *const u8, len: usize, text: *mut u8) -> u64;
     fn count_memory();
     fn most_memory() -> usize;
     fn processor_seconds() -> f64;
@@ -18,6 +19,10 @@ type Call = unsafe extern "C" fn(*const u8, usize, *mut u8, usize) -> u64;
 
 unsafe extern "C" fn openssl(src: *const u8, len: usize, text: *mut u8, _room: usize) -> u64 {
     unsafe { openssl_set(src, len, text) }
+}
+
+unsafe extern "C" fn openssl_elements(src: *const u8, len: usize, text: *mut u8, _room: usize) -> u64 {
+    unsafe { openssl_sequence(src, len, text) }
 }
 
 const MIB: usize = 1 << 20;
@@ -103,8 +108,13 @@ fn row(name: &str, call: Call, make: impl Fn(usize) -> Vec<u8>) {
 fn any_of_small_elements(wanted: impl Fn(&str) -> bool) {
     let integers = [&element(2, &[5])[..], &element(2, &[1, 2]), &element(2, &[1, 2, 3]), &element(2, &[1, 2, 3, 4])].concat();
     let sets = element(0x31, &[element(0x31, &[element(4, &[9; 3]), element(2, &[7])].concat()), element(1, &[255])].concat());
+    let algorithm = element(0x30, &[element(6, &[0x2A, 0x86, 0x48, 0x86, 0xF7, 0x0D, 1, 1, 11]), element(5, &[])].concat());
+    let name = element(0x31, &element(0x30, &[element(6, &[0x55, 4, 3]), element(0x13, b"Test key")].concat()));
+    let mixed = [algorithm, name, element(2, &[1, 2, 3, 4]), element(4, &[0xAA; 8]), element(3, &[0, 1, 2]), element(1, &[255])].concat();
     let shapes = [
+        ("small: of every kind, as in certificates", mixed),
         ("small: SEQUENCEs of INTEGERs of 1 to 4 octets", element(0x30, &integers)),
+        ("small: INTEGERs of 1 to 4 octets", integers),
         ("small: OCTET STRINGs of 8 octets", element(4, &[0xAA; 8])),
         ("small: NULLs", vec![5, 0]),
         ("small: SETs in SETs", sets),
@@ -115,6 +125,11 @@ fn any_of_small_elements(wanted: impl Fn(&str) -> bool) {
     for (name, member) in shapes {
         if wanted(name) {
             row(name, asn_values_bench_any, |n| filled(0x30, &member, n * MIB));
+            // OpenSSL doesn't look into containers.
+            if member[0] & 0x20 == 0 {
+                let given = filled(0x30, &member, MIB);
+                compare(name, &given, &given, &[("OpenSSL", openssl_elements), ("Any", asn_values_bench_any)]);
+            }
         }
     }
 }
@@ -169,18 +184,14 @@ fn members(wanted: impl Fn(&str) -> bool) {
     }
 }
 
-/// A SET OF OCTET STRING by OpenSSL, as a `SetOf` and as an open value.
-fn beside_openssl(name: &str, members: &[Vec<u8>]) -> [f64; 3] {
-    let mut sorted = members.to_vec();
-    sorted.sort();
-    let (given, due) = (element(0x31, &members.concat()), element(0x31, &sorted.concat()));
-    let calls: [(&str, Call); 3] = [("OpenSSL", openssl), ("SetOf", asn_values_bench_set), ("Any", asn_values_bench_any)];
+/// The least times of these calls, which give the same text; the first is OpenSSL's.
+fn compare(name: &str, given: &[u8], due: &[u8], calls: &[(&str, Call)]) -> Vec<f64> {
     // In turn, three times, so that what else runs slows all of them.
-    let mut times = [f64::MAX; 3];
-    let mut memory = [0.0; 3];
+    let mut times = vec![f64::MAX; calls.len()];
+    let mut memory = vec![0.0; calls.len()];
     for _ in 0..3 {
         for (i, (_, call)) in calls.iter().enumerate() {
-            let (time, taken) = measure(*call, &given, Some(&due));
+            let (time, taken) = measure(*call, given, Some(due));
             times[i] = times[i].min(time);
             memory[i] = taken;
         }
@@ -191,6 +202,14 @@ fn beside_openssl(name: &str, members: &[Vec<u8>]) -> [f64; 3] {
         println!("| {name}: {who} | {} | {:.2} ms | {compared} | {memory} |", given.len(), times[i]);
     }
     times
+}
+
+/// A SET OF OCTET STRING by OpenSSL, as a `SetOf` and as an open value.
+fn compare_sets(name: &str, members: &[Vec<u8>]) -> Vec<f64> {
+    let mut sorted = members.to_vec();
+    sorted.sort();
+    let (given, due) = (element(0x31, &members.concat()), element(0x31, &sorted.concat()));
+    compare(name, &given, &due, &[("OpenSSL", openssl), ("SetOf", asn_values_bench_set), ("Any", asn_values_bench_any)])
 }
 
 fn sets(wanted: impl Fn(&str) -> bool) {
@@ -215,7 +234,7 @@ fn sets(wanted: impl Fn(&str) -> bool) {
     ];
     for (name, one, more) in pairs {
         if wanted(name) {
-            let (times, twice) = (beside_openssl(name, &one), beside_openssl(&format!("{name}, twice"), &more));
+            let (times, twice) = (compare_sets(name, &one), compare_sets(&format!("{name}, twice"), &more));
             let growth: Vec<String> = (0..3).map(|i| format!("{:.2}", twice[i] / times[i])).collect();
             println!("twice as much takes: OpenSSL {}, SetOf {}, Any {}", growth[0], growth[1], growth[2]);
         }
