@@ -41,6 +41,7 @@ impl<R: Source> Pull<'_, R> {
     }
 
     /// The same, in place of what the vector holds: its room is used again, so that many small elements need no allocation each.
+    #[inline(always)]
     pub fn primitive_into(&mut self, octets: &mut Vec<u8>) -> Result<(), ReadError>
         requires { (standing self.old).error ≡ None → IsSome (standing self.old).given }
         ensures same_source { SameSource self.old self.new }
@@ -62,6 +63,7 @@ impl<R: Source> Pull<'_, R> {
     }
 
     /// The length and the contents of the primitive element whose identifier at `start` is given.
+    #[inline(always)]
     pub(crate) fn primitive_contents(
         &mut self,
         octets: &mut Vec<u8>,

@@ -63,6 +63,7 @@ impl<R: Source> Pull<'_, R> {
     }
 
     /// Ends the innermost container, behind the first of its end-of-contents octets.
+    #[inline(never)]
     pub(crate) fn end_of_contents(&mut self, start: u32) -> Result<(), ReadError>
         requires { (standing self.old).error ≡ None }
         ensures same_source { SameSource self.old self.new }

@@ -66,6 +66,7 @@ impl<'a, R: Source> Pull<'a, R> {
     /// Asked again before the element is used, it answers the same and takes nothing.
     ///
     /// Faults, at the identifier: `BadEnd`, `BadTag`, `TooDeep`, and `PastEnd`, `TooLong` or `Truncated` by its octets.
+    #[inline(always)]
     pub fn next_tag(&mut self) -> Result<Option<(Tag, bool)>, ReadError>
         ensures same_source { SameSource self.old self.new }
         ensures repeats { Repeats self.old self.new result }
