@@ -97,6 +97,7 @@ pub fn in_order<T: DerText>(alloc: Global, items: Vec<T>) -> Result<Vec<T>, Allo
     ensures in_order { IfOk result (λ sorted. ascends (map der (map T.value sorted.items)) ≡ true) }
 {
     let mut exact = items;
+    // A vector that grew may have room for twice as many.
     exact.shrink_to_fit();
     let octets = texts(alloc, &exact)?;
     let mut keys = add_keys(alloc, exact, &octets)?;
