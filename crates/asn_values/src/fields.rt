@@ -14,7 +14,7 @@ ghost use Rattle.x690.specs.Values.{Same, Value};
 ghost use Rattle.ber_pull.specs.Fields.{Inside, Within, read_begin, read_due, read_end, read_optional, read_take};
 ghost use Rattle.ber_pull.specs.Hears.{heard};
 ghost use Rattle.ber_pull.specs.Standing.{Standing, enclosing, used};
-ghost use Rattle.ber_pull.specs.View.{standing, SameSource, Repeats, Keeps, ReadsFail, Onward, Answers};
+ghost use Rattle.ber_pull.specs.View.{standing, AsksNoMemory, SameSource, Repeats, Keeps, ReadsFail, Onward, Answers};
 ghost use Rattle.ber_pull.specs.declared.state.Given.{Given};
 ghost use Rattle.asn_values.specs.Fields.{AnswersField, AnswersInside, IsInside, SameField, StaysInside, next_of};
 ghost use Rattle.asn_values.specs.Reading.{AnswersValue};
@@ -46,6 +46,7 @@ pub fn ahead<R: Source>(pull: &mut Pull<'_, R>) -> Result<Next, ReadError>
     ensures keeps { Keeps pull.new result }
     ensures read { ReadsFail pull.old pull.new result }
     ensures onward { Onward pull.old pull.new }
+    ensures memory { AsksNoMemory pull.old result }
 {
     let at = pull.at();
     let tag = pull.next_tag()?;
@@ -164,6 +165,7 @@ pub fn end<R: Source>(pull: &mut Pull<'_, R>, next: Next) -> Result<(), ReadErro
     ensures keeps { Keeps pull.new result }
     ensures read { ReadsFail pull.old pull.new result }
     ensures onward { Onward pull.old pull.new }
+    ensures memory { AsksNoMemory pull.old result }
 {
     if next.tag.is_some() {
         return Err(pull.refuse(next.at, Reason::Extra, None));

@@ -15,6 +15,13 @@ use asn_values::set_of::SetOf;
 use asn_values::tagged::Tagged;
 use asn_values::text::Text;
 use ber_pull::pull::Pull;
+use pk_documents::document::read_value;
+use pkix_values::algorithm::AlgorithmIdentifier;
+use pkix_values::attribute::Attribute;
+use pkix_values::extension::Extension;
+use pkix_values::name::Name;
+use pkix_values::public_key::SubjectPublicKeyInfo;
+use pkix_values::request_attribute::RequestAttribute;
 use std::alloc::Global;
 use tlv_core::fault::ReadError;
 use tlv_core::limits::Limits;
@@ -51,15 +58,22 @@ fn without_text(alloc: Global, kind: u8) -> Answer {
     }
 }
 
-/// The answer to a task, and how many octets weren't taken. Tasks 0 to 8 read a value, 128 more ask a reader that wanted memory further,
-/// which has to answer the same each time; 16 to 18 make one.
+/// The answer to a task, and how many octets weren't taken. Tasks 0 to 14 read a value, 128 more ask a reader that wanted memory further,
+/// which has to answer the same each time; 16 to 18 make one; 32 to 34 read a document of one.
 pub fn answered(alloc: Global, task: u8, octets: &[u8]) -> (Answer, usize) {
-    if task % 128 >= 16 {
-        return (made(alloc, task, octets), 0);
-    }
     let Some(limits) = Limits::new(64, 1_048_576) else {
         return (without_text(alloc, WRONG), 0);
     };
+    match task {
+        16..=18 => (made(alloc, task, octets), 0),
+        32 => document::<SubjectPublicKeyInfo>(alloc, octets, limits),
+        33 => document::<Name>(alloc, octets, limits),
+        34 => document::<RequestAttribute>(alloc, octets, limits),
+        _ => element_answered(alloc, task, octets, limits),
+    }
+}
+
+fn element_answered(alloc: Global, task: u8, octets: &[u8], limits: Limits) -> (Answer, usize) {
     let again = task >= 128;
     let mut source = octets;
     let mut pull = Pull::new(&mut source, limits);
@@ -73,7 +87,29 @@ pub fn answered(alloc: Global, task: u8, octets: &[u8]) -> (Answer, usize) {
         6 => read::<SetOf<Int>>(alloc, &mut pull, again),
         7 => read::<Tagged<0, Oid>>(alloc, &mut pull, again),
         8 => read::<Any>(alloc, &mut pull, again),
+        9 => read::<AlgorithmIdentifier>(alloc, &mut pull, again),
+        10 => read::<Name>(alloc, &mut pull, again),
+        11 => read::<SubjectPublicKeyInfo>(alloc, &mut pull, again),
+        12 => read::<Attribute>(alloc, &mut pull, again),
+        13 => read::<RequestAttribute>(alloc, &mut pull, again),
+        14 => read::<Extension>(alloc, &mut pull, again),
         _ => without_text(alloc, WRONG),
+    };
+    (answer, source.len())
+}
+
+/// One value read from the start of the octets, with as many octets taken as it says.
+fn document<T: Element>(alloc: Global, octets: &[u8], limits: Limits) -> (Answer, usize) {
+    let mut source = octets;
+    let answer = match read_value::<&[u8], T>(alloc, &mut source, limits) {
+        Ok((value, taken)) => {
+            if taken.checked_add(source.len() as u64) == Some(octets.len() as u64) {
+                written(alloc, &value)
+            } else {
+                without_text(alloc, WRONG)
+            }
+        }
+        Err(error) => refused(alloc, error),
     };
     (answer, source.len())
 }
@@ -119,17 +155,24 @@ fn written<T: DerText>(alloc: Global, value: &T) -> Answer {
 fn read<T: Element>(alloc: Global, pull: &mut Pull<'_, &[u8]>, again: bool) -> Answer {
     match element::<T>(alloc, pull) {
         Ok(value) => written(alloc, &value),
-        Err(ReadError::Fault(fault)) => Answer {
+        Err(ReadError::Memory) if again && !is_failed::<T>(alloc, pull) => {
+            without_text(alloc, WRONG)
+        }
+        Err(error) => refused(alloc, error),
+    }
+}
+
+/// The answer of a reader that gave no value.
+fn refused(alloc: Global, error: ReadError) -> Answer {
+    match error {
+        ReadError::Fault(fault) => Answer {
             kind: FAULT,
             reason: fault.why.number(),
             at: (fault.at % 256) as u8,
             text: Vec::new(alloc),
         },
-        Err(ReadError::Read { .. }) => without_text(alloc, WRONG),
-        Err(ReadError::Memory) if again && !is_failed::<T>(alloc, pull) => {
-            without_text(alloc, WRONG)
-        }
-        Err(ReadError::Memory) => without_text(alloc, MEMORY),
+        ReadError::Read { .. } => without_text(alloc, WRONG),
+        ReadError::Memory => without_text(alloc, MEMORY),
     }
 }
 
