@@ -165,10 +165,11 @@ fn any_of_hostile_shapes(wanted: impl Fn(&str) -> bool) {
 /// Members of one type, also hostile ones: what a list and a set hold for each. One more than a power of two is an unlucky number, since
 /// a vector that grows has doubled.
 fn members(wanted: impl Fn(&str) -> bool) {
-    let rows: [(&str, Call, u8, &[u8], usize); 10] = [
+    let rows: [(&str, Call, u8, &[u8], usize); 11] = [
         ("List of OCTET STRINGs of none", asn_values_bench_list, 0x30, &[4, 0], MIB / 2),
         ("List of OCTET STRINGs of 1 octet", asn_values_bench_list, 0x30, &[4, 1, 9], MIB / 3),
         ("SetOf of OCTET STRINGs of none", asn_values_bench_set, 0x31, &[4, 0], MIB / 2),
+        ("SetOf of 2^12 + 1 OCTET STRINGs of none", asn_values_bench_set, 0x31, &[4, 0], (1 << 12) + 1),
         ("SetOf of 2^18 + 1 OCTET STRINGs of none", asn_values_bench_set, 0x31, &[4, 0], (1 << 18) + 1),
         ("SetOf of OCTET STRINGs of 1 octet", asn_values_bench_set, 0x31, &[4, 1, 9], MIB / 3),
         ("SetOf of 2^17 + 1 OCTET STRINGs of 1 octet", asn_values_bench_set, 0x31, &[4, 1, 9], (1 << 17) + 1),
