@@ -65,6 +65,7 @@ pub fn begin<R: Source>(pull: &mut Pull<'_, R>, tag: Tag) -> Result<Next, ReadEr
     ensures keeps { Keeps pull.new result }
     ensures read { ReadsFail pull.old pull.new result }
     ensures onward { Onward pull.old pull.new }
+    ensures memory { AsksNoMemory pull.old result }
 {
     expect_tag(pull, tag)?;
     pull.enter()?;

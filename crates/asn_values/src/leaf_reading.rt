@@ -10,7 +10,7 @@ ghost use Rattle.x690.specs.Reading.{Done, Reading, require};
 ghost use Rattle.x690.specs.TypeTerms.{LeafType};
 ghost use Rattle.x690.specs.Values.{Leaf, Value};
 ghost use Rattle.ber_pull.specs.Hears.{heard, heard_error};
-ghost use Rattle.ber_pull.specs.View.{standing, SameSource, Repeats, Keeps, ReadsFail, Onward, Answers, Uses, Unmoved};
+ghost use Rattle.ber_pull.specs.View.{standing, AsksNoMemory, SameSource, Repeats, Keeps, ReadsFail, Onward, Answers, Uses, Unmoved};
 ghost use Rattle.ber_pull.specs.declared.state.Given.{Given};
 ghost use Rattle.asn_values.specs.Reading.{AnswersValue, HasContents, kind_of, read_given, read_given_leaf, string_kind};
 
@@ -47,6 +47,7 @@ pub fn expect_tag<R: Source>(pull: &mut Pull<'_, R>, own: Tag) -> Result<u64, Re
     ensures fine { OnOk result ((standing pull.old).error ≡ None) }
     ensures keeps { Keeps pull.new result }
     ensures read { ReadsFail pull.old pull.new result }
+    ensures memory { AsksNoMemory pull.old result }
     ensures onward { Onward pull.old pull.new }
 {
     let at = pull.at();
