@@ -1,5 +1,5 @@
 -- The plain reading of open values, by the calls of a pull reader.
-use Rattle.std.proofs.Common.{◌≡◌, ◌∙◌, ◌⊎◌, inl, inr, not, ◌+◌, ◌*◌, ◌<◌, ◌≤◌, ◌++◌, Bool, true, false, List, [], ℕ, zero, suc, Option, Some, None, Result, Ok, Err, Vec, Global, IfErr, OnOk, refl, sym, ap, subst, length, arith}
+use Rattle.std.proofs.Common.{◌≡◌, ◌∙◌, ◌⊎◌, inl, inr, not, ◌+◌, ◌*◌, ◌<◌, ◌≤◌, ◌++◌, Bool, true, false, List, [], ℕ, zero, suc, Option, Some, None, Result, Ok, Err, IfErr, OnOk, refl, sym, ap, subst, length, arith}
 use Rattle.tlv_core.specs.Identifier.{Tag}
 use Rattle.tlv_core.specs.Limits.{Limits}
 use Rattle.tlv_core.specs.declared.fault.ReadError.{ReadError}

@@ -1,22 +1,21 @@
 -- Where a reader stands while it reads the fields of a container.
-use Rattle.std.proofs.Common.{◌≡◌, ℕ, Bool, true, false, ◌||◌, IsSome, List, [], ◌∷◌, Option, Some, None, Result, Ok, refl, sym, ◌∙◌, ap, subst}
+use Rattle.std.proofs.Common.{◌≡◌, ℕ, Bool, false, IsSome, List, [], ◌∷◌, Option, Some, None, Result, Ok, refl, sym, ◌∙◌, ap, subst}
 use Rattle.std.specs.Option.{is_some}
 use Rattle.tlv_core.specs.Identifier.{Tag}
 use Rattle.tlv_core.specs.declared.fault.ReadError.{ReadError}
-use Rattle.x690.specs.Points.{Enclosing, stands_at_end}
-use Rattle.x690.specs.ReadHeaders.{ContainerEnds, DefiniteLength, ElementStands, IndefiniteLength, LengthForm, Next, next_tag}
+use Rattle.x690.specs.Points.{Enclosing}
+use Rattle.x690.specs.ReadHeaders.{DefiniteLength, IndefiniteLength, LengthForm, Next, next_tag}
 use Rattle.x690.specs.ReadTypes.{read_type}
-use Rattle.x690.specs.Reading.{Done, Reading, Took, choose, run, ◌>>=◌}
-use Rattle.x690.specs.Reads.{Heard, NoMemory, ReadFailed, Reads, Refused, Said}
+use Rattle.x690.specs.Reading.{Done, choose}
+use Rattle.x690.specs.Reads.{Heard}
 use Rattle.x690.specs.TypeTerms.{TypeTerm}
 use Rattle.x690.specs.Values.{Value}
-use Rattle.ber_pull.specs.Calls.{read_leaving, read_next}
+use Rattle.ber_pull.specs.Calls.{read_next}
 use Rattle.ber_pull.specs.Fields.{BeginsBefore, Inside, IsClosed, Within, given_by}
 use Rattle.ber_pull.specs.Hears.{Hears, heard, next_at}
 use Rattle.ber_pull.specs.Standing.{IsAtEnd, Standing, after_next, closing, container_of, enclosing, is_ended, moved, opening, place, used}
 use Rattle.ber_pull.specs.declared.state.Container.{Container}
 use Rattle.ber_pull.specs.declared.state.Container.TheVariants.{Definite, Ended, Indefinite}
-use Rattle.ber_pull.specs.declared.state.Given.{Given}
 use Rattle.ber_pull.proofs.Hearing.{hears_as, hears_at, hears_done}
 
 -- A container that was opened isn't ended.

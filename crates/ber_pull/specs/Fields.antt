@@ -1,5 +1,5 @@
 -- What is read of a SEQUENCE, field by field; `next` is what stands at the point.
-use Rattle.std.specs.Prelude.{Bool, IsSome, List, None, Option, Some, [], false, length, true, ℕ, ◌++◌, ◌+◌, ◌∷◌, ◌≡◌}
+use Rattle.std.specs.Prelude.{Bool, IsSome, List, None, Option, Some, [], false, length, true, ℕ, ◌+◌, ◌∷◌, ◌≡◌}
 use Rattle.tlv_core.specs.Identifier.{Tag, identifier}
 use Rattle.tlv_core.specs.Limits.{Limits}
 use Rattle.tlv_core.specs.declared.reason.Reason.TheVariants.{Extra, Missing, WrongTag}

@@ -1,10 +1,10 @@
 -- Values made in one way that have one DER text are the same.
-use Rattle.std.proofs.Common.{◌≡◌, ◌∙◌, ◌++◌, Bool, false, true, List, [], ◌∷◌, ℕ, append_assoc, append-nil, ap, ap₂, length, map, refl, subst, sym, arith, ◌≤◌}
+use Rattle.std.proofs.Common.{◌≡◌, ◌∙◌, ◌++◌, Bool, false, true, List, [], ◌∷◌, ℕ, ap, ap₂, length, map, refl, sym, arith, ◌≤◌}
 use Rattle.std.proofs.lemmas.List.{length-append}
 use Rattle.tlv_core.specs.Identifier.{Tag}
-use Rattle.x690.specs.DerTexts.{Ascends, arrange, der, der_element, der_texts, texts_of}
-use Rattle.x690.specs.Lists.{Each, Paired, join}
-use Rattle.x690.specs.Values.{Leaf, Same, Sequence, SetOf, Value, members, values_of}
+use Rattle.x690.specs.DerTexts.{Ascends, arrange, der, der_element, der_texts}
+use Rattle.x690.specs.Lists.{Each, join}
+use Rattle.x690.specs.Values.{Leaf, Same, Sequence, SetOf, Value, values_of}
 use Rattle.x690_laws.proofs.HeaderLengths.{element_length, identifier_some}
 use Rattle.x690_laws.proofs.Lengths.{ders_values}
 use Rattle.x690_laws.proofs.OneValue.{same_sequence, same_set}

@@ -1,4 +1,4 @@
-use Rattle.std.proofs.Common.{rules, ap, sym}
+use Rattle.std.proofs.Common.{rules, ap}
 use Rattle.x690.specs.Values.{Leaf}
 use Rattle.ber_pull.proofs.Hearing.{hears_err, hears_said, hears_then_memory}
 use Rattle.asn_values.proofs.object_identifier.read_identifier.Goals as goal

@@ -5,7 +5,6 @@ use Rattle.tlv_core.specs.declared.reason.Reason.TheVariants.{BadOid}
 use Rattle.x690.specs.Contents.{ObjectIdentifier}
 use Rattle.x690.specs.Points.{fault}
 use Rattle.x690.specs.ReadContents.{is_object_identifier}
-use Rattle.x690.specs.Values.{Leaf}
 use Rattle.ber_pull.specs.Calls.{read_primitive}
 use Rattle.ber_pull.proofs.Hearing.{hears_as, hears_done, hears_err, hears_error, hears_off, hears_on, hears_then}
 use Rattle.asn_values.proofs.Answering.{place_given, refused_by}

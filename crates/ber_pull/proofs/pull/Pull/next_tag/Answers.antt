@@ -4,11 +4,10 @@ use Rattle.tlv_core.specs.declared.reason.Reason.TheVariants.{BadTag, TooDeep}
 use Rattle.x690.specs.Points.{fault}
 use Rattle.x690.specs.ReadHeaders.{header_octet, read_tag_number, ContainerEnds}
 use Rattle.ber_pull.specs.Calls.{read_end_of_contents}
-use Rattle.ber_pull.specs.Hears.{Hears, heard, heard_error}
-use Rattle.ber_pull.specs.Standing.{enclosing, is_over, moved, place}
+use Rattle.ber_pull.specs.Standing.{enclosing, is_over}
 use Rattle.ber_pull.proofs.Hearing.{hears_as, hears_at, hears_err, hears_said, hears_stop}
 use Rattle.ber_pull.proofs.Headers.{not_opposite, opposite}
-use Rattle.ber_pull.proofs.Nexts.{Asks, Begins, Came, next_at_end, next_bad_tag, next_deep, next_element, next_end, next_error, next_given, next_number_error, next_over, ended_over, or_true, place_taken}
+use Rattle.ber_pull.proofs.Nexts.{next_at_end, next_bad_tag, next_deep, next_element, next_end, next_error, next_given, next_number_error, next_over, ended_over, or_true, place_taken}
 use Rattle.ber_pull.proofs.pull.Pull.next_tag.Goals as goal
 use Rattle.ber_pull.proofs.pull.Pull.next_tag.Goals.{then-is_over-via-then-is_over, then-is_over-via-else-is_over+then-is_at_end}
 
