@@ -41,6 +41,7 @@ impl<R: Source> Pull<'_, R> {
     }
 
     /// The same, in place of what the vector holds: its room is used again, so that many small elements need no allocation each.
+    /// What the vector holds after an error isn't said.
     #[inline(always)]
     pub fn primitive_into(&mut self, octets: &mut Vec<u8>) -> Result<(), ReadError>
         requires { (standing self.old).error ≡ None → IsSome (standing self.old).given }
