@@ -2,41 +2,38 @@
 //!
 //! `DerText` is what has a text, `Element` what can be read as well, from any source and in any layout of BER. There are the leaves
 //! `Bool`, `Int`, `Null`, `Bits`, `Octets`, `Text` and `tlv_core`'s `Oid`, the containers `List` and `SetOf`, `Tagged` for explicit tags, and `Any`, an open value.
+//! `fields` reads a SEQUENCE field by field.
 //!
-//! Proved here, for each of them: `put` writes the text, `size` is its length, `octet` its octets, `der_text` the whole, and the members of a `SetOf`
+//! This crate is the table of contents: what stands here is proved in `asn_elements` (the traits and the leaves), `asn_fields`, `asn_containers`
+//! and `asn_open_values`, each of which says what. The tests of all four are here.
+//!
+//! Proved of each type: `put` writes the text, `size` is its length, `octet` its octets, `der_text` the whole, and the members of a `SetOf`
 //! ascend as 11.6 has it, equal ones kept. A reader answers what the plain reading of its type (`x690`) gives for the octets taken: a value that is the same
 //! up to the order in SET OF, or the first fault; a failed read only where that octet was needed; want of memory says nothing. By the laws of `x690_laws`
 //! a value that was read is spelled by exactly those octets, and no spelling is refused. `from_content`, `from_slice` and `from_items` refuse exactly what they name.
-//! `fields` reads a SEQUENCE field by field, as the plain reading of its type does.
 //! `same` is proved to be the same value, a SET OF as a multiset.
 #![tactic(auto)]
 
-pub mod any;
-pub mod bits;
-pub mod boolean;
-pub mod build;
-pub mod der_text;
-pub mod element;
-pub mod fields;
-pub mod framing;
-pub mod integer;
-mod leaf;
-pub mod leaf_reading;
-pub mod list;
-mod members;
-pub mod null;
-pub mod object_identifier;
-pub mod octets;
-mod open_form;
-mod open_value;
+pub use asn_containers::list;
+pub use asn_containers::set_of;
+pub use asn_elements::bits;
+pub use asn_elements::boolean;
+pub use asn_elements::build;
+pub use asn_elements::der_text;
+pub use asn_elements::element;
+pub use asn_elements::framing;
+pub use asn_elements::integer;
+pub use asn_elements::leaf_reading;
+pub use asn_elements::null;
+pub use asn_elements::object_identifier;
+pub use asn_elements::octets;
+pub use asn_elements::tags;
+pub use asn_elements::text;
+pub use asn_fields::fields;
+pub use asn_fields::tagged;
+pub use asn_open_values::any;
+
 #[cfg(test)]
 mod open_value_tests;
-mod order;
-mod row;
-pub mod set_of;
-pub mod tagged;
-pub mod tags;
 #[cfg(test)]
 mod tests;
-pub mod text;
-mod texts;

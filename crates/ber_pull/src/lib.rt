@@ -11,5 +11,3 @@ mod header;
 pub mod pull;
 mod state;
 mod string;
-#[cfg(test)]
-mod tests;

@@ -29,8 +29,8 @@ use Rattle.ber_pull.specs.Standing.{Standing, after_next, place, started}
 use Rattle.ber_pull.specs.View.{Answers, source, standing, told}
 use Rattle.ber_pull.specs.declared.pull.Pull.{Pull}
 use Rattle.ber_pull.proofs.Hearing.{hears_as, hears_error, hears_given, hears_said, hears_then}
-use Rattle.asn_values.specs.Reading.{read_given}
-use Rattle.asn_values.proofs.ShortElements.{due_is}
+use Rattle.asn_elements.specs.Reading.{read_given}
+use Rattle.asn_elements.proofs.ShortElements.{due_is}
 use Rattle.pk_documents.specs.ReadValues.{ReadsValue, StopsReading}
 
 -- The first call of a new reader.

@@ -17,5 +17,3 @@ mod key_text;
 pub mod laws;
 pub mod normalise;
 mod plain_key;
-#[cfg(test)]
-mod tests;

@@ -7,7 +7,7 @@ use Rattle.x690.specs.DerTexts.{der, texts_of}
 use Rattle.x690.specs.ReadTypes.{is_this_leaf}
 use Rattle.x690.specs.Values.{Value}
 use Rattle.ber_pull.specs.Fields.{but_default, with_field}
-use Rattle.asn_values.specs.declared.boolean.Bool.{Bool}
+use Rattle.asn_elements.specs.declared.boolean.Bool.{Bool}
 use Rattle.pkix_values.specs.Values.{truth_value}
 
 abbrev pub IsShort : Option Value → Type 0

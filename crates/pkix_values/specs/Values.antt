@@ -8,10 +8,10 @@ use Rattle.x690.specs.Rules.{has_length, no_unused}
 use Rattle.x690.specs.Values.{Leaf, SetOf, Value, values_of}
 use Rattle.x690_laws.proofs.OneTexts.{leaf_one_text}
 use Rattle.ber_pull.specs.Fields.{with_field}
-use Rattle.asn_values.proofs.OneFields.{OneText}
-use Rattle.asn_values.specs.Leaves.{octets_of, truth}
-use Rattle.asn_values.specs.declared.boolean.Bool.{Bool}
-use Rattle.asn_values.specs.declared.octets.Octets.{Octets}
+use Rattle.asn_fields.proofs.OneFields.{OneText}
+use Rattle.asn_elements.specs.Leaves.{octets_of, truth}
+use Rattle.asn_elements.specs.declared.boolean.Bool.{Bool}
+use Rattle.asn_elements.specs.declared.octets.Octets.{Octets}
 
 abbrev pub truth_value : Bool → Value
 truth_value b = Leaf (universal 1) (cond (truth b) 255 0 ∷ [])

@@ -1,6 +1,6 @@
 //! AlgorithmIdentifier of RFC 5280 section 4.1.1.2.
 ghost use Rattle.x690_laws.proofs.OneTexts.{leaf_one_text};
-ghost use Rattle.asn_values.proofs.OneFields.{field_one_text, one_or_two_one_text};
+ghost use Rattle.asn_fields.proofs.OneFields.{field_one_text, one_or_two_one_text};
 ghost use Rattle.std.specs.Prelude.{◌≡◌, ◌↔◌, ◌<◌, ◌^◌, ◌∷◌, None, IsTrue, [], length, true};
 ghost use Rattle.std.specs.Option.{option_map};
 ghost use Rattle.x690.specs.DerTexts.{texts_of};

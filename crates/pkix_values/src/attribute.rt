@@ -1,13 +1,13 @@
 //! Attribute of RFC 2986 section 4.1.
 ghost use Rattle.x690_laws.proofs.OneTexts.{leaf_one_text};
-ghost use Rattle.asn_values.proofs.OneFields.{two_one_text};
+ghost use Rattle.asn_fields.proofs.OneFields.{two_one_text};
 ghost use Rattle.std.specs.Prelude.{◌≡◌, ◌↔◌, ◌<◌, ◌^◌, IsTrue, length, map};
 ghost use Rattle.x690.specs.DerTexts.{texts_of};
 ghost use Rattle.x690.specs.DocumentTypes.{object_identifier, sequence, set_of_some, ◌⨾◌};
 ghost use Rattle.x690.specs.Layouts.{universal};
 ghost use Rattle.x690.specs.TypeTerms.{EndOfFields, Required};
 ghost use Rattle.x690.specs.Values.{Leaf, Same, Sequence, SetOf as SetValue, values_of};
-ghost use Rattle.asn_values.specs.Containers.{set_items};
+ghost use Rattle.asn_containers.specs.Containers.{set_items};
 ghost use Rattle.ber_pull.proofs.Fields.{sequence_closed};
 ghost use Rattle.pkix_values.specs.Values.{attribute_values};
 

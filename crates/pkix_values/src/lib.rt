@@ -16,5 +16,3 @@ pub mod parts;
 pub mod public_key;
 pub mod request_attribute;
 pub mod set_of_some;
-#[cfg(test)]
-mod tests;

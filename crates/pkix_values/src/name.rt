@@ -1,12 +1,12 @@
 //! Names of RFC 5280 section 4.1.2.4.
 ghost use Rattle.x690_laws.proofs.OneTexts.{leaf_one_text, list_one_text};
-ghost use Rattle.asn_values.proofs.OneFields.{two_one_text};
+ghost use Rattle.asn_fields.proofs.OneFields.{two_one_text};
 ghost use Rattle.std.specs.Prelude.{◌≡◌, ◌↔◌, ◌<◌, ◌^◌, ◌∷◌, IsTrue, [], length, map};
 ghost use Rattle.x690.specs.DerTexts.{texts_of};
 ghost use Rattle.x690.specs.DocumentTypes.{Name as NameType, NameItem as NameItemType};
 ghost use Rattle.x690.specs.Layouts.{universal};
 ghost use Rattle.x690.specs.Values.{Leaf, Same, Sequence, values_of};
-ghost use Rattle.asn_values.specs.Containers.{list_items};
+ghost use Rattle.asn_containers.specs.Containers.{list_items};
 ghost use Rattle.pkix_values.specs.ClosedTypes.{name_closed, name_item_closed};
 
 use crate::pairs::read_pair;

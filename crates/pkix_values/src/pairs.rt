@@ -10,7 +10,7 @@ ghost use Rattle.x690.specs.Values.{Sequence, Value, values_of};
 ghost use Rattle.ber_pull.specs.Fields.{with_field};
 ghost use Rattle.ber_pull.specs.Standing.{enclosing};
 ghost use Rattle.ber_pull.specs.View.{standing, SameSource, Repeats, Keeps, ReadsFail, Onward, Uses};
-ghost use Rattle.asn_values.specs.Reading.{AnswersValue};
+ghost use Rattle.asn_elements.specs.Reading.{AnswersValue};
 ghost use Rattle.ber_pull.specs.declared.state.Given.{Given};
 
 use asn_values::element::Element;

@@ -1,12 +1,12 @@
 //! SubjectPublicKeyInfo of RFC 5280 section 4.1.2.7.
 ghost use Rattle.x690_laws.proofs.OneTexts.{leaf_one_text};
-ghost use Rattle.asn_values.proofs.OneFields.{two_one_text};
+ghost use Rattle.asn_fields.proofs.OneFields.{two_one_text};
 ghost use Rattle.std.specs.Prelude.{◌≡◌, ◌↔◌, ◌<◌, ◌^◌, ◌∷◌, IsTrue, [], length, true};
 ghost use Rattle.x690.specs.DerTexts.{der, texts_of};
 ghost use Rattle.x690.specs.DocumentTypes.{SubjectPublicKeyInfo as SubjectPublicKeyInfoType};
 ghost use Rattle.x690.specs.Layouts.{universal};
 ghost use Rattle.x690.specs.Values.{Leaf, Same, Sequence, values_of};
-ghost use Rattle.asn_values.specs.Leaves.{bit_string_of};
+ghost use Rattle.asn_elements.specs.Leaves.{bit_string_of};
 ghost use Rattle.pkix_values.specs.ClosedTypes.{public_key_closed};
 ghost use Rattle.pkix_values.specs.Values.{key_fits};
 

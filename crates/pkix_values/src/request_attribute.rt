@@ -1,5 +1,5 @@
 //! Attributes of certification requests (RFC 2986 section 4.1, RFC 2985 section 5.4.2).
-ghost use Rattle.asn_values.proofs.OneFields.{one_first_identifier};
+ghost use Rattle.asn_fields.proofs.OneFields.{one_first_identifier};
 ghost use Rattle.std.specs.Prelude.{◌≡◌, ◌↔◌, ◌∷◌, IsTrue, [], not};
 ghost use Rattle.std.specs.Option.{is_some, option_map};
 ghost use Rattle.x690.specs.Values.{Same};

@@ -3,7 +3,7 @@ ghost use Rattle.std.specs.Prelude.{◌≡◌, ◌↔◌, ◌<◌, IsTrue, lengt
 ghost use Rattle.x690.specs.DocumentTypes.{set_of_some};
 ghost use Rattle.x690.specs.Layouts.{universal};
 ghost use Rattle.x690.specs.Values.{Same, SetOf as SetValue, values_of};
-ghost use Rattle.asn_values.specs.Containers.{set_items};
+ghost use Rattle.asn_containers.specs.Containers.{set_items};
 ghost use Rattle.ber_pull.proofs.Fields.{set_of_closed};
 
 use asn_values::der_text::DerText;

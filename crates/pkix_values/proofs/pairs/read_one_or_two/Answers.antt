@@ -1,5 +1,5 @@
 use Rattle.std.proofs.Common.{rules}
-use Rattle.asn_values.proofs.SoFar.{after_begin, after_due, after_end, after_optional, answered, handed, stopped_at_begin, stopped_at_due, stopped_at_end, stopped_at_optional}
+use Rattle.asn_fields.proofs.SoFar.{after_begin, after_due, after_end, after_optional, answered, handed, stopped_at_begin, stopped_at_due, stopped_at_end, stopped_at_optional}
 use Rattle.pkix_values.proofs.SameFields.{one_or_two_short}
 use Rattle.pkix_values.proofs.pairs.read_one_or_two.Goals as goal
 

@@ -1,5 +1,5 @@
 use Rattle.std.proofs.Common.{rules}
-use Rattle.asn_values.proofs.SoFar.{after_begin, after_due, after_end, answered, handed, stopped_at_begin, stopped_at_due, stopped_at_end}
+use Rattle.asn_fields.proofs.SoFar.{after_begin, after_due, after_end, answered, handed, stopped_at_begin, stopped_at_due, stopped_at_end}
 use Rattle.pkix_values.proofs.SameFields.{two_short}
 use Rattle.pkix_values.proofs.pairs.read_pair.Goals as goal
 

@@ -2,7 +2,7 @@ use Rattle.std.proofs.Common.{rules, ◌++◌, ◌∙◌, ap, sym, true}
 use Rattle.tlv_core.specs.Header.{der_header}
 use Rattle.x690.specs.DerTexts.{texts_of}
 use Rattle.x690_laws.proofs.Lengths.{der_row}
-use Rattle.asn_values.proofs.Putting.{contents_room, framed_put, framed_stop, header_room}
+use Rattle.asn_elements.proofs.Putting.{contents_room, framed_put, framed_stop, header_room}
 use Rattle.pkix_values.proofs.parts.put_sequence.Goals as goal
 
 pub put_header-requires : goal.put_header-requires

@@ -2,7 +2,7 @@ use Rattle.std.proofs.Common.{◌≡◌, ◌+◌, ◌∙◌, ap, length, slice_g
 use Rattle.tlv_core.specs.Header.{der_header}
 use Rattle.x690.specs.DerTexts.{texts_of}
 use Rattle.x690_laws.proofs.Lengths.{der_row}
-use Rattle.asn_values.proofs.HeaderOctets.{get_framed, get_header}
+use Rattle.asn_elements.proofs.HeaderOctets.{get_framed, get_header}
 use Rattle.pkix_values.proofs.parts.sequence_octet.Goals as goal
 
 pub returns-in-InHeader : goal.returns-in-InHeader

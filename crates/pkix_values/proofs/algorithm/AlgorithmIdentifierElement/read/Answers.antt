@@ -4,8 +4,8 @@ use Rattle.tlv_core.specs.declared.reason.Reason.TheVariants.{Parameters}
 use Rattle.x690.specs.DocumentTypes.{AlgorithmIdentifier}
 use Rattle.x690.specs.Points.{fault}
 use Rattle.ber_pull.proofs.Fields.{rule_holds, rule_refuses, ruled, ruled_error}
-use Rattle.asn_values.proofs.Answering.{place_given, refused_by, value_err}
-use Rattle.asn_values.specs.Reading.{read_given}
+use Rattle.asn_elements.proofs.Answering.{place_given, refused_by, value_err}
+use Rattle.asn_elements.specs.Reading.{read_given}
 use Rattle.pkix_values.proofs.Rules.{parameters_allowed, parameters_refused}
 use Rattle.pkix_values.proofs.algorithm.AlgorithmIdentifierElement.read.Goals as goal
 

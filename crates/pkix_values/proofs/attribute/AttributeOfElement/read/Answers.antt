@@ -1,8 +1,8 @@
 use Rattle.std.proofs.Common.{rules, []}
 use Rattle.x690.specs.DocumentTypes.{object_identifier, sequence, set_of_some, ◌⨾◌}
 use Rattle.x690.specs.TypeTerms.{EndOfFields, Required}
-use Rattle.asn_values.specs.Reading.{read_given}
-use Rattle.asn_values.proofs.Answering.{value_err}
+use Rattle.asn_elements.specs.Reading.{read_given}
+use Rattle.asn_elements.proofs.Answering.{value_err}
 use Rattle.pkix_values.proofs.attribute.AttributeOfElement.read.Goals as goal
 
 pub returns-in_err-id-clause-reads : goal.returns-in_err-id-clause-reads

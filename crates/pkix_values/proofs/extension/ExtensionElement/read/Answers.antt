@@ -3,8 +3,8 @@ use Rattle.x690.specs.DocumentTypes.{Extension}
 use Rattle.x690.specs.Layouts.{universal}
 use Rattle.x690.specs.Values.{Leaf}
 use Rattle.ber_pull.specs.Fields.{with_field}
-use Rattle.asn_values.specs.Leaves.{octets_of}
-use Rattle.asn_values.proofs.SoFar.{after_begin, after_default, after_due, after_end, answered_as, handed, stopped_at_begin, stopped_at_default, stopped_at_due, stopped_at_end}
+use Rattle.asn_elements.specs.Leaves.{octets_of}
+use Rattle.asn_fields.proofs.SoFar.{after_begin, after_default, after_due, after_end, answered_as, handed, stopped_at_begin, stopped_at_default, stopped_at_due, stopped_at_end}
 use Rattle.pkix_values.proofs.SameFields.{extension_short}
 use Rattle.pkix_values.proofs.extension.ExtensionElement.read.Goals as goal
 

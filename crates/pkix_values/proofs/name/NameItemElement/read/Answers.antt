@@ -1,7 +1,7 @@
 use Rattle.std.proofs.Common.{rules, []}
 use Rattle.x690.specs.DocumentTypes.{NameItem}
-use Rattle.asn_values.proofs.Answering.{value_err}
-use Rattle.asn_values.specs.Reading.{read_given}
+use Rattle.asn_elements.proofs.Answering.{value_err}
+use Rattle.asn_elements.specs.Reading.{read_given}
 use Rattle.pkix_values.proofs.name.NameItemElement.read.Goals as goal
 
 pub returns-in_err-id-clause-reads : goal.returns-in_err-id-clause-reads

@@ -1,6 +1,6 @@
 use Rattle.std.proofs.Common.{arith, ◌∙◌, ◌-◌, ap, slice_get, sym}
 use Rattle.x690.specs.DerTexts.{texts_of}
-use Rattle.asn_values.proofs.HeaderOctets.{get_after, get_before}
+use Rattle.asn_elements.proofs.HeaderOctets.{get_after, get_before}
 use Rattle.pkix_values.proofs.PartTexts.{length_both, texts_both}
 use Rattle.pkix_values.proofs.parts.BothParts.octet.Goals as goal
 

@@ -1,6 +1,6 @@
 use Rattle.std.proofs.Common.{rules}
 use Rattle.x690.specs.DerTexts.{texts_of}
-use Rattle.asn_values.proofs.Putting.{contents_room, framed_put, framed_stop, header_room}
+use Rattle.asn_elements.proofs.Putting.{contents_room, framed_put, framed_stop, header_room}
 use Rattle.pkix_values.proofs.PartTexts.{texts_both}
 use Rattle.pkix_values.proofs.parts.BothParts.put.Goals as goal
 

@@ -6,10 +6,10 @@ use Rattle.x690.specs.Rules.{else_refused}
 use Rattle.x690.specs.Values.{leaf_at}
 use Rattle.x690_laws.proofs.Fairs.{fair_key_bits}
 use Rattle.ber_pull.proofs.Insides.{within_none}
-use Rattle.asn_values.specs.Leaves.{bit_string_of}
-use Rattle.asn_values.specs.Reading.{read_given}
-use Rattle.asn_values.proofs.Answering.{refused_by}
-use Rattle.asn_values.proofs.SoFar.{after_ahead, after_begin, after_due, after_end, after_take_to_judge, answered, handed, passed, stopped_at_ahead, stopped_at_begin, stopped_at_due, stopped_at_end, stopped_at_take_to_judge, turned_down}
+use Rattle.asn_elements.specs.Leaves.{bit_string_of}
+use Rattle.asn_elements.specs.Reading.{read_given}
+use Rattle.asn_elements.proofs.Answering.{refused_by}
+use Rattle.asn_fields.proofs.SoFar.{after_ahead, after_begin, after_due, after_end, after_take_to_judge, answered, handed, passed, stopped_at_ahead, stopped_at_begin, stopped_at_due, stopped_at_end, stopped_at_take_to_judge, turned_down}
 use Rattle.pkix_values.specs.Values.{key_fits}
 use Rattle.pkix_values.proofs.public_key.SubjectPublicKeyInfoElement.read.Goals as goal
 

@@ -4,7 +4,7 @@ use Rattle.x690.specs.Identifiers.{extension_request}
 use Rattle.x690.specs.Lists.{one_of}
 use Rattle.x690.specs.TypeTerms.{fits_tag}
 use Rattle.x690.specs.Values.{leaf_at}
-use Rattle.asn_values.proofs.SoFar.{after_begin, after_due, after_end, answered, as_first, as_second, handed, stopped_at_begin, stopped_at_due, stopped_at_end}
+use Rattle.asn_fields.proofs.SoFar.{after_begin, after_due, after_end, answered, as_first, as_second, handed, stopped_at_begin, stopped_at_due, stopped_at_end}
 use Rattle.pkix_values.proofs.request_attribute.RequestAttributeElement.read.Goals as goal
 
 pub returns-in_err-next-clause-reads : goal.returns-in_err-next-clause-reads

@@ -1,0 +1,19 @@
+use Rattle.std.proofs.Common.{◌∙◌, ap, map, subst, sym, IsPermutation}
+use Rattle.std.proofs.lemmas.List.Sorted.{IsPermutation-map}
+use Rattle.x690.specs.DerTexts.{der}
+use Rattle.asn_elements.specs.Members.{ascends}
+use Rattle.asn_elements.proofs.ArrangedTexts.{sorted_ascend}
+use Rattle.asn_elements.proofs.MappedMembers.{map_thrice}
+use Rattle.asn_containers.proofs.order.in_order.Goals as goal
+
+pub returns-clause-same : goal.returns-clause-same
+returns-clause-same g c =
+    let p = IsPermutation-map (λ k. k.item) c.in_ok-keys.keys.items c.sort_unstable.new.self.items c.sort_unstable.ensures.permutation in
+    subst (λ z. IsPermutation z c.in_ok-sorted.sorted.items) (c.in_ok-keys.ensures ∙ c.shrink_to_fit.ensures.items) (subst (λ z. IsPermutation (map (λ k. k.item) c.in_ok-keys.keys.items) z) (sym c.in_ok-sorted.ensures) p)
+
+pub returns-clause-in_order : goal.returns-clause-in_order
+returns-clause-in_order g c =
+    let keys = c.sort_unstable.new.self.items in
+    ap (λ z. ascends (map der (map g.T.DerText.value z))) c.in_ok-sorted.ensures
+    ∙ (ap ascends (map_thrice der g.T.DerText.value (λ k. k.item) keys)
+    ∙ sorted_ascend (λ k. k.text.now) (λ k. g.T.DerText.value k.item) (λ k. k.own) keys c.sort_unstable.ensures.sorted)

@@ -1,0 +1,17 @@
+pub mod Answering
+pub mod ArrangedTexts
+pub mod Ascending
+pub mod ContainerTexts
+pub mod CutTexts
+pub mod HeaderOctets
+pub mod LeafReadings
+pub mod MappedMembers
+pub mod MemberReadings
+pub mod MemberTexts
+pub mod ObjectIdentifierContents
+pub mod PairedMembers
+pub mod Putting
+pub mod SameMembers
+pub mod ShortElements
+pub mod StringReadings
+pub mod TypeReadings

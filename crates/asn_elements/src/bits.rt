@@ -1,0 +1,136 @@
+//! BIT STRING (X.690 8.6, 11.2).
+ghost use Rattle.x690_laws.proofs.OneTexts.{leaf_one_text};
+ghost use Rattle.std.specs.Prelude.{◌≡◌, ◌↔◌, ◌+◌, ◌<◌, ◌^◌, ◌∷◌, None, Some, IsSome, IsTrue, OnOk, drop, get_or, length, slice_get};
+ghost use Rattle.tlv_core.specs.Sinks.{count, Puts};
+ghost use Rattle.ber_pull.proofs.Fields.{leaf_closed};
+ghost use Rattle.x690.specs.DerTexts.{der};
+ghost use Rattle.x690.specs.Layouts.{universal};
+ghost use Rattle.x690.specs.Contents.{BitString};
+ghost use Rattle.x690.specs.TypeTerms.{LeafType};
+ghost use Rattle.ber_pull.specs.View.{standing, SameSource, Repeats, Keeps, ReadsFail, Onward, Uses};
+ghost use Rattle.ber_pull.specs.declared.state.Given.{Given};
+ghost use Rattle.asn_elements.specs.Reading.{AnswersValue, read_given};
+ghost use Rattle.x690.specs.Values.{Leaf};
+
+use crate::der_text::DerText;
+use crate::element::Element;
+use crate::leaf::{leaf_octet, leaf_size, put_leaf};
+use crate::leaf_reading::{Kind, read_leaf_as};
+use crate::tags::{is_same_tag, universal_tag};
+use ber_pull::pull::Pull;
+use std::alloc::Global;
+use tlv_core::fault::ReadError;
+use tlv_core::sink::{Sink, WriteError};
+use tlv_core::source::Source;
+use tlv_core::tag::Tag;
+use tlv_core::target::Target;
+
+/// A BIT STRING.
+#[derive(Drop)]
+pub struct Bits {
+    /// The number of unused bits, and behind it the octets, in which these bits are 0.
+    content: Vec<u8>,
+    ghost some: { 0 < length content.items },
+}
+
+impl Bits {
+    ghost use Rattle.asn_elements.specs.Leaves.{bit_string_of};
+
+    /// The number of unused bits in the last octet (X.690 8.6.2.2).
+    pub fn unused(&self) -> u8
+        ensures { result ≡ get_or (bit_string_of self.now) 0 0 }
+    {
+        self.content[0]
+    }
+
+    /// The octets of the bits, the first bit leading; unused bits are 0 (X.690 8.6.2.1, 11.2.1).
+    pub fn octets(&self) -> &[u8]
+        ensures octets { result.now ≡ drop 1 (bit_string_of self.now) }
+        ensures contents { bit_string_of self.now ≡ get_or (bit_string_of self.now) 0 0 ∷ result.now }
+    {
+        &self.content[1..]
+    }
+
+    /// Whether the two have the same bits.
+    pub fn same(&self, other: &Bits) -> bool
+        ensures { IsTrue result ↔ (bit_string_of self.now ≡ bit_string_of other.now) }
+    {
+        self.content == other.content
+    }
+
+    /// Reads the BIT STRING that is given, under an implicit tag.
+    pub fn read_as<R: Source>(
+        alloc: Global,
+        pull: &mut Pull<'_, R>,
+        tag: Tag,
+    ) -> Result<Bits, ReadError>
+        requires { (standing pull.old).error ≡ None → IsSome (standing pull.old).given }
+        ensures same_source { SameSource pull.old pull.new }
+        ensures repeats { Repeats pull.old pull.new result }
+        ensures reads { (g : Given) → (standing pull.old).error ≡ None → (standing pull.old).given ≡ Some g → AnswersValue pull.old pull.new (read_given (LeafType tag BitString) (standing pull.old) g) (λ bits. Leaf tag (bit_string_of bits)) result }
+        ensures stands { OnOk result (Uses pull.old pull.new) }
+        ensures keeps { Keeps pull.new result }
+        ensures read { ReadsFail pull.old pull.new result }
+        ensures onward { Onward pull.old pull.new }
+    {
+        let content = read_leaf_as(alloc, pull, tag, Kind::BitString)?;
+        Ok(Bits { content })
+    }
+
+    /// The length of its text under an implicit tag.
+    pub fn size_as(&self, tag: Tag) -> u64
+        ensures { result ≡ length (der (Leaf tag (bit_string_of self.now))) }
+    {
+        leaf_size(tag, &self.content)
+    }
+
+    /// Writes its text under an implicit tag.
+    pub fn put_as<W: Target>(&self, sink: &mut Sink<'_, W>, tag: Tag) -> Result<(), WriteError>
+        requires { count sink.old + length (der (Leaf tag (bit_string_of self.now))) < 2 ^ 64 }
+        ensures { Puts (der (Leaf tag (bit_string_of self.now))) sink.old sink.new result }
+    {
+        put_leaf(tag, &self.content, sink)
+    }
+
+    /// Octet `i` of its text under an implicit tag.
+    pub fn octet_as(&self, i: u64, tag: Tag) -> Option<u8>
+        ensures { result ≡ slice_get (der (Leaf tag (bit_string_of self.now))) i }
+    {
+        leaf_octet(tag, &self.content, i)
+    }
+}
+
+impl DerText for Bits {
+    ghost use Rattle.asn_elements.specs.Leaves.{bit_string_of};
+
+    ghost value = { λ bits. Leaf (universal 3) (bit_string_of bits) };
+
+    ghost one_text = { λ x y. leaf_one_text (universal 3) (universal 3) (bit_string_of x) (bit_string_of y) };
+
+    fn size(&self) -> u64 {
+        self.size_as(universal_tag(3))
+    }
+
+    fn put<W: Target>(&self, sink: &mut Sink<'_, W>) -> Result<(), WriteError> {
+        self.put_as(sink, universal_tag(3))
+    }
+
+    fn octet(&self, i: u64) -> Option<u8> {
+        self.octet_as(i, universal_tag(3))
+    }
+}
+
+impl Element for Bits {
+    ghost type_term = { LeafType (universal 3) BitString };
+
+    ghost closed = { leaf_closed (universal 3) BitString };
+
+    #[tactic(auto, unfolding(x690::specs::TypeTerms::fits_tag))]
+    fn fits(tag: Tag) -> bool {
+        is_same_tag(universal_tag(3), tag)
+    }
+
+    fn read<R: Source>(alloc: Global, pull: &mut Pull<'_, R>) -> Result<Bits, ReadError> {
+        Bits::read_as(alloc, pull, universal_tag(3))
+    }
+}

@@ -1,0 +1,118 @@
+//! INTEGER (X.690 8.3).
+ghost use Rattle.x690_laws.proofs.OneTexts.{leaf_one_text};
+ghost use Rattle.std.specs.Prelude.{◌≡◌, ◌↔◌, ◌≤◌, ◌<◌, ◌^◌, Err, IfOk, IsTrue, length, true};
+ghost use Rattle.asn_elements.specs.declared.build.BuildError.TheVariants.{Bad, TooBig};
+ghost use Rattle.ber_pull.proofs.Fields.{leaf_closed};
+ghost use Rattle.x690.specs.Contents.{Integer, IsInteger};
+ghost use Rattle.x690.specs.DerTexts.{der};
+ghost use Rattle.x690.specs.ReadContents.{is_integer_contents};
+ghost use Rattle.x690.specs.Layouts.{universal};
+ghost use Rattle.x690.specs.TypeTerms.{LeafType};
+ghost use Rattle.x690.specs.Values.{Leaf};
+
+use crate::build::BuildError;
+use crate::der_text::DerText;
+use crate::element::Element;
+use crate::leaf::{is_long_leaf, leaf_octet, leaf_size, put_leaf};
+use crate::leaf_reading::{Kind, read_leaf_as};
+use crate::tags::{is_same_tag, universal_tag};
+use ber_pull::pull::Pull;
+use std::alloc::Global;
+use tlv_core::fault::ReadError;
+use tlv_core::sink::{Sink, WriteError};
+use tlv_core::source::Source;
+use tlv_core::tag::Tag;
+use tlv_core::target::Target;
+
+/// An INTEGER, by its contents: two's complement, the most significant octet first, in as few octets as hold it (X.690 8.3).
+#[derive(Drop)]
+pub struct Int {
+    content: Vec<u8>,
+    ghost is: { is_integer_contents content.items ≡ true },
+}
+
+impl Int {
+    ghost use Rattle.asn_elements.specs.Leaves.{integer_of};
+
+    /// The INTEGER with these contents.
+    ///
+    /// Errors: `TooBig` where the text would be longer than 2^40 octets, `Bad` where there are no octets, or
+    /// the first nine bits are all 0 or all 1 (X.690 8.3.2), `Memory`.
+    pub fn from_content(alloc: Global, octets: &[u8]) -> Result<Int, BuildError>
+        ensures made { IfOk result (λ n. integer_of n ≡ octets.now) }
+        ensures too_big { (result ≡ Err TooBig) ↔ (2 ^ 40 < length (der (Leaf (universal 2) octets.now))) }
+        ensures bad { (result ≡ Err Bad) ↔ ((length (der (Leaf (universal 2) octets.now)) ≤ 2 ^ 40) × (IsInteger octets.now → ⊥)) }
+    {
+        if is_long_leaf(universal_tag(2), octets) {
+            return Err(BuildError::TooBig);
+        }
+        if !is_integer(octets) {
+            return Err(BuildError::Bad);
+        }
+        let content = octets.to_vec(alloc)?;
+        Ok(Int { content })
+    }
+
+    /// The octets of its contents.
+    pub fn content(&self) -> &[u8]
+        ensures value { result.now ≡ integer_of self.now }
+        ensures is { IsInteger (integer_of self.now) }
+    {
+        &self.content
+    }
+
+    /// Whether the two are the same number.
+    pub fn same(&self, other: &Int) -> bool
+        ensures { IsTrue result ↔ (integer_of self.now ≡ integer_of other.now) }
+    {
+        self.content == other.content
+    }
+}
+
+/// Whether the octets are the contents of an INTEGER.
+pub(crate) fn is_integer(octets: &[u8]) -> bool
+    ensures is { IsTrue result ↔ IsInteger octets.now }
+    ensures test { result ≡ is_integer_contents octets.now }
+{
+    match octets {
+        [] => false,
+        [_] => true,
+        [first, second, ..] => (*first != 0 || *second >= 128) && (*first != 255 || *second < 128),
+    }
+}
+
+impl DerText for Int {
+    ghost use Rattle.asn_elements.specs.Leaves.{integer_of};
+
+    ghost value = { λ n. Leaf (universal 2) (integer_of n) };
+
+    ghost one_text = { λ x y. leaf_one_text (universal 2) (universal 2) (integer_of x) (integer_of y) };
+
+    fn size(&self) -> u64 {
+        leaf_size(universal_tag(2), &self.content)
+    }
+
+    fn put<W: Target>(&self, sink: &mut Sink<'_, W>) -> Result<(), WriteError> {
+        put_leaf(universal_tag(2), &self.content, sink)
+    }
+
+    fn octet(&self, i: u64) -> Option<u8> {
+        leaf_octet(universal_tag(2), &self.content, i)
+    }
+}
+
+impl Element for Int {
+    ghost type_term = { LeafType (universal 2) Integer };
+
+    ghost closed = { leaf_closed (universal 2) Integer };
+
+    #[tactic(auto, unfolding(x690::specs::TypeTerms::fits_tag))]
+    fn fits(tag: Tag) -> bool {
+        is_same_tag(universal_tag(2), tag)
+    }
+
+    fn read<R: Source>(alloc: Global, pull: &mut Pull<'_, R>) -> Result<Int, ReadError> {
+        let content = read_leaf_as(alloc, pull, universal_tag(2), Kind::Integer)?;
+        Ok(Int { content })
+    }
+}

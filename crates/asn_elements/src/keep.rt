@@ -1,0 +1,30 @@
+// Items that are kept while a reader goes on.
+ghost use Rattle.std.specs.Prelude.{◌≡◌, ◌++◌, ◌∷◌, [], None, IfErr, OnOk};
+ghost use Rattle.tlv_core.specs.declared.fault.ReadError.TheVariants.{Memory};
+ghost use Rattle.ber_pull.specs.Standing.{failed_with};
+ghost use Rattle.ber_pull.specs.View.{standing, source, SameSource, Keeps, ReadsFail, Onward};
+
+use ber_pull::pull::Pull;
+use tlv_core::fault::ReadError;
+use tlv_core::source::Source;
+
+/// One more item behind the others; the reader fails where it finds no memory.
+pub fn keep<R: Source, T: Drop>(
+    pull: &mut Pull<'_, R>,
+    items: &mut Vec<T>,
+    item: T,
+) -> Result<(), ReadError>
+    requires { (standing pull.old).error ≡ None }
+    ensures same_source { SameSource pull.old pull.new }
+    ensures kept { OnOk result (items.new.items ≡ items.old.items ++ item ∷ []) }
+    ensures still { OnOk result (pull.new ≡ pull.old) }
+    ensures stops { IfErr result (λ e. (e ≡ Memory) × (source pull.new ≡ source pull.old) × (standing pull.new ≡ failed_with e (standing pull.old))) }
+    ensures keeps { Keeps pull.new result }
+    ensures read { ReadsFail pull.old pull.new result }
+    ensures onward { Onward pull.old pull.new }
+{
+    match items.push(item) {
+        Ok(()) => Ok(()),
+        Err(_) => Err(pull.no_memory()),
+    }
+}

@@ -1,0 +1,247 @@
+// Reading leaves.
+ghost use Rattle.std.specs.Prelude.{◌≡◌, None, Some, IfOk, IfErr, IsSome, OnOk, ◌<◌, length, true};
+ghost use Rattle.tlv_core.specs.Identifier.{Tag as Identified};
+ghost use Rattle.tlv_core.specs.declared.reason.Reason.TheVariants.{Inner, WrongTag};
+ghost use Rattle.x690.specs.ReadContents as reading;
+ghost use Rattle.x690.specs.Contents.{BitString};
+ghost use Rattle.x690.specs.Layouts.{same_tag};
+ghost use Rattle.x690.specs.Points.{fault};
+ghost use Rattle.x690.specs.Reading.{Done, Reading, require};
+ghost use Rattle.x690.specs.TypeTerms.{LeafType};
+ghost use Rattle.x690.specs.Values.{Leaf, Value};
+ghost use Rattle.ber_pull.specs.Hears.{heard, heard_error};
+ghost use Rattle.ber_pull.specs.View.{standing, AsksNoMemory, SameSource, Repeats, Keeps, ReadsFail, Onward, Answers, Uses, Unmoved};
+ghost use Rattle.ber_pull.specs.declared.state.Given.{Given};
+ghost use Rattle.asn_elements.specs.Reading.{AnswersValue, HasContents, kind_of, read_given, read_given_leaf, string_kind};
+
+use crate::integer::is_integer;
+use crate::tags::is_same_tag;
+use ber_pull::pull::Pull;
+use simdutf8::is_utf8;
+use std::alloc::Global;
+use tlv_core::fault::ReadError;
+use tlv_core::reason::Reason;
+use tlv_core::source::Source;
+use tlv_core::tag::Tag;
+
+/// The kinds of leaves, OBJECT IDENTIFIER apart.
+#[derive(Clone, Copy)]
+pub enum Kind {
+    Boolean,
+    Integer,
+    Null,
+    BitString,
+    OctetString,
+    Utf8String,
+}
+
+/// The place of the element that is given, which has to have this tag: else `WrongTag`.
+pub fn expect_tag<R: Source>(pull: &mut Pull<'_, R>, own: Tag) -> Result<u64, ReadError>
+    requires { (standing pull.old).error ≡ None → IsSome (standing pull.old).given }
+    ensures same_source { SameSource pull.old pull.new }
+    ensures repeats { Repeats pull.old pull.new result }
+    ensures reads { (g : Given) → (standing pull.old).error ≡ None → (standing pull.old).given ≡ Some g → Answers pull.old pull.new (require (same_tag own g.tag) (fault g.at WrongTag) (Done (tt {0}))) (heard (λ _. tt {0}) result) }
+    ensures stops { (g : Given) → (standing pull.old).error ≡ None → (standing pull.old).given ≡ Some g → IfErr result (λ e. (p : Reading Value) → Answers pull.old pull.new (require (same_tag own g.tag) (fault g.at WrongTag) p) (heard_error e)) }
+    ensures is { (g : Given) → (standing pull.old).error ≡ None → (standing pull.old).given ≡ Some g → IfOk result (λ at. (at ≡ g.at) × (same_tag own g.tag ≡ true)) }
+    ensures same { OnOk result (Unmoved pull.old pull.new) }
+    ensures fine { OnOk result ((standing pull.old).error ≡ None) }
+    ensures keeps { Keeps pull.new result }
+    ensures read { ReadsFail pull.old pull.new result }
+    ensures memory { AsksNoMemory pull.old result }
+    ensures onward { Onward pull.old pull.new }
+{
+    let at = pull.at();
+    let Some((tag, _)) = pull.next_tag()? else {
+        unreachable!()
+    };
+    if !is_same_tag(own, tag) {
+        return Err(pull.refuse(at, Reason::WrongTag, None));
+    }
+    Ok(at)
+}
+
+/// Whether the octets are the contents of a primitive leaf of the kind.
+#[inline(always)]
+fn is_contents(kind: Kind, contents: &[u8]) -> bool
+    requires { reading.segment_tag (kind_of kind) ≡ None }
+    ensures { result ≡ reading.is_contents (kind_of kind) contents.now }
+{
+    match kind {
+        Kind::Boolean => contents.len() == 1,
+        Kind::Integer => is_integer(contents),
+        Kind::Null => contents.is_empty(),
+        _ => unreachable!(),
+    }
+}
+
+/// Why octets that aren't contents of the kind are refused.
+fn bad_contents(kind: Kind) -> Reason
+    ensures bad { result ≡ reading.bad_contents (kind_of kind) }
+    ensures plain { result ≡ Inner → ⊥ }
+{
+    match kind {
+        Kind::Boolean => Reason::BadBoolean,
+        Kind::Integer => Reason::BadInteger,
+        Kind::Null => Reason::BadNull,
+        Kind::BitString => Reason::BadBits,
+        Kind::OctetString | Kind::Utf8String => Reason::BadText,
+    }
+}
+
+/// Makes the contents those of DER: TRUE is FF (X.690 11.1).
+fn make_der(kind: Kind, contents: &mut Vec<u8>)
+    requires primitive { reading.segment_tag (kind_of kind) ≡ None }
+    requires fit { reading.is_contents (kind_of kind) contents.old.items ≡ true }
+    ensures { contents.new.items ≡ reading.der_contents (kind_of kind) contents.old.items }
+{
+    if matches!(kind, Kind::Boolean) && contents[0] != 0 {
+        contents[0] = 255;
+    }
+}
+
+/// The DER contents of the leaf that is given, of a kind that is always primitive, in place of what the vector holds.
+#[inline(always)]
+fn read_primitive_leaf<R: Source>(
+    pull: &mut Pull<'_, R>,
+    kind: Kind,
+    contents: &mut Vec<u8>,
+) -> Result<(), ReadError>
+    requires primitive { reading.segment_tag (kind_of kind) ≡ None }
+    requires given { (standing pull.old).error ≡ None → IsSome (standing pull.old).given }
+    ensures same_source { SameSource pull.old pull.new }
+    ensures repeats { Repeats pull.old pull.new result }
+    ensures reads { (own : Identified) (g : Given) → (standing pull.old).error ≡ None → (standing pull.old).given ≡ Some g → Answers pull.old pull.new (read_given_leaf (kind_of kind) own (standing pull.old) g) (heard (λ _. Leaf own contents.new.items) result) }
+    ensures contents { OnOk result (HasContents kind contents.new.items) }
+    ensures stands { OnOk result (Uses pull.old pull.new) }
+    ensures keeps { Keeps pull.new result }
+    ensures read { ReadsFail pull.old pull.new result }
+    ensures onward { Onward pull.old pull.new }
+{
+    let at = pull.at();
+    pull.primitive_into(contents)?;
+    if !is_contents(kind, contents) {
+        return Err(pull.refuse(at, bad_contents(kind), None));
+    }
+    make_der(kind, contents);
+    Ok(())
+}
+
+/// The DER contents of the BIT STRING that is given: the number of unused bits, and the octets.
+fn read_bits_leaf<R: Source>(alloc: Global, pull: &mut Pull<'_, R>) -> Result<Vec<u8>, ReadError>
+    requires { (standing pull.old).error ≡ None → IsSome (standing pull.old).given }
+    ensures same_source { SameSource pull.old pull.new }
+    ensures repeats { Repeats pull.old pull.new result }
+    ensures reads { (own : Identified) (g : Given) → (standing pull.old).error ≡ None → (standing pull.old).given ≡ Some g → Answers pull.old pull.new (read_given_leaf BitString own (standing pull.old) g) (heard (λ v. Leaf own v.items) result) }
+    ensures some { IfOk result (λ v. 0 < length v.items) }
+    ensures stands { OnOk result (Uses pull.old pull.new) }
+    ensures keeps { Keeps pull.new result }
+    ensures read { ReadsFail pull.old pull.new result }
+    ensures onward { Onward pull.old pull.new }
+{
+    let (unused, mut octets) = pull.bits(alloc)?;
+    match octets.insert(0, unused) {
+        Ok(()) => Ok(octets),
+        Err(_) => Err(pull.no_memory()),
+    }
+}
+
+/// Whether the octets are those of a string.
+fn is_string(utf8: bool, octets: &[u8]) -> bool
+    ensures { result ≡ reading.is_contents (string_kind utf8) octets.now }
+{
+    !utf8 || is_utf8(octets)
+}
+
+/// The octets of the string that is given, which are UTF-8 where they have to be.
+fn read_octets_leaf<R: Source>(
+    alloc: Global,
+    pull: &mut Pull<'_, R>,
+    utf8: bool,
+) -> Result<Vec<u8>, ReadError>
+    requires { (standing pull.old).error ≡ None → IsSome (standing pull.old).given }
+    ensures same_source { SameSource pull.old pull.new }
+    ensures repeats { Repeats pull.old pull.new result }
+    ensures reads { (own : Identified) (g : Given) → (standing pull.old).error ≡ None → (standing pull.old).given ≡ Some g → Answers pull.old pull.new (read_given_leaf (string_kind utf8) own (standing pull.old) g) (heard (λ v. Leaf own v.items) result) }
+    ensures contents { IfOk result (λ v. reading.is_contents (string_kind utf8) v.items ≡ true) }
+    ensures stands { OnOk result (Uses pull.old pull.new) }
+    ensures keeps { Keeps pull.new result }
+    ensures read { ReadsFail pull.old pull.new result }
+    ensures onward { Onward pull.old pull.new }
+{
+    let at = pull.at();
+    let octets = pull.octets(alloc)?;
+    if !is_string(utf8, &octets) {
+        return Err(pull.refuse(at, Reason::BadText, None));
+    }
+    Ok(octets)
+}
+
+/// The DER contents of the leaf that is given, whatever its tag, in place of what the vector holds.
+#[inline(always)]
+pub fn read_leaf_into<R: Source>(
+    alloc: Global,
+    pull: &mut Pull<'_, R>,
+    kind: Kind,
+    contents: &mut Vec<u8>,
+) -> Result<(), ReadError>
+    requires { (standing pull.old).error ≡ None → IsSome (standing pull.old).given }
+    ensures same_source { SameSource pull.old pull.new }
+    ensures repeats { Repeats pull.old pull.new result }
+    ensures reads { (own : Identified) (g : Given) → (standing pull.old).error ≡ None → (standing pull.old).given ≡ Some g → Answers pull.old pull.new (read_given_leaf (kind_of kind) own (standing pull.old) g) (heard (λ _. Leaf own contents.new.items) result) }
+    ensures contents { OnOk result (HasContents kind contents.new.items) }
+    ensures stands { OnOk result (Uses pull.old pull.new) }
+    ensures keeps { Keeps pull.new result }
+    ensures read { ReadsFail pull.old pull.new result }
+    ensures onward { Onward pull.old pull.new }
+{
+    match kind {
+        Kind::BitString => *contents = read_bits_leaf(alloc, pull)?,
+        Kind::OctetString => *contents = read_octets_leaf(alloc, pull, false)?,
+        Kind::Utf8String => *contents = read_octets_leaf(alloc, pull, true)?,
+        Kind::Boolean | Kind::Integer | Kind::Null => read_primitive_leaf(pull, kind, contents)?,
+    }
+    Ok(())
+}
+
+/// The DER contents of the leaf that is given, whatever its tag.
+pub fn read_leaf<R: Source>(
+    alloc: Global,
+    pull: &mut Pull<'_, R>,
+    kind: Kind,
+) -> Result<Vec<u8>, ReadError>
+    requires { (standing pull.old).error ≡ None → IsSome (standing pull.old).given }
+    ensures same_source { SameSource pull.old pull.new }
+    ensures repeats { Repeats pull.old pull.new result }
+    ensures reads { (own : Identified) (g : Given) → (standing pull.old).error ≡ None → (standing pull.old).given ≡ Some g → Answers pull.old pull.new (read_given_leaf (kind_of kind) own (standing pull.old) g) (heard (λ v. Leaf own v.items) result) }
+    ensures contents { IfOk result (λ v. HasContents kind v.items) }
+    ensures stands { OnOk result (Uses pull.old pull.new) }
+    ensures keeps { Keeps pull.new result }
+    ensures read { ReadsFail pull.old pull.new result }
+    ensures onward { Onward pull.old pull.new }
+{
+    let mut contents = Vec::new(alloc);
+    read_leaf_into(alloc, pull, kind, &mut contents)?;
+    Ok(contents)
+}
+
+/// The DER contents of the leaf that is given, of this tag and kind.
+pub fn read_leaf_as<R: Source>(
+    alloc: Global,
+    pull: &mut Pull<'_, R>,
+    own: Tag,
+    kind: Kind,
+) -> Result<Vec<u8>, ReadError>
+    requires { (standing pull.old).error ≡ None → IsSome (standing pull.old).given }
+    ensures same_source { SameSource pull.old pull.new }
+    ensures repeats { Repeats pull.old pull.new result }
+    ensures reads { (g : Given) → (standing pull.old).error ≡ None → (standing pull.old).given ≡ Some g → AnswersValue pull.old pull.new (read_given (LeafType own (kind_of kind)) (standing pull.old) g) (λ v. Leaf own v.items) result }
+    ensures contents { IfOk result (λ v. HasContents kind v.items) }
+    ensures stands { OnOk result (Uses pull.old pull.new) }
+    ensures keeps { Keeps pull.new result }
+    ensures read { ReadsFail pull.old pull.new result }
+    ensures onward { Onward pull.old pull.new }
+{
+    expect_tag(pull, own)?;
+    let contents = read_leaf(alloc, pull, kind)?;
+    Ok(contents)
+}

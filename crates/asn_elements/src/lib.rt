@@ -1,0 +1,26 @@
+//! What elements of ASN.1 are, and the leaves among them (X.690 8, 10, 11): `asn_values` passes all of it on.
+//!
+//! `DerText` is what has a text in DER, `Element` what can be read as well, from any source and in any layout of BER. There are the leaves
+//! `Bool`, `Int`, `Null`, `Bits`, `Octets`, `Text` and `tlv_core`'s `Oid`.
+//!
+//! Proved here, for each of them: `put` writes the text, `size` is its length, `octet` its octets, `der_text` the whole. A reader answers what the plain reading
+//! of its type (`x690`) gives for the octets taken: that value, or the first fault; a failed read only where that octet was needed; want of memory says nothing.
+//! `from_content` and `from_slice` refuse exactly what they name. `same` is proved to be the same value.
+//! The lemmas on texts and readings of members stand here too, since lists, sets and open values share them.
+#![tactic(auto)]
+
+pub mod bits;
+pub mod boolean;
+pub mod build;
+pub mod der_text;
+pub mod element;
+pub mod framing;
+pub mod integer;
+pub mod keep;
+mod leaf;
+pub mod leaf_reading;
+pub mod null;
+pub mod object_identifier;
+pub mod octets;
+pub mod tags;
+pub mod text;

@@ -1,0 +1,4 @@
+pub mod Handing
+pub mod OneFields
+pub mod ShortFields
+pub mod SoFar

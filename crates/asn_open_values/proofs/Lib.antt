@@ -1,0 +1,3 @@
+pub mod OpenMembers
+pub mod OpenReadings
+pub mod TextValues

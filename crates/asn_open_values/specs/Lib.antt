@@ -1,0 +1,3 @@
+pub mod OpenTexts
+pub mod OpenValues
+pub mod TextValues

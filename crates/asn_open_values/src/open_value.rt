@@ -1,0 +1,236 @@
+// Reading open values (X.690; profile): elements that stand where any type may, kept as their text in DER.
+ghost use Rattle.std.specs.Prelude.{◌≡◌, ◌++◌, ◌+◌, ◌<◌, ◌≤◌, Bool, List, ℕ, None, Some, IfErr, IfOk, IsSome, OnOk, length, suc};
+ghost use Rattle.tlv_core.specs.Header.{der_header};
+ghost use Rattle.tlv_core.specs.Identifier.{Tag as Identified};
+ghost use Rattle.tlv_core.specs.declared.fault.ReadError.TheVariants.{Memory};
+ghost use Rattle.x690.specs.DerTexts.{der};
+ghost use Rattle.x690.specs.ReadContents.{read_open};
+ghost use Rattle.x690.specs.Values.{Leaf, Value, values_of};
+ghost use Rattle.ber_pull.specs.Hears.{heard};
+ghost use Rattle.ber_pull.specs.Standing.{enclosing, failed_with};
+ghost use Rattle.ber_pull.specs.View.{standing, source, SameSource, Repeats, Keeps, ReadsFail, Onward, Answers, Uses, Unmoved};
+ghost use Rattle.ber_pull.specs.declared.state.Given.{Given};
+ghost use Rattle.asn_elements.specs.Framing.{framed};
+ghost use Rattle.asn_open_values.specs.declared.open_form.OpenForm.TheVariants.{Identifier};
+ghost use Rattle.asn_elements.specs.Members.{StandIn};
+ghost use Rattle.asn_open_values.specs.OpenTexts.{AnswersText, AnswersTexts, IsNext, container, read_given_container, read_given_contents, read_given_open, read_given_open_members};
+
+use asn_elements::leaf_reading::read_leaf_into;
+use asn_elements::keep::keep;
+use asn_elements::object_identifier::read_identifier_into;
+use crate::open_form::{OpenForm, open_form};
+use crate::texts::in_order;
+use ber_pull::pull::Pull;
+use std::alloc::{AllocError, Global};
+use tlv_core::der::{header, short_header};
+use tlv_core::fault::ReadError;
+use tlv_core::reason::Reason;
+use tlv_core::source::Source;
+use tlv_core::tag::Tag;
+
+/// Header and contents behind what is there.
+#[inline(always)]
+fn push_element(
+    text: &mut Vec<u8>,
+    tag: Tag,
+    constructed: bool,
+    contents: &[u8],
+) -> Result<(), AllocError>
+    ensures { OnOk result (text.new.items ≡ text.old.items ++ (der_header tag constructed (length contents.now) ++ contents.now)) }
+{
+    let length = contents.len() as u64;
+    match short_header(tag, constructed, length) {
+        Some(octets) => text.extend_from_slice(&octets)?,
+        None => text.extend_from_slice(header(tag, constructed, length).octets())?,
+    }
+    text.extend_from_slice(contents)
+}
+
+/// Header and contents behind what is there; the reader fails where it finds no memory.
+#[inline(always)]
+fn append_element<R: Source>(
+    pull: &mut Pull<'_, R>,
+    text: &mut Vec<u8>,
+    tag: Tag,
+    constructed: bool,
+    contents: &[u8],
+) -> Result<(), ReadError>
+    requires { (standing pull.old).error ≡ None }
+    ensures same_source { SameSource pull.old pull.new }
+    ensures put { OnOk result (text.new.items ≡ text.old.items ++ (der_header tag constructed (length contents.now) ++ contents.now)) }
+    ensures still { OnOk result (pull.new ≡ pull.old) }
+    ensures stops { IfErr result (λ e. (e ≡ Memory) × (source pull.new ≡ source pull.old) × (standing pull.new ≡ failed_with e (standing pull.old))) }
+    ensures keeps { Keeps pull.new result }
+    ensures read { ReadsFail pull.old pull.new result }
+    ensures onward { Onward pull.old pull.new }
+{
+    match push_element(text, tag, constructed, contents) {
+        Ok(()) => Ok(()),
+        Err(_) => Err(pull.no_memory()),
+    }
+}
+
+/// The DER contents of the leaf that is given, whatever its tag, in place of what the vector holds; of a form that has no kind its octets as they are.
+#[inline(always)]
+fn read_contents<R: Source>(
+    alloc: Global,
+    pull: &mut Pull<'_, R>,
+    form: OpenForm,
+    contents: &mut Vec<u8>,
+) -> Result<(), ReadError>
+    requires { (standing pull.old).error ≡ None → IsSome (standing pull.old).given }
+    ensures same_source { SameSource pull.old pull.new }
+    ensures repeats { Repeats pull.old pull.new result }
+    ensures reads { (own : Identified) (g : Given) → (standing pull.old).error ≡ None → (standing pull.old).given ≡ Some g → Answers pull.old pull.new (read_given_contents form own (standing pull.old) g) (heard (λ _. Leaf own contents.new.items) result) }
+    ensures stands { OnOk result (Uses pull.old pull.new) }
+    ensures keeps { Keeps pull.new result }
+    ensures read { ReadsFail pull.old pull.new result }
+    ensures onward { Onward pull.old pull.new }
+{
+    match form {
+        OpenForm::Leaf(kind) => read_leaf_into(alloc, pull, kind, contents),
+        OpenForm::Identifier => read_identifier_into(pull, contents),
+        OpenForm::Sequence | OpenForm::SetOf | OpenForm::Plain | OpenForm::Refused => {
+            pull.primitive_into(contents)
+        }
+    }
+}
+
+/// Appends the text of the leaf that is given.
+#[inline(always)]
+fn append_leaf<R: Source>(
+    alloc: Global,
+    pull: &mut Pull<'_, R>,
+    room: &mut Vec<u8>,
+    text: &mut Vec<u8>,
+    tag: Tag,
+    form: OpenForm,
+) -> Result<(), ReadError>
+    requires { (standing pull.old).error ≡ None → IsSome (standing pull.old).given }
+    ensures same_source { SameSource pull.old pull.new }
+    ensures repeats { Repeats pull.old pull.new result }
+    ensures reads { (g : Given) → (standing pull.old).error ≡ None → (standing pull.old).given ≡ Some g → AnswersText pull.old pull.new (read_given_contents form tag (standing pull.old) g) text.old.items text.new.items result }
+    ensures stands { OnOk result (Uses pull.old pull.new) }
+    ensures keeps { Keeps pull.new result }
+    ensures read { ReadsFail pull.old pull.new result }
+    ensures onward { Onward pull.old pull.new }
+{
+    read_contents(alloc, pull, form, room)?;
+    append_element(pull, text, tag, false, room)
+}
+
+/// The texts of the members as their container has them: those of a SET OF in order (X.690 11.6).
+fn arranged<R: Source>(
+    alloc: Global,
+    pull: &mut Pull<'_, R>,
+    is_set: bool,
+    octets: Vec<u8>,
+    starts: &[usize],
+) -> Result<Vec<u8>, ReadError>
+    requires fine { (standing pull.old).error ≡ None }
+    requires texts { (values : List Value) × StandIn values octets.items starts.now }
+    ensures same_source { SameSource pull.old pull.new }
+    ensures is { IfOk result (λ contents. (values : List Value) (tag : Identified) → StandIn values octets.items starts.now → der (container is_set tag (values_of values)) ≡ framed tag contents.items) }
+    ensures still { OnOk result (pull.new ≡ pull.old) }
+    ensures stops { IfErr result (λ e. (e ≡ Memory) × (source pull.new ≡ source pull.old) × (standing pull.new ≡ failed_with e (standing pull.old))) }
+    ensures keeps { Keeps pull.new result }
+    ensures read { ReadsFail pull.old pull.new result }
+    ensures onward { Onward pull.old pull.new }
+{
+    if !is_set {
+        return Ok(octets);
+    }
+    match in_order(alloc, &octets, starts) {
+        Ok(sorted) => Ok(sorted),
+        Err(_) => Err(pull.no_memory()),
+    }
+}
+
+/// The texts of the members of the container that is given, and where each begins.
+#[cycle(open)]
+fn read_members<R: Source>(
+    alloc: Global,
+    pull: &mut Pull<'_, R>,
+    room: &mut Vec<u8>,
+) -> Result<(Vec<u8>, Vec<usize>), ReadError>
+    requires { (standing pull.old).error ≡ None → IsSome (standing pull.old).given }
+    ensures same_source { SameSource pull.old pull.new }
+    ensures repeats { Repeats pull.old pull.new result }
+    ensures reads { (deep : ℕ) (g : Given) → (standing pull.old).error ≡ None → (standing pull.old).given ≡ Some g → (standing pull.old).limits.depth ≤ suc deep + length (standing pull.old).containers → AnswersTexts pull.old pull.new (read_given_open_members deep (standing pull.old) g) (λ r. r.0.items) (λ r. r.1.items) result }
+    ensures texts { IfOk result (λ r. (values : List Value) × StandIn values r.0.items r.1.items) }
+    ensures stands { OnOk result (Uses pull.old pull.new) }
+    ensures keeps { Keeps pull.new result }
+    ensures read { ReadsFail pull.old pull.new result }
+    ensures onward { Onward pull.old pull.new }
+{
+    pull.enter()?;
+    let mut octets = Vec::new(alloc);
+    let mut starts = Vec::new(alloc);
+    while let Some((tag, constructed)) = pull.next_tag()? {
+        let start = octets.len();
+        append_open(alloc, pull, room, &mut octets, tag, constructed)?;
+        keep(pull, &mut starts, start)?;
+    }
+    pull.leave()?;
+    Ok((octets, starts))
+}
+
+/// Appends the text of the container that is given.
+#[cycle(open)]
+fn append_container<R: Source>(
+    alloc: Global,
+    pull: &mut Pull<'_, R>,
+    room: &mut Vec<u8>,
+    text: &mut Vec<u8>,
+    tag: Tag,
+    is_set: bool,
+) -> Result<(), ReadError>
+    requires { (standing pull.old).error ≡ None → IsSome (standing pull.old).given }
+    ensures same_source { SameSource pull.old pull.new }
+    ensures repeats { Repeats pull.old pull.new result }
+    ensures reads { (deep : ℕ) (g : Given) → (standing pull.old).error ≡ None → (standing pull.old).given ≡ Some g → (standing pull.old).limits.depth ≤ suc deep + length (standing pull.old).containers → AnswersText pull.old pull.new (read_given_container deep is_set tag (standing pull.old) g) text.old.items text.new.items result }
+    ensures stands { OnOk result (Uses pull.old pull.new) }
+    ensures keeps { Keeps pull.new result }
+    ensures read { ReadsFail pull.old pull.new result }
+    ensures onward { Onward pull.old pull.new }
+{
+    let (octets, starts) = read_members(alloc, pull, room)?;
+    let contents = arranged(alloc, pull, is_set, octets, &starts)?;
+    append_element(pull, text, tag, true, &contents)
+}
+
+/// Appends the text of the open value that is given, of this tag and form. Contents of leaves are read in `room`, which is used again for each.
+///
+/// Faults, at the identifier: `LeftOut` of a universal tag that isn't read; those of a leaf and its contents, of `Pull::enter`, and of members.
+#[cycle(open)]
+pub fn append_open<R: Source>(
+    alloc: Global,
+    pull: &mut Pull<'_, R>,
+    room: &mut Vec<u8>,
+    text: &mut Vec<u8>,
+    tag: Tag,
+    constructed: bool,
+) -> Result<(), ReadError>
+    requires given { (standing pull.old).error ≡ None → IsSome (standing pull.old).given }
+    requires next { (standing pull.old).error ≡ None → IsNext tag constructed (standing pull.old) }
+    ensures same_source { SameSource pull.old pull.new }
+    ensures repeats { Repeats pull.old pull.new result }
+    ensures reads { (deep : ℕ) (g : Given) → (standing pull.old).error ≡ None → (standing pull.old).given ≡ Some g → (standing pull.old).limits.depth ≤ deep + length (standing pull.old).containers → AnswersText pull.old pull.new (read_given_open deep (standing pull.old) g) text.old.items text.new.items result }
+    ensures stands { OnOk result (Uses pull.old pull.new) }
+    ensures keeps { Keeps pull.new result }
+    ensures read { ReadsFail pull.old pull.new result }
+    ensures onward { Onward pull.old pull.new }
+{
+    let form = open_form(tag);
+    match form {
+        OpenForm::Refused => {
+            let at = pull.at();
+            Err(pull.refuse(at, Reason::LeftOut, None))
+        }
+        OpenForm::Leaf(_) | OpenForm::Identifier => append_leaf(alloc, pull, room, text, tag, form),
+        OpenForm::Sequence => append_container(alloc, pull, room, text, tag, false),
+        OpenForm::SetOf => append_container(alloc, pull, room, text, tag, true),
+        OpenForm::Plain if constructed => append_container(alloc, pull, room, text, tag, false),
+        OpenForm::Plain => append_leaf(alloc, pull, room, text, tag, form),
+    }
+}

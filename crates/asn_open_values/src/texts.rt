@@ -1,0 +1,56 @@
+// The texts of a SET OF's members, as octets, in the order of SET OF (X.690 11.6).
+ghost use Rattle.std.specs.Prelude.{◌≡◌, ◌<◌, List, [], IfOk, get_or, length, map};
+ghost use Rattle.x690.specs.DerTexts.{arrange, der};
+ghost use Rattle.x690.specs.Lists.{join};
+ghost use Rattle.x690.specs.Values.{Value};
+ghost use Rattle.asn_elements.specs.Members.{StandIn};
+
+use std::alloc::{AllocError, Global};
+
+/// The text at this place.
+fn text_at<'a>(octets: &'a [u8], starts: &[usize], i: usize) -> &'a [u8]
+    requires stand { (values : List Value) × StandIn values octets.now starts.now }
+    requires inside { i < length starts.now }
+    ensures { (values : List Value) → StandIn values octets.now starts.now → result.now ≡ get_or (map der values) i [] }
+{
+    let end = if i + 1 < starts.len() {
+        starts[i + 1]
+    } else {
+        octets.len()
+    };
+    &octets[starts[i]..end]
+}
+
+/// The texts, each for itself.
+fn cut<'a>(alloc: Global, octets: &'a [u8], starts: &[usize]) -> Result<Vec<&'a [u8]>, AllocError>
+    requires { (values : List Value) × StandIn values octets.now starts.now }
+    ensures { IfOk result (λ texts. (values : List Value) → StandIn values octets.now starts.now → map (λ t. t.now) texts.items ≡ map der values) }
+{
+    let mut texts = Vec::with_capacity(alloc, starts.len())?;
+    for i in 0..starts.len() {
+        texts.push(text_at(octets, starts, i))?;
+    }
+    Ok(texts)
+}
+
+/// The texts one after another, in a vector with this capacity.
+fn joined(alloc: Global, capacity: usize, texts: &[&[u8]]) -> Result<Vec<u8>, AllocError>
+    ensures { IfOk result (λ octets. octets.items ≡ join (map (λ t. t.now) texts.now)) }
+{
+    let mut octets = Vec::with_capacity(alloc, capacity)?;
+    for text in texts {
+        octets.extend_from_slice(text)?;
+    }
+    Ok(octets)
+}
+
+/// The texts that stand one after another in `octets`, each beginning at one of `starts`, in the order of SET OF; equal ones stay.
+/// No DER text begins another one, so the plain order of octets, in which nothing is padded, is that order.
+pub fn in_order(alloc: Global, octets: &[u8], starts: &[usize]) -> Result<Vec<u8>, AllocError>
+    requires { (values : List Value) × StandIn values octets.now starts.now }
+    ensures { IfOk result (λ sorted. (values : List Value) → StandIn values octets.now starts.now → sorted.items ≡ join (arrange (map der values))) }
+{
+    let mut texts = cut(alloc, octets, starts)?;
+    texts.sort_unstable();
+    joined(alloc, octets.len(), &texts)
+}

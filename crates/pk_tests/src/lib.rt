@@ -1,0 +1,8 @@
+//! Tests of `pkix_values` and `pk_documents` by their public calls: tables of octets with the values, texts and faults that the standards give them. They stand in a
+//! crate of their own since the gate proves a crate that has tests twice.
+#![tactic(auto)]
+
+#[cfg(test)]
+mod documents;
+#[cfg(test)]
+mod pkix;

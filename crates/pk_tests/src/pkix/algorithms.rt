@@ -1,0 +1,143 @@
+//! Algorithms.
+use pkix_values::algorithm::AlgorithmIdentifier;
+use crate::pkix::{Answer, Row, first_wrong};
+use std::test::Fail;
+use tlv_core::reason::Reason;
+
+/// AlgorithmIdentifier, SEQUENCE { algorithm, parameters OPTIONAL } (RFC 5280 section 4.1.1.2, RFC 8410 section 3).
+static ALGORITHMS: [Row; 24] = [
+    // Ed25519, without parameters (RFC 8410 section 3)
+    Row {
+        octets: &[0x30, 0x05, 0x06, 0x03, 0x2B, 0x65, 0x70],
+        answer: Answer::Text(&[0x30, 0x05, 0x06, 0x03, 0x2B, 0x65, 0x70]),
+    },
+    // sha256WithRSAEncryption has NULL (RFC 4055 section 5)
+    Row {
+        octets: &[
+            0x30, 0x0D, 0x06, 0x09, 0x2A, 0x86, 0x48, 0x86, 0xF7, 0x0D, 0x01, 0x01, 0x0B, 0x05,
+            0x00,
+        ],
+        answer: Answer::Text(&[
+            0x30, 0x0D, 0x06, 0x09, 0x2A, 0x86, 0x48, 0x86, 0xF7, 0x0D, 0x01, 0x01, 0x0B, 0x05,
+            0x00,
+        ]),
+    },
+    // lengths of other forms
+    Row {
+        octets: &[
+            0x30, 0x80, 0x06, 0x81, 0x03, 0x2A, 0x03, 0x04, 0x0C, 0x81, 0x01, 0x61, 0x00, 0x00,
+        ],
+        answer: Answer::Text(&[0x30, 0x08, 0x06, 0x03, 0x2A, 0x03, 0x04, 0x0C, 0x01, 0x61]),
+    },
+    // id-ecPublicKey may stand alone, and have any parameters
+    Row {
+        octets: &[
+            0x30, 0x09, 0x06, 0x07, 0x2A, 0x86, 0x48, 0xCE, 0x3D, 0x02, 0x01,
+        ],
+        answer: Answer::Text(&[
+            0x30, 0x09, 0x06, 0x07, 0x2A, 0x86, 0x48, 0xCE, 0x3D, 0x02, 0x01,
+        ]),
+    },
+    Row {
+        octets: &[
+            0x30, 0x0B, 0x06, 0x07, 0x2A, 0x86, 0x48, 0xCE, 0x3D, 0x02, 0x01, 0x05, 0x00,
+        ],
+        answer: Answer::Text(&[
+            0x30, 0x0B, 0x06, 0x07, 0x2A, 0x86, 0x48, 0xCE, 0x3D, 0x02, 0x01, 0x05, 0x00,
+        ]),
+    },
+    // parameters under an algorithm of RFC 8410
+    Row {
+        octets: &[0x30, 0x07, 0x06, 0x03, 0x2B, 0x65, 0x70, 0x05, 0x00],
+        answer: Answer::Refused(0, Reason::Parameters),
+    },
+    Row {
+        octets: &[0x30, 0x07, 0x06, 0x03, 0x2B, 0x65, 0x6E, 0x05, 0x00],
+        answer: Answer::Refused(0, Reason::Parameters),
+    },
+    Row {
+        octets: &[0x30, 0x07, 0x06, 0x03, 0x2B, 0x65, 0x6F, 0x05, 0x00],
+        answer: Answer::Refused(0, Reason::Parameters),
+    },
+    Row {
+        octets: &[0x30, 0x07, 0x06, 0x03, 0x2B, 0x65, 0x71, 0x05, 0x00],
+        answer: Answer::Refused(0, Reason::Parameters),
+    },
+    // they are judged where the whole is complete: behind its end
+    Row {
+        octets: &[
+            0x30, 0x80, 0x06, 0x03, 0x2B, 0x65, 0x70, 0x05, 0x00, 0x00, 0x00,
+        ],
+        answer: Answer::Refused(0, Reason::Parameters),
+    },
+    Row {
+        octets: &[
+            0x30, 0x80, 0x06, 0x03, 0x2B, 0x65, 0x70, 0x05, 0x00, 0x00, 0x01,
+        ],
+        answer: Answer::Refused(9, Reason::BadEnd),
+    },
+    // behind a fault in them
+    Row {
+        octets: &[0x30, 0x08, 0x06, 0x03, 0x2B, 0x65, 0x70, 0x05, 0x01, 0x00],
+        answer: Answer::Refused(7, Reason::BadNull),
+    },
+    // and behind a third element, whatever its tag
+    Row {
+        octets: &[0x30, 0x09, 0x06, 0x03, 0x2B, 0x65, 0x70, 0x05, 0x00, 0x05],
+        answer: Answer::Refused(9, Reason::Extra),
+    },
+    Row {
+        octets: &[0x30, 0x09, 0x06, 0x03, 0x2A, 0x03, 0x04, 0x05, 0x00, 0x08],
+        answer: Answer::Refused(9, Reason::Extra),
+    },
+    Row {
+        octets: &[0x30, 0x00],
+        answer: Answer::Refused(2, Reason::Missing),
+    },
+    Row {
+        octets: &[0x30, 0x80, 0x00, 0x00],
+        answer: Answer::Refused(2, Reason::Missing),
+    },
+    Row {
+        octets: &[0x30, 0x03, 0x02],
+        answer: Answer::Refused(2, Reason::WrongTag),
+    },
+    Row {
+        octets: &[0x31],
+        answer: Answer::Refused(0, Reason::WrongTag),
+    },
+    Row {
+        octets: &[0x10],
+        answer: Answer::Refused(0, Reason::WrongForm),
+    },
+    Row {
+        octets: &[0x30, 0xFF],
+        answer: Answer::Refused(0, Reason::BadLength),
+    },
+    Row {
+        octets: &[0x30, 0x02, 0x06, 0x05],
+        answer: Answer::Refused(2, Reason::PastEnd),
+    },
+    Row {
+        octets: &[0x30, 0x82, 0x03, 0xE9],
+        answer: Answer::Refused(0, Reason::TooLong),
+    },
+    Row {
+        octets: &[0x30, 0x02, 0x06, 0x00],
+        answer: Answer::Refused(2, Reason::BadOid),
+    },
+    // EXTERNAL as parameters
+    Row {
+        octets: &[0x30, 0x07, 0x06, 0x03, 0x2A, 0x03, 0x04, 0x08],
+        answer: Answer::Refused(7, Reason::LeftOut),
+    },
+];
+
+#[test]
+fn algorithms(rt: HostRuntime) -> Result<(), Fail> {
+    assert_eq!(rt;
+        first_wrong::<AlgorithmIdentifier>(rt.alloc(), &ALGORITHMS)?,
+        None
+    );
+    Ok(())
+}
