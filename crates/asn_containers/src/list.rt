@@ -12,11 +12,11 @@ ghost use Rattle.ber_pull.specs.declared.state.Given.{Given};
 ghost use Rattle.asn_elements.specs.Reading.{AnswersValue, read_given};
 ghost use Rattle.x690.specs.Values.{Same, Sequence, values_of};
 
+use crate::members::{read_members, row_of};
+use crate::row::Row;
 use asn_elements::der_text::{DerText, same_text};
 use asn_elements::element::Element;
 use asn_elements::leaf_reading::expect_tag;
-use crate::members::{read_members, row_of};
-use crate::row::Row;
 use asn_elements::tags::{is_same_tag, universal_tag};
 use ber_pull::pull::Pull;
 use std::alloc::Global;

@@ -7,10 +7,10 @@ ghost use Rattle.ber_pull.specs.View.{standing, source, SameSource, Repeats, Kee
 ghost use Rattle.ber_pull.specs.declared.state.Given.{Given};
 ghost use Rattle.asn_elements.specs.Reading.{AnswersMembers, read_given_members};
 
+use crate::row::Row;
 use asn_elements::der_text::DerText;
 use asn_elements::element::Element;
 use asn_elements::keep::keep;
-use crate::row::Row;
 use ber_pull::pull::Pull;
 use std::alloc::Global;
 use tlv_core::fault::ReadError;

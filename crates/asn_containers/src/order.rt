@@ -8,8 +8,8 @@ ghost use Rattle.std.specs.Ordering.{as_partial_cmp, nat_cmp, on};
 ghost use Rattle.x690.specs.DerTexts.{der, texts_of};
 ghost use Rattle.asn_elements.specs.Members.{ascends};
 
-use asn_elements::der_text::DerText;
 use crate::row::texts;
+use asn_elements::der_text::DerText;
 use std::alloc::{AllocError, Global};
 use std::cmp::Ordering;
 

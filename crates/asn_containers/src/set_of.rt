@@ -16,14 +16,14 @@ ghost use Rattle.x690.specs.Values.{Same, SetOf as SetValue, values_of};
 ghost use Rattle.asn_elements.specs.Members.{ascends, ascends_is};
 ghost use Rattle.asn_elements.specs.declared.build.BuildError.TheVariants.{TooBig};
 
+use crate::members::{read_members, row_of};
+use crate::order::in_order;
+use crate::row::{LONGEST, Row, contents_length};
 use asn_elements::build::BuildError;
 use asn_elements::der_text::{DerText, same_text};
 use asn_elements::element::Element;
 use asn_elements::framing::element_size;
 use asn_elements::leaf_reading::expect_tag;
-use crate::members::{read_members, row_of};
-use crate::order::in_order;
-use crate::row::{LONGEST, Row, contents_length};
 use asn_elements::tags::{is_same_tag, universal_tag};
 use ber_pull::pull::Pull;
 use std::alloc::Global;

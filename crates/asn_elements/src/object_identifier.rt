@@ -47,10 +47,7 @@ impl DerText for Oid {
 }
 
 /// The object identifier that is given, whatever its tag.
-pub fn read_identifier<R: Source>(
-    alloc: Global,
-    pull: &mut Pull<'_, R>,
-) -> Result<Oid, ReadError>
+pub fn read_identifier<R: Source>(alloc: Global, pull: &mut Pull<'_, R>) -> Result<Oid, ReadError>
     requires { (standing pull.old).error ≡ None → IsSome (standing pull.old).given }
     ensures same_source { SameSource pull.old pull.new }
     ensures repeats { Repeats pull.old pull.new result }

@@ -8,9 +8,9 @@ ghost use Rattle.x690.specs.TypeTerms.{EndOfFields, Required, SequenceType};
 ghost use Rattle.x690.specs.Values.{Same, Sequence, values_of};
 ghost use Rattle.ber_pull.proofs.Fields.{sequence_closed};
 
+use crate::fields::{begin, due, end};
 use asn_elements::der_text::{DerText, same_text};
 use asn_elements::element::Element;
-use crate::fields::{begin, due, end};
 use asn_elements::framing::{Stands, element_size, find_octet, put_header};
 use asn_elements::tags::{context_tag, is_same_tag};
 use ber_pull::pull::Pull;

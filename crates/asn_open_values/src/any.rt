@@ -13,10 +13,10 @@ ghost use Rattle.ber_pull.proofs.Fields.{open_closed};
 ghost use Rattle.x690.specs.Values.{Leaf, Same};
 ghost use Rattle.asn_open_values.specs.TextValues.{identifier_in, open_value};
 
+use crate::open_value::append_open;
 use asn_elements::der_text::{DerText, der_text};
 use asn_elements::element::Element;
 use asn_elements::object_identifier::read_identifier;
-use crate::open_value::append_open;
 use asn_elements::tags::{is_same_tag, universal_tag};
 use ber_pull::pull::Pull;
 use std::alloc::{AllocError, Global};

@@ -15,11 +15,11 @@ ghost use Rattle.asn_open_values.specs.declared.open_form.OpenForm.TheVariants.{
 ghost use Rattle.asn_elements.specs.Members.{StandIn};
 ghost use Rattle.asn_open_values.specs.OpenTexts.{AnswersText, AnswersTexts, IsNext, container, read_given_container, read_given_contents, read_given_open, read_given_open_members};
 
-use asn_elements::leaf_reading::read_leaf_into;
-use asn_elements::keep::keep;
-use asn_elements::object_identifier::read_identifier_into;
 use crate::open_form::{OpenForm, open_form};
 use crate::texts::in_order;
+use asn_elements::keep::keep;
+use asn_elements::leaf_reading::read_leaf_into;
+use asn_elements::object_identifier::read_identifier_into;
 use ber_pull::pull::Pull;
 use std::alloc::{AllocError, Global};
 use tlv_core::der::{header, short_header};

@@ -14,23 +14,12 @@
 //! `same` is proved to be the same value, a SET OF as a multiset.
 #![tactic(auto)]
 
-pub use asn_containers::list;
-pub use asn_containers::set_of;
-pub use asn_elements::bits;
-pub use asn_elements::boolean;
-pub use asn_elements::build;
-pub use asn_elements::der_text;
-pub use asn_elements::element;
-pub use asn_elements::framing;
-pub use asn_elements::integer;
-pub use asn_elements::leaf_reading;
-pub use asn_elements::null;
-pub use asn_elements::object_identifier;
-pub use asn_elements::octets;
-pub use asn_elements::tags;
-pub use asn_elements::text;
-pub use asn_fields::fields;
-pub use asn_fields::tagged;
+pub use asn_containers::{list, set_of};
+pub use asn_elements::{
+    bits, boolean, build, der_text, element, framing, integer, leaf_reading, null,
+    object_identifier, octets, tags, text,
+};
+pub use asn_fields::{fields, tagged};
 pub use asn_open_values::any;
 
 #[cfg(test)]

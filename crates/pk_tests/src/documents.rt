@@ -2,13 +2,13 @@
 ghost use Rattle.std.specs.Prelude.{◌≡◌, ◌<◌, false};
 ghost use Rattle.x690.specs.Premises.{Lawful};
 
-use pk_documents::document::read_value;
-use pk_documents::normalise::{NormaliseError, normalise_value};
 use asn_values::bits::Bits;
 use asn_values::der_text::der_text;
 use asn_values::element::Element;
 use asn_values::integer::Int;
 use asn_values::list::List;
+use pk_documents::document::read_value;
+use pk_documents::normalise::{NormaliseError, normalise_value};
 use pkix_values::extension::Extension;
 use std::alloc::{AllocError, Global};
 use std::test::Fail;

@@ -1,6 +1,6 @@
 //! Algorithms.
-use pkix_values::algorithm::AlgorithmIdentifier;
 use crate::pkix::{Answer, Row, first_wrong};
+use pkix_values::algorithm::AlgorithmIdentifier;
 use std::test::Fail;
 use tlv_core::reason::Reason;
 

@@ -1,7 +1,7 @@
 //! Attributes.
+use crate::pkix::{Answer, Row, first_wrong, value_of};
 use pkix_values::attribute::Attribute;
 use pkix_values::request_attribute::RequestAttribute;
-use crate::pkix::{Answer, Row, first_wrong, value_of};
 use std::test::Fail;
 use tlv_core::reason::Reason;
 

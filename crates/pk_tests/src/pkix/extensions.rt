@@ -1,6 +1,6 @@
 //! Extensions.
-use pkix_values::extension::Extension;
 use crate::pkix::{Answer, Row, first_wrong};
+use pkix_values::extension::Extension;
 use std::test::Fail;
 use tlv_core::reason::Reason;
 

@@ -1,6 +1,6 @@
 //! Public keys.
-use pkix_values::public_key::SubjectPublicKeyInfo;
 use crate::pkix::{Answer, Row, first_wrong, value_of};
+use pkix_values::public_key::SubjectPublicKeyInfo;
 use std::test::Fail;
 use tlv_core::reason::Reason;
 

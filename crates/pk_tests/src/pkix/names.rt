@@ -1,7 +1,7 @@
 //! Names.
-use pkix_values::name::{Name, NameItem};
 use crate::pkix::{Answer, Row, first_wrong, value_of};
 use asn_values::der_text::DerText;
+use pkix_values::name::{Name, NameItem};
 use std::test::Fail;
 use tlv_core::reason::Reason;
 

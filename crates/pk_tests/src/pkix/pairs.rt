@@ -1,10 +1,10 @@
 //! Sequences of two fields, by themselves.
 ghost use Rattle.std.specs.Prelude.{◌≡◌, false};
 
-use pkix_values::pairs::{read_one_or_two, read_pair};
 use asn_values::boolean::Bool;
 use asn_values::integer::Int;
 use ber_pull::pull::Pull;
+use pkix_values::pairs::{read_one_or_two, read_pair};
 use std::alloc::Global;
 use std::test::Fail;
 use tlv_core::fault::{Fault, ReadError};
