@@ -1,12 +1,10 @@
 -- Answers of readers: a fault that a reader found, an error that it hands on, want of memory.
 use Rattle.std.proofs.Common.{◌≡◌, ◌∙◌, Bool, Err, IsSome, List, None, Option, Result, Some, ℕ, ap, false, refl, subst, sym, true}
-use Rattle.tlv_core.specs.Identifier.{Tag}
 use Rattle.tlv_core.specs.declared.fault.Fault.{Fault}
 use Rattle.tlv_core.specs.declared.fault.ReadError.{ReadError}
 use Rattle.tlv_core.specs.declared.fault.ReadError.TheVariants as errors
 use Rattle.tlv_core.specs.declared.reason.Reason.TheVariants.{WrongTag}
 use Rattle.tlv_core.specs.declared.source.Source.{Ghosts}
-use Rattle.x690.specs.Layouts.{same_tag}
 use Rattle.x690.specs.Points.{fault}
 use Rattle.x690.specs.Reading.{Reading, require}
 use Rattle.x690.specs.ReadHeaders.{Ended}
@@ -18,7 +16,6 @@ use Rattle.ber_pull.specs.View.{Answers, Unmoved, source, standing}
 use Rattle.ber_pull.specs.declared.pull.Pull.{Pull}
 use Rattle.ber_pull.specs.declared.state.Given.{Given}
 use Rattle.asn_elements.specs.Reading.{AnswersMembers, AnswersValue}
-use Rattle.x690_laws.proofs.Sound.{same_tag_is}
 use Rattle.ber_pull.proofs.Hearing.{hears_at, hears_off, hears_stop}
 
 pub place_given : (s : Standing) (g : Given) → s.given ≡ Some g → place s ≡ g.at
@@ -53,14 +50,6 @@ given_still old mid g u is = ap (λ z. z.given) u.0 ∙ is
 
 pub fine_still : {R : Type 0} {s : Ghosts R} (old mid : Pull R s) → Unmoved old mid → (standing old).error ≡ None → (standing mid).error ≡ None
 fine_still old mid u fine = ap (λ z. z.error) u.0 ∙ fine
-
--- another tag than this one
-pub other_tag : (own tag : Tag) → (own ≡ tag → ⊥) → same_tag own tag ≡ false
-other_tag own tag h = go (same_tag own tag) refl
-  where
-    go : (b : Bool) → same_tag own tag ≡ b → same_tag own tag ≡ false
-    go true e = absurd (h (same_tag_is own tag e))
-    go false e = e
 
 -- an option that is nothing
 pub none_by : {A : Type 0} (o : Option A) → ((a : A) → o ≡ Some a → ⊥) → o ≡ None

@@ -1,6 +1,6 @@
 -- What a list's elements are seen as, one at a time.
-use Rattle.std.proofs.Common.{◌≡◌, ◌∙◌, ◌+◌, ◌<◌, ◌≤◌, ℕ, suc, List, [], ◌∷◌, ◌++◌, refl, sym, ap, subst, length, map, get_or, drop, take, arith, Ok, Err, append_assoc, Result}
-use Rattle.std.proofs.lemmas.List.{get_or-map, length-append, length-map, take_all}
+use Rattle.std.proofs.Common.{◌≡◌, ◌∙◌, ◌+◌, ◌<◌, ℕ, suc, List, [], ◌∷◌, ◌++◌, refl, sym, ap, subst, length, map, get_or, drop, take, arith, Ok, Err, append_assoc, Result}
+use Rattle.std.proofs.lemmas.List.{get_or-map, length-append, length-map}
 use Rattle.tlv_core.proofs.Puts.{Puts_then, Puts_short}
 use Rattle.tlv_core.specs.Sinks.{Puts, count}
 use Rattle.tlv_core.specs.declared.sink.Sink.{Sink}
@@ -38,10 +38,6 @@ module _ {W : Type 0} {s : Ghosts W} (vs : List Value) (i : ℕ) (v : Value) (in
       let x = length-append (texts_of (take i vs)) (der v ++ texts_of (drop (suc i) vs)) in
       let q = length-append (der v) (texts_of (drop (suc i) vs)) in
       omega arith
-
--- all of them
-pub members_put : {W : Type 0} {s : Ghosts W} (vs : List Value) (i : ℕ) (a b : Sink W s) → length vs ≤ i → Puts (texts_of (take i vs)) a b (Ok tt) → Puts (texts_of vs) a b (Ok tt)
-members_put vs i a b e p = subst (λ z. Puts (texts_of z) a b (Ok tt)) (take_all i vs e) p
 
 pub map_thrice : {A B C D : Type 0} (f : C → D) (g : B → C) (h : A → B) (xs : List A) → map f (map g (map h xs)) ≡ map (λ x. f (g (h x))) xs
 map_thrice f g h [] = refl

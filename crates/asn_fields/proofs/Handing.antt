@@ -1,18 +1,15 @@
 -- Answers and errors of a field that are handed on; fields that are the same.
-use Rattle.std.proofs.Common.{◌≡◌, ℕ, List, IfOk, Option, Some, None, Result, Ok, Err, sym, subst}
+use Rattle.std.proofs.Common.{◌≡◌, ℕ, List, IfOk, Option, Result, Ok, Err, sym, subst}
 use Rattle.std.specs.Result.{MatchResult}
 use Rattle.tlv_core.specs.declared.fault.ReadError.{ReadError}
 use Rattle.tlv_core.specs.declared.source.Source.{Ghosts}
-use Rattle.x690.specs.Lists.{Each}
 use Rattle.x690.specs.ReadHeaders as headers
 use Rattle.x690.specs.Reading.{Reading}
 use Rattle.x690.specs.Reads.{Heard, Said}
 use Rattle.x690.specs.Values.{Same, Value}
-use Rattle.ber_pull.specs.Fields.{with_field}
 use Rattle.ber_pull.specs.Hears.{Hears, heard_error}
 use Rattle.ber_pull.specs.View.{Answers}
 use Rattle.ber_pull.specs.declared.pull.Pull.{Pull}
-use Rattle.asn_fields.specs.Fields.{SameField}
 
 pub field_err : {R A V : Type 0} {s : Ghosts R} (old new : Pull R s) (p : Reading (V × headers.Next)) (Alike : V → V → Type 0) (value : A → V) (behind : headers.Next) (r : Result A ReadError) (e : ReadError) → r ≡ Err e → Answers old new p (heard_error e) → MatchResult r (λ x. (v : V) × Alike v (value x) × Answers old new p (Said (v, behind))) (λ e. Answers old new p (heard_error e))
 field_err {R} {A} {V} old new p Alike value behind r e h x = subst (λ w. MatchResult w (λ x. (v : V) × Alike v (value x) × Answers old new p (Said (v, behind))) (λ e. Answers old new p (heard_error e))) (sym h) x
@@ -26,9 +23,3 @@ value_through (Err e) value p q k i s u f h = f (heard_error e) h
 pub of_value : {T : Type 0} (r : Result T ReadError) (value : T → Value) (p : Reading Value) (k i : ℕ) (s u : Option (List ℕ)) (Holds : T → Type 0) → ((x : T) (v : Value) → Same v (value x) → Hears p k s (Said v) i u → Holds x) → MatchResult r (λ x. (v : Value) × Same v (value x) × Hears p k s (Said v) i u) (λ e. Hears p k s (heard_error e) i u) → IfOk r Holds
 of_value (Ok x) value p k i s u Holds f h = f x h.0 h.1 h.2
 of_value (Err e) value p k i s u Holds f h = tt
-
-pub each_with : (o o' : Option Value) (vs ws : List Value) → SameField o o' → Each Same vs ws → Each Same (with_field o vs) (with_field o' ws)
-each_with None None vs ws h e = e
-each_with None (Some v) vs ws h e = absurd h
-each_with (Some v) None vs ws h e = absurd h
-each_with (Some v) (Some w) vs ws h e = (h, e)

@@ -9,7 +9,7 @@ use Rattle.tlv_core.specs.declared.reason.Reason.TheVariants.{Truncated}
 use Rattle.x690.specs.Points.{fault}
 use Rattle.x690.specs.Reading.{Reading, Done, Fail, Where, Ask, ◌>>=◌, require, choose, run}
 use Rattle.x690.specs.Reads.{Heard, Said, Refused, ReadFailed, NoMemory, Reads}
-use Rattle.ber_pull.specs.Hears.{Continues, Gives, Hears, TakesFrom, heard, heard_error}
+use Rattle.ber_pull.specs.Hears.{Gives, Hears, TakesFrom, heard, heard_error}
 use Rattle.ber_pull.proofs.Runs.{run_bind, halt_bind, taken}
 
 -- what two calls take, one after the other
@@ -196,9 +196,6 @@ hears_at p h k i i' s u u' y z x = subst (λ w. Hears p k s h w u') (sym y) (sub
 -- the same reading, said in another way
 pub hears_as : {A : Type 0} (p q : Reading A) (h : Heard A) (k i : ℕ) (s u : Option (List ℕ)) → p ≡ q → Hears p k s h i u → Hears q k s h i u
 hears_as p q h k i s u e x = subst (λ w. Hears w k s h i u) e x
-
-pub continues_here : {A : Type 0} (p : Reading A) (k : ℕ) (s : Option (List ℕ)) → Continues p k s p k s
-continues_here p k s = record { rest = λ h i u x. x }
 
 -- Single octets: it came, the input has ended, or the source failed.
 

@@ -47,11 +47,6 @@ pub follows : (b : Bool) (u : ℕ) (s : List (List ℕ)) (o : List ℕ) → u �
 follows true u s o h = ap (λ w. is_bit_segment o && (w == 0)) h
 follows false u s o h = refl
 
-pub follows_bits : (b : Bool) (x : Bool) (y : Bool) → (not b || (x && y)) ≡ true → b ≡ true → x ≡ true
-follows_bits true true y h e = refl
-follows_bits true false y h e = cc
-follows_bits false x y h e = cc
-
 -- the last octet, its unused bits set to 0
 
 pub clear_at : (o : List ℕ) (u n d : ℕ) → length o ≡ suc n → set o n (get_or o n d / 2 ^ u * 2 ^ u) ≡ clear_unused u o

@@ -16,9 +16,6 @@ pub record Counted (before : List ℕ) (at count n : ℕ) (after : List ℕ) (pl
   pub small : n < 2 ^ 40
   pub number : Capped (big_endian 0 octets) n
 
-pub counted_none : (before : List ℕ) (at end : ℕ) → at ≤ end → Counted before at 0 0 before at end
-counted_none before at end h = record { octets = []; is = refl; many = refl; counts = omega arith; within = h; small = omega arith; number = record { exact = λ _. refl; large = λ z. omega arith } }
-
 pub big_endian_last : (high : ℕ) (octets : List ℕ) (x : ℕ) → big_endian high (octets ++ (x ∷ [])) ≡ big_endian high octets * 256 + x
 big_endian_last high [] x = refl
 big_endian_last high (y ∷ octets) x = big_endian_last (high * 256 + y) octets x
@@ -117,13 +114,6 @@ measured before at n after place end c small h = record {
   counts = c.counts;
   within = omega (arith, c.within);
 }
-
-pub element_none : (identifier : ℕ) (before : List ℕ) (at end : ℕ) → NoHeader identifier before at end → NoElement identifier before at end
-element_none identifier before at end stop contents octets rest e element fits =
-    stop (length contents) element.length_octets (contents ++ rest)
-    (e ∙ ap (λ s. s ++ rest) element.is ∙ ap (λ s. identifier ∷ s) (append_assoc element.length_octets contents rest))
-    element.spells
-    (omega (arith, ap length element.is, length-append element.length_octets contents))
 
 pub element_short : (identifier n : ℕ) (before : List ℕ) (at : ℕ) (after : List ℕ) (place end : ℕ) → Opened identifier n before at after place end → length after < n → NoElement identifier before at end
 element_short identifier n before at after place end o short contents octets rest e element fits =

@@ -17,9 +17,6 @@ octet_string_plain = record { not_end = λ h. absurd (omega arith); not_end_cons
 pub object_identifier_plain : IsPlainIdentifier 6
 object_identifier_plain = record { not_end = λ h. absurd (omega arith); not_end_constructed = λ h. absurd (omega arith); low = λ h. absurd (omega arith) }
 
-pub sequence_plain : IsPlainIdentifier 48
-sequence_plain = record { not_end = λ h. absurd (omega arith); not_end_constructed = λ h. absurd (omega arith); low = λ h. absurd (omega arith) }
-
 pub record Alone (contents contents' octets octets' rest rest' : List ℕ) : Type 0 where
   pub contents_same : contents ≡ contents'
   pub octets_same : octets ≡ octets'
@@ -59,9 +56,6 @@ element_size i contents octets e = omega (arith, ap length e.is, length-append e
 pub version_other : (contents octets before : List ℕ) (at : ℕ) (after : List ℕ) (place end : ℕ) → Stands 2 contents octets before at after place end → (contents ≡ 0 ∷ [] → ⊥) → NoPart VersionPart before at end
 version_other contents octets before at after place end s other octets' rest e version fits =
     other (element_alone 2 contents (0 ∷ []) octets octets' after rest s.element version (sym s.is ∙ e)).contents_same
-
-pub version_part : (contents octets before : List ℕ) (at : ℕ) (after : List ℕ) (place end : ℕ) → Stands 2 contents octets before at after place end → contents ≡ 0 ∷ [] → Part VersionPart before at after place end
-version_part contents octets before at after place end s is = record { octets = octets; holds = subst (λ c. Element 2 c octets) is s.element; is = s.is; counts = s.counts; within = s.within }
 
 -- the sequence of an algorithm identifier is open, and its object identifier isn't one that fits
 pub algorithm_stops : (n : ℕ) (before : List ℕ) (at : ℕ) (mid : List ℕ) (between end : ℕ) (algorithm : Algorithm) → Opened 48 n before at mid between end
@@ -110,9 +104,6 @@ key_stops contents octets before at after place end secret s stop octets' rest e
 
 pub key_none : (before : List ℕ) (at end : ℕ) (secret : List ℕ) → NoElement 4 before at end → NoPart (KeyPart secret) before at end
 key_none before at end secret stop octets rest e part fits = stop part.inner octets rest e part.is fits
-
-pub key_part : (contents octets before : List ℕ) (at : ℕ) (after : List ℕ) (place end : ℕ) (secret : List ℕ) → Stands 4 contents octets before at after place end → Element 4 secret contents → Part (KeyPart secret) before at after place end
-key_part contents octets before at after place end secret s inner = record { octets = octets; holds = record { inner = contents; inner_is = inner; is = s.element }; is = s.is; counts = s.counts; within = s.within }
 
 -- no two elements in one text have different contents
 pub secret_alone : (secret secret' octets : List ℕ) → Element 4 secret octets → Element 4 secret' octets → secret ≡ secret'

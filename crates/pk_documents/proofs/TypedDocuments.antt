@@ -62,9 +62,6 @@ normalised_as l T w before after old new taken written lawful fine r text count 
       },
     )
 
-pub takes_spelling : (l : Limits) (T : TypeTerm) (w : Value) (before after : List ℕ) (taken : ℕ) → ReadsValue l T w (Some before) (Some after) taken → TakesSpelling (SpelledAs T) l before after
-takes_spelling l T w before after taken r = (r.spelled, r.octets, r.takes, r.spells)
-
 pub refused_as : (l : Limits) (T : TypeTerm) (e : ReadError) (before after : List ℕ) → Lawful T → StopsReading l T e (Some before) (Some after) → IsFailedRead false e → RefusedAs T l (Read e) before before
 refused_as l T (errors.Fault f) before after lawful s failed = let h = s.2 in (inside_of_answers l T before f lawful.honest h, (h, refused_is_spelled_by_none l T before f lawful.fair h), refl)
 refused_as l T (errors.Read at) before after lawful s failed = cc

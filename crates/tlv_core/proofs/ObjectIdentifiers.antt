@@ -1,5 +1,5 @@
 -- Arcs and the octets of their subidentifiers.
-use Rattle.std.proofs.Common.{◌≡◌, ◌≢◌, ℕ, zero, suc, ◌+◌, ◌-◌, ◌*◌, ◌/◌, ◌%◌, ◌^◌, ◌<◌, ◌≤◌, ◌==◌, true, false, min, List, [], ◌∷◌, ◌++◌, refl, sym, ◌∙◌, ap, ap₂, subst, append_assoc, append-nil, arith, take, drop, length, flat_map, get_or, Option, Some, None, IfSome}
+use Rattle.std.proofs.Common.{◌≡◌, ◌≢◌, ℕ, zero, suc, ◌+◌, ◌-◌, ◌*◌, ◌/◌, ◌%◌, ◌^◌, ◌<◌, ◌≤◌, ◌==◌, false, min, List, [], ◌∷◌, ◌++◌, refl, sym, ◌∙◌, ap, ap₂, subst, append_assoc, append-nil, arith, take, drop, length, flat_map, get_or, Option, Some, None, IfSome}
 use Rattle.std.specs.Option.{SomeIff}
 use Rattle.std.proofs.lemmas.Grind.{flat_map-append}
 use Rattle.std.proofs.lemmas.List.{take-append-drop, take_more, take_all, length-drop}
@@ -198,10 +198,3 @@ same_read arcs same octets rest e b = subst (λ s. ArcsBefore s octets rest) (sy
 
 pub none_read : (arcs octets rest : List ℕ) → ArcsBefore arcs octets rest → false ≡ (length rest == 0) → NoNumber rest → IsObjectIdentifier octets → ⊥
 none_read arcs octets rest b some none is = no_more_arcs arcs b.read rest octets b.are b.whole some none is
-
-pub all_read : (arcs octets rest : List ℕ) → ArcsBefore arcs octets rest → true ≡ (length rest == 0) → ObjectIdentifierOctets arcs octets
-all_read arcs octets rest b z = subst (λ s. ObjectIdentifierOctets arcs s) (sym (b.whole ∙ ap (λ s. b.read ++ s) (no_length rest (grind (arith, nat_tests))) ∙ append-nil b.read)) b.are
-  where
-    no_length : (s : List ℕ) → length s ≡ 0 → s ≡ []
-    no_length [] h = refl
-    no_length (x ∷ s) h = absurd (omega arith)

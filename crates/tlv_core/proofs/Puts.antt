@@ -60,7 +60,3 @@ Puts_short {W} {t} xs ys a b e p =
       repeats = p.repeats;
       was_fine = tt;
     }
-
--- the same under another name of the result, as where `?` hands an error on
-pub Puts_same : {W : Type 0} {t : Ghosts W} (xs : List ℕ) (a b : Sink W t) (r s : Result (Unit {0}) WriteError) → s ≡ r → Puts xs a b r → Puts xs a b s
-Puts_same {W} {t} xs a b r s e p = subst (λ z. Puts xs a b z) (sym e) p

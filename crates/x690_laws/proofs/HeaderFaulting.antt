@@ -41,10 +41,6 @@ all_may l e k (x ∷ s) w =
     let q : k + length (x ∷ s) ≡ k + 1 + length s = omega arith in
     (may_of l e k (within_less l e (k + 1) (k + length (x ∷ s)) (omega arith) w), all_may l e (k + 1) s (subst (Within l e) q w))
 
-may_append : (l : Limits) (e : Option ℕ) (k : ℕ) (s t : List ℕ) → AllMayStand l e k s → AllMayStand l e (k + length s) t → AllMayStand l e k (s ++ t)
-may_append l e k [] t h g = let q : k + 0 ≡ k = omega arith in subst (λ w. AllMayStand l e w t) q g
-may_append l e k (x ∷ s) t h g = let q : k + length (x ∷ s) ≡ k + 1 + length s = omega arith in (h.0, may_append l e (k + 1) s t h.1 (subst (λ w. AllMayStand l e w t) q g))
-
 -- one octet
 
 ask_halts : (k : ℕ) (s : List ℕ) (f : Fault) → run (Ask Done) k s ≡ Halted f → (s ≡ []) × (f ≡ fault k Truncated)

@@ -1,6 +1,5 @@
 -- Lengths and pieces of DER texts, for code that writes them.
-use Rattle.std.proofs.Common.{◌≡◌, ℕ, zero, suc, ◌+◌, ◌*◌, ◌<◌, ◌≤◌, nat_lt, cond, Bool, true, false, List, [], ◌∷◌, ◌++◌, map, length, take, get_or, refl, sym, ◌∙◌, ap, subst, arith, append_assoc, append-nil, add-one}
-use Rattle.std.proofs.lemmas.List.{length-append}
+use Rattle.std.proofs.Common.{◌≡◌, ℕ, ◌+◌, ◌*◌, nat_lt, cond, Bool, true, false, List, [], ◌∷◌, ◌++◌, map, length, refl, sym, ◌∙◌, ap, subst, append_assoc}
 use Rattle.x690_laws.proofs.Texts.{ders_texts, arrange_ascends}
 use Rattle.tlv_core.specs.Header.{der_header}
 use Rattle.tlv_core.specs.Identifier.{Tag, base128, identifier}
@@ -31,20 +30,6 @@ der_bag t vs a =
     let q : arrange (der_texts (values_of vs)) ≡ map der vs = arrange_ascends (der_texts (values_of vs)) (ders_texts (values_of vs)) (subst Ascends (sym e) a) ∙ e in
     ap (λ s. der_element t true (join s)) q
     ∙ sym (append_assoc (identifier t true) (shortest_length (length (texts_of vs))) (texts_of vs))
-
--- the texts up to one more
-pub texts_more : (vs : List Value) (i : ℕ) (d : Value) → i < length vs → texts_of (take (i + 1) vs) ≡ texts_of (take i vs) ++ der (get_or vs i d)
-texts_more [] i d h = absurd (omega arith)
-texts_more (v ∷ vs) zero d h = append-nil (der v)
-texts_more (v ∷ vs) (suc i) d h =
-    let ih = texts_more vs i d (omega arith) in
-    rw add-one (ap (λ s. der v ++ s) (rw add-one at ih) ∙ sym (append_assoc (der v) (texts_of (take i vs)) (der (get_or vs i d))))
-
--- no more than all
-pub texts_within : (vs : List Value) (i : ℕ) (d : Value) → i < length vs → length (texts_of (take i vs)) + length (der (get_or vs i d)) ≤ length (texts_of vs)
-texts_within [] i d h = absurd (omega arith)
-texts_within (v ∷ vs) zero d h = omega (arith, length-append (der v) (texts_of vs))
-texts_within (v ∷ vs) (suc i) d h = omega (arith, texts_within vs i d (omega arith), length-append (der v) (texts_of vs), length-append (der v) (texts_of (take i vs)))
 
 pub header_form : (t : Tag) (f g : Bool) (n : ℕ) → length (der_header t f n) ≡ length (der_header t g n)
 unfolding der_header identifier

@@ -1,7 +1,7 @@
 -- How long the DER texts of values are that were read.
 use Rattle.std.proofs.Common.{◌≡◌, ℕ, ◌+◌, ◌<◌, Bool, List, [], ◌∷◌, ◌++◌, length, sym, subst, arith}
 use Rattle.std.proofs.lemmas.List.{length-append}
-use Rattle.tlv_core.specs.Identifier.{IsTag, Tag, identifier}
+use Rattle.tlv_core.specs.Identifier.{Tag, identifier}
 use Rattle.tlv_core.specs.Limits.{Limits}
 use Rattle.x690_laws.proofs.GrowthBounds.{growth_by_two}
 use Rattle.x690_laws.proofs.Judging.{sound}
@@ -12,10 +12,8 @@ use Rattle.x690.specs.Fitting.{Fits}
 use Rattle.x690.specs.Layouts.{LaidOut, RawTree}
 use Rattle.x690.specs.OpenValues.{FitsOpen}
 use Rattle.x690.specs.Points.{Enclosing, outermost}
-use Rattle.x690.specs.ReadContents.{read_open}
-use Rattle.x690.specs.ReadTypes.{read_document, read_element, read_type}
+use Rattle.x690.specs.ReadTypes.{read_document, read_element}
 use Rattle.x690.specs.Reading.{Took, run}
-use Rattle.x690.specs.Reads.{Reads, Said}
 use Rattle.x690.specs.TypeTerms.{OpenType, TypeTerm}
 use Rattle.x690.specs.Values.{Value}
 use Rattle.x690_laws.specs.GrowthLaws.{ReadTexts, ShortText, TakenTexts}
@@ -54,16 +52,6 @@ read_texts = record {
 }
 
 -- for readers that answer what a plain reading gives
-
-pub reads_short : (l : Limits) (T : TypeTerm) (earlier : List Value) (c : Enclosing) (p : ℕ) (t : Tag) (form : Bool) (k : ℕ) (s : List ℕ) (v : Value) (q : ℕ) (rest : List ℕ) → l.octets < 2147483648 → IsTag t → c.open_containers < l.depth → p + length (identifier t form) ≡ k
-    → Reads (read_type l T earlier c p t form) k s (Said v) q rest → ShortText v p q
-unfolding Reads
-reads_short l T earlier c p t form k s v q rest h g d e m = read_texts.behind l T earlier c p t form k s v q rest h g d e m
-
-pub reads_open_short : (l : Limits) (deep : ℕ) (c : Enclosing) (p : ℕ) (t : Tag) (form : Bool) (k : ℕ) (s : List ℕ) (v : Value) (q : ℕ) (rest : List ℕ) → l.octets < 2147483648 → IsTag t → c.open_containers < l.depth → p + length (identifier t form) ≡ k
-    → Reads (read_open deep l c p t form) k s (Said v) q rest → ShortText v p q
-unfolding Reads
-reads_open_short l deep c p t form k s v q rest h g d e m = read_texts.open_behind l deep c p t form k s v q rest h g d e m
 
 -- one more value behind those that were read: with `ShortText`, what a loop over members keeps
 pub texts_pushed : (vs : List Value) (v : Value) → length (texts_of (vs ++ (v ∷ []))) ≡ length (texts_of vs) + length (der v)
