@@ -13,7 +13,7 @@ use Rattle.x690.specs.Values.{Leaf, Value}
 use Rattle.ber_pull.specs.Calls.{read_bits, read_octets, read_primitive, read_segments}
 use Rattle.ber_pull.specs.Standing.{Standing, enclosing}
 use Rattle.ber_pull.specs.declared.state.Given.{Given}
-use Rattle.ber_pull.proofs.Runs.{bind_assoc, bind_same}
+use Rattle.x690.proofs.Runs.{bind_assoc, bind_same}
 use Rattle.asn_elements.specs.Reading.{read_given_leaf, string_kind}
 
 -- what the contents of a primitive leaf are

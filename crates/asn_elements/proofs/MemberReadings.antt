@@ -22,7 +22,7 @@ use Rattle.ber_pull.specs.declared.state.Container.TheVariants as open'
 use Rattle.ber_pull.specs.declared.state.Given.{Given}
 use Rattle.ber_pull.proofs.Hearing.{hears_as, hears_done, hears_error, hears_same, hears_then, hears_then_memory}
 use Rattle.ber_pull.proofs.Nexts.{place_taken}
-use Rattle.ber_pull.proofs.Runs.{bind_assoc, bind_same}
+use Rattle.x690.proofs.Runs.{bind_assoc, bind_same}
 use Rattle.x690_laws.proofs.ShortTexts.{texts_pushed}
 
 -- going in

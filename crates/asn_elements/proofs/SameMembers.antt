@@ -4,6 +4,7 @@ use Rattle.tlv_core.specs.Identifier.{Tag}
 use Rattle.x690.specs.DerTexts.{texts_of}
 use Rattle.x690.specs.Lists.{Each}
 use Rattle.x690.specs.Values.{Same, SameInPlace, Sequence, Value, values_of}
+use Rattle.x690_laws.proofs.Complete.{each_length}
 use Rattle.x690_laws.proofs.Texts.{canonical}
 
 pub each_last : (vs ws : List Value) (v w : Value) → Each Same vs ws → Same v w → Each Same (vs ++ v ∷ []) (ws ++ w ∷ [])
@@ -17,12 +18,6 @@ each_texts [] [] h = refl
 each_texts [] (y ∷ ws) h = absurd h
 each_texts (x ∷ vs) [] h = absurd h
 each_texts (x ∷ vs) (y ∷ ws) h = ap₂ (λ a b. a ++ b) (canonical x y h.0) (each_texts vs ws h.1)
-
-pub each_length : (vs ws : List Value) → Each Same vs ws → length vs ≡ length ws
-each_length [] [] h = refl
-each_length [] (y ∷ ws) h = absurd h
-each_length (x ∷ vs) [] h = absurd h
-each_length (x ∷ vs) (y ∷ ws) h = ap suc (each_length vs ws h.1)
 
 in_place : (vs ws : List Value) → Each Same vs ws → SameInPlace (values_of vs) (values_of ws)
 unfolding Same

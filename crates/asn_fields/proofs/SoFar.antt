@@ -24,7 +24,7 @@ use Rattle.ber_pull.specs.Hears.{Continues, Hears, heard_error, next_at}
 use Rattle.ber_pull.specs.Standing.{Standing, enclosing}
 use Rattle.ber_pull.proofs.Fields as rules
 use Rattle.ber_pull.proofs.Hearing.{hears_done, hears_error, hears_same, hears_then}
-use Rattle.ber_pull.proofs.Runs.{bind_same}
+use Rattle.x690.proofs.Runs.{bind_same}
 use Rattle.asn_fields.specs.Fields.{SameField}
 use Rattle.asn_elements.proofs.SameMembers.{each_last, same_lists}
 

@@ -21,7 +21,7 @@ use Rattle.x690.specs.Values.{Sequence, Value, leaf_at, values_of}
 use Rattle.ber_pull.specs.Fields.{IsClosed, but_default, read_begin, read_due, read_end, read_optional, read_take, with_field}
 use Rattle.ber_pull.specs.Hears.{Hears, heard_error, next_at}
 use Rattle.ber_pull.proofs.Hearing.{hears_done, hears_error, hears_fail, hears_first, hears_off, hears_on, hears_same, hears_second, hears_then}
-use Rattle.ber_pull.proofs.Runs.{bind_assoc, bind_same, halt_bind, run_bind}
+use Rattle.x690.proofs.Runs.{bind_assoc, bind_same, halt_bind, run_bind}
 
 -- readings that give the same on all octets
 abbrev pub Alike : {A : Type 0} → Reading A → Reading A → Type 0

@@ -10,7 +10,7 @@ use Rattle.x690.specs.Points.{fault}
 use Rattle.x690.specs.Reading.{Reading, Done, Fail, Where, Ask, ◌>>=◌, require, choose, run}
 use Rattle.x690.specs.Reads.{Heard, Said, Refused, ReadFailed, NoMemory, Reads}
 use Rattle.ber_pull.specs.Hears.{Gives, Hears, TakesFrom, heard, heard_error}
-use Rattle.ber_pull.proofs.Runs.{run_bind, halt_bind, taken}
+use Rattle.x690.proofs.Runs.{run_bind, halt_bind, taken}
 
 -- what two calls take, one after the other
 

@@ -80,9 +80,6 @@ used_within outer inside s next s' i some e =
 
 -- The container is ended, and left.
 
-pub leaves : (outer : Standing) (inside : Enclosing) (s : Standing) (next : Next) (s' : Standing) → Inside outer inside s next → given_by next ≡ None → s' ≡ closing (moved s'.taken s) → s' ≡ used s'.taken outer
-leaves outer inside s next s' i none e = e ∙ ap (λ x. closing (moved s'.taken x)) i.is ∙ ap (λ g. record outer { taken = s'.taken; given = g }) none
-
 -- nothing is taken by leaving
 pub left_here : (r : Result (Unit {0}) ReadError) (k i : ℕ) (s u : Option (List ℕ)) → r ≡ Ok tt → i ≡ k → u ≡ s → Hears (Done tt) k s (heard {A = Unit {0}} (λ w. w) r) i u
 left_here r k i s u x y z = hears_at _ _ k k i s s u y z (subst (λ w. Hears (Done tt) k s (heard {A = Unit {0}} (λ v. v) w) k s) (sym x) (hears_done tt k s))

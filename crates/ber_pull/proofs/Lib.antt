@@ -1,5 +1,4 @@
 pub mod Stack
-pub mod Runs
 pub mod Hearing
 pub mod Headers
 pub mod Nexts

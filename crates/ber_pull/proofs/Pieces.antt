@@ -12,7 +12,7 @@ use Rattle.x690.specs.Reading.{Done, Halted, Took, run, ◌>>=◌}
 use Rattle.x690.specs.Reads.{ReadFailed, Reads, Refused, Said}
 use Rattle.ber_pull.specs.Hears.{Hears, heard_error}
 use Rattle.ber_pull.proofs.Hearing.{gives_error, hears_ended, hears_failed_at, takes_both}
-use Rattle.ber_pull.proofs.Runs.{halt_bind, run_bind}
+use Rattle.x690.proofs.Runs.{halt_bind, run_bind}
 
 pub octets_ended : (n k : ℕ) (s t : Option (List ℕ)) → 0 < n → Consumes s t [] → IsAtEnd t → Hears (next_octets n) k s (Refused (fault k Truncated)) k t
 unfolding next_octets

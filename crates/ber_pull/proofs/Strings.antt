@@ -16,7 +16,7 @@ use Rattle.ber_pull.specs.declared.state.Container.{Container}
 use Rattle.ber_pull.specs.declared.state.Given.{Given}
 use Rattle.ber_pull.specs.declared.string.Joined.{Joined}
 use Rattle.ber_pull.proofs.Hearing.{hears_done, hears_error, hears_same, hears_then}
-use Rattle.ber_pull.proofs.Runs.{bind_done}
+use Rattle.x690.proofs.Runs.{bind_done}
 use Rattle.ber_pull.proofs.Walk.{fresh, inside, into_is, level}
 
 -- in one piece it is a segment by itself

@@ -20,7 +20,7 @@ use Rattle.ber_pull.specs.declared.state.Container.{Container}
 use Rattle.ber_pull.specs.declared.state.Container.TheVariants as open'
 use Rattle.ber_pull.proofs.Hearing.{hears_as, hears_error, hears_off, hears_on, hears_said, hears_same, hears_then}
 use Rattle.ber_pull.proofs.Nexts.{place_taken}
-use Rattle.ber_pull.proofs.Runs.{bind_assoc, bind_same}
+use Rattle.x690.proofs.Runs.{bind_assoc, bind_same}
 
 abbrev pub level : ℕ → ℕ → Enclosing → Level
 level deep fuel around = record { deep = deep; fuel = fuel; around = around }
@@ -100,7 +100,7 @@ into_is n l d c vs s p k o =
     ∙ sym (bind_assoc (read_length l c.nearest_end p) (λ x. Where (λ q. inside l n d s (entered c q x))) (λ e. Done e.all >>= λ s'. read_rest n l vs s') k o)
     ∙ sym (bind_assoc (read_length l c.nearest_end p >>= λ x. Where (λ q. inside l n d s (entered c q x))) (λ e. Done e.all) (λ s'. read_rest n l vs s') k o)
 
-required : {A : Type 0} (b : Bool) (f : Fault) (p : Reading A) → b ≡ true → p ≡ require b f p
+pub required : {A : Type 0} (b : Bool) (f : Fault) (p : Reading A) → b ≡ true → p ≡ require b f p
 unfolding require
 required true f p h = refl
 required false f p h = cc

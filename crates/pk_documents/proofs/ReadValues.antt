@@ -21,7 +21,7 @@ use Rattle.x690.specs.Values.{Same, Value}
 use Rattle.x690_laws.proofs.Answering.{answered, fits_text, halted_is, long_text}
 use Rattle.x690_laws.proofs.HeaderSound.{NextEnds, next_took}
 use Rattle.x690_laws.proofs.Judging.{sound}
-use Rattle.x690_laws.proofs.Runs.{taken}
+use Rattle.x690.proofs.Runs.{taken}
 use Rattle.x690_laws.proofs.Texts.{same_der}
 use Rattle.ber_pull.specs.Calls.{read_next}
 use Rattle.ber_pull.specs.Hears.{Hears, heard, heard_error, next_at}

@@ -21,8 +21,9 @@ use Rattle.ber_pull.specs.Fields.{read_begin, read_due, read_end}
 use Rattle.ber_pull.specs.Hears.{Hears, next_at}
 use Rattle.ber_pull.specs.Standing.{Standing, enclosing}
 use Rattle.ber_pull.specs.declared.state.Given.{Given}
+use Rattle.ber_pull.proofs.Walk.{required}
 use Rattle.ber_pull.proofs.Hearing.{hears_as, hears_fail, hears_off, hears_on}
-use Rattle.ber_pull.proofs.Runs.{bind_assoc, bind_same}
+use Rattle.x690.proofs.Runs.{bind_assoc, bind_same}
 use Rattle.pull_client.specs.Ahead.{is_universal}
 
 pub integer_leaf : (s : Standing) (g : Given) (t : Tag) (b : Bool) → g.constructed ≡ b → (k : ℕ) (o : List ℕ) → run (read_primitive s g >>= λ x. require (is_integer_contents x) (fault g.at BadInteger) (Done (Leaf t x))) k o ≡ run (read_leaf s.limits (enclosing s) Integer g.at t g.constructed) k o
@@ -72,11 +73,6 @@ pub record IsDue (number : ℕ) (o : Option (Tag × Bool)) : Type 0 where
 pub is_due : (number : ℕ) (o : Option (Tag × Bool)) → is_universal number o ≡ true → IsDue number o
 is_due number None h = cc
 is_due number (Some x) h = record { element = x; is = refl; tag = h }
-
-required : {A : Type 0} (b : Bool) (f : Fault) (p : Reading A) → b ≡ true → p ≡ require b f p
-unfolding require
-required true f p h = refl
-required false f p h = cc
 
 due_some : (l : Limits) (number : ℕ) (kind : LeafKind) (earlier : List Value) (c : Enclosing) (p k i : ℕ) (x : Tag × Bool) (h : Heard (Value × Next)) (t u : Option (List ℕ)) → same_tag (universal number) x.0 ≡ true
     → Hears (read_leaf l c kind p (universal number) x.1 >>= λ v. next_tag l c >>= λ n. Done (v, n)) k t h i u → Hears (read_due l (LeafType (universal number) kind) earlier c (ElementStands p x.0 x.1)) k t h i u

@@ -4,7 +4,7 @@ use Rattle.x690.specs.Points.{stands_at_end}
 use Rattle.x690.specs.ReadHeaders.{ContainerEnds, DefiniteLength, IndefiniteLength, LengthForm, next_tag}
 use Rattle.x690.specs.Reading.{Done, Reading, choose, run}
 use Rattle.x690.specs.Reads.{Heard, NoMemory, ReadFailed, Reads, Refused, Said}
-use Rattle.ber_pull.proofs.Runs.{run_bind}
+use Rattle.x690.proofs.Runs.{run_bind}
 use Rattle.tlv_core.specs.Limits.{Limits}
 use Rattle.x690.specs.Points.{Enclosing}
 use Rattle.ber_pull.specs.Calls.{read_leaving, read_next}
@@ -16,10 +16,6 @@ use Rattle.pull_client.specs.Ahead.{IsOpen}
 pub next_inside : (s : Standing) → s.given ≡ None → IsOpen s → read_next s ≡ next_tag s.limits (enclosing s)
 unfolding read_next choose
 next_inside s g i = let o : is_over_in s.taken (first_of s.containers) ≡ false = ap (is_over_in s.taken) i.1 ∙ i.2 in rw (g, o) refl
-
-pub fresh : (form : LengthForm) (s : Standing) → is_ended (container_of form s) ≡ false
-fresh (DefiniteLength n) s = refl
-fresh IndefiniteLength s = refl
 
 -- where nothing is left, nothing is read
 first_chosen : {A : Type 0} (b : Bool) (p q : Reading A) (k : ℕ) (o : List ℕ) → b ≡ true → run (choose b p q) k o ≡ run p k o

@@ -19,7 +19,7 @@ use Rattle.x690_laws.proofs.Exactly.{exact}
 use Rattle.x690_laws.proofs.Honesty.{inside_of_faults, truncated_at_the_end}
 use Rattle.x690_laws.proofs.Judging.{complete, sound}
 use Rattle.x690_laws.proofs.Refit.{one_text, text_spells}
-use Rattle.x690_laws.proofs.Runs.{halt_more, took_more}
+use Rattle.x690.proofs.Runs.{halt_more, took_more}
 use Rattle.x690_laws.proofs.Stopping.{faithful}
 use Rattle.x690_laws.proofs.Texts.{same_der}
 use Rattle.x690_laws.specs.AnswerLaws.{InsideOfAnswers, NeededOctets, OneAnswer, RefusedIsSpelledByNone, SpellingIsAnswered, TextAnswersItself, TextsTellValues}

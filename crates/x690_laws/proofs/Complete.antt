@@ -5,7 +5,7 @@ use Rattle.std.proofs.lemmas.List.{length-append}
 use Rattle.std.specs.Str.{IsUtf8}
 use Rattle.std.proofs.lemmas.Str.{is_utf8-from_IsUtf8}
 use Rattle.x690_laws.proofs.ContentLengths.{segments_within}
-use Rattle.x690_laws.proofs.Runs.{run_bind}
+use Rattle.x690.proofs.Runs.{run_bind}
 use Rattle.x690_laws.proofs.OneValue.{leaf_one}
 use Rattle.x690_laws.proofs.HeaderSound.{Within}
 use Rattle.x690_laws.proofs.LeafSound.{contents_fit}

@@ -30,7 +30,7 @@ use Rattle.x690_laws.proofs.HeaderSound.{Within, octets_took}
 use Rattle.x690_laws.proofs.Judging.{not_ended}
 use Rattle.x690_laws.proofs.LeafSound.{contents_fit}
 use Rattle.x690_laws.proofs.Members.{GivesOne, TakesOne, container_halts, container_takes, form_halts, members_end, members_ended, members_halt, members_stop, opened_on}
-use Rattle.x690_laws.proofs.Runs.{halt_bind, halted_bind, halted_done, halted_fail, halted_require, run_bind, took_bind, took_done}
+use Rattle.x690.proofs.Runs.{halt_bind, halted_bind, halted_done, halted_fail, halted_require, run_bind, took_bind, took_done}
 use Rattle.x690_laws.proofs.Sound.{Fine, Laid, Segs, next_fine, same_tag_is, segment_took}
 use Rattle.x690_laws.proofs.Soundness.{equal_tag, open_took}
 

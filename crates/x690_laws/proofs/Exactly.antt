@@ -31,7 +31,7 @@ use Rattle.x690_laws.proofs.Judging.{complete, complete_with, each_refl, exclusi
 use Rattle.x690_laws.proofs.Members.{GivesOne, form_halts, members_ended, members_halt, opened_on}
 use Rattle.x690_laws.proofs.OneValue.{each_snoc, leaf_at_same}
 use Rattle.x690_laws.proofs.Refit.{begins_fits}
-use Rattle.x690_laws.proofs.Runs.{halt_bind, halted_bind, run_bind, took_bind, took_fail, took_require}
+use Rattle.x690.proofs.Runs.{halt_bind, halted_bind, run_bind, took_bind, took_fail, took_require}
 use Rattle.x690_laws.proofs.Sames.{same_sym, same_trans}
 use Rattle.x690_laws.proofs.Sound.{same_tag_is}
 use Rattle.x690_laws.proofs.Soundness.{type_took}

@@ -4,8 +4,9 @@ use Rattle.std.proofs.lemmas.Bool.Decides.{nat_tests}
 use Rattle.std.proofs.lemmas.List.{length-append}
 use Rattle.std.specs.Str.{IsUtf8}
 use Rattle.std.proofs.lemmas.Str.{is_utf8-from_IsUtf8}
-use Rattle.x690_laws.proofs.Headers.{IsRun, run_value, digits_run, digits_value, identifier_starts}
-use Rattle.x690_laws.proofs.Runs.{run_bind}
+use Rattle.tlv_core.proofs.Base128.{IsRun, run_value, base128_run, base128_value}
+use Rattle.x690_laws.proofs.Headers.{identifier_starts}
+use Rattle.x690.proofs.Runs.{run_bind}
 use Rattle.x690_laws.proofs.HeaderSound.{Within}
 use Rattle.x690_laws.proofs.Sound.{Steps}
 use Rattle.x690_laws.proofs.HeaderGives.{require_on, where_on, done_on, at_place, both, within_less, next_on, ends_on, endless_on, length_on, indefinite_on, LeadFits, digits_fit, lead_from, not_lead}
@@ -244,7 +245,7 @@ empty_arcs = refl
 
 all_arcs_on : (ns : List ℕ) → AllBelow Big ns → is_subidentifiers 0 (flat_map base128 ns) ≡ true
 all_arcs_on [] h = empty_arcs
-all_arcs_on (n ∷ ns) h = arcs_on 0 (base128 n) (flat_map base128 ns) n (digits_run n) (digits_fit n) (digits_value n) h.0 (all_arcs_on ns h.1)
+all_arcs_on (n ∷ ns) h = arcs_on 0 (base128 n) (flat_map base128 ns) n (base128_run n) (digits_fit n) (base128_value n) h.0 (all_arcs_on ns h.1)
 
 object_identifier_on : (arcs o : List ℕ) → ObjectIdentifierOctets arcs o → is_object_identifier o ≡ true
 object_identifier_on [] o h = absurd h
@@ -260,7 +261,7 @@ object_identifier_on (x ∷ y ∷ arcs) o h = not_empty o (run_some (40 * x + y)
     run_cons (a ∷ d) s r z = cc
 
     run_some : (n : ℕ) (s o : List ℕ) → o ≡ base128 n ++ s → o ≢ []
-    run_some n s o e z = run_cons (base128 n) s (digits_run n) (sym e ∙ z)
+    run_some n s o e z = run_cons (base128 n) s (base128_run n) (sym e ∙ z)
 
 -- a leaf's contents pass the test
 pub contents_on : (k : LeafKind) (t : Tag) (c o : List ℕ) → LeafContents k (Primitive t c) o → is_contents k c ≡ true

@@ -13,7 +13,7 @@ use Rattle.x690.specs.Reading.{Ask, Done, Fail, Halted, Reading, Took, choose, r
 use Rattle.x690_laws.proofs.Gives.{id_some}
 use Rattle.x690_laws.proofs.HeaderGives.{both, done_on, FirstOf, big_on, ends_on, endless_on, length_on, first_of_len, require_on, indefinite_on, next_deep, next_on, not_at_bound, not_false, number_on, octet_on, choose_first, choose_second, where_on, within_less}
 use Rattle.x690_laws.proofs.HeaderSound.{Within, both_true, length_took, identifier_is, next_took, not_true, number_of_took, number_took, octet_took, tag_is}
-use Rattle.x690_laws.proofs.Runs.{halt_bind, halted_bind, halted_done, halted_fail, halted_require, halted_choose, run_bind, took_bind, took_done, took_require, took_choose}
+use Rattle.x690.proofs.Runs.{halt_bind, halted_bind, halted_done, halted_fail, halted_require, halted_choose, run_bind, took_bind, took_done, took_require, took_choose}
 
 -- octets that may stand
 

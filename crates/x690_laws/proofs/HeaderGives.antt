@@ -2,8 +2,9 @@
 use Rattle.std.proofs.Common.{◌≡◌, ℕ, zero, suc, ◌+◌, ◌-◌, ◌*◌, ◌/◌, ◌%◌, ◌^◌, ◌<◌, ◌≤◌, ◌≢◌, ◌⊎◌, inl, inr, ⊎_elim, ◌==◌, ◌&&◌, nat_lt, nat_le, not, Bool, true, false, cond, List, [], ◌∷◌, ◌++◌, length, Option, Some, None, refl, sym, ◌∙◌, ap, ap₂, subst, append_assoc, arith, pow-suc, lit<}
 use Rattle.std.proofs.lemmas.Bool.Decides.{nat_tests}
 use Rattle.std.proofs.lemmas.List.{length-append}
-use Rattle.x690_laws.proofs.Headers.{IsRun, run_value, digits_run, digits_value, identifier_cases}
-use Rattle.x690_laws.proofs.Runs.{run_bind}
+use Rattle.tlv_core.proofs.Base128.{IsRun, run_value, base128_run, base128_value}
+use Rattle.x690_laws.proofs.Headers.{identifier_cases}
+use Rattle.x690.proofs.Runs.{run_bind}
 use Rattle.x690_laws.proofs.HeaderSound.{Within, zero_digits, more_digits, below_power}
 use Rattle.tlv_core.specs.Identifier.{IsTag, Tag, base128, identifier, leading_base128}
 use Rattle.tlv_core.specs.Length.{SpellsLength, big_endian}
@@ -248,7 +249,7 @@ next_on l c k t f r a g d w = ⊎_elim
     ap (λ v. run (next_tag l c) k (v ++ r)) i.is
     ∙ lead_on l c k (k + 1 + length (base128 t.number)) 31 t.number t f (base128 t.number ++ r) r a g d p (λ z. absurd (omega arith)) (thirty_one t f) (within_less l c.nearest_end (k + 1) (k + length (identifier t f)) (omega arith) w)
     (choose_second _ _ _ (k + 1) (base128 t.number ++ r) b
-    ∙ high_on l c.nearest_end k 4 0 (k + 1) (base128 t.number) r t.number (digits_run t.number) (digits_length t.number g.number_fits) (digits_fit t.number) (digits_value t.number) i.large (subst (Within l c.nearest_end) (sym q) w))
+    ∙ high_on l c.nearest_end k 4 0 (k + 1) (base128 t.number) r t.number (base128_run t.number) (digits_length t.number g.number_fits) (digits_fit t.number) (base128_value t.number) i.large (subst (Within l c.nearest_end) (sym q) w))
     ∙ at_place (ElementStands k t f) _ _ r q)
     (identifier_cases t f)
 
@@ -292,7 +293,7 @@ next_deep l c k t f r a g d w = ⊎_elim
     ap (λ v. run (next_tag l c) k (v ++ r)) i.is
     ∙ lead_deep l c k (k + 1 + length (base128 t.number)) 31 t.number t f (base128 t.number ++ r) r a g d p (λ z. absurd (omega arith)) (thirty_one t f) (within_less l c.nearest_end (k + 1) (k + length (identifier t f)) (omega arith) w)
     (choose_second _ _ _ (k + 1) (base128 t.number ++ r) b
-    ∙ high_on l c.nearest_end k 4 0 (k + 1) (base128 t.number) r t.number (digits_run t.number) (digits_length t.number g.number_fits) (digits_fit t.number) (digits_value t.number) i.large (subst (Within l c.nearest_end) (sym q) w)))
+    ∙ high_on l c.nearest_end k 4 0 (k + 1) (base128 t.number) r t.number (base128_run t.number) (digits_length t.number g.number_fits) (digits_fit t.number) (base128_value t.number) i.large (subst (Within l c.nearest_end) (sym q) w)))
     (identifier_cases t f)
 
 pub ends_on : (l : Limits) (c : Enclosing) (k : ℕ) (r : List ℕ) → stands_at_end c.innermost k ≡ true → run (next_tag l c) k r ≡ Took (ContainerEnds k) k r

@@ -3,7 +3,7 @@ use Rattle.std.proofs.Common.{◌≡◌, ℕ, zero, suc, ◌+◌, ◌-◌, ◌*�
 use Rattle.std.proofs.Math.Nat.{mul-le-mul_left}
 use Rattle.std.proofs.lemmas.Bool.Decides.{nat_tests}
 use Rattle.x690_laws.proofs.Headers.{branch}
-use Rattle.x690_laws.proofs.Runs.{took_bind, took_require, took_choose, took_where, took_done, took_fail}
+use Rattle.x690.proofs.Runs.{took_bind, took_require, took_choose, took_where, took_done, took_fail}
 use Rattle.tlv_core.specs.Identifier.{IsTag, Tag, base128, identifier, leading_base128}
 use Rattle.tlv_core.specs.Length.{SpellsLength, big_endian}
 use Rattle.tlv_core.specs.Limits.{Limits}

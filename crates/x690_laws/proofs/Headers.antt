@@ -1,82 +1,17 @@
 -- Identifiers and lengths delimit themselves.
-use Rattle.std.proofs.Common.{◌≡◌, ℕ, zero, suc, ◌+◌, ◌*◌, ◌/◌, ◌%◌, ◌^◌, ◌<◌, ◌≤◌, ◌≢◌, ◌⊎◌, inl, inr, ⊎_elim, ◌==◌, nat_lt, Bool, true, false, cond, List, [], ◌∷◌, ◌++◌, length, refl, sym, ◌∙◌, ap, append_assoc, arith}
-use Rattle.std.proofs.Common.{pow-suc, lit<}
+use Rattle.std.proofs.Common.{◌≡◌, ℕ, ◌+◌, ◌*◌, ◌<◌, ◌≤◌, ◌≢◌, ◌⊎◌, inl, inr, ⊎_elim, nat_lt, Bool, true, false, cond, List, [], ◌∷◌, ◌++◌, length, refl, sym, ◌∙◌, ap, arith}
 use Rattle.std.proofs.lemmas.Bool.Decides.{nat_tests}
-use Rattle.tlv_core.specs.Identifier.{IsTag, Tag, base128, identifier, leading_base128}
+use Rattle.tlv_core.specs.Identifier.{IsTag, Tag, base128, identifier}
 use Rattle.tlv_core.specs.Length.{SpellsLength}
+use Rattle.tlv_core.proofs.Base128.{run_value, run_alone, base128_run, base128_value}
 
 abbrev pub branch : Bool → List ℕ → List ℕ → List ℕ
 branch b s t = elim b [ true ↦ s | false ↦ t ]
 
--- a run of digits: bit 8 is set on all but the last
-abbrev pub IsRun : List ℕ → Type 0
-IsRun [] = 1 ≤ 0
-IsRun (x ∷ []) = x < 128
-IsRun (x ∷ y ∷ s) = (128 ≤ x) × (x < 256) × IsRun (y ∷ s)
-
--- the number of a run, `high` standing before it
-abbrev pub run_value : ℕ → List ℕ → ℕ
-run_value high [] = high
-run_value high (x ∷ s) = run_value (high * 128 + x % 128) s
-
-pub run_alone : (s t x y : List ℕ) → IsRun s → IsRun t → s ++ x ≡ t ++ y → (s ≡ t) × (x ≡ y)
-run_alone [] t x y h k e = absurd (omega arith)
-run_alone (a ∷ s) [] x y h k e = absurd (omega arith)
-run_alone (a ∷ []) (b ∷ []) x y h k e = (cc, cc)
-run_alone (a ∷ []) (b ∷ b' ∷ t) x y h k e = let q : a ≡ b = cc in absurd (omega arith)
-run_alone (a ∷ a' ∷ s) (b ∷ []) x y h k e = let q : a ≡ b = cc in absurd (omega arith)
-run_alone (a ∷ a' ∷ s) (b ∷ b' ∷ t) x y h k e =
-    let q : a ≡ b = cc in
-    let rest : (a' ∷ s) ++ x ≡ (b' ∷ t) ++ y = cc in
-    let both = run_alone (a' ∷ s) (b' ∷ t) x y h.2 k.2 rest in
-    (cc, both.1)
-
-pub run_more : (x : ℕ) (s : List ℕ) → 128 ≤ x → x < 256 → IsRun s → IsRun (x ∷ s)
-run_more x [] l m h = absurd (omega arith)
-run_more x (y ∷ s) l m h = (l, m, h)
-
--- the high digits, in front of a run, are one, with the number's own value
-pub high_run : (k n : ℕ) (s : List ℕ) → IsRun s → IsRun (leading_base128 k n ++ s)
-unfolding leading_base128
-high_run zero n s h = h
-high_run (suc k) n s h =
-    elim (n == 0) as (λ b. IsRun (branch b [] (leading_base128 k (n / 128) ++ ((128 + n % 128) ∷ [])) ++ s)) [
-      | true ↦ h
-      | false ↦ rw append_assoc (high_run k (n / 128) ((128 + n % 128) ∷ s) (run_more (128 + n % 128) s (omega arith) (omega arith) h))
-    ]
-
-pub high_value : (k n : ℕ) (s : List ℕ) → n < 128 ^ k → run_value 0 (leading_base128 k n ++ s) ≡ run_value n s
-unfolding leading_base128
-high_value zero n s h = let e : n ≡ 0 = omega arith in ap (λ m. run_value m s) (sym e)
-high_value (suc k) n s h =
-    let small : n / 128 < 128 ^ k = omega (arith, pow-suc 128 k) in
-    go (n == 0) refl (high_value k (n / 128) ((128 + n % 128) ∷ s) small)
-  where
-    go : (b : Bool) → (n == 0) ≡ b
-        → run_value 0 (leading_base128 k (n / 128) ++ ((128 + n % 128) ∷ s)) ≡ run_value (n / 128) ((128 + n % 128) ∷ s)
-        → run_value 0 (branch b [] (leading_base128 k (n / 128) ++ ((128 + n % 128) ∷ [])) ++ s) ≡ run_value n s
-    go true e ih = let z : n ≡ 0 = grind (arith, nat_tests) in ap (λ m. run_value m s) (sym z)
-    go false e ih =
-        rw append_assoc (ih ∙ (let q : n / 128 * 128 + (128 + n % 128) % 128 ≡ n = omega arith in ap (λ m. run_value m s) q))
-
-pub digits_run : (n : ℕ) → IsRun (base128 n)
-unfolding base128
-digits_run n = let last : n % 128 < 128 = omega arith in high_run n (n / 128) ((n % 128) ∷ []) last
-
-below_power : (n : ℕ) → n < 128 ^ n
-below_power zero = lit< tt
-below_power (suc n) = let ih = below_power n in omega (arith, pow-suc 128 n)
-
-pub digits_value : (n : ℕ) → run_value 0 (base128 n) ≡ n
-unfolding base128
-digits_value n =
-    high_value n (n / 128) ((n % 128) ∷ []) (let b = below_power n in omega arith)
-    ∙ (let q : n / 128 * 128 + n % 128 % 128 ≡ n = omega arith in q)
-
 pub digits_alone : (m n : ℕ) (x y : List ℕ) → base128 m ++ x ≡ base128 n ++ y → (m ≡ n) × (x ≡ y)
 digits_alone m n x y e =
-    let both = run_alone (base128 m) (base128 n) x y (digits_run m) (digits_run n) e in
-    (sym (digits_value m) ∙ ap (λ s. run_value 0 s) both.0 ∙ digits_value n, both.1)
+    let both = run_alone (base128 m) (base128 n) x y (base128_run m) (base128_run n) e in
+    (sym (base128_value m) ∙ ap (λ s. run_value 0 s) both.0 ∙ base128_value n, both.1)
 
 pub record IsShort (t : Tag) (f : Bool) : Type 0 where
   pub small : t.number < 31

@@ -2,7 +2,7 @@
 use Rattle.std.proofs.Common.{◌≡◌, ℕ, ◌+◌, ◌≤◌, ◌<◌, ◌==◌, nat_lt, Bool, true, false, Option, Some, List, [], ◌∷◌, ◌++◌, length, refl, sym, ◌∙◌, ap, subst, arith}
 use Rattle.std.proofs.lemmas.Bool.Decides.{nat_tests}
 use Rattle.std.proofs.lemmas.List.{length-append}
-use Rattle.x690_laws.proofs.Runs.{took_more, halt_more}
+use Rattle.x690.proofs.Runs.{took_more, halt_more}
 use Rattle.x690_laws.proofs.HeaderSound.{Within}
 use Rattle.x690_laws.proofs.Sames.{same_refl, same_sym, same_trans}
 use Rattle.x690_laws.proofs.OneValue.{same_of}

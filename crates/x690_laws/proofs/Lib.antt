@@ -1,6 +1,5 @@
 pub mod Answering
 pub mod Complete
-pub mod Composing
 pub mod Computed
 pub mod ContentLengths
 pub mod ContentsFaulting
@@ -26,7 +25,6 @@ pub mod OneValue
 pub mod Order
 pub mod Pairing
 pub mod PrefixFree
-pub mod Readers
 pub mod Refit
 pub mod RowsChoices
 pub mod RowsFaults
@@ -36,7 +34,6 @@ pub mod RowsOpenValues
 pub mod RowsOrder
 pub mod RowsRequests
 pub mod RowsTools
-pub mod Runs
 pub mod Sames
 pub mod ShortTexts
 pub mod Sound

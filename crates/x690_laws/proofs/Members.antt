@@ -10,7 +10,7 @@ use Rattle.x690.specs.ReadHeaders.{ContainerEnds, ElementStands, Ended, Next, ea
 use Rattle.x690.specs.Reading.{Done, Halted, Outcome, Reading, Took, Where, run, ◌>>=◌}
 use Rattle.x690_laws.proofs.HeaderFaulting.{ends_of, ends_run, form_run, form_stands, require_off, length_halts, length_stops, stands_of, stands_run, tag_halts, tag_stops}
 use Rattle.x690_laws.proofs.HeaderGives.{done_on, require_on, where_on}
-use Rattle.x690_laws.proofs.Runs.{halt_bind, halted_bind, halted_done, halted_require, no_less, run_bind, took_bind, took_done, took_fail, took_require, took_where}
+use Rattle.x690.proofs.Runs.{halt_bind, halted_bind, halted_done, halted_require, no_less, run_bind, took_bind, took_done, took_fail, took_require, took_where}
 
 -- One member was taken: it stands, and what is so of `number` members before it is so of one more.
 pub record TookOne {S A : Type 0} (l : Limits) (view : S → A) (Stand : A → ℕ → List ℕ → A → ℕ → List ℕ → Type 0) (Ok : ℕ → S → Type 0) (number : ℕ) (s0 s1 : S) (k : ℕ) (s : List ℕ) (q : ℕ) (r : List ℕ) : Type 0 where

@@ -3,7 +3,7 @@ use Rattle.std.proofs.Common.{◌≡◌, ℕ, zero, suc, ◌+◌, ◌<◌, ◌�
 use Rattle.std.proofs.lemmas.Bool.Decides.{nat_tests}
 use Rattle.std.proofs.lemmas.List.{length-append}
 use Rattle.std.proofs.lemmas.Str.{IsUtf8-from_is_utf8}
-use Rattle.x690_laws.proofs.Runs.{took_bind, took_require, took_where, took_done, took_fail}
+use Rattle.x690.proofs.Runs.{took_bind, took_require, took_where, took_done, took_fail}
 use Rattle.x690_laws.proofs.HeaderSound.{both_true, Within, NextElement, NextEnds, NextIs, next_took, Length, ExtentIs, length_took, PrimitiveTaken, primitive_took}
 use Rattle.x690_laws.proofs.LeafSound.{either_true, segment_fits, contents_fit}
 use Rattle.tlv_core.specs.Identifier.{IsTag, Tag, identifier}

@@ -2,7 +2,7 @@
 use Rattle.std.proofs.Common.{◌≡◌, ℕ, zero, suc, ◌+◌, ◌<◌, ◌≤◌, ◌⊎◌, inl, inr, ⊎_elim, ◌==◌, ◌&&◌, nat_le, Bool, true, false, List, [], ◌∷◌, ◌++◌, length, Option, Some, None, refl, sym, ◌∙◌, ap, ap₂, subst, append_assoc, append-nil, arith}
 use Rattle.std.proofs.lemmas.Bool.Decides.{nat_tests}
 use Rattle.std.proofs.lemmas.List.{length-append}
-use Rattle.x690_laws.proofs.Runs.{took_bind, took_require, took_choose, took_done, took_fail}
+use Rattle.x690.proofs.Runs.{took_bind, took_require, took_choose, took_done, took_fail}
 use Rattle.x690_laws.proofs.HeaderSound.{both_true, Within, NextEnds, NextIs, next_took, primitive_took}
 use Rattle.x690_laws.proofs.Refit.{open_sequence_is, open_set_is}
 use Rattle.x690_laws.proofs.Sound.{Laid, Held, prim_laid, fact_along, held_none, held_more, Of, container_took, Steps, OneSound, each_took, same_tag_is, LeafSays, leaf_took}

@@ -28,7 +28,7 @@ use Rattle.x690_laws.proofs.HeaderFaulting.{ends_of, stands_of, stands_run, tag_
 use Rattle.x690_laws.proofs.HeaderGives.{require_on}
 use Rattle.x690_laws.proofs.Judging.{sound}
 use Rattle.x690_laws.proofs.Members.{TakesOne, container_halts, container_takes, members_end, members_stop}
-use Rattle.x690_laws.proofs.Runs.{halted_bind, halted_done, halted_fail, halted_require, halted_choose, no_less, run_bind, took_bind, took_done, took_fail}
+use Rattle.x690.proofs.Runs.{halted_bind, halted_done, halted_fail, halted_require, halted_choose, no_less, run_bind, took_bind, took_done, took_fail}
 use Rattle.x690_laws.proofs.Sound.{same_tag_is}
 use Rattle.x690_laws.proofs.Soundness.{leaf_other, leaf_same}
 use Rattle.x690_laws.specs.FaultLaws.{FaultStops}

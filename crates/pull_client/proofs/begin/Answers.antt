@@ -8,7 +8,7 @@ use Rattle.ber_pull.specs.Standing.{enclosing}
 use Rattle.ber_pull.specs.declared.state.Given.{Given}
 use Rattle.ber_pull.proofs.Hearing.{hears_as, hears_done, hears_err, hears_error, hears_said, hears_stop, hears_then}
 use Rattle.pull_client.specs.Ahead.{next_of}
-use Rattle.pull_client.proofs.Standing.{fresh}
+use Rattle.ber_pull.proofs.Walk.{fresh}
 use Rattle.pull_client.proofs.Leaves.{begin_right, begin_wrong, deeper}
 use Rattle.ber_pull.specs.Standing.{first_of, without_first}
 use Rattle.pull_client.proofs.begin.Goals as goal

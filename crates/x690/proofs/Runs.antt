@@ -140,3 +140,20 @@ bind_assoc (Fail e) f g k s = refl
 bind_assoc (Where h) f g k s = bind_assoc (h k) f g k s
 bind_assoc (Ask h) f g k [] = refl
 bind_assoc (Ask h) f g k (x ∷ s) = bind_assoc (h x) f g (k + 1) s
+
+-- readings that go on alike
+pub bind_same : {A B : Type 0} (p : Reading A) (f g : A → Reading B) → ((a : A) (k : ℕ) (s : List ℕ) → run (f a) k s ≡ run (g a) k s) → (k : ℕ) (s : List ℕ) → run (p >>= f) k s ≡ run (p >>= g) k s
+unfolding run ◌>>=◌
+bind_same (Done a) f g e k s = e a k s
+bind_same (Fail x) f g e k s = refl
+bind_same (Where h) f g e k s = bind_same (h k) f g e k s
+bind_same (Ask h) f g e k [] = refl
+bind_same (Ask h) f g e k (x ∷ s) = bind_same (h x) f g e (k + 1) s
+
+pub bind_done : {A : Type 0} (p : Reading A) (k : ℕ) (s : List ℕ) → run (p >>= λ a. Done a) k s ≡ run p k s
+unfolding run ◌>>=◌
+bind_done (Done a) k s = refl
+bind_done (Fail e) k s = refl
+bind_done (Where h) k s = bind_done (h k) k s
+bind_done (Ask h) k [] = refl
+bind_done (Ask h) k (x ∷ s) = bind_done (h x) (k + 1) s
