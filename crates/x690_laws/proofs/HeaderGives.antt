@@ -1,11 +1,12 @@
 -- The reading of headers takes what lays out a tag, a length, contents.
-use Rattle.std.proofs.Common.{◌≡◌, ℕ, zero, suc, ◌+◌, ◌-◌, ◌*◌, ◌/◌, ◌%◌, ◌^◌, ◌<◌, ◌≤◌, ◌≢◌, ◌⊎◌, inl, inr, ⊎_elim, ◌==◌, ◌&&◌, nat_lt, nat_le, not, Bool, true, false, cond, List, [], ◌∷◌, ◌++◌, length, Option, Some, None, refl, sym, ◌∙◌, ap, ap₂, subst, append_assoc, arith, pow-suc, lit<}
+use Rattle.std.proofs.Common.{append-nil, ◌≡◌, ℕ, zero, suc, ◌+◌, ◌-◌, ◌*◌, ◌/◌, ◌%◌, ◌<◌, ◌≤◌, ◌≢◌, ◌⊎◌, inl, inr, ⊎_elim, ◌==◌, ◌&&◌, nat_lt, nat_le, not, Bool, true, false, cond, List, [], ◌∷◌, ◌++◌, length, Option, Some, None, refl, sym, ◌∙◌, ap, ap₂, subst, arith, lit<}
 use Rattle.std.proofs.lemmas.Bool.Decides.{nat_tests}
 use Rattle.std.proofs.lemmas.List.{length-append}
-use Rattle.tlv_core.proofs.Base128.{IsRun, run_value, base128_run, base128_value}
+use Rattle.tlv_core.proofs.Base128.{IsRun, run_value, base128_run, base128_value, base128_first}
 use Rattle.x690_laws.proofs.Headers.{identifier_cases}
 use Rattle.x690.proofs.Runs.{run_bind}
-use Rattle.x690_laws.proofs.HeaderSound.{Within, zero_digits, more_digits, below_power}
+use Rattle.tlv_core.proofs.Digits.{leading_length}
+use Rattle.x690_laws.proofs.HeaderSound.{Within}
 use Rattle.tlv_core.specs.Identifier.{IsTag, Tag, base128, identifier, leading_base128}
 use Rattle.tlv_core.specs.Length.{SpellsLength, big_endian}
 use Rattle.tlv_core.specs.Limits.{Limits}
@@ -123,53 +124,17 @@ high_on l e p (suc left) n k (x ∷ y ∷ d) r m h g f v z w =
     ∙ high_on l e p left (n * 128 + (x - 128)) (k + 1) (y ∷ d) r m h.2 (omega arith) (lead_from (n * 128 + (x - 128)) (y ∷ d) nz) (ap (λ a. run_value a (y ∷ d)) (sym nv) ∙ v) z (subst (Within l e) (sym q) w)
     ∙ at_place m _ _ r q
 
-high_head : (k n : ℕ) (s : List ℕ) → n < 128 ^ k → n ≢ 0 → head (leading_base128 k n ++ s) ≢ 128
-high_head zero n s h g = absurd (g (omega arith))
-high_head (suc k) n s h g = go (n / 128 == 0) refl (high_head k (n / 128) ((128 + n % 128) ∷ s) (omega (arith, pow-suc 128 k)))
-  where
-    go : (b : Bool) → (n / 128 == 0) ≡ b → (n / 128 ≢ 0 → head (leading_base128 k (n / 128) ++ ((128 + n % 128) ∷ s)) ≢ 128) → head (leading_base128 (suc k) n ++ s) ≢ 128
-    go true e ih z =
-        let e0 : n / 128 ≡ 0 = grind (arith, nat_tests) in
-        let d : leading_base128 (suc k) n ≡ (128 + n % 128) ∷ [] = more_digits k n g ∙ ap (λ w. w ++ ((128 + n % 128) ∷ [])) (zero_digits k (n / 128) e0) in
-        let y : 128 + n % 128 ≡ 128 = sym (ap (λ w. head (w ++ s)) d) ∙ z in
-        g (omega arith)
-    go false e ih z =
-        let e0 : n / 128 ≢ 0 = grind (arith, nat_tests) in
-        ih e0 (sym (ap head (append_assoc (leading_base128 k (n / 128)) ((128 + n % 128) ∷ []) s)) ∙ sym (ap (λ w. head (w ++ s)) (more_digits k n g)) ∙ z)
-
 digits_lead : (m : ℕ) → head (base128 m) ≢ 128
-unfolding base128
-digits_lead m z = go (m / 128 == 0) refl
+digits_lead m = go (base128 m) refl
   where
-    go : (b : Bool) → (m / 128 == 0) ≡ b → ⊥
-    go true e =
-        let e0 : m / 128 ≡ 0 = grind (arith, nat_tests) in
-        let y : m % 128 ≡ 128 = sym (ap (λ w. head (w ++ ((m % 128) ∷ []))) (zero_digits m (m / 128) e0)) ∙ z in
-        omega arith
-    go false e =
-        let e0 : m / 128 ≢ 0 = grind (arith, nat_tests) in
-        high_head m (m / 128) ((m % 128) ∷ []) (let b = below_power m in omega arith) e0 z
-
-no_fuel : (n : ℕ) → length (leading_base128 zero n) ≡ 0
-unfolding leading_base128
-no_fuel n = refl
-
-high_length : (j k n : ℕ) → n < 128 ^ j → length (leading_base128 k n) ≤ j
-high_length j zero n h = let z : length (leading_base128 zero n) ≡ 0 = no_fuel n in omega arith
-high_length zero (suc k) n h = let z : n ≡ 0 = omega arith in let y : length (leading_base128 (suc k) n) ≡ 0 = ap length (zero_digits (suc k) n z) in omega arith
-high_length (suc j) (suc k) n h = go (n == 0) refl (high_length j k (n / 128) (omega (arith, pow-suc 128 j)))
-  where
-    go : (b : Bool) → (n == 0) ≡ b → length (leading_base128 k (n / 128)) ≤ j → length (leading_base128 (suc k) n) ≤ suc j
-    go true e ih = let z : n ≡ 0 = grind (arith, nat_tests) in let y : length (leading_base128 (suc k) n) ≡ 0 = ap length (zero_digits (suc k) n z) in omega arith
-    go false e ih =
-        let z : n ≢ 0 = grind (arith, nat_tests) in
-        let y : length (leading_base128 (suc k) n) ≡ length (leading_base128 k (n / 128) ++ ((128 + n % 128) ∷ [])) = ap length (more_digits k n z) in
-        omega (arith, length-append (leading_base128 k (n / 128)) ((128 + n % 128) ∷ []))
+    go : (s : List ℕ) → base128 m ≡ s → head s ≢ 128
+    go [] e z = cc
+    go (x ∷ s) e z = base128_first m [] s (append-nil (base128 m) ∙ e ∙ ap (λ w. w ∷ s) z)
 
 digits_length : (m : ℕ) → m < 268435456 → length (base128 m) ≤ 4
 unfolding base128
 digits_length m h =
-    let a : length (leading_base128 m (m / 128)) ≤ 3 = high_length 3 m (m / 128) (omega arith) in
+    let a : length (leading_base128 m (m / 128)) ≤ 3 = leading_length 3 m (m / 128) (omega arith) in
     omega (arith, length-append (leading_base128 m (m / 128)) ((m % 128) ∷ []))
 
 pub digits_fit : (m : ℕ) → LeadFits 0 (base128 m)

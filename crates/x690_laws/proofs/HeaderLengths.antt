@@ -1,11 +1,11 @@
 -- How many octets the headers of elements have.
-use Rattle.std.proofs.Common.{◌≡◌, ℕ, zero, suc, ◌+◌, ◌*◌, ◌/◌, ◌%◌, ◌^◌, ◌<◌, ◌≤◌, ◌⊎◌, inl, inr, ⊎_elim, ◌==◌, Bool, true, false, List, [], ◌∷◌, ◌++◌, length, refl, ap, subst, arith, pow-suc}
-use Rattle.std.proofs.lemmas.Bool.Decides.{nat_tests}
+use Rattle.std.proofs.Common.{◌≡◌, ℕ, suc, ◌+◌, ◌*◌, ◌^◌, ◌<◌, ◌≤◌, ◌⊎◌, inl, inr, ⊎_elim, Bool, true, List, [], ◌∷◌, ◌++◌, length, refl, ap, subst, arith, pow-suc}
 use Rattle.std.proofs.lemmas.List.{length-append}
-use Rattle.x690_laws.proofs.Headers.{branch, identifier_cases}
+use Rattle.x690_laws.proofs.Headers.{identifier_cases}
 use Rattle.x690_laws.proofs.Texts.{shortest_cases}
 use Rattle.tlv_core.specs.Identifier.{Tag, identifier}
-use Rattle.tlv_core.specs.Length.{SpellsLength, big_endian, number_octets, shortest_length}
+use Rattle.tlv_core.proofs.Digits.{number_length}
+use Rattle.tlv_core.specs.Length.{SpellsLength, big_endian, shortest_length}
 use Rattle.x690.specs.DerTexts.{der_element}
 use Rattle.x690.specs.Layouts.{Definite, Indefinite}
 use Rattle.tlv_core.specs.ObjectIdentifier.{AllBelow}
@@ -24,24 +24,9 @@ identifier_some t f = ⊎_elim (λ a. omega (arith, ap length a.is)) (λ a. omeg
 
 -- the shortest length
 
-pub number_length : (steps k n : ℕ) → n < 256 ^ k → length (number_octets steps n) ≤ k
-unfolding number_octets
-number_length zero k n h = omega arith
-number_length (suc steps) zero n h = go (n == 0) refl
-  where
-    go : (b : Bool) → (n == 0) ≡ b → length (branch b [] (number_octets steps (n / 256) ++ ((n % 256) ∷ []))) ≤ 0
-    go true e = omega arith
-    go false e = absurd (grind (arith, nat_tests))
-number_length (suc steps) (suc k) n h =
-    let small : n / 256 < 256 ^ k = omega (arith, pow-suc 256 k) in go (n == 0) (number_length steps k (n / 256) small)
-  where
-    go : (b : Bool) → length (number_octets steps (n / 256)) ≤ k → length (branch b [] (number_octets steps (n / 256) ++ ((n % 256) ∷ []))) ≤ suc k
-    go true l = omega arith
-    go false l = omega (arith, length-append (number_octets steps (n / 256)) ((n % 256) ∷ []))
-
 -- of a number below 256^k
 pub shortest_within : (k n : ℕ) → n < 256 ^ k → length (shortest_length n) ≤ k + 1
-shortest_within k n h = ⊎_elim (λ a. omega (arith, ap length a.is)) (λ a. omega (arith, ap length a.is, number_length n k n h)) (shortest_cases n)
+shortest_within k n h = ⊎_elim (λ a. omega (arith, ap length a.is)) (λ a. omega (arith, ap length a.is, number_length k n n h)) (shortest_cases n)
 
 pub shortest_one : (n : ℕ) → n < 128 → length (shortest_length n) ≡ 1
 shortest_one n h = ⊎_elim (λ a. omega (arith, ap length a.is)) (λ a. absurd (omega (arith, a.large))) (shortest_cases n)

@@ -2,11 +2,12 @@
 use Rattle.std.proofs.Common.{◌≡◌, ℕ, zero, suc, ◌+◌, ◌-◌, ◌*◌, ◌/◌, ◌%◌, ◌^◌, ◌<◌, ◌≤◌, ◌≢◌, ◌⊎◌, inl, inr, ⊎_elim, ◌==◌, ◌&&◌, nat_lt, nat_le, not, Bool, true, false, cond, List, [], ◌∷◌, ◌++◌, length, Option, Some, None, refl, sym, ◌∙◌, ap, ap₂, subst, append_assoc, arith, pow-suc, lit<, lit≤}
 use Rattle.std.proofs.Math.Nat.{mul-le-mul_left}
 use Rattle.std.proofs.lemmas.Bool.Decides.{nat_tests}
-use Rattle.x690_laws.proofs.Headers.{branch}
 use Rattle.x690.proofs.Runs.{took_bind, took_require, took_choose, took_where, took_done, took_fail}
 use Rattle.tlv_core.specs.Identifier.{IsTag, Tag, base128, identifier, leading_base128}
 use Rattle.tlv_core.specs.Length.{SpellsLength, big_endian}
 use Rattle.tlv_core.specs.Limits.{Limits}
+use Rattle.tlv_core.proofs.Base128.{base128_next, leading_next}
+use Rattle.tlv_core.proofs.Digits.{leading_none}
 use Rattle.tlv_core.specs.declared.reason.Reason.TheVariants.{BadTag}
 use Rattle.x690.specs.Points.{Enclosing, EndsAt, EndsWithZeros, Innermost, NoContainer, at_end, ends_with_zeros, fault, past_end, stands_at_end}
 use Rattle.x690.specs.ReadHeaders.{ContainerEnds, DefiniteLength, ElementStands, IndefiniteLength, LengthForm, Next, fit_contents, header_octet, next_octets, next_tag, primitive_contents, read_big_endian, read_definite_length, read_high_number, read_length, read_number, read_tag_number}
@@ -53,59 +54,15 @@ octet_took l e p k s x q r h =
 
 -- high tag numbers
 
-pub zero_digits : (k n : ℕ) → n ≡ 0 → leading_base128 k n ≡ []
-unfolding leading_base128
-zero_digits zero n h = refl
-zero_digits (suc k) n h = go (n == 0) (grind (arith, nat_tests))
-  where
-    go : (b : Bool) → b ≡ true → branch b [] (leading_base128 k (n / 128) ++ ((128 + n % 128) ∷ [])) ≡ []
-    go true e = refl
-    go false e = cc
-
-pub more_digits : (k n : ℕ) → n ≢ 0 → leading_base128 (suc k) n ≡ leading_base128 k (n / 128) ++ ((128 + n % 128) ∷ [])
-unfolding leading_base128
-more_digits k n h = go (n == 0) (grind (arith, nat_tests))
-  where
-    go : (b : Bool) → b ≡ false → branch b [] (leading_base128 k (n / 128) ++ ((128 + n % 128) ∷ [])) ≡ leading_base128 k (n / 128) ++ ((128 + n % 128) ∷ [])
-    go true e = cc
-    go false e = refl
-
--- any fuel that is enough gives the same
-pub same_fuel : (k j n : ℕ) → n < 128 ^ k → n < 128 ^ j → leading_base128 k n ≡ leading_base128 j n
-same_fuel zero j n h g = let z : n ≡ 0 = omega arith in zero_digits zero n z ∙ sym (zero_digits j n z)
-same_fuel (suc k) zero n h g = let z : n ≡ 0 = omega arith in zero_digits (suc k) n z ∙ sym (zero_digits zero n z)
-same_fuel (suc k) (suc j) n h g = go (n == 0) refl
-    (same_fuel k j (n / 128) (omega (arith, pow-suc 128 k)) (omega (arith, pow-suc 128 j)))
-  where
-    go : (b : Bool) → (n == 0) ≡ b → leading_base128 k (n / 128) ≡ leading_base128 j (n / 128) → leading_base128 (suc k) n ≡ leading_base128 (suc j) n
-    go true e ih = let z : n ≡ 0 = grind (arith, nat_tests) in zero_digits (suc k) n z ∙ sym (zero_digits (suc j) n z)
-    go false e ih =
-        let z : n ≢ 0 = grind (arith, nat_tests) in
-        more_digits k n z ∙ ap (λ s. s ++ ((128 + n % 128) ∷ [])) ih ∙ sym (more_digits j n z)
-
-pub below_power : (n : ℕ) → n < 128 ^ n
-below_power zero = lit< tt
-below_power (suc n) = let ih = below_power n in omega (arith, pow-suc 128 n)
-
 -- one digit more, of those that others follow
 pub one_more : (n x : ℕ) → 128 ≤ x → x < 256 → n * 128 + (x - 128) ≢ 0 → leading_base128 (n * 128 + (x - 128)) (n * 128 + (x - 128)) ≡ leading_base128 n n ++ (x ∷ [])
 one_more n x h g z =
-    let m = n * 128 + (x - 128) in
-    let d : m / 128 ≡ n = omega arith in
-    let d' : 128 + m % 128 ≡ x = omega arith in
-    same_fuel m (suc n) m (below_power m) (let b = below_power n in omega (arith, pow-suc 128 n))
-    ∙ more_digits n m z
-    ∙ ap₂ (λ (a : ℕ) (b : ℕ). leading_base128 n a ++ (b ∷ [])) d d'
+    let digit : x % 128 ≡ x - 128 = omega arith in
+    subst (λ d. leading_base128 (n * 128 + d) (n * 128 + d) ≡ leading_base128 n n ++ (x ∷ [])) digit (leading_next n x h g (omega arith))
 
 -- the last digit
 pub last_digit : (n x : ℕ) → x < 128 → base128 (n * 128 + x) ≡ leading_base128 n n ++ (x ∷ [])
-unfolding base128
-last_digit n x h =
-    let m = n * 128 + x in
-    let d : m / 128 ≡ n = omega arith in
-    let d' : m % 128 ≡ x = omega arith in
-    ap₂ (λ (a : ℕ) (b : ℕ). leading_base128 m a ++ (b ∷ [])) d d'
-    ∙ ap (λ s. s ++ (x ∷ [])) (same_fuel m n n (let b = below_power m in omega (arith, below_power m)) (below_power n))
+last_digit n x h = let digit : x % 128 ≡ x = omega arith in subst (λ d. base128 (n * 128 + d) ≡ leading_base128 n n ++ (x ∷ [])) digit (base128_next n x h)
 
 pub record HighNumber (l : Limits) (e : Option ℕ) (left n k : ℕ) (s : List ℕ) (m q : ℕ) (r : List ℕ) : Type 0 where
   pub octets : List ℕ
@@ -227,7 +184,7 @@ number_took l e p x k s n q r w h = ⊎_elim
     (λ y. let i = high_took l e p 4 0 k s n q r y.1 in
     let y0 : nat_lt (x % 32) 31 ≡ false = y.0 in
     let ge : 31 ≤ x % 32 = grind (arith, nat_tests) in
-    let z : leading_base128 0 0 ≡ [] = zero_digits 0 0 refl in
+    let z : leading_base128 0 0 ≡ [] = leading_none 0 0 refl in
     let small : n + 1 ≤ (0 + 1) * 128 ^ 4 = i.small in
     record {
       octets = i.octets;

@@ -3,15 +3,10 @@ use Rattle.std.proofs.Common.{◌≡◌, ℕ, ◌+◌, ◌*◌, ◌<◌, ◌≤�
 use Rattle.std.proofs.lemmas.Bool.Decides.{nat_tests}
 use Rattle.tlv_core.specs.Identifier.{IsTag, Tag, base128, identifier}
 use Rattle.tlv_core.specs.Length.{SpellsLength}
-use Rattle.tlv_core.proofs.Base128.{run_value, run_alone, base128_run, base128_value}
+use Rattle.tlv_core.proofs.Base128.{base128_alone}
 
 abbrev pub branch : Bool → List ℕ → List ℕ → List ℕ
 branch b s t = elim b [ true ↦ s | false ↦ t ]
-
-pub digits_alone : (m n : ℕ) (x y : List ℕ) → base128 m ++ x ≡ base128 n ++ y → (m ≡ n) × (x ≡ y)
-digits_alone m n x y e =
-    let both = run_alone (base128 m) (base128 n) x y (base128_run m) (base128_run n) e in
-    (sym (base128_value m) ∙ ap (λ s. run_value 0 s) both.0 ∙ base128_value n, both.1)
 
 pub record IsShort (t : Tag) (f : Bool) : Type 0 where
   pub small : t.number < 31
@@ -56,7 +51,7 @@ identifier_alone t u f g x y e = ⊎_elim
     let l = lead_alone t.class u.class 31 u.number f g (omega arith) (omega arith) cc in absurd (omega arith))
     (λ b. let e' : ((t.class * 64 + cond f 32 0 + 31) ∷ base128 t.number) ++ x ≡ ((u.class * 64 + cond g 32 0 + 31) ∷ base128 u.number) ++ y = along x y a.is b.is e in
     let l = lead_alone t.class u.class 31 31 f g (omega arith) (omega arith) cc in
-    let d = digits_alone t.number u.number x y cc in
+    let d = base128_alone t.number u.number x y cc in
     (tag_path t u l.0 d.0, l.1, d.1))
     (identifier_cases u g))
     (identifier_cases t f)

@@ -2,7 +2,8 @@
 use Rattle.std.proofs.Common.{◌≡◌, ℕ, ◌+◌, ◌-◌, ◌*◌, ◌<◌, ◌≤◌, ◌≢◌, ◌==◌, ◌&&◌, ◌||◌, nat_lt, nat_le, not, Bool, true, false, List, [], ◌∷◌, ◌++◌, flat_map, length, refl, sym, ◌∙◌, ap, ap₂, subst, append_assoc, append-nil, arith}
 use Rattle.std.proofs.lemmas.Bool.Decides.{nat_tests}
 use Rattle.std.proofs.lemmas.Str.{IsUtf8-from_is_utf8}
-use Rattle.x690_laws.proofs.HeaderSound.{both_true, zero_digits, one_more, last_digit}
+use Rattle.tlv_core.proofs.Digits.{leading_none}
+use Rattle.x690_laws.proofs.HeaderSound.{both_true, one_more, last_digit}
 use Rattle.tlv_core.specs.Identifier.{Tag, base128, leading_base128}
 use Rattle.x690.specs.Contents.{BitString, Boolean, Integer, IsBitSegment, IsInteger, LeafContents, LeafKind, Null, ObjectIdentifier, OctetString, Segmented, Utf8String, segments}
 use Rattle.x690.specs.Layouts.{Primitive}
@@ -48,7 +49,7 @@ pub record Arcs (n : ℕ) (s : List ℕ) : Type 0 where
 
 arcs_fit : (n : ℕ) (s : List ℕ) → is_subidentifiers n s ≡ true → Arcs n s
 unfolding is_subidentifiers
-arcs_fit n [] h = let h' : (n == 0) ≡ true = h in let z : n ≡ 0 = grind (arith, nat_tests) in record { all = []; below = tt; is = append-nil _ ∙ zero_digits n n z }
+arcs_fit n [] h = let h' : (n == 0) ≡ true = h in let z : n ≡ 0 = grind (arith, nat_tests) in record { all = []; below = tt; is = append-nil _ ∙ leading_none n n z }
 arcs_fit n (x ∷ s) h =
     let a = both_true _ _ h in
     let b = both_true _ _ a.0 in
@@ -62,7 +63,7 @@ arcs_fit n (x ∷ s) h =
         let i = ih a.1 in
         let lt : x < 128 = grind (arith, nat_tests) in
         let a0 : nat_lt (n * 128 + x) Big ≡ true = a.0 in
-        let e : s ≡ flat_map base128 i.all = sym (ap (λ v. v ++ s) (zero_digits 0 0 refl)) ∙ i.is in
+        let e : s ≡ flat_map base128 i.all = sym (ap (λ v. v ++ s) (leading_none 0 0 refl)) ∙ i.is in
         record {
           all = (n * 128 + x) ∷ i.all;
           below = (grind (arith, nat_tests), i.below);
@@ -94,7 +95,7 @@ some_arcs (n ∷ ns) o z b e = go (nat_lt n 40) refl (nat_lt n 80) refl
 
 object_identifier_fits : (o : List ℕ) → is_object_identifier o ≡ true → (arcs : List ℕ) × ObjectIdentifierOctets arcs o
 object_identifier_fits [] h = cc
-object_identifier_fits (x ∷ s) h = let a = arcs_fit 0 (x ∷ s) h in some_arcs a.all (x ∷ s) (λ z. cc) a.below (sym (ap (λ v. v ++ (x ∷ s)) (zero_digits 0 0 refl)) ∙ a.is)
+object_identifier_fits (x ∷ s) h = let a = arcs_fit 0 (x ∷ s) h in some_arcs a.all (x ∷ s) (λ z. cc) a.below (sym (ap (λ v. v ++ (x ∷ s)) (leading_none 0 0 refl)) ∙ a.is)
 
 -- Contents that pass the test are a leaf's.
 pub contents_fit : (k : LeafKind) (t : Tag) (o : List ℕ) → is_contents k o ≡ true → LeafContents k (Primitive t o) (der_contents k o)

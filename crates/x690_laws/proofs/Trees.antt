@@ -3,7 +3,7 @@ use Rattle.std.proofs.Common.{◌≡◌, ℕ, zero, suc, ◌+◌, ◌/◌, ◌%�
 use Rattle.std.proofs.lemmas.List.{length-append}
 use Rattle.std.proofs.lemmas.Bool.Decides.{nat_tests}
 use Rattle.x690_laws.proofs.Headers.{branch}
-use Rattle.x690_laws.proofs.HeaderLengths.{number_length}
+use Rattle.tlv_core.proofs.Digits.{number_length}
 use Rattle.x690_laws.proofs.Pairing.{pick_swap}
 use Rattle.x690_laws.proofs.Texts.{element_alone, shortest_cases, number_value, below_power}
 use Rattle.tlv_core.specs.Identifier.{IsTag, Tag, identifier}
@@ -103,7 +103,7 @@ len_brief n h = inl (h, refl, refl)
 len_counted : (n : ℕ) → n < 18446744073709551616 → 128 ≤ n → SpellsLength n ((128 + length (number_octets n n)) ∷ number_octets n n)
 unfolding SpellsLength
 len_counted n h l =
-    let c = number_length n 8 n (omega arith) in
+    let c = number_length 8 n n (omega arith) in
     let s = some_octets n l in
     inr (omega arith, omega arith, omega arith, number_value n n (below_power n))
 

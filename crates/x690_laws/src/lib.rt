@@ -1,8 +1,8 @@
-//! The laws on the definitions of `x690`, and the rules by which readers written in Rust are composed.
+//! The laws on the definitions of `x690`.
 //!
 //! Each law is the contract of a public function without parameters that does nothing: what it ensures is proved once, over all
 //! type terms, so that a reader owes one equation with the plain reading (`x690`, `specs/Reads.antt`) and has the rest from here.
-//! The rules of composition are the lemmas of `proofs/Readers.antt` and `proofs/Composing.antt`. `proofs/Rows*.antt` have documents with their answers, closed by computing.
+//! `proofs/Rows*.antt` have documents with their answers, closed by computing.
 #![tactic(auto)]
 
 pub mod answers;
