@@ -1,6 +1,6 @@
 //! Calls on octets, with the answers of X.690 and of the order of faults, from slices, from pieces, and from sources that fail.
-ghost use Rattle.std.specs.Prelude.{◌≡◌, ◌+◌, ◌<◌, ◌≤◌, None, false, length};
-ghost use Rattle.ber_pull.specs.View.{standing};
+ghost use Rattle.std.specs.Prelude.{◌≡◌, ◌+◌, ◌<◌, ◌≤◌, IsSome, None, OnOk, false, length};
+ghost use Rattle.ber_pull.specs.View.{standing, Keeps, Uses};
 
 use ber_pull::pull::Pull;
 use std::alloc::Global;
@@ -24,6 +24,8 @@ pub enum Call {
     Enter,
     Leave,
     Primitive,
+    /// Into a vector that holds others.
+    PrimitiveInto,
     Octets,
     Bits,
     At,
@@ -96,6 +98,21 @@ fn error_of(answer: Answer, fails: bool) -> Option<ReadError> {
     }
 }
 
+/// The contents that are read into a vector which holds three octets.
+fn primitive_into_used<R: Source>(alloc: Global, pull: &mut Pull<'_, R>) -> Result<Said, ReadError>
+    requires { (standing pull.old).error ≡ None → IsSome (standing pull.old).given }
+    ensures stands { OnOk result (Uses pull.old pull.new) }
+    ensures keeps { Keeps pull.new result }
+{
+    match vec![in alloc; 9u8; 3] {
+        Ok(mut octets) => {
+            pull.primitive_into(&mut octets)?;
+            Ok(Said::Octets(octets))
+        }
+        Err(_) => Err(pull.no_memory()),
+    }
+}
+
 /// The answer of a call that needs an element, where one stands; and how many containers are open then.
 fn element<R: Source>(
     alloc: Global,
@@ -120,6 +137,7 @@ fn element<R: Source>(
             Ok(octets) => (inside, Ok(Said::Octets(octets))),
             Err(error) => (inside, Err(error)),
         },
+        Call::PrimitiveInto => (inside, primitive_into_used(alloc, pull)),
         Call::Octets => match pull.octets(alloc) {
             Ok(octets) => (inside, Ok(Said::Octets(octets))),
             Err(error) => (inside, Err(error)),

@@ -1,11 +1,49 @@
 //! Calls one after another, errors that stay, and forms.
 use super::Answer::{Done, Element, End, Memory, Place, Refused, String};
-use super::Call::{At, Bits, Enter, Leave, NextTag, NoMemory, Octets, Primitive, RefuseVersion};
+use super::Call::{
+    At, Bits, Enter, Leave, NextTag, NoMemory, Octets, Primitive, PrimitiveInto, RefuseVersion,
+};
 use super::{Row, first_wrong};
 use tlv_core::reason::Reason::{Extra, Truncated, Version, WrongForm};
 use tlv_core::tag::Class::Universal;
 
-static ROWS: [Row; 9] = [
+static ROWS: [Row; 12] = [
+    // contents in place of what a vector holds: fewer octets, as many, none
+    Row {
+        octets: &[
+            0x30, 0x0A, 0x02, 0x01, 0x05, 0x04, 0x03, 0x07, 0x08, 0x09, 0x05, 0x00,
+        ],
+        depth: 32,
+        limit: 1000,
+        needs: 12,
+        calls: &[
+            (NextTag, Element(Universal, 16, true)),
+            (Enter, Done),
+            (PrimitiveInto, String(&[0x05])),
+            (PrimitiveInto, String(&[0x07, 0x08, 0x09])),
+            (PrimitiveInto, String(&[])),
+            (Leave, Done),
+            (At, Place(12)),
+        ],
+    },
+    // its contents end too soon, and it isn't primitive
+    Row {
+        octets: &[0x04, 0x02, 0x07],
+        depth: 32,
+        limit: 1000,
+        needs: 3,
+        calls: &[
+            (PrimitiveInto, Refused(3, Truncated)),
+            (PrimitiveInto, Refused(3, Truncated)),
+        ],
+    },
+    Row {
+        octets: &[0x22, 0x01, 0x00],
+        depth: 32,
+        limit: 1000,
+        needs: 1,
+        calls: &[(PrimitiveInto, Refused(0, WrongForm))],
+    },
     // an INTEGER in a SEQUENCE; a tag that is asked for again
     Row {
         octets: &[0x30, 0x03, 0x02, 0x01, 0x05],
