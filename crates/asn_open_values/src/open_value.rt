@@ -140,7 +140,7 @@ fn arranged<R: Source>(
     if !is_set {
         return Ok(octets);
     }
-    match in_order(alloc, &octets, starts) {
+    match in_order(alloc, octets, starts) {
         Ok(sorted) => Ok(sorted),
         Err(_) => Err(pull.no_memory()),
     }

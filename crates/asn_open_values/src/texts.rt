@@ -1,5 +1,7 @@
 // The texts of a SET OF's members, as octets, in the order of SET OF (X.690 11.6).
-ghost use Rattle.std.specs.Prelude.{◌≡◌, ◌<◌, List, [], IfOk, get_or, length, map};
+ghost use Rattle.std.specs.Prelude.{◌≡◌, ◌<◌, ◌↔◌, List, [], IfOk, IsSorted, IsTrue, get_or, length, map};
+ghost use Rattle.std.specs.Cmp.Lexicographic.{slice_cmp};
+ghost use Rattle.std.specs.Ordering.{nat_cmp};
 ghost use Rattle.x690.specs.DerTexts.{arrange, der};
 ghost use Rattle.x690.specs.Lists.{join};
 ghost use Rattle.x690.specs.Values.{Value};
@@ -19,6 +21,19 @@ fn text_at<'a>(octets: &'a [u8], starts: &[usize], i: usize) -> &'a [u8]
         octets.len()
     };
     &octets[starts[i]..end]
+}
+
+/// Whether no text is less than the one before it.
+fn ascend(octets: &[u8], starts: &[usize]) -> bool
+    requires { (values : List Value) × StandIn values octets.now starts.now }
+    ensures { (values : List Value) → StandIn values octets.now starts.now → (IsTrue result ↔ IsSorted (slice_cmp nat_cmp) (map der values)) }
+{
+    for i in 1..starts.len() {
+        if text_at(octets, starts, i) < text_at(octets, starts, i - 1) {
+            return false;
+        }
+    }
+    true
 }
 
 /// The texts, each for itself.
@@ -46,11 +61,15 @@ fn joined(alloc: Global, capacity: usize, texts: &[&[u8]]) -> Result<Vec<u8>, Al
 
 /// The texts that stand one after another in `octets`, each beginning at one of `starts`, in the order of SET OF; equal ones stay.
 /// No DER text begins another one, so the plain order of octets, in which nothing is padded, is that order.
-pub fn in_order(alloc: Global, octets: &[u8], starts: &[usize]) -> Result<Vec<u8>, AllocError>
-    requires { (values : List Value) × StandIn values octets.now starts.now }
-    ensures { IfOk result (λ sorted. (values : List Value) → StandIn values octets.now starts.now → sorted.items ≡ join (arrange (map der values))) }
+pub fn in_order(alloc: Global, octets: Vec<u8>, starts: &[usize]) -> Result<Vec<u8>, AllocError>
+    requires { (values : List Value) × StandIn values octets.items starts.now }
+    ensures { IfOk result (λ sorted. (values : List Value) → StandIn values octets.items starts.now → sorted.items ≡ join (arrange (map der values))) }
 {
-    let mut texts = cut(alloc, octets, starts)?;
+    // In DER they stand so already.
+    if ascend(&octets, starts) {
+        return Ok(octets);
+    }
+    let mut texts = cut(alloc, &octets, starts)?;
     texts.sort_unstable();
     joined(alloc, octets.len(), &texts)
 }
