@@ -29,7 +29,8 @@ fn ascend(octets: &[u8], starts: &[usize]) -> bool
     ensures { (values : List Value) → StandIn values octets.now starts.now → (IsTrue result ↔ IsSorted (slice_cmp nat_cmp) (map der values)) }
 {
     for i in 1..starts.len() {
-        if text_at(octets, starts, i) < text_at(octets, starts, i - 1) {
+        let before = text_at(octets, starts, i - 1);
+        if text_at(octets, starts, i).cmp(before).is_lt() {
             return false;
         }
     }
