@@ -1,10 +1,9 @@
 -- Members that are the same, in place.
-use Rattle.std.proofs.Common.{◌≡◌, ◌++◌, List, [], ◌∷◌, ap, ap₂, length, refl, suc}
+use Rattle.std.proofs.Common.{◌≡◌, ◌++◌, List, [], ◌∷◌, ap₂, refl}
 use Rattle.tlv_core.specs.Identifier.{Tag}
 use Rattle.x690.specs.DerTexts.{texts_of}
 use Rattle.x690.specs.Lists.{Each}
 use Rattle.x690.specs.Values.{Same, SameInPlace, Sequence, Value, values_of}
-use Rattle.x690_laws.proofs.Complete.{each_length}
 use Rattle.x690_laws.proofs.Texts.{canonical}
 
 pub each_last : (vs ws : List Value) (v w : Value) → Each Same vs ws → Same v w → Each Same (vs ++ v ∷ []) (ws ++ w ∷ [])

@@ -13,7 +13,7 @@ use Rattle.x690.specs.Values.{Value}
 use Rattle.ber_pull.specs.Calls.{read_next}
 use Rattle.ber_pull.specs.Fields.{BeginsBefore, Inside, IsClosed, Within, given_by}
 use Rattle.ber_pull.specs.Hears.{Hears, heard, next_at}
-use Rattle.ber_pull.specs.Standing.{IsAtEnd, Standing, after_next, closing, container_of, enclosing, is_ended, moved, opening, place, used}
+use Rattle.ber_pull.specs.Standing.{IsAtEnd, Standing, after_next, container_of, enclosing, is_ended, opening, place, used}
 use Rattle.ber_pull.specs.declared.state.Container.{Container}
 use Rattle.ber_pull.specs.declared.state.Container.TheVariants.{Definite, Ended, Indefinite}
 use Rattle.ber_pull.proofs.Hearing.{hears_as, hears_at, hears_done}

@@ -3,7 +3,6 @@ use Rattle.std.proofs.Common.{◌≡◌, ℕ, Bool, true, false, List, [], ◌�
 use Rattle.std.specs.Option.{is_some}
 use Rattle.tlv_core.specs.Identifier.{Tag}
 use Rattle.tlv_core.specs.Limits.{Limits}
-use Rattle.tlv_core.specs.declared.fault.Fault.{Fault}
 use Rattle.tlv_core.specs.declared.reason.Reason.TheVariants.{BadBits, BadInteger, BadText, Extra, Missing, WrongTag}
 use Rattle.x690.specs.Contents.{Integer, LeafKind, OctetString}
 use Rattle.x690.specs.Layouts.{same_tag, universal}
@@ -12,7 +11,7 @@ use Rattle.x690.specs.Points.{Enclosing, fault}
 use Rattle.x690.specs.ReadContents.{is_integer_contents, read_leaf, read_segment}
 use Rattle.x690.specs.ReadHeaders.{ElementStands, Ended, Next, each_member, in_container, next_tag, primitive_contents}
 use Rattle.x690.specs.ReadTypes.{read_type}
-use Rattle.x690.specs.Reading.{Done, Reading, require, run, ◌>>=◌}
+use Rattle.x690.specs.Reading.{Done, require, run, ◌>>=◌}
 use Rattle.x690.specs.Reads.{Heard, Refused}
 use Rattle.x690.specs.TypeTerms.{LeafType, TypeTerm, fits_tag}
 use Rattle.x690.specs.Values.{Leaf, Value}

@@ -1,7 +1,7 @@
 -- Where a reader stands when it has looked ahead.
 use Rattle.std.proofs.Common.{◌≡◌, ℕ, Bool, true, false, ◌||◌, List, Option, Some, None, refl, sym, ◌∙◌, ap}
 use Rattle.x690.specs.Points.{stands_at_end}
-use Rattle.x690.specs.ReadHeaders.{ContainerEnds, DefiniteLength, IndefiniteLength, LengthForm, next_tag}
+use Rattle.x690.specs.ReadHeaders.{ContainerEnds, next_tag}
 use Rattle.x690.specs.Reading.{Done, Reading, choose, run}
 use Rattle.x690.specs.Reads.{Heard, NoMemory, ReadFailed, Reads, Refused, Said}
 use Rattle.x690.proofs.Runs.{run_bind}
@@ -9,7 +9,7 @@ use Rattle.tlv_core.specs.Limits.{Limits}
 use Rattle.x690.specs.Points.{Enclosing}
 use Rattle.ber_pull.specs.Calls.{read_leaving, read_next}
 use Rattle.ber_pull.specs.Hears.{Gives, Hears}
-use Rattle.ber_pull.specs.Standing.{IsAtEnd, Standing, container_of, enclosing, first_of, is_ended, is_over_in}
+use Rattle.ber_pull.specs.Standing.{IsAtEnd, Standing, enclosing, first_of, is_over_in}
 use Rattle.pull_client.specs.Ahead.{IsOpen}
 
 -- the reading inside an open container

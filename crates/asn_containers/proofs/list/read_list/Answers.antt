@@ -11,7 +11,8 @@ use Rattle.ber_pull.proofs.Hearing.{hears_as, hears_done, hears_error, hears_off
 use Rattle.asn_containers.specs.Containers.{list_items}
 use Rattle.asn_elements.specs.Reading.{ended, read_given, read_given_members}
 use Rattle.asn_elements.proofs.Answering.{fine_still, given_still, refused_by, unmoved_answers, value_err}
-use Rattle.asn_elements.proofs.SameMembers.{each_length, same_lists}
+use Rattle.x690_laws.proofs.Complete.{each_length}
+use Rattle.asn_elements.proofs.SameMembers.{same_lists}
 use Rattle.asn_elements.proofs.TypeReadings.{list_of, list_type_is}
 use Rattle.asn_containers.proofs.list.read_list.Goals as goal
 

@@ -13,7 +13,7 @@ use Rattle.asn_containers.specs.Containers.{set_items}
 use Rattle.asn_elements.specs.Reading.{ended, read_given, read_given_members}
 use Rattle.asn_elements.proofs.Answering.{fine_still, given_still, refused_by, unmoved_answers, value_err}
 use Rattle.asn_elements.proofs.PairedMembers.{same_sets}
-use Rattle.asn_elements.proofs.SameMembers.{each_length}
+use Rattle.x690_laws.proofs.Complete.{each_length}
 use Rattle.asn_elements.proofs.ContainerTexts.{texts_permuted}
 use Rattle.std.proofs.lemmas.List.Sorted.{IsPermutation-map, length_permutation}
 use Rattle.asn_elements.proofs.TypeReadings.{set_of, set_type_is}
