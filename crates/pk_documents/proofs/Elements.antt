@@ -4,7 +4,7 @@ use Rattle.std.proofs.lemmas.Bool.Decides.{nat_tests}
 use Rattle.x690_laws.proofs.Headers.{len_alone}
 use Rattle.std.proofs.lemmas.List.{length-append}
 use Rattle.tlv_core.specs.Length.{SpellsLength, big_endian}
-use Rattle.pk_documents.specs.Elements.{Capped, Claimed, Measured, Opened, Stands, NoOctet, NoNumber, NoLength, NoHeader, NoElement}
+use Rattle.pk_documents.specs.Elements.{Capped, Claimed, Measured, Opened, Stands, NoOctet, NoNumber, NoLength, NoElement}
 
 -- so many octets were taken as a number
 pub record Counted (before : List ℕ) (at count n : ℕ) (after : List ℕ) (place end : ℕ) : Type 0 where

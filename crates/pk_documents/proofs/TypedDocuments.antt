@@ -14,7 +14,7 @@ use Rattle.x690_laws.proofs.Headers.{split_alone}
 use Rattle.x690_laws.proofs.Refit.{text_spells}
 use Rattle.x690_laws.proofs.Sames.{equivalence}
 use Rattle.x690_laws.proofs.Texts.{same_der}
-use Rattle.pk_documents.specs.Normalised.{Normalised, RefusedAs, SpelledAs, TakesSpelling}
+use Rattle.pk_documents.specs.Normalised.{Normalised, RefusedAs, SpelledAs}
 use Rattle.pk_documents.specs.ReadValues.{IsFailedRead, ReadsValue, StopsReading}
 use Rattle.pk_documents.specs.declared.normalise.NormaliseError.TheVariants.{Read}
 
