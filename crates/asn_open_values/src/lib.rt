@@ -1,4 +1,4 @@
-//! Open values (X.690; X.681 14): elements that stand where any type may. `asn_values` passes all of it on.
+//! Open values (X.690 8.15): elements that stand where any type may. `asn_values` passes all of it on.
 //!
 //! An `Any` holds its text in DER, with the members of each SET inside in their order.
 //!
