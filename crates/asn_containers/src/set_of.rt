@@ -1,8 +1,7 @@
 //! SET OF (X.690 8.12, 11.6).
 ghost use Rattle.x690_laws.proofs.OneTexts.{set_one_text};
-ghost use Rattle.std.specs.Prelude.{◌≡◌, ◌↔◌, ◌+◌, ◌<◌, ◌≤◌, ◌^◌, Err, IfErr, IfOk, None, Some, IsSome, OnOk, IsPermutation, IsTrue, length, map, slice_get, true};
+ghost use Rattle.std.specs.Prelude.{◌≡◌, ◌↔◌, ◌<◌, ◌≤◌, ◌^◌, Err, IfErr, IfOk, None, Some, IsSome, OnOk, IsPermutation, IsTrue, length, map, slice_get, true};
 ghost use Rattle.std.specs.Option.{option_map};
-ghost use Rattle.tlv_core.specs.Sinks.{count, Puts};
 ghost use Rattle.ber_pull.proofs.Fields.{set_of_closed};
 ghost use Rattle.x690.specs.DerTexts.{Ascends, der, texts_of};
 ghost use Rattle.x690.specs.Layouts.{universal};
@@ -14,6 +13,7 @@ ghost use Rattle.tlv_core.specs.declared.fault.ReadError.TheVariants.{Memory};
 ghost use Rattle.asn_elements.specs.Reading.{AnswersValue, read_given};
 ghost use Rattle.x690.specs.Values.{Same, SetOf as SetValue, values_of};
 ghost use Rattle.asn_elements.specs.Members.{ascends, ascends_is};
+ghost use Rattle.asn_elements.specs.OwnTags.{set_of_fits};
 ghost use Rattle.asn_elements.specs.declared.build.BuildError.TheVariants.{TooBig};
 
 use crate::members::{read_members, row_of};
@@ -23,6 +23,7 @@ use asn_elements::build::BuildError;
 use asn_elements::der_text::{DerText, same_text};
 use asn_elements::element::Element;
 use asn_elements::framing::element_size;
+use asn_elements::implicit::{ImplicitElement, ImplicitText};
 use asn_elements::leaf_reading::expect_tag;
 use asn_elements::tags::{is_same_tag, universal_tag};
 use ber_pull::pull::Pull;
@@ -101,28 +102,6 @@ impl<T: DerText> SetOf<T> {
     {
         same_text(self, other)
     }
-
-    /// The length of its text under an implicit tag.
-    pub fn size_as(&self, tag: Tag) -> u64
-        ensures { result ≡ length (der (SetValue tag (values_of (map T.value (set_items self.now))))) }
-    {
-        self.row.size(tag)
-    }
-
-    /// Writes its text under an implicit tag.
-    pub fn put_as<W: Target>(&self, sink: &mut Sink<'_, W>, tag: Tag) -> Result<(), WriteError>
-        requires { count sink.old + length (der (SetValue tag (values_of (map T.value (set_items self.now))))) < 2 ^ 64 }
-        ensures { Puts (der (SetValue tag (values_of (map T.value (set_items self.now))))) sink.old sink.new result }
-    {
-        self.row.put(tag, sink)
-    }
-
-    /// Octet `i` of its text under an implicit tag.
-    pub fn octet_as(&self, i: u64, tag: Tag) -> Option<u8>
-        ensures { result ≡ slice_get (der (SetValue tag (values_of (map T.value (set_items self.now))))) i }
-    {
-        self.row.octet(tag, i)
-    }
 }
 
 impl<T: DerText> DerText for SetOf<T> {
@@ -145,26 +124,28 @@ impl<T: DerText> DerText for SetOf<T> {
     }
 }
 
-impl<T: Element> SetOf<T> {
+impl<T: DerText> ImplicitText for SetOf<T> {
     ghost use Rattle.asn_containers.specs.Containers.{set_items};
 
-    /// Reads the SET OF that is given, under an implicit tag.
-    pub fn read_as<R: Source>(
-        alloc: Global,
-        pull: &mut Pull<'_, R>,
-        tag: Tag,
-    ) -> Result<SetOf<T>, ReadError>
-        requires { (standing pull.old).error ≡ None → IsSome (standing pull.old).given }
-        ensures same_source { SameSource pull.old pull.new }
-        ensures repeats { Repeats pull.old pull.new result }
-        ensures reads { (g : Given) → (standing pull.old).error ≡ None → (standing pull.old).given ≡ Some g → AnswersValue pull.old pull.new (read_given (SetOfType tag 0 T.type_term) (standing pull.old) g) (λ set. SetValue tag (values_of (map T.value (set_items set)))) result }
-        ensures stands { OnOk result (Uses pull.old pull.new) }
-        ensures keeps { Keeps pull.new result }
-        ensures read { ReadsFail pull.old pull.new result }
-        ensures onward { Onward pull.old pull.new }
-    {
-        SetOf::read_set(alloc, pull, tag, 0)
+    ghost value_as = { λ own set. SetValue own (values_of (map T.value (set_items set))) };
+
+    ghost one_text_as = { λ own x y. set_one_text T.value T.one_text own (set_items x) (set_items y) (ascends_is (map der (map T.value (set_items x))) x.in_order) (ascends_is (map der (map T.value (set_items y))) y.in_order) };
+
+    fn size_as(&self, tag: Tag) -> u64 {
+        self.row.size(tag)
     }
+
+    fn put_as<W: Target>(&self, sink: &mut Sink<'_, W>, tag: Tag) -> Result<(), WriteError> {
+        self.row.put(tag, sink)
+    }
+
+    fn octet_as(&self, i: u64, tag: Tag) -> Option<u8> {
+        self.row.octet(tag, i)
+    }
+}
+
+impl<T: Element> SetOf<T> {
+    ghost use Rattle.asn_containers.specs.Containers.{set_items};
 
     /// Reads the SET OF that is given, which has at least one member: an empty one is `EmptySet`.
     pub fn read_some<R: Source>(
@@ -247,5 +228,21 @@ impl<T: Element> Element for SetOf<T> {
 
     fn read<R: Source>(alloc: Global, pull: &mut Pull<'_, R>) -> Result<SetOf<T>, ReadError> {
         SetOf::read_set(alloc, pull, universal_tag(17), 0)
+    }
+}
+
+impl<T: Element> ImplicitElement for SetOf<T> {
+    ghost type_as = { λ own. SetOfType own 0 T.type_term };
+
+    ghost fits_own = { set_of_fits 0 T.type_term };
+
+    ghost closed_as = { λ own. set_of_closed own 0 T.type_term };
+
+    fn read_as<R: Source>(
+        alloc: Global,
+        pull: &mut Pull<'_, R>,
+        tag: Tag,
+    ) -> Result<SetOf<T>, ReadError> {
+        SetOf::read_set(alloc, pull, tag, 0)
     }
 }

@@ -1,19 +1,16 @@
 //! BIT STRING (X.690 8.6, 11.2).
 ghost use Rattle.x690_laws.proofs.OneTexts.{leaf_one_text};
-ghost use Rattle.std.specs.Prelude.{◌≡◌, ◌↔◌, ◌+◌, ◌<◌, ◌^◌, ◌∷◌, None, Some, IsSome, IsTrue, OnOk, drop, get_or, length, slice_get};
-ghost use Rattle.tlv_core.specs.Sinks.{count, Puts};
+ghost use Rattle.std.specs.Prelude.{◌≡◌, ◌↔◌, ◌<◌, ◌∷◌, IsTrue, drop, get_or, length};
 ghost use Rattle.ber_pull.proofs.Fields.{leaf_closed};
-ghost use Rattle.x690.specs.DerTexts.{der};
+ghost use Rattle.asn_elements.specs.OwnTags.{leaf_fits};
 ghost use Rattle.x690.specs.Layouts.{universal};
 ghost use Rattle.x690.specs.Contents.{BitString};
 ghost use Rattle.x690.specs.TypeTerms.{LeafType};
-ghost use Rattle.ber_pull.specs.View.{standing, SameSource, Repeats, Keeps, ReadsFail, Onward, Uses};
-ghost use Rattle.ber_pull.specs.declared.state.Given.{Given};
-ghost use Rattle.asn_elements.specs.Reading.{AnswersValue, read_given};
 ghost use Rattle.x690.specs.Values.{Leaf};
 
 use crate::der_text::DerText;
 use crate::element::Element;
+use crate::implicit::{ImplicitElement, ImplicitText};
 use crate::leaf::{leaf_octet, leaf_size, put_leaf};
 use crate::leaf_reading::{Kind, read_leaf_as};
 use crate::tags::{is_same_tag, universal_tag};
@@ -57,47 +54,6 @@ impl Bits {
     {
         self.content == other.content
     }
-
-    /// Reads the BIT STRING that is given, under an implicit tag.
-    pub fn read_as<R: Source>(
-        alloc: Global,
-        pull: &mut Pull<'_, R>,
-        tag: Tag,
-    ) -> Result<Bits, ReadError>
-        requires { (standing pull.old).error ≡ None → IsSome (standing pull.old).given }
-        ensures same_source { SameSource pull.old pull.new }
-        ensures repeats { Repeats pull.old pull.new result }
-        ensures reads { (g : Given) → (standing pull.old).error ≡ None → (standing pull.old).given ≡ Some g → AnswersValue pull.old pull.new (read_given (LeafType tag BitString) (standing pull.old) g) (λ bits. Leaf tag (bit_string_of bits)) result }
-        ensures stands { OnOk result (Uses pull.old pull.new) }
-        ensures keeps { Keeps pull.new result }
-        ensures read { ReadsFail pull.old pull.new result }
-        ensures onward { Onward pull.old pull.new }
-    {
-        let content = read_leaf_as(alloc, pull, tag, Kind::BitString)?;
-        Ok(Bits { content })
-    }
-
-    /// The length of its text under an implicit tag.
-    pub fn size_as(&self, tag: Tag) -> u64
-        ensures { result ≡ length (der (Leaf tag (bit_string_of self.now))) }
-    {
-        leaf_size(tag, &self.content)
-    }
-
-    /// Writes its text under an implicit tag.
-    pub fn put_as<W: Target>(&self, sink: &mut Sink<'_, W>, tag: Tag) -> Result<(), WriteError>
-        requires { count sink.old + length (der (Leaf tag (bit_string_of self.now))) < 2 ^ 64 }
-        ensures { Puts (der (Leaf tag (bit_string_of self.now))) sink.old sink.new result }
-    {
-        put_leaf(tag, &self.content, sink)
-    }
-
-    /// Octet `i` of its text under an implicit tag.
-    pub fn octet_as(&self, i: u64, tag: Tag) -> Option<u8>
-        ensures { result ≡ slice_get (der (Leaf tag (bit_string_of self.now))) i }
-    {
-        leaf_octet(tag, &self.content, i)
-    }
 }
 
 impl DerText for Bits {
@@ -120,6 +76,26 @@ impl DerText for Bits {
     }
 }
 
+impl ImplicitText for Bits {
+    ghost use Rattle.asn_elements.specs.Leaves.{bit_string_of};
+
+    ghost value_as = { λ own bits. Leaf own (bit_string_of bits) };
+
+    ghost one_text_as = { λ own x y. leaf_one_text own own (bit_string_of x) (bit_string_of y) };
+
+    fn size_as(&self, tag: Tag) -> u64 {
+        leaf_size(tag, &self.content)
+    }
+
+    fn put_as<W: Target>(&self, sink: &mut Sink<'_, W>, tag: Tag) -> Result<(), WriteError> {
+        put_leaf(tag, &self.content, sink)
+    }
+
+    fn octet_as(&self, i: u64, tag: Tag) -> Option<u8> {
+        leaf_octet(tag, &self.content, i)
+    }
+}
+
 impl Element for Bits {
     ghost type_term = { LeafType (universal 3) BitString };
 
@@ -132,5 +108,22 @@ impl Element for Bits {
 
     fn read<R: Source>(alloc: Global, pull: &mut Pull<'_, R>) -> Result<Bits, ReadError> {
         Bits::read_as(alloc, pull, universal_tag(3))
+    }
+}
+
+impl ImplicitElement for Bits {
+    ghost type_as = { λ own. LeafType own BitString };
+
+    ghost fits_own = { leaf_fits BitString };
+
+    ghost closed_as = { λ own. leaf_closed own BitString };
+
+    fn read_as<R: Source>(
+        alloc: Global,
+        pull: &mut Pull<'_, R>,
+        tag: Tag,
+    ) -> Result<Bits, ReadError> {
+        let content = read_leaf_as(alloc, pull, tag, Kind::BitString)?;
+        Ok(Bits { content })
     }
 }

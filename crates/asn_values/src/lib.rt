@@ -1,7 +1,7 @@
 //! The values of ASN.1's types, each with its one text in DER (X.690 10, 11).
 //!
 //! `DerText` is what has a text, `Element` what can be read as well, from any source and in any layout of BER. There are the leaves
-//! `Bool`, `Int`, `Null`, `Bits`, `Octets`, `Text` and `tlv_core`'s `Oid`, the containers `List` and `SetOf`, `Tagged` for explicit tags, and `Any`, an open value.
+//! `Bool`, `Int`, `Null`, `Bits`, `Octets`, `Text` and `tlv_core`'s `Oid`, the containers `List` and `SetOf`, `Tagged` for explicit tags, `Implicit` for implicit ones, and `Any`, an open value.
 //! `fields` reads a SEQUENCE field by field.
 //!
 //! This crate is the table of contents: what stands here is proved in `asn_elements` (the traits and the leaves), `asn_fields`, `asn_containers`
@@ -11,12 +11,13 @@
 //! ascend as 11.6 has it, equal ones kept. A reader answers what the plain reading of its type (`x690`) gives for the octets taken: a value that is the same
 //! up to the order in SET OF, or the first fault; a failed read only where that octet was needed; want of memory says nothing. By the laws of `x690_laws`
 //! a value that was read is spelled by exactly those octets, and no spelling is refused. `from_content`, `from_slice` and `from_items` refuse exactly what they name.
-//! `same` is proved to be the same value, a SET OF as a multiset.
+//! `same` is proved to be the same value, a SET OF as a multiset. An `Implicit<N, T>` has the text of `T` under the tag [N] in place of its own (8.14.3), and is read
+//! as the plain reading of `T`'s type under that tag says; exactly elements of that tag are of it.
 #![tactic(auto)]
 
 pub use asn_containers::{list, set_of};
 pub use asn_elements::{
-    bits, boolean, build, der_text, element, framing, integer, leaf_reading, null,
+    bits, boolean, build, der_text, element, framing, implicit, integer, leaf_reading, null,
     object_identifier, octets, tags, text,
 };
 pub use asn_fields::{fields, tagged};
