@@ -22,7 +22,7 @@ use tlv_core::source::Source;
 use tlv_core::tag::Tag;
 use tlv_core::target::Target;
 
-/// What has one text in DER under each tag that is put in place of its own.
+/// What has one text in DER under each tag in place of its own (X.690 8.14.3).
 pub trait ImplicitText: DerText {
     /// What it stands for under a tag.
     ghost value_as: { Identified → Self → Value };
@@ -44,7 +44,7 @@ pub trait ImplicitText: DerText {
         ensures { result ≡ slice_get (der (value_as tag self.now)) i };
 }
 
-/// A value of one type, which an implicit tag may stand in front of.
+/// A value of one type, which can be read under a tag in place of its own (X.690 8.14.3).
 pub trait ImplicitElement: ImplicitText {
     /// Its type under a tag.
     ghost type_as: { Identified → TypeTerm };
@@ -72,7 +72,7 @@ pub trait ImplicitElement: ImplicitText {
     ghost closed_as: { (own : Identified) → IsClosed (type_as own) };
 }
 
-/// A value under the implicit tag [N].
+/// A value under the context-specific tag [N] in place of its own (X.690 8.14.3).
 #[derive(Drop)]
 pub struct Implicit<const N: u8, T: ImplicitText> {
     inner: T,

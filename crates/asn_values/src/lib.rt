@@ -24,6 +24,8 @@ pub use asn_fields::{fields, tagged};
 pub use asn_open_values::any;
 
 #[cfg(test)]
+mod implicit_tests;
+#[cfg(test)]
 mod open_value_tests;
 #[cfg(test)]
 mod tests;

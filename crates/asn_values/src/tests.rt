@@ -317,7 +317,7 @@ fn written<T: DerText>(alloc: Global, value: &T) -> Result<Vec<u8>, ReadError> {
 }
 
 /// The element that the source tells.
-fn value_of<T: Element, R: Source>(alloc: Global, source: &mut R) -> Result<T, ReadError>
+pub fn value_of<T: Element, R: Source>(alloc: Global, source: &mut R) -> Result<T, ReadError>
     requires { R.has_failed source.old ≡ false }
 {
     let Some(limits) = Limits::new(32, 1_048_576) else {
@@ -331,7 +331,7 @@ fn value_of<T: Element, R: Source>(alloc: Global, source: &mut R) -> Result<T, R
 }
 
 /// The text of the element that the source tells.
-fn text_of<T: Element, R: Source>(alloc: Global, source: &mut R) -> Result<Vec<u8>, ReadError>
+pub fn text_of<T: Element, R: Source>(alloc: Global, source: &mut R) -> Result<Vec<u8>, ReadError>
     requires { R.has_failed source.old ≡ false }
 {
     let value: T = value_of(alloc, source)?;
