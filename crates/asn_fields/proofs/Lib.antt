@@ -1,4 +1,5 @@
 pub mod Handing
 pub mod OneFields
+pub mod PartTexts
 pub mod ShortFields
 pub mod SoFar

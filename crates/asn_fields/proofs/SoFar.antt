@@ -26,17 +26,8 @@ use Rattle.ber_pull.proofs.Fields as rules
 use Rattle.ber_pull.proofs.Hearing.{hears_done, hears_error, hears_same, hears_then}
 use Rattle.x690.proofs.Runs.{bind_same}
 use Rattle.asn_fields.specs.Fields.{SameField}
+use Rattle.asn_fields.specs.SoFar.{SoFar}
 use Rattle.asn_elements.proofs.SameMembers.{each_last, same_lists}
-
--- `whole` was begun at place `k`, with the octets `s` told. It stands inside, before `next`, with `t` told; `ws` were read, and these
--- fields are left: what is answered of them from here on, with `finish` of all values, answers the whole.
-pub record SoFar (k : ℕ) (s : Option (List ℕ)) (whole : Reading Value) (finish : List Value → Reading Value) (fields : Fields) (ws : List Value) (next : Next) (now : Standing) (t : Option (List ℕ)) : Type 0 where
-  pub values : List Value
-  pub same : Each Same values ws
-  pub outer : Standing
-  pub inside : Enclosing
-  pub stands : Inside outer inside now next
-  pub onward : Continues whole k s (read_fields outer.limits fields values inside next >>= λ more. finish (values ++ more)) now.taken t
 
 -- the values of a SEQUENCE as its value
 abbrev pub as_sequence : Tag → List Value → Reading Value
@@ -98,6 +89,10 @@ module _ {k : ℕ} {s : Option (List ℕ)} {whole : Reading Value} {finish : Lis
 
   pub stopped_at_due : (e : ReadError) (i : ℕ) (u : Option (List ℕ)) → ((earlier : List Value) (outer : Standing) (inside : Enclosing) → Inside outer inside now next → Hears (read_due outer.limits T earlier inside next) now.taken t (heard_error e) i u) → Hears whole k s (heard_error e) i u
   stopped_at_due e i u reads = a.onward.rest (heard_error e) i u (rules.due_error a.outer.limits T rest a.values a.inside next _ e _ i _ u (reads a.values a.outer a.inside a.stands))
+
+-- the values of fields, and of those behind them
+pub behind_both : {k : ℕ} {s : Option (List ℕ)} {whole : Reading Value} {finish : List Value → Reading Value} {rest : Fields} {next : Next} {now : Standing} {t : Option (List ℕ)} (ws vs vs' : List Value) → SoFar k s whole finish rest ((ws ++ vs) ++ vs') next now t → SoFar k s whole finish rest (ws ++ (vs ++ vs')) next now t
+behind_both {k} {s} {whole} {finish} {rest} {next} {now} {t} ws vs vs' a = subst (λ z. SoFar k s whole finish rest z next now t) (append_assoc ws vs vs') a
 
 -- A field that is due, by itself: a rule on it is tested before what stands behind it is looked at.
 

@@ -7,4 +7,5 @@
 #![tactic(auto)]
 
 pub mod fields;
+pub mod sequence;
 pub mod tagged;
