@@ -2,17 +2,10 @@
 use Rattle.std.proofs.Common.{◌≡◌, ℕ, List, IfOk, Option, Result, Ok, Err, sym, subst}
 use Rattle.std.specs.Result.{MatchResult}
 use Rattle.tlv_core.specs.declared.fault.ReadError.{ReadError}
-use Rattle.tlv_core.specs.declared.source.Source.{Ghosts}
-use Rattle.x690.specs.ReadHeaders as headers
 use Rattle.x690.specs.Reading.{Reading}
 use Rattle.x690.specs.Reads.{Heard, Said}
 use Rattle.x690.specs.Values.{Same, Value}
 use Rattle.ber_pull.specs.Hears.{Hears, heard_error}
-use Rattle.ber_pull.specs.View.{Answers}
-use Rattle.ber_pull.specs.declared.pull.Pull.{Pull}
-
-pub field_err : {R A V : Type 0} {s : Ghosts R} (old new : Pull R s) (p : Reading (V × headers.Next)) (Alike : V → V → Type 0) (value : A → V) (behind : headers.Next) (r : Result A ReadError) (e : ReadError) → r ≡ Err e → Answers old new p (heard_error e) → MatchResult r (λ x. (v : V) × Alike v (value x) × Answers old new p (Said (v, behind))) (λ e. Answers old new p (heard_error e))
-field_err {R} {A} {V} old new p Alike value behind r e h x = subst (λ w. MatchResult w (λ x. (v : V) × Alike v (value x) × Answers old new p (Said (v, behind))) (λ e. Answers old new p (heard_error e))) (sym h) x
 
 -- a value or an error, by a reading that is answered as another one
 pub value_through : {T : Type 0} (r : Result T ReadError) (value : T → Value) (p q : Reading Value) (k i : ℕ) (s u : Option (List ℕ)) → ((h : Heard Value) → Hears p k s h i u → Hears q k s h i u) → MatchResult r (λ x. (v : Value) × Same v (value x) × Hears p k s (Said v) i u) (λ e. Hears p k s (heard_error e) i u) → MatchResult r (λ x. (v : Value) × Same v (value x) × Hears q k s (Said v) i u) (λ e. Hears q k s (heard_error e) i u)

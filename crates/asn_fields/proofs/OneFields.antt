@@ -1,13 +1,14 @@
 -- Sequences of the same fields that have one DER text are the same.
-use Rattle.std.proofs.Common.{◌≡◌, ◌++◌, List, [], ◌∷◌, Option, None, Some, map, ℕ}
+use Rattle.std.proofs.Common.{◌≡◌, ◌++◌, Bool, true, false, List, [], ◌∷◌, Option, None, Some, map, ℕ}
 use Rattle.std.specs.Option.{option_map}
 use Rattle.tlv_core.specs.Identifier.{Tag}
 use Rattle.x690.specs.DerTexts.{der}
 use Rattle.x690.specs.Layouts.{universal}
 use Rattle.x690.specs.Lists.{Each}
 use Rattle.x690.specs.Values.{Leaf, Same, Sequence, Value, values_of}
-use Rattle.x690_laws.proofs.OneTexts.{each_sequence, one_contents, sequence_texts}
+use Rattle.x690_laws.proofs.OneTexts.{each_sequence, leaf_one_text, one_contents, sequence_texts}
 use Rattle.ber_pull.specs.Fields.{with_field}
+use Rattle.asn_fields.specs.Fields.{unless_false}
 
 -- with one text they are the same
 abbrev pub OneText : Value → Value → Type 0
@@ -25,6 +26,13 @@ field_one_text value one None None = tt
 field_one_text value one None (Some y) = tt
 field_one_text value one (Some x) None = tt
 field_one_text value one (Some x) (Some y) = one x y
+
+-- so it is of a BOOLEAN DEFAULT FALSE
+pub flag_one_text : (b c : Bool) → OneField (unless_false b) (unless_false c)
+flag_one_text false false = tt
+flag_one_text false true = tt
+flag_one_text true false = tt
+flag_one_text true true = leaf_one_text (universal 1) (universal 1) (255 ∷ []) (255 ∷ [])
 
 two_same : (a a' b b' : Value) → OneText a a' → OneText b b' → map der (a ∷ b ∷ []) ≡ map der (a' ∷ b' ∷ []) → Each Same (a ∷ b ∷ []) (a' ∷ b' ∷ [])
 two_same a a' b b' f g e = (f cc, (g cc, tt))

@@ -1,8 +1,7 @@
 -- A SEQUENCE that is read field by field: what was read so far, and what is left to read.
 -- The proof of a reader is a list of these rules: `after_begin`, then `after_` each call that gave a value, then `answered`, or `stopped_at_` the
 -- call that failed. A rule on a field goes between `take` and `ahead`, one on the whole behind `end`.
-use Rattle.std.proofs.Common.{◌≡◌, ◌∙◌, ◌++◌, ℕ, Bool, true, false, List, [], ◌∷◌, Option, Some, None, Result, Err, ap, ap₂, append_assoc, append-nil, refl, subst, sym}
-use Rattle.std.specs.Result.{MatchResult}
+use Rattle.std.proofs.Common.{◌≡◌, ◌∙◌, ◌++◌, ℕ, Bool, true, false, List, [], ◌∷◌, Option, Some, None, ap, ap₂, append_assoc, append-nil, refl, subst, sym}
 use Rattle.tlv_core.specs.Identifier.{Tag}
 use Rattle.tlv_core.specs.Limits.{Limits}
 use Rattle.tlv_core.specs.declared.fault.ReadError.{ReadError}
@@ -32,10 +31,6 @@ use Rattle.asn_elements.proofs.SameMembers.{each_last, same_lists}
 -- the values of a SEQUENCE as its value
 abbrev pub as_sequence : Tag → List Value → Reading Value
 as_sequence own values = Done (Sequence own (values_of values))
-
--- an error that is handed on
-pub handed : {T : Type 0} (value : T → Value) (whole : Reading Value) (r : Result T ReadError) (e : ReadError) (k i : ℕ) (s u : Option (List ℕ)) → r ≡ Err e → Hears whole k s (heard_error e) i u → MatchResult r (λ x. (v : Value) × Same v (value x) × Hears whole k s (Said v) i u) (λ e. Hears whole k s (heard_error e) i u)
-handed {T} value whole r e k i s u h x = subst (λ w. MatchResult {T = T} w (λ x. (v : Value) × Same v (value x) × Hears whole k s (Said v) i u) (λ e. Hears whole k s (heard_error e) i u)) (sym h) x
 
 -- Into the SEQUENCE.
 
@@ -256,6 +251,10 @@ module _ {k : ℕ} {s : Option (List ℕ)} {whole : Reading Value} {finish : Lis
 
   pub stopped_at_optional : (e : ReadError) (i : ℕ) (u : Option (List ℕ)) → ((earlier : List Value) (outer : Standing) (inside : Enclosing) → Inside outer inside now next → Hears (read_optional outer.limits T earlier inside next) now.taken t (heard_error e) i u) → Hears whole k s (heard_error e) i u
   stopped_at_optional e i u reads = a.onward.rest (heard_error e) i u (rules.optional_error a.outer.limits T rest a.values a.inside next _ e _ i _ u (reads a.values a.outer a.inside a.stands))
+
+-- a field that may be absent, and is said in another way
+pub fields_as : {k : ℕ} {s : Option (List ℕ)} {whole : Reading Value} {finish : List Value → Reading Value} {rest : Fields} {next : Next} {now : Standing} {t : Option (List ℕ)} {o o' : Option Value} (ws : List Value) → o ≡ o' → SoFar k s whole finish rest (ws ++ with_field o' []) next now t → SoFar k s whole finish rest (ws ++ with_field o []) next now t
+fields_as {k} {s} {whole} {finish} {rest} {next} {now} {t} ws e a = subst (λ z. SoFar k s whole finish rest (ws ++ with_field z []) next now t) (sym e) a
 
 -- A field with a DEFAULT.
 

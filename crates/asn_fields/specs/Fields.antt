@@ -1,12 +1,13 @@
 -- What clauses see of fields.
-use Rattle.std.specs.Prelude.{MatchResult, None, Option, Result, Some}
+use Rattle.std.specs.Prelude.{Bool, MatchResult, None, Option, Result, Some, [], false, true, ◌∷◌}
 use Rattle.tlv_core.specs.declared.fault.ReadError.{ReadError}
 use Rattle.tlv_core.specs.declared.source.Source.{Ghosts}
+use Rattle.x690.specs.Layouts.{universal}
 use Rattle.x690.specs.Points.{Enclosing}
 use Rattle.x690.specs.ReadHeaders as headers
 use Rattle.x690.specs.Reading.{Reading}
 use Rattle.x690.specs.Reads.{Heard, Said}
-use Rattle.x690.specs.Values.{Same, Value}
+use Rattle.x690.specs.Values.{Leaf, Same, Value}
 use Rattle.ber_pull.specs.Fields.{Inside}
 use Rattle.ber_pull.specs.Hears.{heard_error, next_at}
 use Rattle.ber_pull.specs.Standing.{Standing}
@@ -42,3 +43,8 @@ abbrev pub AnswersField : {R A V : Type 0} {s : Ghosts R} → Pull R s → Pull 
 AnswersField {R} {A} {V} old new next p Alike value behind result =
     (outer : Standing) (inside : Enclosing) → Inside outer inside old.state (next_of next)
     → MatchResult result (λ x. (v : V) × Alike v (value x) × Answers old new (p outer inside) (Said (v, behind))) (λ e. Answers old new (p outer inside) (heard_error e))
+
+-- A BOOLEAN DEFAULT FALSE: its value where it is TRUE, else none (X.690 11.5).
+abbrev pub unless_false : Bool → Option Value
+unless_false true = Some (Leaf (universal 1) (255 ∷ []))
+unless_false false = None

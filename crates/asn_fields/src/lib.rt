@@ -7,5 +7,6 @@
 #![tactic(auto)]
 
 pub mod fields;
+pub mod parts;
 pub mod sequence;
 pub mod tagged;

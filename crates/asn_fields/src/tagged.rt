@@ -8,7 +8,7 @@ ghost use Rattle.x690.specs.TypeTerms.{EndOfFields, Required, SequenceType};
 ghost use Rattle.x690.specs.Values.{Same, Sequence, values_of};
 ghost use Rattle.ber_pull.proofs.Fields.{sequence_closed};
 
-use crate::fields::{begin, due, end};
+use crate::sequence::{Due, read_sequence_as};
 use asn_elements::der_text::{DerText, same_text};
 use asn_elements::element::Element;
 use asn_elements::framing::{Stands, element_size, find_octet, put_header};
@@ -96,9 +96,7 @@ impl<const N: u8, T: Element> Element for Tagged<N, T> {
     }
 
     fn read<R: Source>(alloc: Global, pull: &mut Pull<'_, R>) -> Result<Tagged<N, T>, ReadError> {
-        let mut next = begin(pull, context_tag(u32::from(N)))?;
-        let inner = due::<R, T>(alloc, pull, &mut next)?;
-        end(pull, next)?;
+        let Due(inner) = read_sequence_as(alloc, pull, context_tag(u32::from(N)))?;
         Ok(Tagged { inner })
     }
 }

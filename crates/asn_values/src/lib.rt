@@ -20,7 +20,7 @@ pub use asn_elements::{
     bits, boolean, build, der_text, element, framing, implicit, integer, leaf_reading, null,
     object_identifier, octets, tags, text,
 };
-pub use asn_fields::{fields, tagged};
+pub use asn_fields::{fields, parts, sequence, tagged};
 pub use asn_open_values::any;
 
 #[cfg(test)]

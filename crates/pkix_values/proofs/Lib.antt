@@ -1,4 +1,2 @@
-pub mod PartTexts
 pub mod Rules
-pub mod SameFields
 pub mod SameOctets

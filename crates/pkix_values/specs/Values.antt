@@ -1,35 +1,21 @@
 -- The values of the types, field by field.
-use Rattle.std.specs.Prelude.{Bool as Truth, List, None, Option, Some, [], cond, length, map, not, true, ℕ, ◌&&◌, ◌++◌, ◌-◌, ◌||◌, ◌∷◌}
-use Rattle.std.specs.Option.{option_map}
+use Rattle.std.specs.Prelude.{Bool, List, [], length, map, not, ℕ, ◌&&◌, ◌++◌, ◌-◌, ◌||◌, ◌∷◌}
 use Rattle.x690.specs.Identifiers.{length_under, rfc8410_algorithms, rfc8410_lengths}
 use Rattle.x690.specs.Layouts.{universal}
 use Rattle.x690.specs.Lists.{one_of}
 use Rattle.x690.specs.Rules.{has_length, no_unused}
 use Rattle.x690.specs.Values.{Leaf, SetOf, Value, values_of}
-use Rattle.x690_laws.proofs.OneTexts.{leaf_one_text}
 use Rattle.ber_pull.specs.Fields.{with_field}
-use Rattle.asn_fields.proofs.OneFields.{OneText}
-use Rattle.asn_elements.specs.Leaves.{octets_of, truth}
-use Rattle.asn_elements.specs.declared.boolean.Bool.{Bool}
+use Rattle.asn_fields.specs.Fields.{unless_false}
+use Rattle.asn_elements.specs.Leaves.{octets_of}
 use Rattle.asn_elements.specs.declared.octets.Octets.{Octets}
 
-abbrev pub truth_value : Bool → Value
-truth_value b = Leaf (universal 1) (cond (truth b) 255 0 ∷ [])
-
-pub truth_one_text : (x y : Bool) → OneText (truth_value x) (truth_value y)
-truth_one_text x y = leaf_one_text (universal 1) (universal 1) (cond (truth x) 255 0 ∷ []) (cond (truth y) 255 0 ∷ [])
-
--- it is TRUE where it is there
-abbrev pub true_if_there : Option Bool → Truth
-true_if_there None = true
-true_if_there (Some b) = truth b
-
 -- extnID, critical where it isn't the default, extnValue
-abbrev pub extension_values : List ℕ → Option Bool → Octets → List Value
-extension_values id critical value = Leaf (universal 6) id ∷ (with_field (option_map truth_value critical) [] ++ (Leaf (universal 4) (octets_of value) ∷ []))
+abbrev pub extension_values : List ℕ → Bool → Octets → List Value
+extension_values id critical value = Leaf (universal 6) id ∷ (with_field (unless_false critical) [] ++ (Leaf (universal 4) (octets_of value) ∷ []))
 
 -- the contents of a BIT STRING are those of a public key under the algorithm: under one of RFC 8410's of the table's length, without unused bits
-abbrev pub key_fits : List ℕ → List ℕ → Truth
+abbrev pub key_fits : List ℕ → List ℕ → Bool
 key_fits algorithm contents =
     not (one_of algorithm rfc8410_algorithms) || (has_length (length_under rfc8410_lengths algorithm) (length contents - 1) && no_unused contents)
 

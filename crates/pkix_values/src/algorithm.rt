@@ -13,11 +13,11 @@ ghost use Rattle.ber_pull.specs.Fields.{with_field};
 ghost use Rattle.pkix_values.specs.ClosedTypes.{algorithm_closed};
 
 use crate::identifiers::public_key_length;
-use crate::pairs::read_one_or_two;
-use crate::parts::{Both, Field, OptionalField, put_sequence, sequence_octet, sequence_size};
 use asn_values::any::Any;
 use asn_values::der_text::{DerText, same_text};
 use asn_values::element::Element;
+use asn_values::parts::{Field, OptionalField, put_sequence, sequence_octet, sequence_size};
+use asn_values::sequence::{Due, Optional, read_sequence};
 use asn_values::tags::{is_same_tag, universal_tag};
 use ber_pull::pull::Pull;
 use std::alloc::Global;
@@ -61,14 +61,14 @@ impl AlgorithmIdentifier {
         same_text(self, other)
     }
 
-    fn parts(&self) -> Both<Field<'_, Oid>, OptionalField<'_, Any>>
-        ensures algorithm { result.first.0.now ≡ self.now.algorithm }
-        ensures parameters { option_map (λ r. ⟦<Any as DerText>⟧.value r.now) result.rest.0 ≡ option_map (⟦<Any as DerText>⟧.value) self.now.parameters }
+    fn parts(&self) -> (Field<'_, Oid>, OptionalField<'_, Any>)
+        ensures algorithm { result.0.0.now ≡ self.now.algorithm }
+        ensures parameters { option_map (λ r. ⟦<Any as DerText>⟧.value r.now) result.1.0 ≡ option_map (⟦<Any as DerText>⟧.value) self.now.parameters }
     {
-        Both {
-            first: Field(&self.algorithm),
-            rest: OptionalField(self.parameters.as_ref()),
-        }
+        (
+            Field(&self.algorithm),
+            OptionalField(self.parameters.as_ref()),
+        )
     }
 }
 
@@ -105,7 +105,7 @@ impl Element for AlgorithmIdentifier {
         pull: &mut Pull<'_, R>,
     ) -> Result<AlgorithmIdentifier, ReadError> {
         let at = pull.at();
-        let (algorithm, parameters) = read_one_or_two::<R, Oid, Any>(alloc, pull)?;
+        let (Due(algorithm), Optional(parameters)) = read_sequence(alloc, pull)?;
         if parameters.is_some() && public_key_length(&algorithm).is_some() {
             return Err(pull.refuse(at, Reason::Parameters, None));
         }

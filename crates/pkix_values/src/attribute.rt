@@ -11,12 +11,12 @@ ghost use Rattle.asn_containers.specs.Containers.{set_items};
 ghost use Rattle.ber_pull.proofs.Fields.{sequence_closed};
 ghost use Rattle.pkix_values.specs.Values.{attribute_values};
 
-use crate::pairs::read_pair;
-use crate::parts::{Both, Field, put_sequence, sequence_octet, sequence_size};
 use crate::set_of_some::SetOfSome;
 use asn_values::any::Any;
 use asn_values::der_text::{DerText, same_text};
 use asn_values::element::Element;
+use asn_values::parts::{Field, put_sequence, sequence_octet, sequence_size};
+use asn_values::sequence::{Due, read_sequence};
 use asn_values::set_of::SetOf;
 use asn_values::tags::{is_same_tag, universal_tag};
 use ber_pull::pull::Pull;
@@ -61,14 +61,11 @@ impl<T: DerText> AttributeOf<T> {
         same_text(self, other)
     }
 
-    fn parts(&self) -> Both<Field<'_, Oid>, Field<'_, SetOfSome<T>>>
-        ensures id { result.first.0.now ≡ self.now.id }
-        ensures values { result.rest.0.now ≡ self.now.values }
+    fn parts(&self) -> (Field<'_, Oid>, Field<'_, SetOfSome<T>>)
+        ensures id { result.0.0.now ≡ self.now.id }
+        ensures values { result.1.0.now ≡ self.now.values }
     {
-        Both {
-            first: Field(&self.id),
-            rest: Field(&self.values),
-        }
+        (Field(&self.id), Field(&self.values))
     }
 }
 
@@ -101,7 +98,7 @@ impl<T: Element> Element for AttributeOf<T> {
     }
 
     fn read<R: Source>(alloc: Global, pull: &mut Pull<'_, R>) -> Result<AttributeOf<T>, ReadError> {
-        let (id, values) = read_pair::<R, Oid, SetOfSome<T>>(alloc, pull)?;
+        let (Due(id), Due(values)) = read_sequence(alloc, pull)?;
         Ok(AttributeOf { id, values })
     }
 }

@@ -1,23 +1,21 @@
 //! Extension of RFC 5280 section 4.1.
-ghost use Rattle.std.specs.Prelude.{◌≡◌, ◌↔◌, ◌<◌, ◌^◌, ◌∷◌, IsTrue, [], length, true};
-ghost use Rattle.std.specs.Option.{is_some, option_map};
+ghost use Rattle.std.specs.Prelude.{◌≡◌, ◌↔◌, ◌<◌, ◌^◌, IsTrue, length};
 ghost use Rattle.x690.specs.DerTexts.{texts_of};
 ghost use Rattle.x690.specs.DocumentTypes.{Extension as ExtensionType};
 ghost use Rattle.x690.specs.Layouts.{universal};
 ghost use Rattle.x690.specs.Values.{Leaf, Same, Sequence, values_of};
 ghost use Rattle.x690_laws.proofs.OneTexts.{leaf_one_text};
-ghost use Rattle.asn_fields.proofs.OneFields.{field_one_text, two_or_three_one_text};
+ghost use Rattle.asn_fields.specs.Fields.{unless_false};
+ghost use Rattle.asn_fields.proofs.OneFields.{flag_one_text, two_or_three_one_text};
 ghost use Rattle.asn_elements.specs.Leaves.{octets_of};
-ghost use Rattle.ber_pull.specs.Fields.{but_default};
 ghost use Rattle.pkix_values.specs.ClosedTypes.{extension_closed};
-ghost use Rattle.pkix_values.specs.Values.{extension_values, true_if_there, truth_one_text, truth_value};
+ghost use Rattle.pkix_values.specs.Values.{extension_values};
 
-use crate::parts::{Both, Field, OptionalField, put_sequence, sequence_octet, sequence_size};
-use asn_values::boolean::Bool;
 use asn_values::der_text::{DerText, same_text};
 use asn_values::element::Element;
-use asn_values::fields::{begin, due, end, optional};
 use asn_values::octets::Octets;
+use asn_values::parts::{Field, put_sequence, sequence_octet, sequence_size};
+use asn_values::sequence::{DefaultFalse, Due, read_sequence};
 use asn_values::tags::{is_same_tag, universal_tag};
 use ber_pull::pull::Pull;
 use std::alloc::Global;
@@ -32,22 +30,9 @@ use tlv_core::target::Target;
 #[derive(Drop)]
 pub struct Extension {
     id: Oid,
-    /// There where it is TRUE, which isn't the default.
-    critical: Option<Bool>,
+    critical: bool,
     value: Octets,
-    ghost not_default: { true_if_there critical ≡ true },
     ghost small: { length (texts_of (extension_values id critical value)) < 2 ^ 63 },
-}
-
-/// A BOOLEAN DEFAULT FALSE that may be left out: it is where it is FALSE (X.690 11.5).
-fn unless_false(critical: Option<Bool>) -> Option<Bool>
-    ensures is { option_map truth_value result ≡ but_default (universal 1) (0 ∷ []) (option_map truth_value critical) }
-    ensures not_default { true_if_there result ≡ true }
-{
-    match critical {
-        Some(b) => { if b.value() { Some(b) } else { None } }
-        None => None,
-    }
 }
 
 impl Extension {
@@ -60,9 +45,9 @@ impl Extension {
 
     /// Whether one who doesn't know it has to refuse the certificate.
     pub fn critical(&self) -> bool
-        ensures { result ≡ is_some self.now.critical }
+        ensures { result ≡ self.now.critical }
     {
-        self.critical.is_some()
+        self.critical
     }
 
     /// What it says: the octets of a DER text of another type.
@@ -79,26 +64,23 @@ impl Extension {
         same_text(self, other)
     }
 
-    fn parts(&self) -> Both<Field<'_, Oid>, Both<OptionalField<'_, Bool>, Field<'_, Octets>>>
-        ensures id { result.first.0.now ≡ self.now.id }
-        ensures critical { option_map (λ r. truth_value r.now) result.rest.first.0 ≡ option_map truth_value self.now.critical }
-        ensures value { result.rest.rest.0.now ≡ self.now.value }
+    fn parts(&self) -> (Field<'_, Oid>, (DefaultFalse, Field<'_, Octets>))
+        ensures id { result.0.0.now ≡ self.now.id }
+        ensures critical { result.1.0.0 ≡ self.now.critical }
+        ensures value { result.1.1.0.now ≡ self.now.value }
     {
-        Both {
-            first: Field(&self.id),
-            rest: Both {
-                first: OptionalField(self.critical.as_ref()),
-                rest: Field(&self.value),
-            },
-        }
+        (
+            Field(&self.id),
+            (DefaultFalse(self.critical), Field(&self.value)),
+        )
     }
 }
 
 impl DerText for Extension {
     ghost value = { λ e. Sequence (universal 16) (values_of (extension_values e.id e.critical e.value)) };
 
-    ghost one_text = { λ x y. two_or_three_one_text (universal 16) (Leaf (universal 6) x.id) (Leaf (universal 6) y.id) (option_map truth_value x.critical) (option_map truth_value y.critical) (Leaf (universal 4) (octets_of x.value)) (Leaf (universal 4) (octets_of y.value))
-        (leaf_one_text (universal 6) (universal 6) x.id y.id) (field_one_text truth_value truth_one_text x.critical y.critical) (leaf_one_text (universal 4) (universal 4) (octets_of x.value) (octets_of y.value)) };
+    ghost one_text = { λ x y. two_or_three_one_text (universal 16) (Leaf (universal 6) x.id) (Leaf (universal 6) y.id) (unless_false x.critical) (unless_false y.critical) (Leaf (universal 4) (octets_of x.value)) (Leaf (universal 4) (octets_of y.value))
+        (leaf_one_text (universal 6) (universal 6) x.id y.id) (flag_one_text x.critical y.critical) (leaf_one_text (universal 4) (universal 4) (octets_of x.value) (octets_of y.value)) };
 
     fn size(&self) -> u64 {
         sequence_size(universal_tag(16), &self.parts())
@@ -123,13 +105,9 @@ impl Element for Extension {
         is_same_tag(universal_tag(16), tag)
     }
 
+    #[tactic(auto, unfolding(x690::specs::DocumentTypes::Extension))]
     fn read<R: Source>(alloc: Global, pull: &mut Pull<'_, R>) -> Result<Extension, ReadError> {
-        let mut next = begin(pull, universal_tag(16))?;
-        let id = due::<R, Oid>(alloc, pull, &mut next)?;
-        let critical = optional::<R, Bool>(alloc, pull, &mut next)?;
-        let value = due::<R, Octets>(alloc, pull, &mut next)?;
-        end(pull, next)?;
-        let critical = unless_false(critical);
+        let (Due(id), (DefaultFalse(critical), Due(value))) = read_sequence(alloc, pull)?;
         Ok(Extension {
             id,
             critical,

@@ -2,7 +2,7 @@
 //!
 //! Each is an `Element` of `asn_values`. Proved here, for each of them: a reader answers what the plain reading of its type gives for the octets, the first
 //! fault included, and its rules with it (no parameters under the algorithms of RFC 8410, and the length of a public key under them); it is written as its DER
-//! text, which leaves out a `critical` that is FALSE; `same` is the same value. `parts` writes a SEQUENCE by its fields, `pairs` reads those of two.
+//! text, which leaves out a `critical` that is FALSE; `same` is the same value.
 #![tactic(auto)]
 
 pub mod algorithm;
@@ -11,8 +11,6 @@ mod either;
 pub mod extension;
 mod identifiers;
 pub mod name;
-pub mod pairs;
-pub mod parts;
 pub mod public_key;
 pub mod request_attribute;
 pub mod set_of_some;

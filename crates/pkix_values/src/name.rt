@@ -9,13 +9,13 @@ ghost use Rattle.x690.specs.Values.{Leaf, Same, Sequence, values_of};
 ghost use Rattle.asn_containers.specs.Containers.{list_items};
 ghost use Rattle.pkix_values.specs.ClosedTypes.{name_closed, name_item_closed};
 
-use crate::pairs::read_pair;
-use crate::parts::{Both, Field, put_sequence, sequence_octet, sequence_size};
 use crate::set_of_some::SetOfSome;
 use asn_values::any::Any;
 use asn_values::der_text::{DerText, same_text};
 use asn_values::element::Element;
 use asn_values::list::List;
+use asn_values::parts::{Field, put_sequence, sequence_octet, sequence_size};
+use asn_values::sequence::{Due, read_sequence};
 use asn_values::tags::{is_same_tag, universal_tag};
 use ber_pull::pull::Pull;
 use std::alloc::Global;
@@ -56,14 +56,11 @@ impl NameItem {
         same_text(self, other)
     }
 
-    fn parts(&self) -> Both<Field<'_, Oid>, Field<'_, Any>>
-        ensures id { result.first.0.now ≡ self.now.id }
-        ensures value { result.rest.0.now ≡ self.now.value }
+    fn parts(&self) -> (Field<'_, Oid>, Field<'_, Any>)
+        ensures id { result.0.0.now ≡ self.now.id }
+        ensures value { result.1.0.now ≡ self.now.value }
     {
-        Both {
-            first: Field(&self.id),
-            rest: Field(&self.value),
-        }
+        (Field(&self.id), Field(&self.value))
     }
 }
 
@@ -95,8 +92,9 @@ impl Element for NameItem {
         is_same_tag(universal_tag(16), tag)
     }
 
+    #[tactic(auto, unfolding(x690::specs::DocumentTypes::NameItem))]
     fn read<R: Source>(alloc: Global, pull: &mut Pull<'_, R>) -> Result<NameItem, ReadError> {
-        let (id, value) = read_pair::<R, Oid, Any>(alloc, pull)?;
+        let (Due(id), Due(value)) = read_sequence(alloc, pull)?;
         Ok(NameItem { id, value })
     }
 }

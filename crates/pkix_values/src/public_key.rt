@@ -12,11 +12,11 @@ ghost use Rattle.pkix_values.specs.Values.{key_fits};
 
 use crate::algorithm::AlgorithmIdentifier;
 use crate::identifiers::public_key_length;
-use crate::parts::{Both, Field, put_sequence, sequence_octet, sequence_size};
 use asn_values::bits::Bits;
 use asn_values::der_text::{DerText, same_text};
 use asn_values::element::Element;
 use asn_values::fields::{ahead, begin, due, end, take};
+use asn_values::parts::{Field, put_sequence, sequence_octet, sequence_size};
 use asn_values::tags::{is_same_tag, universal_tag};
 use ber_pull::pull::Pull;
 use std::alloc::Global;
@@ -70,14 +70,11 @@ impl SubjectPublicKeyInfo {
         same_text(self, other)
     }
 
-    fn parts(&self) -> Both<Field<'_, AlgorithmIdentifier>, Field<'_, Bits>>
-        ensures algorithm { result.first.0.now ≡ self.now.algorithm }
-        ensures key { result.rest.0.now ≡ self.now.key }
+    fn parts(&self) -> (Field<'_, AlgorithmIdentifier>, Field<'_, Bits>)
+        ensures algorithm { result.0.0.now ≡ self.now.algorithm }
+        ensures key { result.1.0.now ≡ self.now.key }
     {
-        Both {
-            first: Field(&self.algorithm),
-            rest: Field(&self.key),
-        }
+        (Field(&self.algorithm), Field(&self.key))
     }
 }
 

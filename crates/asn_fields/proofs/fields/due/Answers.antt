@@ -1,16 +1,14 @@
 use Rattle.std.proofs.Common.{rules}
-use Rattle.x690.specs.Values.{Same}
-use Rattle.ber_pull.specs.Fields.{read_due}
 use Rattle.ber_pull.proofs.Fields.{take_then}
 use Rattle.ber_pull.proofs.Hearing.{hears_done, hears_error, hears_then}
 use Rattle.ber_pull.proofs.Insides.{within_none}
 use Rattle.asn_fields.specs.Fields.{next_of}
-use Rattle.asn_fields.proofs.Handing.{field_err}
+use Rattle.asn_fields.proofs.Handing.{with_error}
 use Rattle.asn_fields.proofs.fields.due.Goals as goal
 
 pub returns-in_err-field-clause-reads : goal.returns-in_err-field-clause-reads
 returns-in_err-field-clause-reads g c = λ earlier outer inside a.
-    field_err c.args.pull.now c.take.new.pull (read_due outer.limits g.T.Element.type_term earlier inside (next_of c.args.next.now)) Same g.T.DerText.value (next_of c.args.next.now) c.from_residual.result c.in_err-field.field-0.0 (search rules)
+    with_error _ _ c.from_residual.result c.in_err-field.field-0.0 (search rules)
     (take_then _ _ _ _ _ _ _ _ _ _ (hears_error _ _ _ _ _ _ _ (c.in_err-field.ensures.reads earlier outer inside a)))
 
 pub ahead-requires-clause-used : goal.ahead-requires-clause-used
@@ -22,7 +20,7 @@ ahead-requires-clause-used g c =
 pub returns-in_err-next-clause-reads : goal.returns-in_err-next-clause-reads
 returns-in_err-next-clause-reads g c = λ earlier outer inside a.
     let read = c.in_ok-field.ensures.reads earlier outer inside a in
-    field_err c.args.pull.now c.ahead.new.pull (read_due outer.limits g.T.Element.type_term earlier inside (next_of c.args.next.now)) Same g.T.DerText.value (next_of c.args.next.now) c.from_residual-in_err-next.result c.in_err-next.field-0.0 (search rules)
+    with_error _ _ c.from_residual-in_err-next.result c.in_err-next.field-0.0 (search rules)
     (take_then _ _ _ _ _ _ _ _ _ _ (hears_then _ _ read.0 _ _ _ _ _ _ _ read.2 (hears_error _ _ _ _ _ _ _ (c.in_err-next.ensures.reads outer inside (c.in_ok-field.ensures.stands outer inside a)))))
 
 pub returns-clause-reads : goal.returns-clause-reads

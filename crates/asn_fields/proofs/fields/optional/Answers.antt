@@ -4,13 +4,11 @@ use Rattle.ber_pull.specs.Hears.{next_at}
 use Rattle.ber_pull.proofs.Hearing.{hears_done, hears_error, hears_then}
 use Rattle.ber_pull.proofs.Fields.{optional_absent, optional_other, optional_read}
 use Rattle.ber_pull.proofs.Insides.{field_as, field_given, stands_some, used_within}
-use Rattle.std.specs.Option.{option_map}
-use Rattle.ber_pull.specs.Fields.{read_optional}
 use Rattle.ber_pull.specs.declared.state.Given.{Given}
-use Rattle.asn_fields.specs.Fields.{SameField, next_of}
+use Rattle.asn_fields.specs.Fields.{next_of}
 use Rattle.ber_pull.specs.Fields.{BeginsBefore}
 use Rattle.asn_fields.proofs.ShortFields.{field_short}
-use Rattle.asn_fields.proofs.Handing.{field_err}
+use Rattle.asn_fields.proofs.Handing.{with_error}
 use Rattle.asn_fields.proofs.fields.optional.Goals as goal
 
 pub returns-in-None-clause-reads : goal.returns-in-None-clause-reads
@@ -29,7 +27,7 @@ returns-in_err-field-clause-reads g c = λ earlier outer inside a.
     let given : Given = record { at = at; tag = c.in-Some.tag; constructed = c.in-Some.field-0-1 } in
     let is = field_given outer inside c.args.pull.now.state at n t a c.in-Some.is in
     let on = sym c.fits-fits.ensures ∙ c.if-not-fits.false in
-    field_err c.args.pull.now c.read.new.pull (read_optional outer.limits g.T.Element.type_term earlier inside (next_of c.args.next.now)) SameField (option_map g.T.DerText.value) (next_of c.args.next.now) c.from_residual.result c.in_err-field.field-0.0 (search rules)
+    with_error _ _ c.from_residual.result c.in_err-field.field-0.0 (search rules)
     (optional_read outer.limits g.T.Element.type_term earlier inside at n t _ _ _ _ _ c.in-Some.is on
     (hears_error _ _ _ _ _ _ _ (field_as outer inside c.args.pull.now.state (next_of c.args.next.now) g.T.Element.type_term earlier at c.in-Some.tag c.in-Some.field-0-1 _ _ _ _ _ g.met.T.Element.closed a (c.in_err-field.ensures.reads given c.requires.fine is))))
 
@@ -43,7 +41,7 @@ returns-in_err-next-clause-reads g c = λ earlier outer inside a.
     let on = sym c.fits-fits.ensures ∙ c.if-not-fits.false in
     let read = c.in_ok-field.ensures.reads given c.requires.fine is in
     let within = used_within outer inside c.args.pull.now.state (next_of c.args.next.now) c.read.new.pull.state a (stands_some at n t c.in-Some.is) c.in_ok-field.ensures.stands in
-    field_err c.args.pull.now c.ahead.new.pull (read_optional outer.limits g.T.Element.type_term earlier inside (next_of c.args.next.now)) SameField (option_map g.T.DerText.value) (next_of c.args.next.now) c.from_residual-in_err-next.result c.in_err-next.field-0.0 (search rules)
+    with_error _ _ c.from_residual-in_err-next.result c.in_err-next.field-0.0 (search rules)
     (optional_read outer.limits g.T.Element.type_term earlier inside at n t _ _ _ _ _ c.in-Some.is on
     (hears_then _ _ read.0 _ _ _ _ _ _ _ (field_as outer inside c.args.pull.now.state (next_of c.args.next.now) g.T.Element.type_term earlier at c.in-Some.tag c.in-Some.field-0-1 _ _ _ _ _ g.met.T.Element.closed a read.2)
     (hears_error _ _ _ _ _ _ _ (c.in_err-next.ensures.reads outer inside within))))

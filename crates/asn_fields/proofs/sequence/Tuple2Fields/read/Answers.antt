@@ -1,8 +1,4 @@
-use Rattle.std.proofs.Common.{rules, ◌++◌, append_assoc, arith, subst}
-use Rattle.x690.specs.DerTexts.{texts_of}
-use Rattle.asn_fields.specs.Fields.{next_of}
-use Rattle.asn_fields.specs.SoFar.{SoFar}
-use Rattle.asn_fields.specs.SoFar.{ReadsFields}
+use Rattle.std.proofs.Common.{rules, arith}
 use Rattle.asn_fields.proofs.Handing.{with_error}
 use Rattle.asn_fields.proofs.SoFar.{behind_both}
 use Rattle.asn_fields.proofs.PartTexts.{length_both}

@@ -9,27 +9,28 @@ use Rattle.ber_pull.proofs.Insides.{within_none}
 use Rattle.asn_elements.specs.Leaves.{bit_string_of}
 use Rattle.asn_elements.specs.Reading.{read_given}
 use Rattle.asn_elements.proofs.Answering.{refused_by}
-use Rattle.asn_fields.proofs.SoFar.{after_ahead, after_begin, after_due, after_end, after_take_to_judge, answered, handed, passed, stopped_at_ahead, stopped_at_begin, stopped_at_due, stopped_at_end, stopped_at_take_to_judge, turned_down}
+use Rattle.asn_fields.proofs.Handing.{with_error}
+use Rattle.asn_fields.proofs.SoFar.{after_ahead, after_begin, after_due, after_end, after_take_to_judge, answered, passed, stopped_at_ahead, stopped_at_begin, stopped_at_due, stopped_at_end, stopped_at_take_to_judge, turned_down}
 use Rattle.pkix_values.specs.Values.{key_fits}
 use Rattle.pkix_values.proofs.public_key.SubjectPublicKeyInfoElement.read.Goals as goal
 
 pub returns-in_err-next-clause-reads : goal.returns-in_err-next-clause-reads
 unfolding SubjectPublicKeyInfo
 returns-in_err-next-clause-reads g c = λ given fine is.
-    handed _ _ c.from_residual.result c.in_err-next.field-0.0 _ _ _ _ (search rules) (stopped_at_begin _ _ _ _ _ _ _ _ _ _ _ _ c.universal_tag.ensures (c.in_err-next.ensures.reads given fine is))
+    with_error _ _ c.from_residual.result c.in_err-next.field-0.0 (search rules) (stopped_at_begin _ _ _ _ _ _ _ _ _ _ _ _ c.universal_tag.ensures (c.in_err-next.ensures.reads given fine is))
 
 pub returns-in_err-algorithm-clause-reads : goal.returns-in_err-algorithm-clause-reads
 unfolding SubjectPublicKeyInfo
 returns-in_err-algorithm-clause-reads g c = λ given fine is.
     let begun = after_begin _ _ _ _ _ c.universal_tag.ensures (c.in_ok-next.ensures.reads given fine is) c.in_ok-next.ensures.stands in
-    handed _ _ c.from_residual-in_err-algorithm.result c.in_err-algorithm.field-0.0 _ _ _ _ (search rules) (stopped_at_due begun _ _ _ c.in_err-algorithm.ensures.reads)
+    with_error _ _ c.from_residual-in_err-algorithm.result c.in_err-algorithm.field-0.0 (search rules) (stopped_at_due begun _ _ _ c.in_err-algorithm.ensures.reads)
 
 pub returns-in_err-key-clause-reads : goal.returns-in_err-key-clause-reads
 unfolding SubjectPublicKeyInfo
 returns-in_err-key-clause-reads g c = λ given fine is.
     let begun = after_begin _ _ _ _ _ c.universal_tag.ensures (c.in_ok-next.ensures.reads given fine is) c.in_ok-next.ensures.stands in
     let algorithm = after_due begun _ c.in_ok-algorithm.ensures.reads c.in_ok-algorithm.ensures.stands in
-    handed _ _ c.from_residual-in_err-key.result c.in_err-key.field-0.0 _ _ _ _ (search rules) (stopped_at_take_to_judge _ _ algorithm _ _ _ c.in_err-key.ensures.reads)
+    with_error _ _ c.from_residual-in_err-key.result c.in_err-key.field-0.0 (search rules) (stopped_at_take_to_judge _ _ algorithm _ _ _ c.in_err-key.ensures.reads)
 
 pub returns-then-not-is_key_of-clause-reads : goal.returns-then-not-is_key_of-clause-reads
 unfolding SubjectPublicKeyInfo leaf_at
@@ -53,7 +54,7 @@ returns-in_err-behind-clause-reads g c = λ given fine is.
     let key = after_take_to_judge _ _ algorithm _ c.in_ok-key.ensures.reads c.in_ok-key.ensures.stands in
     let fits : key_fits c.in_ok-algorithm.algorithm.algorithm (bit_string_of c.in_ok-key.key) ≡ true = search rules in
     let good = passed _ _ (fair_key_bits (0 ∷ 0 ∷ [])) key (ap (λ b. else_refused b KeyLength) fits) in
-    handed _ _ c.from_residual-in_err-behind.result c.in_err-behind.field-0.0 _ _ _ _ (search rules) (stopped_at_ahead good _ _ _ c.in_err-behind.ensures.reads)
+    with_error _ _ c.from_residual-in_err-behind.result c.in_err-behind.field-0.0 (search rules) (stopped_at_ahead good _ _ _ c.in_err-behind.ensures.reads)
 
 pub returns-in_err-end-clause-reads : goal.returns-in_err-end-clause-reads
 unfolding SubjectPublicKeyInfo leaf_at
@@ -65,7 +66,7 @@ returns-in_err-end-clause-reads g c = λ given fine is.
     let fits : key_fits c.in_ok-algorithm.algorithm.algorithm (bit_string_of c.in_ok-key.key) ≡ true = search rules in
     let good = passed _ _ (fair_key_bits (0 ∷ 0 ∷ [])) key (ap (λ b. else_refused b KeyLength) fits) in
     let behind = after_ahead good c.in_ok-behind.ensures.reads c.in_ok-behind.ensures.stands in
-    handed _ _ c.from_residual-in_err-end.result c.in_err-end.field-0.0 _ _ _ _ stopped (stopped_at_end behind _ _ _ c.in_err-end.ensures.reads)
+    with_error _ _ c.from_residual-in_err-end.result c.in_err-end.field-0.0 stopped (stopped_at_end behind _ _ _ c.in_err-end.ensures.reads)
 
 pub returns-clause-reads : goal.returns-clause-reads
 unfolding SubjectPublicKeyInfo leaf_at
