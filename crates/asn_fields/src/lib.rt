@@ -1,9 +1,12 @@
-//! SEQUENCEs read field by field, and explicit tags (X.690 8.9, 8.14): `asn_values` passes all of it on.
+//! SEQUENCEs by their fields, and explicit tags (X.690 8.9, 8.14): `asn_values` passes all of it on.
 //!
-//! `fields` begins a SEQUENCE, reads its fields (due, optional, whatever stands next) and ends it. `Tagged` is an explicit tag round one value.
+//! `sequence` reads a SEQUENCE by the list of its fields, `parts` writes one. `fields` has the calls beneath: it begins a SEQUENCE, reads its fields (due,
+//! optional, whatever stands next) and ends it, for types with a rule on a field or a field whose type depends on an earlier one. `Tagged` is an explicit
+//! tag round one value.
 //!
-//! Proved here: each call of `fields` answers what the plain reading of the SEQUENCE's type gives where it stands, the first fault included, so that a reader
-//! of a SEQUENCE is a list of calls in the order of its ASN.1. `Tagged` is read, written and compared as its type says.
+//! Proved here: `read_sequence` answers what the plain reading of a SEQUENCE of these fields gives, the first fault included; so does each call of `fields`
+//! where it stands, so that a reader is a list of calls in the order of the ASN.1. What `parts` writes is the DER text of a SEQUENCE of these values. `Tagged` is read,
+//! written and compared as its type says.
 #![tactic(auto)]
 
 pub mod fields;

@@ -2,7 +2,7 @@
 //!
 //! `DerText` is what has a text, `Element` what can be read as well, from any source and in any layout of BER. There are the leaves
 //! `Bool`, `Int`, `Null`, `Bits`, `Octets`, `Text` and `tlv_core`'s `Oid`, the containers `List` and `SetOf`, `Tagged` for explicit tags, `Implicit` for implicit ones, and `Any`, an open value.
-//! `fields` reads a SEQUENCE field by field.
+//! `sequence` reads a SEQUENCE by the list of its fields and `parts` writes one; `fields` reads one field by field.
 //!
 //! This crate is the table of contents: what stands here is proved in `asn_elements` (the traits and the leaves), `asn_fields`, `asn_containers`
 //! and `asn_open_values`, each of which says what. The tests of all four are here.
@@ -27,5 +27,7 @@ pub use asn_open_values::any;
 mod implicit_tests;
 #[cfg(test)]
 mod open_value_tests;
+#[cfg(test)]
+mod sequence_tests;
 #[cfg(test)]
 mod tests;

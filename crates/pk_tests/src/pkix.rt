@@ -6,7 +6,6 @@ mod attributes;
 mod extensions;
 mod keys;
 mod names;
-mod pairs;
 
 use asn_values::der_text::DerText;
 use asn_values::element::Element;
