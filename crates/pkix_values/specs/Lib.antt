@@ -1,3 +1,4 @@
 pub mod ClosedTypes
 pub mod Eithers
 pub mod Values
+pub mod Versions

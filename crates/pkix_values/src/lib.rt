@@ -14,3 +14,4 @@ pub mod name;
 pub mod public_key;
 pub mod request_attribute;
 pub mod set_of_some;
+pub mod version;

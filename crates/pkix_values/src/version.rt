@@ -1,0 +1,123 @@
+//! Versions of documents (RFC 5958 section 2, RFC 5915 section 3, RFC 2986 section 4.1).
+ghost use Rattle.x690_laws.proofs.OneTexts.{leaf_one_text};
+ghost use Rattle.std.specs.Prelude.{◌≡◌, ◌↔◌, ◌≤◌, ◌<◌, ◌∷◌, IfSome, IsTrue, [], true};
+ghost use Rattle.std.specs.Option.{is_some};
+ghost use Rattle.x690.specs.DerTexts.{der};
+ghost use Rattle.x690.specs.DocumentTypes.{version};
+ghost use Rattle.x690.specs.Layouts.{universal};
+ghost use Rattle.x690.specs.Lists.{one_of};
+ghost use Rattle.x690.specs.Values.{Leaf};
+ghost use Rattle.pkix_values.specs.Versions.{version_closed, versions};
+
+use asn_values::der_text::DerText;
+use asn_values::element::Element;
+use asn_values::integer::Int;
+use asn_values::tags::{is_same_tag, universal_tag};
+use ber_pull::pull::Pull;
+use std::alloc::Global;
+use tlv_core::fault::ReadError;
+use tlv_core::reason::Reason;
+use tlv_core::sink::{Sink, WriteError};
+use tlv_core::source::Source;
+use tlv_core::tag::Tag;
+use tlv_core::target::Target;
+
+/// The version of a document: an INTEGER from `LEAST` to `MOST`, and no more than 127 even where `MOST` is. Another INTEGER is refused at its
+/// identifier as `Version`.
+#[derive(Clone, Copy)]
+pub struct Version<const LEAST: u8, const MOST: u8> {
+    number: u8,
+    ghost allowed: { one_of (number ∷ []) (versions LEAST MOST) ≡ true },
+}
+
+impl<const LEAST: u8, const MOST: u8> Version<LEAST, MOST> {
+    /// Its number, which is the one octet of the INTEGER's contents.
+    pub fn number(&self) -> u8
+        ensures value { result ≡ self.now.number }
+        ensures least { LEAST ≤ result }
+        ensures most { result ≤ MOST }
+        ensures octet { result < 128 }
+        ensures allowed { one_of (result ∷ []) (versions LEAST MOST) ≡ true }
+    {
+        self.number
+    }
+
+    /// Whether the two are the same.
+    pub fn same(&self, other: &Version<LEAST, MOST>) -> bool
+        ensures { IsTrue result ↔ (self.now.number ≡ other.now.number) }
+    {
+        self.number == other.number
+    }
+
+    fn text(&self) -> [u8; 3]
+        ensures { result ≡ der (Leaf (universal 2) (self.now.number ∷ [])) }
+    {
+        [0x02, 0x01, self.number]
+    }
+}
+
+/// Whether the type has the version with this number.
+fn is_version<const LEAST: u8, const MOST: u8>(number: u8) -> bool
+    ensures { result ≡ one_of (number ∷ []) (versions LEAST MOST) }
+{
+    if number < LEAST || number > MOST {
+        return false;
+    }
+    number < 128
+}
+
+/// The number with these contents of an INTEGER, where the type has it.
+fn number_of<const LEAST: u8, const MOST: u8>(contents: &[u8]) -> Option<u8>
+    ensures listed { is_some result ≡ one_of contents.now (versions LEAST MOST) }
+    ensures is { IfSome result (λ number. contents.now ≡ number ∷ []) }
+{
+    match contents {
+        [number] if is_version::<LEAST, MOST>(*number) => Some(*number),
+        _ => None,
+    }
+}
+
+impl<const LEAST: u8, const MOST: u8> DerText for Version<LEAST, MOST> {
+    ghost value = { λ v. Leaf (universal 2) (v.number ∷ []) };
+
+    ghost one_text = { λ x y. leaf_one_text (universal 2) (universal 2) (x.number ∷ []) (y.number ∷ []) };
+
+    fn size(&self) -> u64 {
+        3
+    }
+
+    fn put<W: Target>(&self, sink: &mut Sink<'_, W>) -> Result<(), WriteError> {
+        sink.put(&self.text())
+    }
+
+    fn octet(&self, i: u64) -> Option<u8> {
+        if i < 3 {
+            Some(self.text()[i as usize])
+        } else {
+            None
+        }
+    }
+}
+
+impl<const LEAST: u8, const MOST: u8> Element for Version<LEAST, MOST> {
+    ghost type_term = { version (versions LEAST MOST) };
+
+    ghost closed = { version_closed (versions LEAST MOST) };
+
+    #[tactic(auto, unfolding(x690::specs::TypeTerms::fits_tag))]
+    fn fits(tag: Tag) -> bool {
+        is_same_tag(universal_tag(2), tag)
+    }
+
+    fn read<R: Source>(
+        alloc: Global,
+        pull: &mut Pull<'_, R>,
+    ) -> Result<Version<LEAST, MOST>, ReadError> {
+        let at = pull.at();
+        let integer = Int::read(alloc, pull)?;
+        let Some(number) = number_of::<LEAST, MOST>(integer.content()) else {
+            return Err(pull.refuse(at, Reason::Version, None));
+        };
+        Ok(Version { number })
+    }
+}
