@@ -34,32 +34,35 @@ flag_one_text false true = tt
 flag_one_text true false = tt
 flag_one_text true true = leaf_one_text (universal 1) (universal 1) (255 ∷ []) (255 ∷ [])
 
-two_same : (a a' b b' : Value) → OneText a a' → OneText b b' → map der (a ∷ b ∷ []) ≡ map der (a' ∷ b' ∷ []) → Each Same (a ∷ b ∷ []) (a' ∷ b' ∷ [])
-two_same a a' b b' f g e = (f cc, (g cc, tt))
+-- So it is of fields one after another.
+pub record OneTexts (vs ws : List Value) : Type 0 where
+  pub same : map der vs ≡ map der ws → Each Same vs ws
 
-pub two_one_text : (t : Tag) (a a' b b' : Value) → OneText a a' → OneText b b' → OneText (Sequence t (values_of (a ∷ b ∷ []))) (Sequence t (values_of (a' ∷ b' ∷ [])))
-two_one_text t a a' b b' f g e = each_sequence t (a ∷ b ∷ []) (a' ∷ b' ∷ []) (two_same a a' b b' f g (sequence_texts t (a ∷ b ∷ []) (a' ∷ b' ∷ []) e))
+-- of one that is due, and those behind it
+pub due_one_text : {v w : Value} {vs ws : List Value} → OneText v w → OneTexts vs ws → OneTexts (v ∷ vs) (w ∷ ws)
+due_one_text f g = record { same = λ e. (f cc, g.same cc) }
 
--- the second may be absent
-one_or_two_same : (a a' : Value) (o o' : Option Value) → OneText a a' → OneField o o' → map der (a ∷ with_field o []) ≡ map der (a' ∷ with_field o' []) → Each Same (a ∷ with_field o []) (a' ∷ with_field o' [])
-one_or_two_same a a' None None f g e = (f cc, tt)
-one_or_two_same a a' None (Some w) f g e = cc
-one_or_two_same a a' (Some v) None f g e = cc
-one_or_two_same a a' (Some v) (Some w) f g e = two_same a a' v w f g e
+-- of the last one, which is due
+pub last_one_text : {v w : Value} → OneText v w → OneTexts (v ∷ []) (w ∷ [])
+last_one_text f = record { same = λ e. (f cc, tt) }
 
-pub one_or_two_one_text : (t : Tag) (a a' : Value) (o o' : Option Value) → OneText a a' → OneField o o' → OneText (Sequence t (values_of (a ∷ with_field o []))) (Sequence t (values_of (a' ∷ with_field o' [])))
-one_or_two_one_text t a a' o o' f g e = each_sequence t (a ∷ with_field o []) (a' ∷ with_field o' []) (one_or_two_same a a' o o' f g (sequence_texts t (a ∷ with_field o []) (a' ∷ with_field o' []) e))
+-- of the last one, which may be absent
+pub optional_one_text : (o o' : Option Value) → OneField o o' → OneTexts (with_field o []) (with_field o' [])
+optional_one_text None None f = record { same = λ e. tt }
+optional_one_text None (Some w) f = record { same = λ e. cc }
+optional_one_text (Some v) None f = record { same = λ e. cc }
+optional_one_text (Some v) (Some w) f = last_one_text f
 
--- the one between two others may be absent
-two_or_three_same : (a a' : Value) (o o' : Option Value) (b b' : Value) → OneText a a' → OneField o o' → OneText b b' → map der (a ∷ (with_field o [] ++ (b ∷ []))) ≡ map der (a' ∷ (with_field o' [] ++ (b' ∷ []))) → Each Same (a ∷ (with_field o [] ++ (b ∷ []))) (a' ∷ (with_field o' [] ++ (b' ∷ [])))
-two_or_three_same a a' None None b b' f g h e = two_same a a' b b' f h e
-two_or_three_same a a' None (Some w) b b' f g h e = cc
-two_or_three_same a a' (Some v) None b b' f g h e = cc
-two_or_three_same a a' (Some v) (Some w) b b' f g h e = (f cc, (g cc, (h cc, tt)))
+-- of one that may be absent, where the last one is due
+pub between_one_text : (o o' : Option Value) (v w : Value) → OneField o o' → OneText v w → OneTexts (with_field o [] ++ (v ∷ [])) (with_field o' [] ++ (w ∷ []))
+between_one_text None None v w f g = last_one_text g
+between_one_text None (Some y) v w f g = record { same = λ e. cc }
+between_one_text (Some x) None v w f g = record { same = λ e. cc }
+between_one_text (Some x) (Some y) v w f g = due_one_text f (last_one_text g)
 
-pub two_or_three_one_text : (t : Tag) (a a' : Value) (o o' : Option Value) (b b' : Value) → OneText a a' → OneField o o' → OneText b b' → OneText (Sequence t (values_of (a ∷ (with_field o [] ++ (b ∷ []))))) (Sequence t (values_of (a' ∷ (with_field o' [] ++ (b' ∷ [])))))
-two_or_three_one_text t a a' o o' b b' f g h e =
-    each_sequence t (a ∷ (with_field o [] ++ (b ∷ []))) (a' ∷ (with_field o' [] ++ (b' ∷ []))) (two_or_three_same a a' o o' b b' f g h (sequence_texts t (a ∷ (with_field o [] ++ (b ∷ []))) (a' ∷ (with_field o' [] ++ (b' ∷ []))) e))
+-- and so of the SEQUENCE
+pub sequence_one_text : (t : Tag) (vs ws : List Value) → OneTexts vs ws → OneText (Sequence t (values_of vs)) (Sequence t (values_of ws))
+sequence_one_text t vs ws f e = each_sequence t vs ws (f.same (sequence_texts t vs ws e))
 
 -- sequences of two fields with one text have one OBJECT IDENTIFIER as the first, if it is one in both
 pub one_first_identifier : (t : Tag) (a a' : List ℕ) (v v' : Value) → der (Sequence t (values_of (Leaf (universal 6) a ∷ v ∷ []))) ≡ der (Sequence t (values_of (Leaf (universal 6) a' ∷ v' ∷ []))) → a ≡ a'

@@ -1,6 +1,6 @@
 //! AlgorithmIdentifier of RFC 5280 section 4.1.1.2.
 ghost use Rattle.x690_laws.proofs.OneTexts.{leaf_one_text};
-ghost use Rattle.asn_fields.proofs.OneFields.{field_one_text, one_or_two_one_text};
+ghost use Rattle.asn_fields.proofs.OneFields.{due_one_text, field_one_text, optional_one_text, sequence_one_text};
 ghost use Rattle.std.specs.Prelude.{◌≡◌, ◌↔◌, ◌<◌, ◌^◌, ◌∷◌, None, IsTrue, [], length, true};
 ghost use Rattle.std.specs.Option.{option_map};
 ghost use Rattle.x690.specs.DerTexts.{texts_of};
@@ -75,7 +75,7 @@ impl AlgorithmIdentifier {
 impl DerText for AlgorithmIdentifier {
     ghost value = { λ a. Sequence (universal 16) (values_of (Leaf (universal 6) a.algorithm ∷ with_field (option_map (⟦<Any as DerText>⟧.value) a.parameters) [])) };
 
-    ghost one_text = { λ x y. one_or_two_one_text (universal 16) (Leaf (universal 6) x.algorithm) (Leaf (universal 6) y.algorithm) (option_map (⟦<Any as DerText>⟧.value) x.parameters) (option_map (⟦<Any as DerText>⟧.value) y.parameters) (leaf_one_text (universal 6) (universal 6) x.algorithm y.algorithm) (field_one_text (⟦<Any as DerText>⟧.value) (⟦<Any as DerText>⟧.one_text) x.parameters y.parameters) };
+    ghost one_text = { λ x y. sequence_one_text (universal 16) (Leaf (universal 6) x.algorithm ∷ with_field (option_map (⟦<Any as DerText>⟧.value) x.parameters) []) (Leaf (universal 6) y.algorithm ∷ with_field (option_map (⟦<Any as DerText>⟧.value) y.parameters) []) (due_one_text (leaf_one_text (universal 6) (universal 6) x.algorithm y.algorithm) (optional_one_text (option_map (⟦<Any as DerText>⟧.value) x.parameters) (option_map (⟦<Any as DerText>⟧.value) y.parameters) (field_one_text (⟦<Any as DerText>⟧.value) (⟦<Any as DerText>⟧.one_text) x.parameters y.parameters))) };
 
     fn size(&self) -> u64 {
         sequence_size(universal_tag(16), &self.parts())

@@ -1,6 +1,6 @@
 //! Attribute of RFC 2986 section 4.1.
 ghost use Rattle.x690_laws.proofs.OneTexts.{leaf_one_text};
-ghost use Rattle.asn_fields.proofs.OneFields.{two_one_text};
+ghost use Rattle.asn_fields.proofs.OneFields.{due_one_text, last_one_text, sequence_one_text};
 ghost use Rattle.std.specs.Prelude.{◌≡◌, ◌↔◌, ◌<◌, ◌^◌, IsTrue, length, map};
 ghost use Rattle.x690.specs.DerTexts.{texts_of};
 ghost use Rattle.x690.specs.DocumentTypes.{object_identifier, sequence, set_of_some, ◌⨾◌};
@@ -72,7 +72,7 @@ impl<T: DerText> AttributeOf<T> {
 impl<T: DerText> DerText for AttributeOf<T> {
     ghost value = { λ a. Sequence (universal 16) (values_of (attribute_values T.value a.id (set_items a.values.items))) };
 
-    ghost one_text = { λ x y. two_one_text (universal 16) (Leaf (universal 6) x.id) (Leaf (universal 6) y.id) (SetValue (universal 17) (values_of (map T.value (set_items x.values.items)))) (SetValue (universal 17) (values_of (map T.value (set_items y.values.items)))) (leaf_one_text (universal 6) (universal 6) x.id y.id) (⟦<SetOfSome<T> as DerText>⟧.one_text x.values y.values) };
+    ghost one_text = { λ x y. sequence_one_text (universal 16) (attribute_values T.value x.id (set_items x.values.items)) (attribute_values T.value y.id (set_items y.values.items)) (due_one_text (leaf_one_text (universal 6) (universal 6) x.id y.id) (last_one_text (⟦<SetOfSome<T> as DerText>⟧.one_text x.values y.values))) };
 
     fn size(&self) -> u64 {
         sequence_size(universal_tag(16), &self.parts())

@@ -6,7 +6,7 @@ ghost use Rattle.x690.specs.Layouts.{universal};
 ghost use Rattle.x690.specs.Values.{Leaf, Same, Sequence, values_of};
 ghost use Rattle.x690_laws.proofs.OneTexts.{leaf_one_text};
 ghost use Rattle.asn_fields.specs.Fields.{unless_false};
-ghost use Rattle.asn_fields.proofs.OneFields.{flag_one_text, two_or_three_one_text};
+ghost use Rattle.asn_fields.proofs.OneFields.{between_one_text, due_one_text, flag_one_text, sequence_one_text};
 ghost use Rattle.asn_elements.specs.Leaves.{octets_of};
 ghost use Rattle.pkix_values.specs.ClosedTypes.{extension_closed};
 ghost use Rattle.pkix_values.specs.Values.{extension_values};
@@ -79,8 +79,7 @@ impl Extension {
 impl DerText for Extension {
     ghost value = { λ e. Sequence (universal 16) (values_of (extension_values e.id e.critical e.value)) };
 
-    ghost one_text = { λ x y. two_or_three_one_text (universal 16) (Leaf (universal 6) x.id) (Leaf (universal 6) y.id) (unless_false x.critical) (unless_false y.critical) (Leaf (universal 4) (octets_of x.value)) (Leaf (universal 4) (octets_of y.value))
-        (leaf_one_text (universal 6) (universal 6) x.id y.id) (flag_one_text x.critical y.critical) (leaf_one_text (universal 4) (universal 4) (octets_of x.value) (octets_of y.value)) };
+    ghost one_text = { λ x y. sequence_one_text (universal 16) (extension_values x.id x.critical x.value) (extension_values y.id y.critical y.value) (due_one_text (leaf_one_text (universal 6) (universal 6) x.id y.id) (between_one_text (unless_false x.critical) (unless_false y.critical) (Leaf (universal 4) (octets_of x.value)) (Leaf (universal 4) (octets_of y.value)) (flag_one_text x.critical y.critical) (leaf_one_text (universal 4) (universal 4) (octets_of x.value) (octets_of y.value)))) };
 
     fn size(&self) -> u64 {
         sequence_size(universal_tag(16), &self.parts())

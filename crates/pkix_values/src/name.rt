@@ -1,6 +1,6 @@
 //! Names of RFC 5280 section 4.1.2.4.
 ghost use Rattle.x690_laws.proofs.OneTexts.{leaf_one_text, list_one_text};
-ghost use Rattle.asn_fields.proofs.OneFields.{two_one_text};
+ghost use Rattle.asn_fields.proofs.OneFields.{due_one_text, last_one_text, sequence_one_text};
 ghost use Rattle.std.specs.Prelude.{◌≡◌, ◌↔◌, ◌<◌, ◌^◌, ◌∷◌, IsTrue, [], length, map};
 ghost use Rattle.x690.specs.DerTexts.{texts_of};
 ghost use Rattle.x690.specs.DocumentTypes.{Name as NameType, NameItem as NameItemType};
@@ -67,7 +67,7 @@ impl NameItem {
 impl DerText for NameItem {
     ghost value = { λ item. Sequence (universal 16) (values_of (Leaf (universal 6) item.id ∷ ⟦<Any as DerText>⟧.value item.value ∷ [])) };
 
-    ghost one_text = { λ x y. two_one_text (universal 16) (Leaf (universal 6) x.id) (Leaf (universal 6) y.id) (⟦<Any as DerText>⟧.value x.value) (⟦<Any as DerText>⟧.value y.value) (leaf_one_text (universal 6) (universal 6) x.id y.id) (⟦<Any as DerText>⟧.one_text x.value y.value) };
+    ghost one_text = { λ x y. sequence_one_text (universal 16) (Leaf (universal 6) x.id ∷ ⟦<Any as DerText>⟧.value x.value ∷ []) (Leaf (universal 6) y.id ∷ ⟦<Any as DerText>⟧.value y.value ∷ []) (due_one_text (leaf_one_text (universal 6) (universal 6) x.id y.id) (last_one_text (⟦<Any as DerText>⟧.one_text x.value y.value))) };
 
     fn size(&self) -> u64 {
         sequence_size(universal_tag(16), &self.parts())

@@ -1,6 +1,6 @@
 //! SubjectPublicKeyInfo of RFC 5280 section 4.1.2.7.
 ghost use Rattle.x690_laws.proofs.OneTexts.{leaf_one_text};
-ghost use Rattle.asn_fields.proofs.OneFields.{two_one_text};
+ghost use Rattle.asn_fields.proofs.OneFields.{due_one_text, last_one_text, sequence_one_text};
 ghost use Rattle.std.specs.Prelude.{◌≡◌, ◌↔◌, ◌<◌, ◌^◌, ◌∷◌, IsTrue, [], length, true};
 ghost use Rattle.x690.specs.DerTexts.{der, texts_of};
 ghost use Rattle.x690.specs.DocumentTypes.{SubjectPublicKeyInfo as SubjectPublicKeyInfoType};
@@ -81,7 +81,7 @@ impl SubjectPublicKeyInfo {
 impl DerText for SubjectPublicKeyInfo {
     ghost value = { λ info. Sequence (universal 16) (values_of (⟦<AlgorithmIdentifier as DerText>⟧.value info.algorithm ∷ Leaf (universal 3) (bit_string_of info.key) ∷ [])) };
 
-    ghost one_text = { λ x y. two_one_text (universal 16) (⟦<AlgorithmIdentifier as DerText>⟧.value x.algorithm) (⟦<AlgorithmIdentifier as DerText>⟧.value y.algorithm) (Leaf (universal 3) (bit_string_of x.key)) (Leaf (universal 3) (bit_string_of y.key)) (⟦<AlgorithmIdentifier as DerText>⟧.one_text x.algorithm y.algorithm) (leaf_one_text (universal 3) (universal 3) (bit_string_of x.key) (bit_string_of y.key)) };
+    ghost one_text = { λ x y. sequence_one_text (universal 16) (⟦<AlgorithmIdentifier as DerText>⟧.value x.algorithm ∷ Leaf (universal 3) (bit_string_of x.key) ∷ []) (⟦<AlgorithmIdentifier as DerText>⟧.value y.algorithm ∷ Leaf (universal 3) (bit_string_of y.key) ∷ []) (due_one_text (⟦<AlgorithmIdentifier as DerText>⟧.one_text x.algorithm y.algorithm) (last_one_text (leaf_one_text (universal 3) (universal 3) (bit_string_of x.key) (bit_string_of y.key)))) };
 
     fn size(&self) -> u64 {
         sequence_size(universal_tag(16), &self.parts())
