@@ -6,6 +6,7 @@ mod attributes;
 mod extensions;
 mod keys;
 mod names;
+mod versions;
 
 use asn_values::der_text::DerText;
 use asn_values::element::Element;
