@@ -1,5 +1,5 @@
 // The order of SET OF (X.690 11.6). No DER text begins another one, so it is the plain order of the members' texts.
-ghost use Rattle.std.specs.Prelude.{◌≡◌, ◌==◌, ◌<◌, ◌^◌, IfOk, IsPermutation, length, map, true};
+ghost use Rattle.std.specs.Prelude.{◌≡◌, ◌==◌, ◌↔◌, ◌<◌, ◌^◌, IfOk, IsPermutation, IsSorted, IsTrue, length, map, true};
 ghost use Rattle.std.proofs.Common.{rules};
 ghost use Rattle.std.specs.Cmp.{partial_order_from_own_ties};
 ghost use Rattle.std.specs.Cmp.Rules.{comparing};
@@ -8,8 +8,9 @@ ghost use Rattle.std.specs.Ordering.{as_partial_cmp, nat_cmp, on};
 ghost use Rattle.x690.specs.DerTexts.{der, texts_of};
 ghost use Rattle.asn_elements.specs.Members.{ascends};
 
-use crate::row::texts;
+use crate::row::{starts_of, texts};
 use asn_elements::der_text::DerText;
+use asn_elements::texts::ascend;
 use std::alloc::{AllocError, Global};
 use std::cmp::Ordering;
 
@@ -60,6 +61,17 @@ impl<'a, T: DerText> PartialOrd for Keyed<'a, T> {
     }
 }
 
+/// Whether the items, whose texts stand one after another in `octets`, are in order. The places where the texts begin are given back before
+/// the items are put in order.
+fn is_in_order<T: DerText>(alloc: Global, items: &[T], octets: &[u8]) -> Result<bool, AllocError>
+    requires texts { octets.now ≡ texts_of (map T.value items.now) }
+    requires small { length octets.now < 2 ^ 63 }
+    ensures { IfOk result (λ answer. IsTrue answer ↔ IsSorted (slice_cmp nat_cmp) (map der (map T.value items.now))) }
+{
+    let (starts, _) = starts_of(alloc, items)?;
+    Ok(ascend(octets, &starts))
+}
+
 /// The items with their keys, where their texts stand one after another in `octets`.
 fn add_keys<'a, T: DerText>(
     alloc: Global,
@@ -100,6 +112,10 @@ pub fn in_order<T: DerText>(alloc: Global, items: Vec<T>) -> Result<Vec<T>, Allo
     // A vector that grew may have room for twice as many.
     exact.shrink_to_fit();
     let octets = texts(alloc, &exact)?;
+    // In DER they stand so already.
+    if is_in_order(alloc, &exact, &octets)? {
+        return Ok(exact);
+    }
     let mut keys = add_keys(alloc, exact, &octets)?;
     keys.sort_unstable();
     let sorted = drop_keys(alloc, keys)?;

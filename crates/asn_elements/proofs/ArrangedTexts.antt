@@ -2,6 +2,7 @@
 use Rattle.std.proofs.Common.{◌≡◌, ◌∙◌, ◌+◌, ap, ap₂, arith, false, get_or, map, refl, subst, suc, sym, true, List, [], ◌∷◌, ℕ}
 use Rattle.std.proofs.lemmas.Bool.Decides.{nat_tests}
 use Rattle.std.proofs.lemmas.Cmp.{same_from_slice_cmp}
+use Rattle.std.proofs.lemmas.List.{map-id}
 use Rattle.std.proofs.lemmas.List.Elements.{All-from_recursion, recursion_from_All}
 use Rattle.std.proofs.lemmas.List.Sorted.{All-permutation, IsPermutation-sym}
 use Rattle.std.specs.Cmp.Lexicographic.{slice_cmp}
@@ -52,6 +53,13 @@ same_map g h e (x ∷ xs) = ap₂ (λ a b. a ∷ b) (e x) (same_map g h e xs)
 -- members that are sorted by their texts ascend
 pub sorted_ascend : {A : Type 0} (g : A → List ℕ) (f : A → Value) → ((x : A) → g x ≡ der (f x)) → (xs : List A) → IsSorted (on g (slice_cmp nat_cmp)) xs → ascends (map (λ x. der (f x)) xs) ≡ true
 sorted_ascend g f e xs h = ap ascends (sym (same_map g (λ x. der (f x)) e xs)) ∙ ascends_by (map g xs) (texts_ascend g xs (texts_each g f e xs) h)
+
+-- and so do texts that are sorted
+pub sorted_texts_ascend : (vs : List Value) → IsSorted (slice_cmp nat_cmp) (map der vs) → ascends (map der vs) ≡ true
+sorted_texts_ascend vs h =
+    let texts = map der vs in
+    let each = texts_each der (λ v. v) (λ v. refl) vs in
+    subst (λ z. ascends z ≡ true) (map-id texts) (ascends_by (map (λ t. t) texts) (texts_ascend (λ t. t) texts (subst (AllByRecursion IsText) (sym (map-id texts)) each) h))
 
 -- sorted, they are in the order of SET OF
 pub sorted_arranged : {A : Type 0} (g : A → List ℕ) (vs : List Value) (xs : List A) → IsPermutation (map der vs) (map g xs) → IsSorted (on g (slice_cmp nat_cmp)) xs → map g xs ≡ arrange (map der vs)

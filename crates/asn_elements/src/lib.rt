@@ -1,4 +1,4 @@
-//! What elements of ASN.1 are, and the leaves among them (X.690 8, 10, 11): `asn_values` passes all of it on but `keep`.
+//! What elements of ASN.1 are, and the leaves among them (X.690 8, 10, 11): `asn_values` passes all of it on but `keep` and `texts`.
 //!
 //! `DerText` is what has a text in DER, `Element` what can be read as well, from any source and in any layout of BER. There are the leaves
 //! `Bool`, `Int`, `Null`, `Bits`, `Octets`, `Text` and `tlv_core`'s `Oid`. `ImplicitText` and `ImplicitElement` are what has a text and can be read under
@@ -27,3 +27,4 @@ pub mod object_identifier;
 pub mod octets;
 pub mod tags;
 pub mod text;
+pub mod texts;

@@ -125,7 +125,7 @@ fn arranged<R: Source>(
     pull: &mut Pull<'_, R>,
     is_set: bool,
     octets: Vec<u8>,
-    starts: &[usize],
+    starts: &[u64],
 ) -> Result<Vec<u8>, ReadError>
     requires fine { (standing pull.old).error ≡ None }
     requires texts { (values : List Value) × StandIn values octets.items starts.now }
@@ -152,7 +152,7 @@ fn read_members<R: Source>(
     alloc: Global,
     pull: &mut Pull<'_, R>,
     room: &mut Vec<u8>,
-) -> Result<(Vec<u8>, Vec<usize>), ReadError>
+) -> Result<(Vec<u8>, Vec<u64>), ReadError>
     requires { (standing pull.old).error ≡ None → IsSome (standing pull.old).given }
     ensures same_source { SameSource pull.old pull.new }
     ensures repeats { Repeats pull.old pull.new result }
@@ -167,7 +167,7 @@ fn read_members<R: Source>(
     let mut octets = Vec::new(alloc);
     let mut starts = Vec::new(alloc);
     while let Some((tag, constructed)) = pull.next_tag()? {
-        let start = octets.len();
+        let start = octets.len() as u64;
         append_open(alloc, pull, room, &mut octets, tag, constructed)?;
         keep(pull, &mut starts, start)?;
     }

@@ -1,44 +1,15 @@
 // The texts of a SET OF's members, as octets, in the order of SET OF (X.690 11.6).
-ghost use Rattle.std.specs.Prelude.{◌≡◌, ◌<◌, ◌↔◌, List, [], IfOk, IsSorted, IsTrue, get_or, length, map};
-ghost use Rattle.std.specs.Cmp.Lexicographic.{slice_cmp};
-ghost use Rattle.std.specs.Ordering.{nat_cmp};
+ghost use Rattle.std.specs.Prelude.{◌≡◌, List, IfOk, map};
 ghost use Rattle.x690.specs.DerTexts.{arrange, der};
 ghost use Rattle.x690.specs.Lists.{join};
 ghost use Rattle.x690.specs.Values.{Value};
 ghost use Rattle.asn_elements.specs.Members.{StandIn};
 
+use asn_elements::texts::{ascend, text_at};
 use std::alloc::{AllocError, Global};
 
-/// The text at this place.
-fn text_at<'a>(octets: &'a [u8], starts: &[usize], i: usize) -> &'a [u8]
-    requires stand { (values : List Value) × StandIn values octets.now starts.now }
-    requires inside { i < length starts.now }
-    ensures { (values : List Value) → StandIn values octets.now starts.now → result.now ≡ get_or (map der values) i [] }
-{
-    let end = if i + 1 < starts.len() {
-        starts[i + 1]
-    } else {
-        octets.len()
-    };
-    &octets[starts[i]..end]
-}
-
-/// Whether no text is less than the one before it.
-fn ascend(octets: &[u8], starts: &[usize]) -> bool
-    requires { (values : List Value) × StandIn values octets.now starts.now }
-    ensures { (values : List Value) → StandIn values octets.now starts.now → (IsTrue result ↔ IsSorted (slice_cmp nat_cmp) (map der values)) }
-{
-    for i in 1..starts.len() {
-        let before = text_at(octets, starts, i - 1);
-        if text_at(octets, starts, i).cmp(before).is_lt() {
-            return false;
-        }
-    }
-    true
-}
-
 /// The texts, each for itself.
-fn cut<'a>(alloc: Global, octets: &'a [u8], starts: &[usize]) -> Result<Vec<&'a [u8]>, AllocError>
+fn cut<'a>(alloc: Global, octets: &'a [u8], starts: &[u64]) -> Result<Vec<&'a [u8]>, AllocError>
     requires { (values : List Value) × StandIn values octets.now starts.now }
     ensures { IfOk result (λ texts. (values : List Value) → StandIn values octets.now starts.now → map (λ t. t.now) texts.items ≡ map der values) }
 {
@@ -62,7 +33,7 @@ fn joined(alloc: Global, capacity: usize, texts: &[&[u8]]) -> Result<Vec<u8>, Al
 
 /// The texts that stand one after another in `octets`, each beginning at one of `starts`, in the order of SET OF; equal ones stay.
 /// No DER text begins another one, so the plain order of octets, in which nothing is padded, is that order.
-pub fn in_order(alloc: Global, octets: Vec<u8>, starts: &[usize]) -> Result<Vec<u8>, AllocError>
+pub fn in_order(alloc: Global, octets: Vec<u8>, starts: &[u64]) -> Result<Vec<u8>, AllocError>
     requires { (values : List Value) × StandIn values octets.items starts.now }
     ensures { IfOk result (λ sorted. (values : List Value) → StandIn values octets.items starts.now → sorted.items ≡ join (arrange (map der values))) }
 {

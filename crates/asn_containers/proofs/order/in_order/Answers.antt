@@ -2,7 +2,7 @@ use Rattle.std.proofs.Common.{◌∙◌, ap, map, subst, sym, IsPermutation}
 use Rattle.std.proofs.lemmas.List.Sorted.{IsPermutation-map}
 use Rattle.x690.specs.DerTexts.{der}
 use Rattle.asn_elements.specs.Members.{ascends}
-use Rattle.asn_elements.proofs.ArrangedTexts.{sorted_ascend}
+use Rattle.asn_elements.proofs.ArrangedTexts.{sorted_ascend, sorted_texts_ascend}
 use Rattle.asn_elements.proofs.MappedMembers.{map_thrice}
 use Rattle.asn_containers.proofs.order.in_order.Goals as goal
 
@@ -17,3 +17,9 @@ returns-clause-in_order g c =
     ap (λ z. ascends (map der (map g.T.DerText.value z))) c.in_ok-sorted.ensures
     ∙ (ap ascends (map_thrice der g.T.DerText.value (λ k. k.item) keys)
     ∙ sorted_ascend (λ k. k.text.now) (λ k. g.T.DerText.value k.item) (λ k. k.own) keys c.sort_unstable.ensures.sorted)
+
+pub returns-then-branch-clause-in_order : goal.returns-then-branch-clause-in_order
+returns-then-branch-clause-in_order g c =
+    let items = c.deref-2.result.now in
+    ap (λ z. ascends (map der (map g.T.DerText.value z))) (sym c.deref-2.ensures.value)
+    ∙ sorted_texts_ascend (map g.T.DerText.value items) (c.in_ok-is_in_order.ensures.0 c.if-branch.true)

@@ -1,7 +1,7 @@
 use Rattle.std.proofs.Common.{inl, inr}
 use Rattle.asn_elements.proofs.CutTexts.{EndsAt, stands_between}
-use Rattle.asn_open_values.proofs.texts.text_at.Goals as goal
-use Rattle.asn_open_values.proofs.texts.text_at.Goals.{then-i-starts, else-i-starts}
+use Rattle.asn_elements.proofs.texts.text_at.Goals as goal
+use Rattle.asn_elements.proofs.texts.text_at.Goals.{then-i-starts, else-i-starts}
 
 pub slice_bounds-result-count : goal.slice_bounds-result-count
 slice_bounds-result-count c =

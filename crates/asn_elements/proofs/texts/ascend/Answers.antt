@@ -5,7 +5,7 @@ use Rattle.std.specs.Cmp.Lexicographic.{slice_cmp}
 use Rattle.std.specs.Ordering.{is_lt, nat_cmp}
 use Rattle.x690.specs.DerTexts.{der}
 use Rattle.asn_elements.proofs.MemberTexts.{starts_length}
-use Rattle.asn_open_values.proofs.texts.ascend.Goals as goal
+use Rattle.asn_elements.proofs.texts.ascend.Goals as goal
 
 -- what was found of a text and the one before it
 less : (texts : List (List ℕ)) (i : ℕ) (text before : List ℕ) (answer : Bool) → 0 < i → i < length texts → text ≡ get_or texts i [] → before ≡ get_or texts (i - 1) [] → answer ≡ is_lt (slice_cmp nat_cmp text before) → (d : List ℕ) → is_lt (slice_cmp nat_cmp (get_or texts i d) (get_or texts (i - 1) d)) ≡ answer
