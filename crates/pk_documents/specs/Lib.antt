@@ -4,3 +4,4 @@ pub mod ReadValues
 pub mod Parts
 pub mod PlainKey
 pub mod PlainKeyLaw
+pub mod WrittenValues

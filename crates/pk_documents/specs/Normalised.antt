@@ -8,12 +8,12 @@ use Rattle.x690.specs.Answers as answers
 use Rattle.x690.specs.Answers.{answer}
 use Rattle.x690.specs.Values.{Value, Same}
 use Rattle.x690.specs.DerTexts.{der}
-use Rattle.x690.specs.DocumentTypes.{SubjectPublicKeyInfo}
+use Rattle.x690.specs.DocumentTypes.{CertificationRequest, SubjectPublicKeyInfo}
 use Rattle.x690.specs.Fitting.{Spells}
 use Rattle.x690.specs.TypeTerms.{TypeTerm}
 use Rattle.pk_documents.specs.PlainKey.{SpellsPlainKey}
 use Rattle.pk_documents.specs.declared.normalise.Kind.{Kind}
-use Rattle.pk_documents.specs.declared.normalise.Kind.TheVariants.{Key, Public}
+use Rattle.pk_documents.specs.declared.normalise.Kind.TheVariants.{Key, Public, Request}
 use Rattle.pk_documents.specs.declared.normalise.NormaliseError.{NormaliseError}
 use Rattle.pk_documents.specs.declared.normalise.NormaliseError.TheVariants.{Read, Write}
 
@@ -25,6 +25,7 @@ SpelledAs type limits value octets = Spells limits type value octets
 abbrev pub SpellsDocument : Kind → Limits → Value → List ℕ → Type 0
 SpellsDocument Key = SpellsPlainKey
 SpellsDocument Public = SpelledAs SubjectPublicKeyInfo
+SpellsDocument Request = SpelledAs CertificationRequest
 
 -- The octets `before` were taken up to `after`, `taken` of them; `written` octets went behind `old`, which gave `new`. `Spelled` says which octets spell a value.
 pub record Normalised (Spelled : Limits → Value → List ℕ → Type 0) (limits : Limits) (value : Value) (before after old new : List ℕ) (taken written : ℕ) : Type 0 where
@@ -61,6 +62,7 @@ FaultAs type limits found before = (answer limits type before ≡ answers.Refuse
 abbrev pub FaultOf : Kind → Limits → Fault → List ℕ → Type 0
 FaultOf Key limits found before = Unspelled SpellsPlainKey limits before
 FaultOf Public limits found before = FaultAs SubjectPublicKeyInfo limits found before
+FaultOf Request limits found before = FaultAs CertificationRequest limits found before
 
 -- Why a document of a type wasn't normalised. A fault takes nothing. A slice never fails. Where memory ran out in reading, nothing is taken;
 -- where there is none for the text, the octets of a value are.
@@ -81,3 +83,4 @@ RefusedPlainKey limits (Write error) before after = TakesSpelling SpellsPlainKey
 abbrev pub Refused : Kind → Limits → NormaliseError → List ℕ → List ℕ → Type 0
 Refused Key = RefusedPlainKey
 Refused Public = RefusedAs SubjectPublicKeyInfo
+Refused Request = RefusedAs CertificationRequest

@@ -1,14 +1,19 @@
-//! One value of a type, read from the start of what a source tells.
+//! One value of a type: read from the start of what a source tells, and written to a target.
 ghost use Rattle.std.specs.Prelude.{◌≡◌, MatchResult, false};
+ghost use Rattle.x690.specs.DerTexts.{der};
 ghost use Rattle.pk_documents.specs.ReadValues.{ReadsValue, StopsReading, IsFailedRead};
+ghost use Rattle.pk_documents.specs.WrittenValues.{WritesText};
 
+use asn_values::der_text::DerText;
 use asn_values::element::Element;
 use ber_pull::pull::Pull;
 use std::alloc::Global;
 use tlv_core::fault::{Fault, ReadError};
 use tlv_core::limits::Limits;
 use tlv_core::reason::Reason;
+use tlv_core::sink::{Sink, WriteError};
 use tlv_core::source::Source;
+use tlv_core::target::Target;
 
 /// Reads one value, and answers it with the number of octets taken; not one octet past it is taken.
 ///
@@ -39,4 +44,17 @@ pub fn read_value<R: Source, T: Element>(
     }
     let taken = pull.at();
     Ok((value, taken))
+}
+
+/// Writes the DER text of a value, and answers its length in octets.
+///
+/// Where the writer fails, the first octets of the text are out, as many as the error tells.
+pub fn write_value<T: DerText, W: Target>(value: &T, dst: &mut W) -> Result<u64, WriteError>
+    requires { W.has_failed dst.old ≡ false }
+    ensures { WritesText (der (T.value value.now)) (W.contents dst.old) (W.contents dst.new) (W.has_failed dst.new) result }
+{
+    let size = value.size();
+    let mut sink = Sink::new(dst);
+    value.put(&mut sink)?;
+    Ok(size)
 }

@@ -1,6 +1,7 @@
 //! Documents of keys, read, checked and written in their one DER text (X.690, RFC 5280, RFC 5958, RFC 8410).
 //!
-//! `document::read_value` reads one value of any type (`Element`) from any source, and `normalise::normalise_value` writes its text. `normalise` does it for
+//! `document::read_value` reads one value of any type (`Element`) from any source, `write_value` writes its text to any target, `normalise::normalise_value` does both.
+//! `signed_part` writes what the signature of a certification request covers. `normalise` does it for
 //! each kind of document; plain keys are read by a reader of their own so far: OneAsymmetricKey of version 0 under the four algorithms of
 //! RFC 8410, in definite lengths of every form.
 //!
@@ -17,3 +18,4 @@ mod key_text;
 pub mod laws;
 pub mod normalise;
 mod plain_key;
+pub mod signed_part;

@@ -11,6 +11,7 @@ use crate::document::read_value;
 use crate::key_text::key_text;
 use asn_values::der_text::der_text;
 use asn_values::element::Element;
+use pk_requests::request::CertificationRequest;
 use pkix_values::public_key::SubjectPublicKeyInfo;
 use std::alloc::{AllocError, Global};
 use thiserror::Error;
@@ -24,6 +25,8 @@ pub enum Kind {
     Key,
     /// SubjectPublicKeyInfo (RFC 5280 section 4.1.2.7).
     Public,
+    /// CertificationRequest (RFC 2986 section 4.2).
+    Request,
 }
 
 /// Why a document was not normalised.
@@ -70,6 +73,7 @@ pub fn normalise(
     match kind {
         Kind::Key => normalise_plain_key(alloc, src, dst, limits),
         Kind::Public => normalise_value::<SubjectPublicKeyInfo>(alloc, src, dst, limits),
+        Kind::Request => normalise_value::<CertificationRequest>(alloc, src, dst, limits),
     }
 }
 

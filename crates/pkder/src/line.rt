@@ -37,7 +37,7 @@ impl From<AllocError> for LineFault {
     }
 }
 
-static KINDS: [&str; 2] = ["key", "public"];
+static KINDS: [&str; 3] = ["key", "public", "request"];
 
 fn with_limits<'a>(alloc: Global, command: Command<'a>) -> Result<Command<'a>, AllocError> {
     let depth = Arg::new(alloc, "depth")
@@ -68,7 +68,7 @@ fn with_kind<'a>(alloc: Global, command: Command<'a>) -> Result<Command<'a>, All
 fn command<'a>(alloc: Global) -> Result<Command<'a>, AllocError> {
     let normalise = Command::new(alloc, "normalise").about("write the document's DER text");
     Command::new(alloc, "pkder")
-        .about("reads one private or public key in BER or DER from standard input")
+        .about("reads one private or public key, or certification request, in BER or DER from standard input")
         .subcommand_required(true)
         .disable_help_subcommand(true)
         .subcommand(with_kind(alloc, normalise)?)
@@ -85,6 +85,7 @@ fn kind_of(name: &str) -> Option<Kind> {
     match name {
         "key" => Some(Kind::Key),
         "public" => Some(Kind::Public),
+        "request" => Some(Kind::Request),
         _ => None,
     }
 }
