@@ -141,8 +141,9 @@ impl Element for CertificationRequestInfo {
         alloc: Global,
         pull: &mut Pull<'_, R>,
     ) -> Result<CertificationRequestInfo, ReadError> {
-        let (Due(version), (Due(subject), (Due(key_info), Optional(attributes)))) =
-            read_sequence(alloc, pull)?;
+        let (Due(version), (Due(subject), (Due(key_info), Optional(attributes)))) = read_sequence(
+            alloc, pull,
+        )?;
         Ok(CertificationRequestInfo {
             version,
             subject,

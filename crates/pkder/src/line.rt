@@ -68,7 +68,9 @@ fn with_kind<'a>(alloc: Global, command: Command<'a>) -> Result<Command<'a>, All
 fn command<'a>(alloc: Global) -> Result<Command<'a>, AllocError> {
     let normalise = Command::new(alloc, "normalise").about("write the document's DER text");
     Command::new(alloc, "pkder")
-        .about("reads one private or public key, or certification request, in BER or DER from standard input")
+        .about(
+            "reads one private or public key, or certification request, in BER or DER from standard input",
+        )
         .subcommand_required(true)
         .disable_help_subcommand(true)
         .subcommand(with_kind(alloc, normalise)?)

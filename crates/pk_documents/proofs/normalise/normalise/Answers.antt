@@ -4,5 +4,5 @@ use Rattle.pk_documents.proofs.normalise.normalise.Goals as goal
 pub normalise_value-requires : goal.normalise_value-requires
 normalise_value-requires c = public_key_info
 
-pub normalise_value-requires-2 : goal.normalise_value-requires-2
-normalise_value-requires-2 c = request
+pub normalise_value-requires-in-Request : goal.normalise_value-requires-in-Request
+normalise_value-requires-in-Request c = request
