@@ -1,4 +1,4 @@
-// The object identifiers that the types name, by their contents (X.690 8.19).
+//! The object identifiers that the types name, by their contents (X.690 8.19).
 ghost use Rattle.std.specs.Prelude.{◌≡◌, ◌∷◌, []};
 ghost use Rattle.std.specs.Option.{is_some};
 ghost use Rattle.x690.specs.Identifiers.{extension_request, length_under, rfc8410_algorithms, rfc8410_lengths};
@@ -6,7 +6,8 @@ ghost use Rattle.x690.specs.Lists.{one_of, same_octets};
 
 use tlv_core::oid::Oid;
 
-fn has_contents(id: &Oid, contents: &[u8]) -> bool
+/// Whether the identifier has these contents.
+pub fn has_contents(id: &Oid, contents: &[u8]) -> bool
     ensures { result ≡ same_octets id.now contents.now }
 {
     id.content() == contents

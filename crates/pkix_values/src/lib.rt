@@ -9,7 +9,7 @@ pub mod algorithm;
 pub mod attribute;
 mod either;
 pub mod extension;
-mod identifiers;
+pub mod identifiers;
 pub mod name;
 pub mod public_key;
 pub mod request_attribute;

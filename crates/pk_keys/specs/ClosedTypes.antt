@@ -1,0 +1,10 @@
+-- Types that don't look at the earlier fields of a container.
+use Rattle.std.specs.Prelude.{refl}
+use Rattle.x690.specs.DocumentTypes.{ECPrivateKey}
+use Rattle.x690.specs.Rules.{ec_rule}
+use Rattle.ber_pull.specs.Fields.{IsClosed}
+use Rattle.ber_pull.proofs.Fields.{ruled_closed, sequence_closed}
+
+pub ec_key_closed : IsClosed ECPrivateKey
+unfolding ECPrivateKey
+ec_key_closed = ruled_closed ec_rule _ (sequence_closed _ _) (λ earlier. refl)

@@ -1,0 +1,2 @@
+pub mod ClosedTypes
+pub mod EcKeys
