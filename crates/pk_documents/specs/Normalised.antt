@@ -8,12 +8,12 @@ use Rattle.x690.specs.Answers as answers
 use Rattle.x690.specs.Answers.{answer}
 use Rattle.x690.specs.Values.{Value, Same}
 use Rattle.x690.specs.DerTexts.{der}
-use Rattle.x690.specs.DocumentTypes.{CertificationRequest, SubjectPublicKeyInfo}
+use Rattle.x690.specs.DocumentTypes.{CertificationRequest, ECPrivateKey, SubjectPublicKeyInfo}
 use Rattle.x690.specs.Fitting.{Spells}
 use Rattle.x690.specs.TypeTerms.{TypeTerm}
 use Rattle.pk_documents.specs.PlainKey.{SpellsPlainKey}
 use Rattle.pk_documents.specs.declared.normalise.Kind.{Kind}
-use Rattle.pk_documents.specs.declared.normalise.Kind.TheVariants.{Key, Public, Request}
+use Rattle.pk_documents.specs.declared.normalise.Kind.TheVariants.{Ec, Key, Public, Request}
 use Rattle.pk_documents.specs.declared.normalise.NormaliseError.{NormaliseError}
 use Rattle.pk_documents.specs.declared.normalise.NormaliseError.TheVariants.{Read, Write}
 
@@ -24,6 +24,7 @@ SpelledAs type limits value octets = Spells limits type value octets
 -- The octets spell the value, as a document of the kind.
 abbrev pub SpellsDocument : Kind → Limits → Value → List ℕ → Type 0
 SpellsDocument Key = SpellsPlainKey
+SpellsDocument Ec = SpelledAs ECPrivateKey
 SpellsDocument Public = SpelledAs SubjectPublicKeyInfo
 SpellsDocument Request = SpelledAs CertificationRequest
 
@@ -61,6 +62,7 @@ FaultAs type limits found before = (answer limits type before ≡ answers.Refuse
 -- A fault of a document of the kind; of plain keys it isn't said which one.
 abbrev pub FaultOf : Kind → Limits → Fault → List ℕ → Type 0
 FaultOf Key limits found before = Unspelled SpellsPlainKey limits before
+FaultOf Ec limits found before = FaultAs ECPrivateKey limits found before
 FaultOf Public limits found before = FaultAs SubjectPublicKeyInfo limits found before
 FaultOf Request limits found before = FaultAs CertificationRequest limits found before
 
@@ -82,5 +84,6 @@ RefusedPlainKey limits (Write error) before after = TakesSpelling SpellsPlainKey
 -- why a document of the kind wasn't normalised
 abbrev pub Refused : Kind → Limits → NormaliseError → List ℕ → List ℕ → Type 0
 Refused Key = RefusedPlainKey
+Refused Ec = RefusedAs ECPrivateKey
 Refused Public = RefusedAs SubjectPublicKeyInfo
 Refused Request = RefusedAs CertificationRequest

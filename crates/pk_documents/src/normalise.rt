@@ -11,6 +11,7 @@ use crate::document::read_value;
 use crate::key_text::key_text;
 use asn_values::der_text::der_text;
 use asn_values::element::Element;
+use pk_keys::ec_private_key::EcPrivateKey;
 use pk_requests::request::CertificationRequest;
 use pkix_values::public_key::SubjectPublicKeyInfo;
 use std::alloc::{AllocError, Global};
@@ -23,6 +24,8 @@ use tlv_core::limits::Limits;
 pub enum Kind {
     /// OneAsymmetricKey (RFC 5958 section 2).
     Key,
+    /// ECPrivateKey (RFC 5915 section 3).
+    Ec,
     /// SubjectPublicKeyInfo (RFC 5280 section 4.1.2.7).
     Public,
     /// CertificationRequest (RFC 2986 section 4.2).
@@ -72,6 +75,7 @@ pub fn normalise(
 {
     match kind {
         Kind::Key => normalise_plain_key(alloc, src, dst, limits),
+        Kind::Ec => normalise_value::<EcPrivateKey>(alloc, src, dst, limits),
         Kind::Public => normalise_value::<SubjectPublicKeyInfo>(alloc, src, dst, limits),
         Kind::Request => normalise_value::<CertificationRequest>(alloc, src, dst, limits),
     }

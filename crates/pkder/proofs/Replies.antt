@@ -6,7 +6,7 @@ use Rattle.tlv_core.specs.Limits.{Limits}
 use Rattle.x690.specs.Values.{Value}
 use Rattle.pk_documents.specs.Normalised.{Normalised, Refused, SpellsDocument}
 use Rattle.pk_documents.specs.declared.normalise.Kind.{Kind}
-use Rattle.pk_documents.specs.declared.normalise.Kind.TheVariants.{Key, Public, Request}
+use Rattle.pk_documents.specs.declared.normalise.Kind.TheVariants.{Ec, Key, Public, Request}
 use Rattle.pk_documents.specs.declared.normalise.NormaliseError.{NormaliseError}
 use Rattle.pk_documents.specs.declared.normalise.NormaliseError.TheVariants.{Read, Write}
 use Rattle.pkder.specs.Replies.{FollowsValue, RepliedTo, refusal_of}
@@ -16,6 +16,10 @@ refusal_replies Key limits (Read (FaultRead found)) before after old h = (refl, 
 refusal_replies Key limits (Read (ReadAt at)) before after old h = absurd h
 refusal_replies Key limits (Read MemoryRead) before after old h = absurd h
 refusal_replies Key limits (Write error) before after old h = refl
+refusal_replies Ec limits (Read (FaultRead found)) before after old h = (refl, h.0, inl h.1)
+refusal_replies Ec limits (Read (ReadAt at)) before after old h = absurd h
+refusal_replies Ec limits (Read MemoryRead) before after old h = refl
+refusal_replies Ec limits (Write error) before after old h = refl
 refusal_replies Public limits (Read (FaultRead found)) before after old h = (refl, h.0, inl h.1)
 refusal_replies Public limits (Read (ReadAt at)) before after old h = absurd h
 refusal_replies Public limits (Read MemoryRead) before after old h = refl

@@ -37,7 +37,7 @@ impl From<AllocError> for LineFault {
     }
 }
 
-static KINDS: [&str; 3] = ["key", "public", "request"];
+static KINDS: [&str; 4] = ["key", "ec", "request", "public"];
 
 fn with_limits<'a>(alloc: Global, command: Command<'a>) -> Result<Command<'a>, AllocError> {
     let depth = Arg::new(alloc, "depth")
@@ -86,6 +86,7 @@ fn action_of(name: &str) -> Option<Action> {
 fn kind_of(name: &str) -> Option<Kind> {
     match name {
         "key" => Some(Kind::Key),
+        "ec" => Some(Kind::Ec),
         "public" => Some(Kind::Public),
         "request" => Some(Kind::Request),
         _ => None,
