@@ -1,9 +1,11 @@
 mod public_keys;
+mod requests;
 
 use crate::line::{Action, LineFault, Task, task_of};
 use crate::outcome::{Outcome, outcome_text, status};
 use crate::run::run;
 use crate::tests::public_keys::PUBLIC_ROWS;
+use crate::tests::requests::{REFUSED_REQUESTS, REQUEST_ROWS};
 use pk_documents::normalise::{Kind, NormaliseError, normalise};
 use std::alloc::Global;
 use std::test::Fail;
@@ -510,7 +512,9 @@ fn normalises_each_row(rt: HostRuntime) -> Result<(), Fail> {
     let alloc = rt.alloc();
     let keys = ROWS.iter().map(|row| (Kind::Key, row));
     let public_keys = PUBLIC_ROWS.iter().map(|row| (Kind::Public, row));
-    for (kind, row) in keys.chain(public_keys) {
+    let requests = REQUEST_ROWS.iter().map(|row| (Kind::Request, row));
+    let refused = REFUSED_REQUESTS.iter().map(|row| (Kind::Request, row));
+    for (kind, row) in keys.chain(public_keys).chain(requests).chain(refused) {
         let Row(rule, depth, octets, input, answer) = row;
         let given = hex::decode(alloc, *input)?;
         let limits = Limits::new(*depth, *octets).ok_or("limits")?;
@@ -597,7 +601,7 @@ fn says_each_outcome(rt: HostRuntime) -> Result<(), Fail> {
 }
 
 /// Lines that name a task, with its kind, depth and octets.
-static GOOD: [(&str, Kind, u8, u32); 6] = [
+static GOOD: [(&str, Kind, u8, u32); 8] = [
     ("pkder normalise --kind key", Kind::Key, 32, 1048576),
     (
         "pkder normalise --kind key --depth 64 --octets 2147483647",
@@ -624,16 +628,24 @@ static GOOD: [(&str, Kind, u8, u32); 6] = [
         32,
         20,
     ),
+    ("pkder normalise --kind request", Kind::Request, 32, 1048576),
+    (
+        "pkder normalise --kind=request --depth 8",
+        Kind::Request,
+        8,
+        1048576,
+    ),
 ];
 
 /// Lines that are refused: no words, no kind, an unknown word, a value out of range, an option given twice.
-static BAD: [&str; 13] = [
+static BAD: [&str; 14] = [
     "pkder",
     "pkder normalise",
     "pkder check --kind key",
     "pkder normalise --kind pem",
     "pkder normalise --kind ec",
     "pkder normalise --kind Public",
+    "pkder normalise --kind requests",
     "pkder normalise --kind key --depth 65",
     "pkder normalise --kind key --depth 0",
     "pkder normalise --kind key --octets 0",
