@@ -20,14 +20,14 @@ use tlv_core::source::{Pieces, Source};
 use tlv_core::target::Stops;
 
 /// What is read of octets of a type: a value's text, or the fault.
-enum Answer {
+pub(crate) enum Answer {
     Text(&'static [u8]),
     Refused(u64, Reason),
 }
 
-struct Row {
-    octets: &'static [u8],
-    answer: Answer,
+pub(crate) struct Row {
+    pub(crate) octets: &'static [u8],
+    pub(crate) answer: Answer,
 }
 
 /// Whether `size`, `octet` and `put` tell this text, also into a target that takes 3 octets at once, and one that takes all but one in all.
@@ -106,13 +106,13 @@ fn is_cut_short<T: Element>(alloc: Global, octets: &[u8]) -> bool {
 }
 
 /// The value that the octets spell.
-fn value_of<T: Element>(alloc: Global, octets: &[u8]) -> Result<Option<T>, ReadError> {
+pub(crate) fn value_of<T: Element>(alloc: Global, octets: &[u8]) -> Result<Option<T>, ReadError> {
     let mut source = octets;
     read(alloc, &mut source)
 }
 
 /// The first row, and the number of octets told, that isn't answered as it is to be; all octets of the rows are needed.
-fn first_wrong<T: Element>(
+pub(crate) fn first_wrong<T: Element>(
     alloc: Global,
     rows: &[Row],
 ) -> Result<Option<(usize, usize)>, AllocError> {
