@@ -11,6 +11,7 @@ case $last in *", 0 failed") ;; *) exit 1 ;; esac
 if sh tools/examples.sh crates/pkder/out/pkder \
     && sh tools/refuse_each_allocation.sh crates/pkder/out/pkder examples/long-lengths.der normalise --kind key \
     && sh tools/refuse_each_allocation.sh crates/pkder/out/pkder examples/public-indefinite.der normalise --kind public \
+    && sh tools/refuse_each_allocation.sh crates/pkder/out/pkder examples/request-indefinite.der normalise --kind request \
     && sh tools/refuse_each_growth.sh crates/refused_growths/out/refused_growths; then
     echo "$last"
 else
