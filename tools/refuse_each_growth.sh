@@ -1,6 +1,6 @@
 #!/bin/sh
-# refuse_each_growth.sh PROGRAM: each growth of memory refused in turn where asn_values reads and makes values, where pkix_values reads
-# them, and where a document of one is read. PROGRAM is that of crates/refused_growths; each line of growths.txt is a task for it, the
+# refuse_each_growth.sh PROGRAM: each growth of memory refused in turn where asn_values reads and makes values, where pkix_values and
+# pk_requests read them, and where a document of one is read. PROGRAM is that of crates/refused_growths; each line of growths.txt is a task for it, the
 # octets, the answer that is due, and how many octets 00 follow in both.
 # A run that met a refusal answers want of memory, or what is due; the first one that met none answers what is due. Where memory was
 # wanted the reader is asked further, answers the same, and takes no octet more.

@@ -1,4 +1,4 @@
-//! Reads or makes one value of `asn_values` or `pkix_values`, or reads a document of one, and writes down the answer: for
+//! Reads or makes one value of `asn_values`, `pkix_values` or `pk_requests`, or reads a document of one, and writes down the answer: for
 //! `tools/refuse_each_growth.sh`, which refuses each growth of memory in turn. The program itself asks for none. Not part of pkder.
 //!
 //! Standard input is one octet that says what to do, below, and the octets to do it with. Standard output is an octet for the kind of answer, a

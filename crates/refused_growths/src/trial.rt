@@ -16,6 +16,7 @@ use asn_values::tagged::Tagged;
 use asn_values::text::Text;
 use ber_pull::pull::Pull;
 use pk_documents::document::read_value;
+use pk_requests::request::CertificationRequest;
 use pkix_values::algorithm::AlgorithmIdentifier;
 use pkix_values::attribute::Attribute;
 use pkix_values::extension::Extension;
@@ -58,8 +59,8 @@ fn without_text(alloc: Global, kind: u8) -> Answer {
     }
 }
 
-/// The answer to a task, and how many octets weren't taken. Tasks 0 to 14 read a value, 128 more ask a reader that wanted memory further,
-/// which has to answer the same each time; 16 to 18 make one; 32 to 34 read a document of one.
+/// The answer to a task, and how many octets weren't taken. Tasks 0 to 15 read a value, 128 more ask a reader that wanted memory further,
+/// which has to answer the same each time; 16 to 18 make one; 32 to 35 read a document of one.
 pub fn answered(alloc: Global, task: u8, octets: &[u8]) -> (Answer, usize) {
     let Some(limits) = Limits::new(64, 1_048_576) else {
         return (without_text(alloc, WRONG), 0);
@@ -69,6 +70,7 @@ pub fn answered(alloc: Global, task: u8, octets: &[u8]) -> (Answer, usize) {
         32 => document::<SubjectPublicKeyInfo>(alloc, octets, limits),
         33 => document::<Name>(alloc, octets, limits),
         34 => document::<RequestAttribute>(alloc, octets, limits),
+        35 => document::<CertificationRequest>(alloc, octets, limits),
         _ => element_answered(alloc, task, octets, limits),
     }
 }
@@ -93,6 +95,7 @@ fn element_answered(alloc: Global, task: u8, octets: &[u8], limits: Limits) -> (
         12 => read::<Attribute>(alloc, &mut pull, again),
         13 => read::<RequestAttribute>(alloc, &mut pull, again),
         14 => read::<Extension>(alloc, &mut pull, again),
+        15 => read::<CertificationRequest>(alloc, &mut pull, again),
         _ => without_text(alloc, WRONG),
     };
     (answer, source.len())
