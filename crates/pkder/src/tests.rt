@@ -1,9 +1,11 @@
+mod ec_keys;
 mod public_keys;
 mod requests;
 
 use crate::line::{Action, LineFault, Task, task_of};
 use crate::outcome::{Outcome, outcome_text, status};
 use crate::run::run;
+use crate::tests::ec_keys::EC_ROWS;
 use crate::tests::public_keys::PUBLIC_ROWS;
 use crate::tests::requests::{REFUSED_REQUESTS, REQUEST_ROWS};
 use pk_documents::normalise::{Kind, NormaliseError, normalise};
@@ -514,7 +516,13 @@ fn normalises_each_row(rt: HostRuntime) -> Result<(), Fail> {
     let public_keys = PUBLIC_ROWS.iter().map(|row| (Kind::Public, row));
     let requests = REQUEST_ROWS.iter().map(|row| (Kind::Request, row));
     let refused = REFUSED_REQUESTS.iter().map(|row| (Kind::Request, row));
-    for (kind, row) in keys.chain(public_keys).chain(requests).chain(refused) {
+    let ec_keys = EC_ROWS.iter().map(|row| (Kind::Ec, row));
+    for (kind, row) in keys
+        .chain(public_keys)
+        .chain(requests)
+        .chain(refused)
+        .chain(ec_keys)
+    {
         let Row(rule, depth, octets, input, answer) = row;
         let given = hex::decode(alloc, *input)?;
         let limits = Limits::new(*depth, *octets).ok_or("limits")?;
@@ -601,7 +609,8 @@ fn says_each_outcome(rt: HostRuntime) -> Result<(), Fail> {
 }
 
 /// Lines that name a task, with its kind, depth and octets.
-static GOOD: [(&str, Kind, u8, u32); 8] = [
+static GOOD: [(&str, Kind, u8, u32); 9] = [
+    ("pkder normalise --kind ec", Kind::Ec, 32, 1048576),
     ("pkder normalise --kind key", Kind::Key, 32, 1048576),
     (
         "pkder normalise --kind key --depth 64 --octets 2147483647",
@@ -643,7 +652,7 @@ static BAD: [&str; 14] = [
     "pkder normalise",
     "pkder check --kind key",
     "pkder normalise --kind pem",
-    "pkder normalise --kind ec",
+    "pkder normalise --kind Ec",
     "pkder normalise --kind Public",
     "pkder normalise --kind requests",
     "pkder normalise --kind key --depth 65",
