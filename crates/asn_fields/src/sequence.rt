@@ -104,6 +104,7 @@ impl<T: Element> Fields for Optional<T> {
 #[derive(Clone, Copy)]
 pub struct DefaultFalse(pub bool);
 
+/// Whether the BOOLEAN is there and TRUE.
 fn is_true(field: Option<Bool>) -> bool
     ensures { unless_false result ≡ but_default (universal 1) (0 ∷ []) (option_map (⟦<Bool as DerText>⟧.value) field) }
 {
