@@ -23,6 +23,7 @@ while IFS="$tab" read -r file text status line words; do
         echo "examples/$file: status $got, $(wc -c < "$dir/out") octets, '$(cat "$dir/err")'"
     fi
 done < "$here/answers.tsv"
+if [ "$((passed + failed))" != "$(grep -cv -e '^#' -e '^$' "$here/answers.tsv")" ]; then failed=$((failed + 1)); echo "not every line was tried"; fi
 # a writer that takes nothing, and a reader that fails
 "$program" normalise --kind key < "$here/smallest.der" > /dev/full 2> "$dir/err"
 if [ $? = 3 ] && [ "$(cat "$dir/err")" = "write failed after 0" ]; then passed=$((passed + 1)); else failed=$((failed + 1)); echo "a full device"; fi

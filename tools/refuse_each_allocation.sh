@@ -1,6 +1,7 @@
 #!/bin/sh
 # refuse_each_allocation.sh PROGRAM INPUT WORD..: the program with each allocation refused in turn. Each run answers as with
-# ample memory, or says "out of memory" with status 3 and writes nothing; the last ones meet no refusal.
+# ample memory, or says "out of memory" with status 3 and writes nothing; the last ones meet no refusal. The last line counts those
+# that were answered as want of memory.
 set -u
 program=$1 input=$2
 shift 2
@@ -19,9 +20,13 @@ while [ "$whole" -lt 20 ] && [ "$n" -le 5000 ]; do
         refused=$((refused + 1)) whole=0
     else
         echo "allocation $n refused: status $got, $(wc -c < "$dir/out") octets, '$(cat "$dir/err")'"
+        echo "allocations: $refused passed, 1 failed"
         exit 1
     fi
     n=$((n + 1))
 done
-echo "allocations: $refused refused in turn, each answered as want of memory"
-[ "$refused" -gt 0 ] && [ "$whole" = 20 ]
+if [ "$whole" != 20 ]; then
+    echo "allocations: $refused passed, 1 failed"
+    exit 1
+fi
+echo "allocations: $refused passed, 0 failed"

@@ -20,6 +20,7 @@ run() {
 
 wrong() {
     echo "growths: task $task of $octets with allocation $n refused: $(xxd -p "$dir/got" | tr -d '\n')"
+    echo "growths: $values passed, 1 failed"
     exit 1
 }
 
@@ -46,4 +47,8 @@ while read -r task octets due more; do
     values=$((values + 1))
 done < "$dir/rows"
 echo "growths: $refused refused in turn in $values values, $wanted answered as want of memory, the others as due"
-[ "$wanted" -gt "$values" ]
+if [ "$wanted" -le "$values" ] || [ "$values" != "$(wc -l < "$dir/rows")" ]; then
+    echo "growths: $values passed, 1 failed"
+    exit 1
+fi
+echo "growths: $values passed, 0 failed"

@@ -1,0 +1,350 @@
+#!/usr/bin/env python3
+"""edits.py [--beside-gate | --over-kept] [NAME | NAME/EDIT ..]: bugs planted in the code, which the proofs must refuse.
+
+The edits stand in crates/NAME/edits, written as those of must-fail/ are. Without names all are tried, and the control.
+
+A crate is proved once, and each round begins over a copy of what that check kept. A round is one check of the crate
+with many edits in it, at most one in a function. A function's proof rests on the contracts of what it calls and on its
+own code alone, so each edit is judged by what the check says of its own function:
+  refused    a part of the function's own proof failed
+  waits      the function calls one that has no proof in this round, so the edit comes again in the next one
+What this doesn't tell is tried alone, as `rt ci` tries the edits of must-fail/: an edit outside of functions, one whose
+function is proved with it, those of a round that can't be read, or in which a function failed that none of them is in.
+
+--beside-gate is for use beside `rt ci`: standard input names each crate once it is proved, and the libraries are those
+that `rt ci` left. --over-kept is for use at work: it begins with what `rt check` kept. The script reads the lines of
+the toolchain's check and calls its script `rt`, of this kit both.
+
+Each edit has a line, and the last line is 'edits: N passed, M failed'."""
+import importlib.machinery
+import importlib.util
+import os
+import re
+import shutil
+import sys
+import tempfile
+from concurrent.futures import ThreadPoolExecutor
+
+sys.dont_write_bytecode = True
+TOOLS = os.path.dirname(os.path.realpath(__file__))
+CONTROL = f"{TOOLS}/edits_control"
+# How the name of an edit of the control begins, and what is due of it.
+CONTROLLED = {"refused": "refused", "proved": "NOT REFUSED", "bad": "BAD EDIT"}
+FUNCTION = re.compile(r"( *)(?:pub(?:\([^)]*\))? )?(?:const )?(?:unsafe )?(?:extern \"C\" )?fn (\w+)")
+CYCLE = re.compile(r" *#\[cycle\((\w+)\)\]")
+IMPL = re.compile(r"impl\b(?:<[^{]*?>)? (?:[^{]*\bfor )?&?(?:'\w+ )?(?:mut )?(?:\w+::)*(\w+)")
+ALONE = "to be tried alone"
+
+
+def toolchain():
+    loader = importlib.machinery.SourceFileLoader("rt_of_the_kit", os.path.realpath(shutil.which("rt")))
+    made = importlib.util.module_from_spec(importlib.util.spec_from_loader("rt_of_the_kit", loader))
+    loader.exec_module(made)
+    return made
+
+
+rt = toolchain()
+rtlib = rt.rtlib
+
+
+def say(text):
+    print(text, flush=True)
+
+
+def functions_in(text):
+    """Returns of each function in a file its first and last line, its type, if it has one, its name and its cycle."""
+    lines, found, cycle, of_type = text.split("\n"), [], None, None
+    for at, line in enumerate(lines):
+        named, head, impl = CYCLE.match(line), FUNCTION.match(line), IMPL.match(line)
+        cycle = named[1] if named else cycle
+        of_type = impl[1] if impl else None if line == "}" else of_type
+        if head:
+            # (the last brace stands under the first word; a function of a trait may have no body)
+            ends = [lines[i] == f"{head[1]}}}" or bool(FUNCTION.match(lines[i])) for i in range(at + 1, len(lines))]
+            end = at + 1 + ends.index(True) if True in ends else len(lines)
+            found.append((at, end, of_type if head[1] else None, head[2], cycle))
+            cycle = None
+    return found
+
+
+class Code:
+    """The functions of a crate, by the paths that a check names them by."""
+
+    def __init__(self, crate):
+        self.crate, self.modules, self.paths, self.cycles = crate, set(), set(), {}
+
+    def look(self, said):
+        """Reads the functions' paths off a check of the crate as it stands, and which have their proof together."""
+        self.paths = set(re.findall(rf"(?m)^fn {self.crate.name}::(\S+): ", said))
+        walked = os.walk(f"{self.crate.folder}/src")
+        files = [f"{at}/{it}" for at, _, names in walked for it in names if it.endswith(".rt")]
+        texts = {self.module_in(os.path.relpath(it, self.crate.folder)): rtlib.text_of(it) for it in files}
+        self.modules = {*texts}
+        for module, text in texts.items():
+            for _, _, of_type, name, cycle in functions_in(text):
+                self.cycles.update({it: cycle for it in self.paths_of(module, of_type, name) if cycle})
+
+    def module_in(self, file):
+        inside = file[len("src/") : -len(".rt")].replace("/", "::")
+        return "" if inside in ("lib", "main") else inside
+
+    def module_of(self, path):
+        inside = path.split("::")
+        above = ["::".join(inside[:it]) for it in range(len(inside))]
+        return [it for it in above if it in self.modules or not it][-1]
+
+    def paths_of(self, module, of_type, name):
+        """The paths that a function of a file may have: under the file's module, or else under that of its type."""
+        named = [it for it in self.paths if it.split("::")[-1] == name]
+        near = {it for it in named if self.module_of(it) == module}
+        return near or {it for it in named if of_type and f"::{it}".rsplit("::", 2)[-2].startswith(of_type)}
+
+    def proof_of(self, path):
+        """What the function's proof is named by: functions of a cycle have theirs together."""
+        return f"+{self.cycles[path]}" if path in self.cycles else path
+
+    def own_errors(self, path, lines):
+        """Returns the errors in the files of the function's own proof."""
+        above, _, name = path.replace("::", "/").rpartition("/")
+        folders = [f"{above}/{name}".lstrip("/"), f"{above}/+{name}".lstrip("/")]
+        of_cycle = rf"(?:\S*/)?{re.escape(self.proof_of(path))}"
+        folders = [re.escape(it) for it in folders] + [of_cycle] * (path in self.cycles)
+        own = re.compile(rf"(?:\./)?proofs/(?:{'|'.join(folders)})/\S*: error: ")
+        # (that a callee has no proof is no error of the function's own)
+        return [it for it in lines if own.match(it) and "was not admitted" not in it]
+
+
+class Edit:
+    """An edit: its text, and the functions that it is in."""
+
+    def __init__(self, code, file):
+        self.code, self.file, self.name = code, file, os.path.basename(file)[: -len(".edit")]
+        self.text = rtlib.text_of(file) or ""
+        self.why = rt.read_edit(file, code.crate.folder)[1]
+
+    def paths(self):
+        """Returns the paths of the functions that it is in; none where a part of it is in no function."""
+        found, path, done = set(), "", ""
+        for line in [] if self.why else self.text.split("\n"):
+            if line.startswith("file: "):
+                path = line[len("file: ") :].strip()
+            elif line.startswith("old: "):
+                texts = rt.edited(done, self.code.crate.folder)[0] or {}
+                text = texts.get(path) or rtlib.text_of(f"{self.code.crate.folder}/{path}")
+                paths = self.paths_at(path, text, line[len("old: ") :])
+                if not paths:
+                    return set()
+                found |= paths
+            done += f"{line}\n"
+        return found
+
+    def paths_at(self, path, text, old):
+        at = next(i for i, line in enumerate(text.split("\n")) if old in line)
+        found = [it for it in functions_in(text) if it[0] <= at <= it[1]] if path.startswith("src/") else []
+        return self.code.paths_of(self.code.module_in(path), found[-1][2], found[-1][3]) if found else set()
+
+
+def failures(code, said):
+    """Returns, for each function that isn't proved, what is wrong with its own proof, or None where it only waits."""
+    found, notes, lines = {}, [], said.split("\n")
+    for line in lines:
+        named = re.match(rf"fn {code.crate.name}::(\S+): (.*)", line)
+        if not named:
+            notes += [line] if line.startswith("note: src/") else []
+            continue
+        path, verdict = named.groups()
+        if verdict.startswith(("not proved", "no proof")):
+            errors = code.own_errors(path, lines)
+            is_waiting = "it calls " in verdict or "it waits " in verdict
+            found[path] = (errors + notes + [verdict])[0] if errors or not is_waiting else None
+        elif verdict != "proved":
+            found[path] = verdict
+        notes = []
+    return found
+
+
+def is_in(path, paths):
+    """Whether this is one of the functions, or a closure inside one."""
+    return any(path == it or path.startswith(f"{it}::") for it in paths)
+
+
+def state(paths, failed):
+    """Returns why the check refuses an edit of these functions, None where it waits, or ALONE."""
+    own = [why for path, why in failed.items() if is_in(path, paths)]
+    refused = [why for why in own if why and not why.startswith("could not tell")]
+    return refused[0] if refused else None if own and not any(own) else ALONE
+
+
+class Trial:
+    """The edits of one crate, tried over what a check of the crate as it stands kept."""
+
+    def __init__(self, code, kept):
+        self.code, self.crate, self.kept, self.flags = code, code.crate, kept, ["--jobs", "1"]
+        ran = rt.checked(self.crate, {}, self.flags, kept)
+        self.is_proved = ran.returncode == 0
+        code.look(ran.stdout)
+
+    def over_kept(self, call):
+        with tempfile.TemporaryDirectory(prefix="edits-over-") as over:
+            shutil.copytree(self.kept, over, dirs_exist_ok=True)
+            return call(over)
+
+    def check(self, batch):
+        """Returns what a check says of the crate with these edits in it, or None where it can't be read."""
+        texts, why = rt.edited("\n".join(it.text for it in batch), self.crate.folder)
+        if why:
+            return None
+        said = self.over_kept(lambda over: rt.checked(self.crate, texts, self.flags, over).stdout)
+        lines = said.rstrip("\n").split("\n")
+        is_bad = rtlib.STALE.search(said) or any(rt.unread(it, texts) for it in lines)
+        return said if lines[-1].startswith("logic=") and not is_bad else None
+
+    def round(self, batch):
+        """Returns the state of each edit after a check of all; a batch has of each edit the functions that it is in."""
+        said = self.check(batch)
+        if said is None:
+            edits, half = [*batch], len(batch) // 2
+            parts = [{it: batch[it] for it in part} for part in (edits[:half], edits[half:])]
+            return {**self.round(parts[0]), **self.round(parts[1])} if half else {edits[0]: ALONE}
+        failed = failures(self.code, said)
+        strange = [path for path, why in failed.items() if why and not any(is_in(path, it) for it in batch.values())]
+        if strange:
+            say(f"{self.crate.name}: {strange[0]} failed, and no edit is in it")
+            return dict.fromkeys(batch, ALONE)
+        return {it: state(paths, failed) for it, paths in batch.items()}
+
+    def batch_of(self, left):
+        """Returns edits that are in no function that another one is in."""
+        batch, taken = {}, set()
+        for it, paths in left.items():
+            proofs = {self.code.proof_of(path) for path in paths}
+            if not proofs & taken:
+                batch[it] = paths
+                taken |= proofs
+        return batch
+
+    def tried(self, edits):
+        """Returns of each edit whether it is refused, and what to say of it."""
+        ended = {it: (False, f"BAD EDIT: {it.why}") for it in edits if it.why}
+        left = {it: it.paths() for it in edits if not it.why}
+        alone = [it for it, paths in left.items() if not paths]
+        left = {it: paths for it, paths in left.items() if paths}
+        while left:
+            states = self.round(self.batch_of(left))
+            # (where all wait, each for another one, no further round would tell more)
+            is_stuck = not any(states.values())
+            alone += [it for it, why in states.items() if why == ALONE or is_stuck]
+            refused = {it: why for it, why in states.items() if why and why != ALONE}
+            ended.update({it: (True, f"refused: {why[:160]}") for it, why in refused.items()})
+            left = {it: paths for it, paths in left.items() if it not in ended and it not in alone}
+            say(f"{self.crate.name}: {len(states)} edits in a round; {len(left)} left, {len(alone)} {ALONE}")
+        for it in alone:
+            well, text = self.over_kept(lambda over, it=it: rt.must_fail(self.crate, it.file, self.flags, over))
+            ended[it] = well, text.partition(".edit: ")[2]
+        return ended
+
+
+def edits_in(code, folder):
+    names = sorted(os.listdir(folder)) if os.path.isdir(folder) else []
+    strange = [it for it in names if not re.fullmatch(r"[A-Za-z0-9_-]+\.edit", it)]
+    if strange:
+        rtlib.stop(f"{folder}/{strange[0]}: the name of an edit is of letters, digits, _ and -, and ends in .edit")
+    return [Edit(code, f"{folder}/{it}") for it in names]
+
+
+def passes_control(trial):
+    """Whether the edits of the control end as their names say, and there is one of each kind."""
+    ended = trial.tried(edits_in(trial.code, f"{CONTROL}/{trial.crate.name}"))
+    kinds = {it: it.name.partition("-")[0] for it in ended}
+    wrong = [it for it, (_, text) in ended.items() if not text.startswith(CONTROLLED.get(kinds[it], "?"))]
+    for it in wrong:
+        say(f"control {it.name}: {ended[it][1]}")
+    say(f"control: {len(ended) - len(wrong)} of {len(ended)} edits ended as they must")
+    return not wrong and {*kinds.values()} == {*CONTROLLED}
+
+
+def try_crate(code, edits, has_control, is_over_kept):
+    """Returns how many of its edits, the control counting as one, passed and failed."""
+    name, count = code.crate.name, {True: 0, False: 0}
+    with tempfile.TemporaryDirectory(prefix="edits-kept-") as kept:
+        if is_over_kept and os.path.isdir(f"{code.crate.folder}/out/incremental"):
+            shutil.copytree(f"{code.crate.folder}/out/incremental", kept, dirs_exist_ok=True)
+        trial = Trial(code, kept)
+        if not trial.is_proved:
+            say(f"{name} is not proved, so none of its {len(edits)} edits is tried")
+            return 0, len(edits) + has_control
+        for it, (well, text) in sorted(trial.tried(edits).items(), key=lambda it: it[0].name):
+            say(f"edit {name}/{it.name}: {text}")
+            count[well] += 1
+        if has_control:
+            count[passes_control(trial)] += 1
+    return count[True], count[False]
+
+
+def make_libraries(crates):
+    """Brings the libraries below up to date."""
+    below = list(dict.fromkeys(dep for crate in crates for dep in crate.below()))
+    if any(it.build_rlib(["--jobs", "2"], anew=False) for it in below):
+        rtlib.stop("a library below is not proved")
+
+
+def proved_ones(crates, room):
+    """Yields each crate once standard input has named it and those below, whose libraries then have copies here."""
+    known, named = {it.name: it for crate in crates for it in [crate, *crate.below()]}, set()
+    left = [*crates]
+    for line in sys.stdin:
+        it = known.get(line.strip())
+        named.add(line.strip())
+        if it and it.makes_rlib():
+            shutil.copytree(it.rlib, f"{room}/{it.name}.rlib")
+            it.rlib = f"{room}/{it.name}.rlib"
+        ready = [crate for crate in left if {crate.name, *(dep.name for dep in crate.below())} <= named]
+        left = [crate for crate in left if crate not in ready]
+        yield from ready
+
+
+def chosen_of(crate, names):
+    """Returns the crate's code, those of its edits that the names ask for, and whether its control runs."""
+    code = Code(crate)
+    edits = edits_in(code, f"{crate.folder}/edits")
+    asked = [it for it in edits if not names or {crate.name, f"{crate.name}/{it.name}"} & names]
+    return code, asked, not names and os.path.isdir(f"{CONTROL}/{crate.name}")
+
+
+def chosen(names):
+    """Returns the crates with edits that the names ask for, or with all, and what to try of each."""
+    found = {crate: chosen_of(crate, names) for crate in rtlib.crates_below(os.getcwd())}
+    found = {crate: it for crate, it in found.items() if it[1] or it[2]}
+    known = {f"{crate.name}/{it.name}" for crate in found for it in found[crate][1]} | {crate.name for crate in found}
+    if names - known or not found:
+        rtlib.stop(f"there is no such edit: {' '.join(sorted(names - known))}")
+    return found
+
+
+def main(words):
+    options = {it for it in words if it.startswith("--")}
+    if options - {"--over-kept", "--beside-gate"}:
+        rtlib.stop(__doc__)
+    os.chdir(os.path.dirname(TOOLS))
+    # (its first call sets a signal's handler, which only the main thread may)
+    rtlib.guarded()
+    found, counts = chosen({*words} - options), {}
+    with tempfile.TemporaryDirectory(prefix="edits-libraries-") as room, ThreadPoolExecutor(rt.processors()) as lanes:
+        if "--beside-gate" in options:
+            crates = proved_ones(found, room)
+        else:
+            make_libraries(found)
+            crates = sorted(found, key=lambda it: -it.count(rb"\n") - 40 * len(found[it][1]))
+        for crate in crates:
+            counts[crate] = lanes.submit(try_crate, *found[crate], "--over-kept" in options)
+    passed, failed = (sum(it.result()[i] for it in counts.values()) for i in (0, 1))
+    for crate, (_, edits, _) in found.items():
+        if crate not in counts:
+            say(f"{crate.name} is not proved, so none of its {len(edits)} edits is tried")
+            failed += len(edits)
+    say(f"edits: {passed} passed, {failed} failed")
+    return 1 if failed or not passed else 0
+
+
+if __name__ == "__main__":
+    sys.exit(main(sys.argv[1:]))

@@ -1,0 +1,99 @@
+#!/usr/bin/env python3
+"""test.py [PART..]: every test of the repository, or of these parts, and what each part took.
+
+Each part ends with a line "N passed, M failed", a word with a colon before it or not. One that doesn't, or whose
+status is not 0, has failed. The last line counts over all parts. The first two run side by side, the edits of a crate
+once `rt ci` has proved it, with what the proofs leave of the processors; the others run programs that `rt ci` built."""
+import os
+import re
+import subprocess
+import sys
+import time
+from concurrent.futures import ThreadPoolExecutor
+
+PROGRAM = "crates/pkder/out/pkder"
+ALLOCATIONS = ["sh", "tools/refuse_each_allocation.sh", PROGRAM]
+# every crate from nothing and its tests, a few edits by the toolchain's own means, each program's stored run
+PROOFS = ["rt", "ci"]
+EDITS = ["nice", "-n", "19", "python3", "tools/edits.py", "--beside-gate"]
+
+
+def parts():
+    """The parts behind the proofs and edits by their names, each of several commands."""
+    return {
+        "examples": [["sh", "tools/examples.sh", PROGRAM]],
+        "allocations": [
+            [*ALLOCATIONS, "examples/long-lengths.der", "normalise", "--kind", "key"],
+            [*ALLOCATIONS, "examples/public-indefinite.der", "normalise", "--kind", "public"],
+            [*ALLOCATIONS, "examples/request-indefinite.der", "normalise", "--kind", "request"],
+        ],
+        "growths": [["sh", "tools/refuse_each_growth.sh", "crates/refused_growths/out/refused_growths"]],
+    }
+
+
+class Count:
+    """How many tests of a part passed and failed, and the seconds that it took by the clock and of processors."""
+
+    def __init__(self, passed=0, failed=0, clock=0.0, processors=0.0):
+        self.passed, self.failed, self.clock, self.processors = passed, failed, clock, processors
+
+    def __add__(self, other):
+        both = zip(vars(self).values(), vars(other).values())
+        return Count(*(one + more for one, more in both))
+
+
+def run(words, given=subprocess.DEVNULL, hear=lambda line: None):
+    """Runs a command, shows what it says, and counts its tests."""
+    began, last = time.monotonic(), ""
+    how = {"stdin": given, "stdout": subprocess.PIPE, "stderr": subprocess.STDOUT, "errors": "replace"}
+    ran = subprocess.Popen(words, **how)
+    for line in ran.stdout:
+        print(line, end="", flush=True)
+        hear(line)
+        last = line.strip() or last
+    _, status, used = os.wait4(ran.pid, 0)
+    ran.returncode = os.waitstatus_to_exitcode(status)
+    found = re.fullmatch(r"(?:\w+: )?([0-9]+) passed, ([0-9]+) failed", last)
+    passed, failed = (int(it) for it in found.groups()) if found else (0, 1)
+    failed = max(failed, 1) if ran.returncode or not passed else failed
+    return Count(passed, failed, time.monotonic() - began, used.ru_utime + used.ru_stime)
+
+
+def prove_and_edit():
+    """Runs the proofs, and beside them the edits, which are told each crate that is proved."""
+    told, teller = os.pipe()
+    with ThreadPoolExecutor(1) as beside, open(teller, "w", encoding="utf-8") as names:
+        edits = beside.submit(run, EDITS, told)
+
+        def hear(line):
+            proved = re.fullmatch(r"rt: (\w+) proved", line.strip())
+            if proved and not edits.done():
+                print(proved[1], file=names, flush=True)
+
+        proofs = run(PROOFS, hear=hear)
+        names.close()
+        os.close(told)
+        return {"proofs": proofs, "edits": edits.result()}
+
+
+def main(asked):
+    os.chdir(os.path.dirname(os.path.dirname(os.path.realpath(__file__))))
+    found, counts = parts(), {}
+    if {*asked} - {"proofs", *found}:
+        sys.exit(f"the parts are proofs, {', '.join(found)}")
+    if not asked or "proofs" in asked:
+        counts = prove_and_edit()
+    for name, commands in found.items():
+        # (where the proofs failed there may be no program)
+        if name in asked or not asked and not counts["proofs"].failed:
+            counts[name] = sum(map(run, commands), Count())
+    print("by the clock, of processors, part:")
+    for name, it in counts.items():
+        print(f"{it.clock:7.0f} s {it.processors:7.0f} s  {name}: {it.passed} passed, {it.failed} failed")
+    whole = sum(counts.values(), Count())
+    print(f"{whole.passed} passed, {whole.failed} failed", flush=True)
+    return 1 if whole.failed else 0
+
+
+if __name__ == "__main__":
+    sys.exit(main(sys.argv[1:]))
