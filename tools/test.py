@@ -4,6 +4,7 @@
 Each part ends with a line "N passed, M failed", a word with a colon before it or not. One that doesn't, or whose
 status is not 0, has failed. The last line counts over all parts. The first two run side by side, the edits of a crate
 once `rt ci` has proved it, with what the proofs leave of the processors; the others run programs that `rt ci` built."""
+import glob
 import os
 import re
 import subprocess
@@ -12,16 +13,30 @@ import time
 from concurrent.futures import ThreadPoolExecutor
 
 PROGRAM = "crates/pkder/out/pkder"
+ROWS = ["python3", "tools/rows.py"]
 ALLOCATIONS = ["sh", "tools/refuse_each_allocation.sh", PROGRAM]
-# every crate from nothing and its tests, a few edits by the toolchain's own means, each program's stored run
+# every crate from nothing, a few edits by the toolchain's own means, each program's stored run
 PROOFS = ["rt", "ci"]
 EDITS = ["nice", "-n", "19", "python3", "tools/edits.py", "--beside-gate"]
+
+
+def builds(program):
+    """The program as each of the toolchain's two compilers makes it."""
+    return [program, f"{program}.by-rattle"]
+
+
+def rows_of(name):
+    """Hands the tables of the program's folder in tests/ to both builds of it."""
+    tables = sorted(glob.glob(f"tests/{name}/*.tsv"))
+    if name == "pkder":
+        return [*ROWS, *tables, "examples/answers.tsv", *builds(PROGRAM)]
+    return [*ROWS, "--line", *tables, *builds(f"crates/{name}/out/{name}")]
 
 
 def parts():
     """The parts behind the proofs and edits by their names, each of several commands."""
     return {
-        "examples": [["sh", "tools/examples.sh", PROGRAM]],
+        "rows": [rows_of(it) for it in sorted(os.listdir("tests"))],
         "allocations": [
             [*ALLOCATIONS, "examples/long-lengths.der", "normalise", "--kind", "key"],
             [*ALLOCATIONS, "examples/public-indefinite.der", "normalise", "--kind", "public"],

@@ -1,7 +1,7 @@
 //! `pkder` reads one document in BER or DER from standard input and writes its one DER text to standard output.
 //!
 //! Proved here: what `run` answers and writes for every input, memory apart; the exit status and the line on
-//! standard error of each outcome. Only tested: which command lines are accepted, and `main`.
+//! standard error of each outcome. Only tested, by the tables of `tests/`: which command lines are accepted, and `main`.
 #![tactic(auto)]
 
 mod input;
@@ -68,6 +68,3 @@ fn complain(rt: &HostRuntime, text: &str, status: u8) -> ExitCode {
     let _ = rt.eprint(text);
     ExitCode::from(status)
 }
-
-#[cfg(test)]
-mod tests;

@@ -1,0 +1,140 @@
+#!/usr/bin/env python3
+"""rows.py [--line] TABLE.tsv.. PROGRAM..: each row of the tables handed to each program, and its answer compared.
+
+A row is a line of cells between tabs; cells left out are empty, and a line that begins with # is a title:
+  rule      what the row shows
+  words     the arguments; under --line the first line of standard input, for programs that test libraries
+  input     standard input
+  status    the exit status, 0 if left out
+  output    standard output; = for the input, "TEXT" for a line of text, * for any that isn't empty
+  error     the line on standard error, * for any that isn't empty
+  device    'reading fails': standard input fails behind its octets; 'room N': the output takes N octets and fails
+Octets are in hex with spaces as one likes, 00*3000 is 3,000 of them, and @FILE those of a file in the table's folder.
+Each table has a line, and the last line is 'rows: N passed, M failed', a row counting once for all programs."""
+import os
+import re
+import resource
+import shlex
+import signal
+import subprocess
+import sys
+import tempfile
+import tty
+
+SECONDS = 60
+CELLS = 7
+
+
+def octets_of(text, folder):
+    """The octets that are written so."""
+    found = b""
+    for word in text.split():
+        if word.startswith("@"):
+            with open(f"{folder}/{word[1:]}", "rb") as it:
+                found += it.read()
+        else:
+            octets, _, count = word.partition("*")
+            found += bytes.fromhex(octets) * int(count or "1")
+    return found
+
+
+def reader_that_fails(octets):
+    """Returns a terminal's end that gives the octets and then fails, since its other end is closed."""
+    reader, writer = os.openpty()
+    tty.setraw(writer)
+    if os.write(writer, octets) != len(octets):
+        raise ValueError("a reader that fails gives few octets")
+    os.close(writer)
+    return reader
+
+
+def limit_files(room):
+    """Has the process's files take so many octets, a write past them failing."""
+    signal.signal(signal.SIGXFSZ, signal.SIG_IGN)
+    resource.setrlimit(resource.RLIMIT_FSIZE, (room, room))
+
+
+def answer(words, given, device):
+    """Returns the status, standard output and standard error of a run."""
+    kind, _, number = device.partition(" ")
+    with tempfile.TemporaryFile() as taken:
+        how = {"stdin": subprocess.PIPE, "stdout": subprocess.PIPE, "stderr": subprocess.PIPE}
+        if kind == "reading":
+            how["stdin"] = reader_that_fails(given)
+        elif kind == "room":
+            how |= {"stdout": taken, "preexec_fn": lambda: limit_files(int(number))}
+        elif kind:
+            raise ValueError(f"there is no device {device}")
+        started = subprocess.Popen(words, **how)
+        try:
+            output, error = started.communicate(None if kind == "reading" else given, timeout=SECONDS)
+        except subprocess.TimeoutExpired:
+            started.kill()
+            output, error = started.communicate()
+            error += f"not ended after {SECONDS} seconds\n".encode()
+        if kind == "reading":
+            os.close(how["stdin"])
+        if kind == "room":
+            taken.seek(0)
+            output = taken.read()
+        return started.returncode, output, error.decode(errors="replace")
+
+
+class Row:
+    """A row of a table."""
+
+    def __init__(self, line, folder):
+        cells = line.split("\t")
+        if len(cells) > CELLS:
+            raise ValueError(f"a row has at most {CELLS} cells")
+        self.rule, self.words, given, status, self.due, self.error, self.device = cells + [""] * (CELLS - len(cells))
+        self.input, self.status = octets_of(given, folder), int(status or "0")
+        quoted = re.fullmatch(r'"(.*)"', self.due)
+        self.output = self.input if self.due == "=" else f"{quoted[1]}\n".encode() if quoted else None
+        if self.output is None and self.due != "*":
+            self.output = octets_of(self.due, folder)
+
+    def wrong(self, program, takes_line):
+        """Returns what is wrong with the program's answer, if anything is."""
+        words, given = shlex.split(self.words), self.input
+        if takes_line:
+            words, given = [], f"{self.words}\n".encode() + given
+        status, output, error = answer([program, *words], given, self.device)
+        is_output = bool(output) if self.output is None else output == self.output
+        is_error = bool(error) if self.error == "*" else error == (f"{self.error}\n" if self.error else "")
+        if status == self.status and is_output and is_error:
+            return None
+        return f"status {status}, {output[:200].hex()!r}, {error.strip()[:200]!r}"
+
+
+def rows_of(table):
+    with open(table, encoding="utf-8") as it:
+        lines = [(number, line) for number, line in enumerate(it.read().split("\n"), 1) if line]
+    folder = os.path.dirname(os.path.abspath(table))
+    return [(number, Row(line, folder)) for number, line in lines if not line.startswith("#")]
+
+
+def tried(table, programs, takes_line):
+    """Returns how many rows of the table passed and failed."""
+    count = {True: 0, False: 0}
+    for number, row in rows_of(table):
+        wrong = [f"{it}: {why}" for it in programs if (why := row.wrong(os.path.abspath(it), takes_line))]
+        for why in wrong:
+            print(f"{table}:{number}: {row.rule}: {why}")
+        count[not wrong] += 1
+    print(f"{table}: {count[True]} rows passed, {count[False]} failed", flush=True)
+    return count[True], count[False] + (not count[True])
+
+
+def main(words):
+    tables = [it for it in words if it.endswith(".tsv")]
+    programs = [it for it in words if it not in tables and it != "--line"]
+    if not tables or not programs:
+        sys.exit(__doc__)
+    passed, failed = (sum(it) for it in zip(*(tried(it, programs, "--line" in words) for it in tables)))
+    print(f"rows: {passed} passed, {failed} failed", flush=True)
+    return 1 if failed else 0
+
+
+if __name__ == "__main__":
+    sys.exit(main(sys.argv[1:]))
