@@ -1,6 +1,5 @@
 //! A reader of one small type over `Pull`, proved from the contracts of `Pull` and its rules of composition alone:
 //! SEQUENCE { number INTEGER, octets OCTET STRING }. It is kept to show how a reader is put together, and as a test of them.
-//! The tests of `ber_pull` by its public calls stand here too (`rows`), so that the gate proves that crate once.
 #![tactic(auto)]
 
 ghost use Rattle.std.specs.Prelude.{◌≡◌, None, Some, IfOk, IsSome, OnOk, Bool, List, []};
@@ -12,15 +11,10 @@ ghost use Rattle.x690.specs.Values.{Value};
 ghost use Rattle.ber_pull.specs.Fields.{given_by, read_begin, read_due, read_end};
 ghost use Rattle.ber_pull.specs.Hears.{heard};
 ghost use Rattle.ber_pull.specs.Standing.{closing, enclosing, moved};
-ghost use Rattle.ber_pull.specs.View.{standing, Answers, Keeps, ReadsFail, SameSource, Uses};
+ghost use Rattle.ber_pull.specs.View.{standing, Answers, Keeps, ReadsFail, SameSource};
 ghost use Rattle.tlv_core.specs.Identifier.{Tag};
 ghost use Rattle.pull_client.specs.Ahead.{Inside, IsOpen, SameContainer, Stands, is_universal, next_of};
 ghost use Rattle.pull_client.specs.Pair as types;
-
-#[cfg(test)]
-mod rows;
-#[cfg(test)]
-mod tests;
 
 use ber_pull::pull::Pull;
 use std::alloc::Global;

@@ -19,5 +19,3 @@ pub mod source;
 mod subidentifier;
 pub mod tag;
 pub mod target;
-#[cfg(test)]
-mod tests;
