@@ -1,0 +1,98 @@
+//! A program that tests libraries on rows of tables: it does one task on octets with `asn_values`, `pkix_values`,
+//! `pk_keys`, `pk_requests` or `pk_documents`, and answers as pkder does. `tools/rows.py` hands it the rows of
+//! `tests/`, and `tools/refused_growths.py` refuses each growth of memory in turn meanwhile. Not part of pkder.
+//!
+//! Standard input is a line of words, below, and the octets behind it.
+//!   read TYPE             a value, in pieces, cut at each octet and with octets behind it: its text, or the fault
+//!   document TYPE         the same by `read_value`
+//!   normalise extension   the same by `normalise_value`, once
+//!   same TYPE             two values one after another: whether they are the same
+//!   fields TYPE           what each field reader answers
+//!   signed request        what the signature covers, written to a target of `room` octets, `piece` of them at once
+//!   written request       the whole, to the same
+//!   make TYPE             a value made of the octets
+//!   compare integer-set   two values made of two parts, each behind its length in two octets
+//! Behind them may stand `depth N`, `limit N`, `room N` and `piece N`. Before read, document and make `once` does the
+//! task once, so that no memory is asked for but by the libraries, and tells of a reader that wanted memory how many
+//! octets it took; `again` asks that reader further, too.
+//!
+//! Status 0 goes with the text or the line on standard output, 2 with a fault or octets that make no value, 3 with a
+//! failed write or want of memory, 4 with words that mean nothing, 9 with answers that don't agree.
+#![tactic(auto)]
+
+mod answer;
+mod documents;
+mod fields;
+mod fields_of_types;
+mod making;
+mod printing;
+mod reading;
+mod sequences;
+mod tasks;
+mod texts;
+mod words;
+
+use answer::Answer;
+use std::io::Read;
+use std::process::ExitCode;
+use tasks::Task;
+
+/// The words and octets that there is room for, and two more.
+const ROOM: usize = 8192;
+
+fn main(rt: HostRuntime) -> ExitCode {
+    let mut room = [0u8; ROOM];
+    let Some(count) = filled(&mut rt.stdin(), &mut room[..ROOM - 2]) else {
+        return ExitCode::from(4);
+    };
+    if count > ROOM - 2 {
+        return ExitCode::from(4);
+    }
+    // octets behind those that are given, which are to stay
+    room[count] = 0x05;
+    room[count + 1] = 0x00;
+    let answer = answered(&rt, &room[..count], &room[..count + 2]);
+    ExitCode::from(printing::print(&mut rt.stdout(), &mut rt.stderr(), &answer))
+}
+
+/// The answer to the line and the octets behind it; `followed` goes on behind them.
+fn answered(rt: &HostRuntime, given: &[u8], followed: &[u8]) -> Answer {
+    let Some(end) = given.iter().position(|octet| *octet == b'\n') else {
+        return Answer::Unknown;
+    };
+    let (Some(line), Some(octets), Some(followed)) = (
+        given.get(..end),
+        given.get(end + 1..),
+        followed.get(end + 1..),
+    ) else {
+        return Answer::Unknown;
+    };
+    let Ok(line) = std::str::from_utf8(line) else {
+        return Answer::Unknown;
+    };
+    let Some(words) = words::words_of(line) else {
+        return Answer::Unknown;
+    };
+    let task = Task {
+        words,
+        octets,
+        followed,
+    };
+    tasks::answered(rt.alloc(), &task)
+}
+
+/// How many octets the reader told, if they end before the room does.
+fn filled<R: Read>(src: &mut R, room: &mut [u8]) -> Option<usize> {
+    let mut used = 0;
+    for _ in 0..room.len() {
+        if used >= room.len() {
+            return None;
+        }
+        match src.read(&mut room[used..]) {
+            Ok(0) => return Some(used),
+            Ok(count) => used += count,
+            Err(_) => return None,
+        }
+    }
+    None
+}
