@@ -60,21 +60,19 @@ class Tried:
 
 def main(words):
     path, *tables = words
+    rows = [(table, *row) for table in tables for row in rows_of(table) if row[1].words.startswith(TASKS)]
     passed, failed, refused, wanted = 0, 0, 0, 0
     with tempfile.TemporaryDirectory() as folder:
         program = Program(path, folder)
-        for table in tables:
-            for number, row in rows_of(table):
-                if not row.words.startswith(TASKS):
-                    continue
-                tried = Tried(program, row)
-                if tried.wrong:
-                    print(f"{table}:{number}: {row.rule}: {tried.wrong[:300]}")
-                passed, failed = passed + (not tried.wrong), failed + bool(tried.wrong)
-                refused, wanted = refused + tried.refused, wanted + tried.wanted
+        for table, number, row in rows:
+            tried = Tried(program, row)
+            if tried.wrong:
+                print(f"{table}:{number}: {row.rule}: {tried.wrong[:300]}")
+            passed, failed = passed + (not tried.wrong), failed + bool(tried.wrong)
+            refused, wanted = refused + tried.refused, wanted + tried.wanted
     print(f"growths: {refused} refused in turn, {wanted} answered as want of memory, the others as due")
-    if wanted <= passed:
-        print("growths: fewer were wanted than rows tried")
+    if wanted <= passed or passed + failed != len(rows):
+        print("growths: fewer were wanted than rows tried, or not each row was tried")
         failed += 1
     print(f"growths: {passed} passed, {failed} failed", flush=True)
     return 1 if failed else 0

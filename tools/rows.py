@@ -116,14 +116,15 @@ def rows_of(table):
 
 def tried(table, programs, takes_line):
     """Returns how many rows of the table passed and failed."""
-    count = {True: 0, False: 0}
-    for number, row in rows_of(table):
+    rows, count = rows_of(table), {True: 0, False: 0}
+    for number, row in rows:
         wrong = [f"{it}: {why}" for it in programs if (why := row.wrong(os.path.abspath(it), takes_line))]
         for why in wrong:
             print(f"{table}:{number}: {row.rule}: {why}")
         count[not wrong] += 1
     print(f"{table}: {count[True]} rows passed, {count[False]} failed", flush=True)
-    return count[True], count[False] + (not count[True])
+    is_whole = rows and sum(count.values()) == len(rows)
+    return count[True], count[False] + (not is_whole)
 
 
 def main(words):

@@ -13,6 +13,7 @@ import time
 from concurrent.futures import ThreadPoolExecutor
 
 PROGRAM = "crates/pkder/out/pkder"
+LIBRARIES = "crates/library_rows/out/library_rows"
 ROWS = ["python3", "tools/rows.py"]
 ALLOCATIONS = ["sh", "tools/refuse_each_allocation.sh", PROGRAM]
 # every crate from nothing, a few edits by the toolchain's own means, each program's stored run
@@ -25,12 +26,16 @@ def builds(program):
     return [program, f"{program}.by-rattle"]
 
 
+def tables(name):
+    """The tables for the program of this name."""
+    return sorted(glob.glob(f"tests/{name}/*.tsv"))
+
+
 def rows_of(name):
-    """Hands the tables of the program's folder in tests/ to both builds of it."""
-    tables = sorted(glob.glob(f"tests/{name}/*.tsv"))
+    """Hands the program's tables to both builds of it."""
     if name == "pkder":
-        return [*ROWS, *tables, "examples/answers.tsv", *builds(PROGRAM)]
-    return [*ROWS, "--line", *tables, *builds(f"crates/{name}/out/{name}")]
+        return [*ROWS, *tables(name), "examples/answers.tsv", *builds(PROGRAM)]
+    return [*ROWS, "--line", *tables(name), *builds(f"crates/{name}/out/{name}")]
 
 
 def parts():
@@ -42,7 +47,7 @@ def parts():
             [*ALLOCATIONS, "examples/public-indefinite.der", "normalise", "--kind", "public"],
             [*ALLOCATIONS, "examples/request-indefinite.der", "normalise", "--kind", "request"],
         ],
-        "growths": [["sh", "tools/refuse_each_growth.sh", "crates/refused_growths/out/refused_growths"]],
+        "growths": [["python3", "tools/refused_growths.py", LIBRARIES, *tables("library_rows")]],
     }
 
 

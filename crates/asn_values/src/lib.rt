@@ -5,7 +5,7 @@
 //! `sequence` reads a SEQUENCE by the list of its fields and `parts` writes one; `fields` reads one field by field.
 //!
 //! This crate is the table of contents: what stands here is proved in `asn_elements` (the traits and the leaves), `asn_fields`, `asn_containers`
-//! and `asn_open_values`, each of which says what. `tests/values.tsv` has the tests of all four.
+//! and `asn_open_values`, each of which says what. `tests/library_rows/values.tsv` has the rows of all four.
 //!
 //! Proved of each type: `put` writes the text, `size` is its length, `octet` its octets, `der_text` the whole, and the members of a `SetOf`
 //! ascend as 11.6 has it, equal ones kept. A reader answers what the plain reading of its type (`x690`) gives for the octets taken: a value that is the same
