@@ -113,6 +113,11 @@ class Code:
         # (that a callee has no proof is no error of the function's own)
         return [it for it in lines if own.match(it) and "was not admitted" not in it]
 
+    def is_in(self, path, paths):
+        """Whether this is one of the functions, a closure inside one, or has its proof together with one."""
+        proofs = {self.proof_of(it) for it in paths}
+        return self.proof_of(path) in proofs or any(path.startswith(f"{it}::") for it in paths)
+
 
 class Edit:
     """An edit: its text, and the functions that it is in."""
@@ -163,14 +168,9 @@ def failures(code, said):
     return found
 
 
-def is_in(path, paths):
-    """Whether this is one of the functions, or a closure inside one."""
-    return any(path == it or path.startswith(f"{it}::") for it in paths)
-
-
-def state(paths, failed):
+def state(code, paths, failed):
     """Returns why the check refuses an edit of these functions, None where it waits, or ALONE."""
-    own = [why for path, why in failed.items() if is_in(path, paths)]
+    own = [why for path, why in failed.items() if code.is_in(path, paths)]
     refused = [why for why in own if why and not why.startswith("could not tell")]
     return refused[0] if refused else None if own and not any(own) else ALONE
 
@@ -207,11 +207,12 @@ class Trial:
             parts = [{it: batch[it] for it in part} for part in (edits[:half], edits[half:])]
             return {**self.round(parts[0]), **self.round(parts[1])} if half else {edits[0]: ALONE}
         failed = failures(self.code, said)
-        strange = [path for path, why in failed.items() if why and not any(is_in(path, it) for it in batch.values())]
+        is_edited = lambda path: any(self.code.is_in(path, it) for it in batch.values())
+        strange = [path for path, why in failed.items() if why and not is_edited(path)]
         if strange:
             say(f"{self.crate.name}: {strange[0]} failed, and no edit is in it")
             return dict.fromkeys(batch, ALONE)
-        return {it: state(paths, failed) for it, paths in batch.items()}
+        return {it: state(self.code, paths, failed) for it, paths in batch.items()}
 
     def batch_of(self, left):
         """Returns edits that are in no function that another one is in."""
@@ -273,9 +274,11 @@ def try_crate(code, edits, has_control, is_over_kept):
         if not trial.is_proved:
             say(f"{name} is not proved, so none of its {len(edits)} edits is tried")
             return 0, len(edits) + has_control
-        for it, (well, text) in sorted(trial.tried(edits).items(), key=lambda it: it[0].name):
+        ended = trial.tried(edits)
+        for it, (well, text) in sorted(ended.items(), key=lambda it: it[0].name):
             say(f"edit {name}/{it.name}: {text}")
             count[well] += 1
+        count[False] += len(edits) - len(ended)
         if has_control:
             count[passes_control(trial)] += 1
     return count[True], count[False]
