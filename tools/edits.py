@@ -34,6 +34,8 @@ FUNCTION = re.compile(r"( *)(?:pub(?:\([^)]*\))? )?(?:const )?(?:unsafe )?(?:ext
 CYCLE = re.compile(r" *#\[cycle\((\w+)\)\]")
 IMPL = re.compile(r"impl\b(?:<[^{]*?>)? (?:[^{]*\bfor )?&?(?:'\w+ )?(?:mut )?(?:\w+::)*(\w+)")
 ALONE = "to be tried alone"
+# How a proof fails that names what an edit took away, which says little of the contract.
+BY_NAME = re.compile(r"proofs/.*(has no field|is not in scope|has no `)")
 
 
 def toolchain():
@@ -159,7 +161,7 @@ def failures(code, said):
             continue
         path, verdict = named.groups()
         if verdict.startswith(("not proved", "no proof")):
-            errors = code.own_errors(path, lines)
+            errors = sorted(code.own_errors(path, lines), key=lambda it: bool(BY_NAME.search(it)))
             is_waiting = "it calls " in verdict or "it waits " in verdict
             found[path] = (errors + notes + [verdict])[0] if errors or not is_waiting else None
         elif verdict != "proved":
@@ -173,6 +175,10 @@ def state(code, paths, failed):
     own = [why for path, why in failed.items() if code.is_in(path, paths)]
     refused = [why for why in own if why and not why.startswith("could not tell")]
     return refused[0] if refused else None if own and not any(own) else ALONE
+
+
+def refusal(why):
+    return f"refused{' by a name alone' if BY_NAME.search(why) else ''}: {why[:160]}"
 
 
 class Trial:
@@ -236,7 +242,7 @@ class Trial:
             is_stuck = not any(states.values())
             alone += [it for it, why in states.items() if why == ALONE or is_stuck]
             refused = {it: why for it, why in states.items() if why and why != ALONE}
-            ended.update({it: (True, f"refused: {why[:160]}") for it, why in refused.items()})
+            ended.update({it: (True, refusal(why)) for it, why in refused.items()})
             left = {it: paths for it, paths in left.items() if it not in ended and it not in alone}
             say(f"{self.crate.name}: {len(states)} edits in a round; {len(left)} left, {len(alone)} {ALONE}")
         for it in alone:
