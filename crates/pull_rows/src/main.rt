@@ -1,5 +1,5 @@
-//! Tries `ber_pull`, `pull_client` and `tlv_core` by their public calls, one task a run: for the tables of
-//! `tests/`, which `tools/rows.py --line` hands to it. Not part of pkder.
+//! Tries `ber_pull` and `tlv_core` by their public calls, one task a run: for the tables of `tests/`, which
+//! `tools/rows.py --line` hands to it. Not part of pkder.
 //!
 //! Standard input is a line of words, which are the task, and then the octets for it. Standard output is a line
 //! with the answer. Where there is none a line on standard error says why, and the status is 2 for what is refused,
@@ -9,7 +9,6 @@
 
 mod calls;
 mod identifiers;
-mod pairs;
 mod refusal;
 mod sources;
 mod targets;
@@ -64,7 +63,6 @@ fn answer_to(alloc: Global, words: &[&str], octets: &[u8]) -> Result<String, Ref
     };
     match *task {
         "calls" => calls::answered(alloc, rest, octets),
-        "pair" => pairs::answered(alloc, octets),
         "arcs" => identifiers::made(alloc, rest),
         "contents" => identifiers::read(alloc, octets),
         "compare" => identifiers::compared(alloc, rest, octets),
