@@ -3,7 +3,7 @@ ghost use Rattle.x690_laws.proofs.OneTexts.{list_one_text};
 ghost use Rattle.std.specs.Prelude.{◌≡◌, ◌↔◌, ◌+◌, ◌<◌, ◌^◌, None, Some, IsSome, IsTrue, OnOk, length, map, slice_get};
 ghost use Rattle.std.specs.Option.{option_map};
 ghost use Rattle.tlv_core.specs.Sinks.{count, Puts};
-ghost use Rattle.ber_pull.proofs.Fields.{sequence_of_closed};
+ghost use Rattle.x690_laws.proofs.ClosedTypes.{sequence_of_closed};
 ghost use Rattle.x690.specs.DerTexts.{der};
 ghost use Rattle.x690.specs.Layouts.{universal};
 ghost use Rattle.x690.specs.TypeTerms.{SequenceOfType};

@@ -2,7 +2,7 @@
 ghost use Rattle.x690_laws.proofs.OneTexts.{set_one_text};
 ghost use Rattle.std.specs.Prelude.{◌≡◌, ◌↔◌, ◌<◌, ◌≤◌, ◌^◌, Err, IfErr, IfOk, None, Some, IsSome, OnOk, IsPermutation, IsTrue, length, map, slice_get, true};
 ghost use Rattle.std.specs.Option.{option_map};
-ghost use Rattle.ber_pull.proofs.Fields.{set_of_closed};
+ghost use Rattle.x690_laws.proofs.ClosedTypes.{set_of_closed};
 ghost use Rattle.x690.specs.DerTexts.{Ascends, der, texts_of};
 ghost use Rattle.x690.specs.Layouts.{universal};
 ghost use Rattle.x690.specs.TypeTerms.{SetOfType};

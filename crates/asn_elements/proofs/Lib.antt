@@ -11,6 +11,7 @@ pub mod MemberTexts
 pub mod ObjectIdentifierContents
 pub mod PairedMembers
 pub mod Putting
+pub mod RuledReadings
 pub mod SameMembers
 pub mod ShortElements
 pub mod StringReadings

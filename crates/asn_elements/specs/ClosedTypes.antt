@@ -4,8 +4,8 @@ use Rattle.x690.specs.Contents.{OctetString, Utf8String}
 use Rattle.x690.specs.Layouts.{universal}
 use Rattle.x690.specs.StringTypes.{carried_numbers, carried_string, string_types}
 use Rattle.x690.specs.TypeTerms.{LeafType, TypeTerm, choice_of}
-use Rattle.ber_pull.specs.Fields.{IsClosed}
-use Rattle.ber_pull.proofs.Fields.{choice_closed, leaf_closed}
+use Rattle.x690.specs.ReadTypes.{IsClosed}
+use Rattle.x690_laws.proofs.ClosedTypes.{choice_closed, leaf_closed}
 
 carried_closed : (first : TypeTerm) (numbers : List ℕ) → IsClosed first → IsClosed (choice_of first (map carried_string numbers))
 carried_closed first [] closed = closed

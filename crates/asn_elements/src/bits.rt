@@ -1,7 +1,7 @@
 //! BIT STRING (X.690 8.6, 11.2).
 ghost use Rattle.x690_laws.proofs.OneTexts.{leaf_one_text};
 ghost use Rattle.std.specs.Prelude.{◌≡◌, ◌↔◌, ◌<◌, ◌∷◌, IsTrue, drop, get_or, length};
-ghost use Rattle.ber_pull.proofs.Fields.{leaf_closed};
+ghost use Rattle.x690_laws.proofs.ClosedTypes.{leaf_closed};
 ghost use Rattle.asn_elements.specs.OwnTags.{leaf_fits};
 ghost use Rattle.x690.specs.Layouts.{universal};
 ghost use Rattle.x690.specs.Contents.{BitString};

@@ -1,7 +1,7 @@
 //! BOOLEAN (X.690 8.2, 11.1).
 ghost use Rattle.x690_laws.proofs.OneTexts.{leaf_one_text};
 ghost use Rattle.std.specs.Prelude.{◌≡◌, ◌↔◌, ◌∷◌, [], IsTrue, cond};
-ghost use Rattle.ber_pull.proofs.Fields.{leaf_closed};
+ghost use Rattle.x690_laws.proofs.ClosedTypes.{leaf_closed};
 ghost use Rattle.x690.specs.Layouts.{universal};
 ghost use Rattle.x690.specs.Contents.{Boolean};
 ghost use Rattle.x690.specs.TypeTerms.{LeafType};

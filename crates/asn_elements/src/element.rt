@@ -1,7 +1,7 @@
 //! What can be read, and has one text in DER.
 ghost use Rattle.std.specs.Prelude.{◌≡◌, None, Some, IsSome, OnOk};
 ghost use Rattle.x690.specs.TypeTerms.{TypeTerm, fits_tag};
-ghost use Rattle.ber_pull.specs.Fields.{IsClosed};
+ghost use Rattle.x690.specs.ReadTypes.{IsClosed};
 ghost use Rattle.ber_pull.specs.View.{standing, SameSource, Repeats, Keeps, ReadsFail, Onward, Uses};
 ghost use Rattle.ber_pull.specs.declared.state.Given.{Given};
 ghost use Rattle.asn_elements.specs.Reading.{AnswersValue, read_given};

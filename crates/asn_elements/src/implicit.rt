@@ -6,7 +6,7 @@ ghost use Rattle.x690.specs.DerTexts.{der};
 ghost use Rattle.x690.specs.Layouts.{context_specific, same_tag};
 ghost use Rattle.x690.specs.TypeTerms.{TypeTerm, fits_tag};
 ghost use Rattle.x690.specs.Values.{Same, Value};
-ghost use Rattle.ber_pull.specs.Fields.{IsClosed};
+ghost use Rattle.x690.specs.ReadTypes.{IsClosed};
 ghost use Rattle.ber_pull.specs.View.{standing, SameSource, Repeats, Keeps, ReadsFail, Onward, Uses};
 ghost use Rattle.ber_pull.specs.declared.state.Given.{Given};
 ghost use Rattle.asn_elements.specs.Reading.{AnswersValue, read_given};

@@ -1,7 +1,7 @@
 //! NULL (X.690 8.8).
 ghost use Rattle.x690_laws.proofs.OneTexts.{leaf_one_text};
 ghost use Rattle.std.specs.Prelude.{◌≡◌, [], IsTrue};
-ghost use Rattle.ber_pull.proofs.Fields.{leaf_closed};
+ghost use Rattle.x690_laws.proofs.ClosedTypes.{leaf_closed};
 ghost use Rattle.x690.specs.Layouts.{universal};
 ghost use Rattle.x690.specs.Contents.{Null as NullKind};
 ghost use Rattle.x690.specs.TypeTerms.{LeafType};

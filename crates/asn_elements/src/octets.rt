@@ -2,7 +2,7 @@
 ghost use Rattle.x690_laws.proofs.OneTexts.{leaf_one_text};
 ghost use Rattle.std.specs.Prelude.{◌≡◌, ◌↔◌, ◌<◌, ◌^◌, Err, IfOk, IsTrue, length};
 ghost use Rattle.asn_elements.specs.declared.build.BuildError.TheVariants.{TooBig};
-ghost use Rattle.ber_pull.proofs.Fields.{leaf_closed};
+ghost use Rattle.x690_laws.proofs.ClosedTypes.{leaf_closed};
 ghost use Rattle.x690.specs.DerTexts.{der};
 ghost use Rattle.x690.specs.Layouts.{universal};
 ghost use Rattle.x690.specs.Contents.{OctetString};

@@ -7,7 +7,7 @@ use Rattle.x690.specs.Layouts.{universal}
 use Rattle.x690.specs.Lists.{Each}
 use Rattle.x690.specs.Values.{Leaf, Same, Sequence, Value, values_of}
 use Rattle.x690_laws.proofs.OneTexts.{each_sequence, leaf_one_text, one_contents, sequence_texts}
-use Rattle.ber_pull.specs.Fields.{with_field}
+use Rattle.asn_fields.specs.FieldReadings.{with_field}
 use Rattle.asn_fields.specs.Fields.{unless_false}
 
 -- with one text they are the same

@@ -12,7 +12,7 @@ use Rattle.x690.specs.Values.{Same, Value}
 use Rattle.x690_laws.proofs.HeaderSound.{next_took}
 use Rattle.x690_laws.proofs.ShortTexts.{read_texts}
 use Rattle.x690_laws.proofs.Texts.{canonical}
-use Rattle.ber_pull.specs.Fields.{BeginsBefore}
+use Rattle.asn_fields.specs.Insides.{BeginsBefore}
 use Rattle.ber_pull.specs.Hears.{Hears, next_at}
 use Rattle.ber_pull.specs.Standing.{IsGiven, Standing, enclosing}
 use Rattle.ber_pull.proofs.Hearing.{hears_given}

@@ -18,10 +18,12 @@ use Rattle.x690.specs.TypeTerms.{Default, DefinedByType, EndOfFields, Fields, Op
 use Rattle.x690.specs.Values.{Leaf, Same, Sequence, SetOf, Value, leaf_at, values_of}
 use Rattle.x690_laws.proofs.OneValue.{leaf_at_same}
 use Rattle.x690_laws.proofs.Judging.{each_refl}
-use Rattle.ber_pull.specs.Fields.{Inside, Within, but_default, read_begin, read_due, read_end, read_optional, read_take, with_field}
+use Rattle.asn_fields.specs.Insides.{Inside, Within}
+use Rattle.asn_fields.specs.FieldReadings.{but_default, read_begin, read_due, read_end, read_optional, read_take, with_field}
 use Rattle.ber_pull.specs.Hears.{Continues, Hears, heard_error, next_at}
 use Rattle.ber_pull.specs.Standing.{Standing, enclosing}
-use Rattle.ber_pull.proofs.Fields as rules
+use Rattle.asn_fields.proofs.FieldReadings as rules
+use Rattle.asn_elements.proofs.RuledReadings.{ruled_error, rule_holds, rule_refuses}
 use Rattle.ber_pull.proofs.Hearing.{hears_done, hears_error, hears_same, hears_then}
 use Rattle.x690.proofs.Runs.{bind_same}
 use Rattle.asn_fields.specs.Fields.{SameField}
@@ -62,7 +64,7 @@ after_begin_ruled {own} {own'} {fields} {outer} {new} {inside} {next} {u} rule e
 }
 
 pub stopped_at_begin_ruled : {own own' : Tag} (rule : Rule) (fields : Fields) (earlier : List Value) (l : Limits) (c : Enclosing) (p : ℕ) (tag : Tag) (constructed : Bool) (e : ReadError) (k i : ℕ) (s u : Option (List ℕ)) → own' ≡ own → Hears (read_begin l own' c p tag constructed) k s (heard_error e) i u → Hears (read_type l (RuledType rule (SequenceType own fields)) earlier c p tag constructed) k s (heard_error e) i u
-stopped_at_begin_ruled {own} {own'} rule fields earlier l c p tag constructed e k i s u is x = rules.ruled_error l rule (SequenceType own fields) earlier c p tag constructed e k i s u (stopped_at_begin fields earlier l c p tag constructed e k i s u is x)
+stopped_at_begin_ruled {own} {own'} rule fields earlier l c p tag constructed e k i s u is x = ruled_error l rule (SequenceType own fields) earlier c p tag constructed e k i s u (stopped_at_begin fields earlier l c p tag constructed e k i s u is x)
 
 -- A field that is due.
 
@@ -167,7 +169,7 @@ module _ {k : ℕ} {s : Option (List ℕ)} {whole : Reading Value} {finish : Lis
   pub turned_down : (why : Reason) → rule ws w ≡ Some why → Hears whole k s (Refused (fault p why)) now.taken t
   turned_down why e = a.onward.rest _ now.taken t
       (hears_error (judged p rule a.values a.value) (rules.then_take a.outer.limits rest a.values a.inside (λ more. finish (a.values ++ more))) (errors.Fault (fault p why)) now.taken now.taken t t
-      (rules.rule_refuses p (rule a.values a.value) why a.value now.taken t (fair a.values ws a.value w a.same a.alike ∙ e)))
+      (rule_refuses p (rule a.values a.value) why a.value now.taken t (fair a.values ws a.value w a.same a.alike ∙ e)))
 
 module _ {k : ℕ} {s : Option (List ℕ)} {whole : Reading Value} {finish : List Value → Reading Value} {rest : Fields} {ws : List Value} {w : Value} {now : Standing} {t : Option (List ℕ)} (a : InHand k s whole finish unjudged rest ws w now t) where
   pub after_ahead : {next : Next} {new : Standing} {u : Option (List ℕ)} → ((outer : Standing) (inside : Enclosing) → Within outer inside now → Hears (next_tag outer.limits inside) now.taken t (Said next) new.taken u) → ((outer : Standing) (inside : Enclosing) → Within outer inside now → Inside outer inside new next) → SoFar k s whole finish rest (ws ++ (w ∷ [])) next new u
@@ -339,10 +341,10 @@ module _ {k : ℕ} {s : Option (List ℕ)} {whole : Reading Value} {ws : List Va
   answered_by_rule e =
       let value = Sequence own (values_of a.values) in
       let same = same_lists own a.values ws a.same in
-      (value, same, a.onward.rest _ j t (rules.rule_holds p (rule earlier value) value j t (fair earlier earlier value (Sequence own (values_of ws)) (each_refl earlier) same ∙ e)))
+      (value, same, a.onward.rest _ j t (rule_holds p (rule earlier value) value j t (fair earlier earlier value (Sequence own (values_of ws)) (each_refl earlier) same ∙ e)))
 
   pub refused_by_rule : (why : Reason) → rule earlier (Sequence own (values_of ws)) ≡ Some why → Hears whole k s (Refused (fault p why)) j t
   refused_by_rule why e =
       let value = Sequence own (values_of a.values) in
       let same = same_lists own a.values ws a.same in
-      a.onward.rest _ j t (rules.rule_refuses p (rule earlier value) why value j t (fair earlier earlier value (Sequence own (values_of ws)) (each_refl earlier) same ∙ e))
+      a.onward.rest _ j t (rule_refuses p (rule earlier value) why value j t (fair earlier earlier value (Sequence own (values_of ws)) (each_refl earlier) same ∙ e))

@@ -8,7 +8,7 @@ use Rattle.x690.specs.ReadHeaders as headers
 use Rattle.x690.specs.Reading.{Reading}
 use Rattle.x690.specs.Reads.{Heard, Said}
 use Rattle.x690.specs.Values.{Leaf, Same, Value}
-use Rattle.ber_pull.specs.Fields.{Inside}
+use Rattle.asn_fields.specs.Insides.{Inside}
 use Rattle.ber_pull.specs.Hears.{heard_error, next_at}
 use Rattle.ber_pull.specs.Standing.{Standing}
 use Rattle.ber_pull.specs.View.{Answers}

@@ -1,2 +1,4 @@
+pub mod FieldReadings
 pub mod Fields
+pub mod Insides
 pub mod SoFar

@@ -9,7 +9,7 @@ use Rattle.x690.specs.ReadTypes.{read_fields}
 use Rattle.x690.specs.Reading.{Reading, ◌>>=◌}
 use Rattle.x690.specs.TypeTerms.{Fields}
 use Rattle.x690.specs.Values.{Same, Value}
-use Rattle.ber_pull.specs.Fields.{Inside}
+use Rattle.asn_fields.specs.Insides.{Inside}
 use Rattle.ber_pull.specs.Hears.{Continues, Hears, heard_error}
 use Rattle.ber_pull.specs.Standing.{Standing}
 use Rattle.ber_pull.specs.View.{told}

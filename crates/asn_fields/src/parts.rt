@@ -4,7 +4,7 @@ ghost use Rattle.std.specs.Option.{option_map};
 ghost use Rattle.tlv_core.specs.Sinks.{count, Puts};
 ghost use Rattle.x690.specs.DerTexts.{der, texts_of};
 ghost use Rattle.x690.specs.Values.{Sequence, Value, values_of};
-ghost use Rattle.ber_pull.specs.Fields.{with_field};
+ghost use Rattle.asn_fields.specs.FieldReadings.{with_field};
 ghost use Rattle.asn_fields.specs.Fields.{unless_false};
 
 use crate::sequence::DefaultFalse;

@@ -11,7 +11,7 @@ ghost use Rattle.x690.specs.Layouts.{universal};
 ghost use Rattle.x690.specs.ReadTypes.{read_type};
 ghost use Rattle.x690.specs.TypeTerms.{Default, EndOfFields, Fields as FieldTypes, LeafType, Optional as OptionalType, Required, SequenceType};
 ghost use Rattle.x690.specs.Values.{Sequence, Value, values_of};
-ghost use Rattle.ber_pull.specs.Fields.{but_default, with_field};
+ghost use Rattle.asn_fields.specs.FieldReadings.{but_default, with_field};
 ghost use Rattle.ber_pull.specs.Standing.{enclosing};
 ghost use Rattle.ber_pull.specs.View.{standing, SameSource, Repeats, Keeps, ReadsFail, Onward, Uses};
 ghost use Rattle.ber_pull.specs.declared.state.Given.{Given};

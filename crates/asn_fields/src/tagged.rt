@@ -6,7 +6,7 @@ ghost use Rattle.x690.specs.DerTexts.{der};
 ghost use Rattle.x690.specs.Layouts.{context_specific};
 ghost use Rattle.x690.specs.TypeTerms.{EndOfFields, Required, SequenceType};
 ghost use Rattle.x690.specs.Values.{Same, Sequence, values_of};
-ghost use Rattle.ber_pull.proofs.Fields.{sequence_closed};
+ghost use Rattle.x690_laws.proofs.ClosedTypes.{sequence_closed};
 
 use crate::sequence::{Due, read_sequence_as};
 use asn_elements::der_text::{DerText, same_text};

@@ -9,7 +9,7 @@ ghost use Rattle.std.specs.Option.{option_map};
 ghost use Rattle.x690.specs.DerTexts.{der};
 ghost use Rattle.x690.specs.Layouts.{universal};
 ghost use Rattle.x690.specs.TypeTerms.{OpenType};
-ghost use Rattle.ber_pull.proofs.Fields.{open_closed};
+ghost use Rattle.x690_laws.proofs.ClosedTypes.{open_closed};
 ghost use Rattle.x690.specs.Values.{Leaf, Same};
 ghost use Rattle.asn_open_values.specs.TextValues.{identifier_in, open_value};
 

@@ -7,5 +7,3 @@ pub mod Pieces
 pub mod Joining
 pub mod Walk
 pub mod Strings
-pub mod Fields
-pub mod Insides

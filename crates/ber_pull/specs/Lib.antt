@@ -5,4 +5,3 @@ pub mod View
 pub mod Lengths
 pub mod Contents
 pub mod Segments
-pub mod Fields

@@ -2,8 +2,8 @@
 use Rattle.std.specs.Prelude.{refl}
 use Rattle.x690.specs.DocumentTypes.{ECPrivateKey}
 use Rattle.x690.specs.Rules.{ec_rule}
-use Rattle.ber_pull.specs.Fields.{IsClosed}
-use Rattle.ber_pull.proofs.Fields.{ruled_closed, sequence_closed}
+use Rattle.x690.specs.ReadTypes.{IsClosed}
+use Rattle.x690_laws.proofs.ClosedTypes.{ruled_closed, sequence_closed}
 
 pub ec_key_closed : IsClosed ECPrivateKey
 unfolding ECPrivateKey

@@ -7,7 +7,7 @@ use Rattle.x690.specs.DerTexts.{der, der_element}
 use Rattle.x690.specs.Identifiers.{curve_lengths, length_under}
 use Rattle.x690.specs.Layouts.{context_specific}
 use Rattle.x690.specs.Values.{Sequence, Value, values_of}
-use Rattle.ber_pull.specs.Fields.{with_field}
+use Rattle.asn_fields.specs.FieldReadings.{with_field}
 use Rattle.asn_fields.proofs.OneFields.{OneField, OneTexts, due_one_text, last_one_text}
 
 -- version, privateKey, and parameters and publicKey where they are there

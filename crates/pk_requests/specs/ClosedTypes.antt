@@ -1,7 +1,7 @@
 -- Types that don't look at the earlier fields of a container.
 use Rattle.x690.specs.DocumentTypes.{CertificationRequest, CertificationRequestInfo}
-use Rattle.ber_pull.specs.Fields.{IsClosed}
-use Rattle.ber_pull.proofs.Fields.{sequence_closed}
+use Rattle.x690.specs.ReadTypes.{IsClosed}
+use Rattle.x690_laws.proofs.ClosedTypes.{sequence_closed}
 
 pub info_closed : IsClosed CertificationRequestInfo
 unfolding CertificationRequestInfo

@@ -1,7 +1,7 @@
 -- The values of the types, field by field.
 use Rattle.std.specs.Prelude.{List, Option, [], ◌∷◌}
 use Rattle.x690.specs.Values.{Value}
-use Rattle.ber_pull.specs.Fields.{with_field}
+use Rattle.asn_fields.specs.FieldReadings.{with_field}
 
 -- version, subject, subjectPKInfo, and the attributes where they are there
 abbrev pub info_values : Value → Value → Value → Option Value → List Value

@@ -8,7 +8,7 @@ use Rattle.x690.specs.Lists.{one_of}
 use Rattle.x690.specs.Rules.{else_refused, parameters_rule}
 use Rattle.x690.specs.Values.{Leaf, Same, Sequence, Value, leaf_at, values_of}
 use Rattle.x690_laws.proofs.Fairs.{fair_parameters}
-use Rattle.ber_pull.specs.Fields.{with_field}
+use Rattle.asn_fields.specs.FieldReadings.{with_field}
 
 -- An algorithm with parameters, or without.
 module _ {A : Type 0} (f : A → Value) (v : Value) (algorithm : List ℕ) (o : Option A) (same : Same v (Sequence (universal 16) (values_of (Leaf (universal 6) algorithm ∷ with_field (option_map f o) [])))) where

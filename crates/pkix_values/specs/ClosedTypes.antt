@@ -2,8 +2,8 @@
 use Rattle.std.specs.Prelude.{refl}
 use Rattle.x690.specs.DocumentTypes.{AlgorithmIdentifier, Extension, Name, NameItem, RequestAttribute, SubjectPublicKeyInfo}
 use Rattle.x690.specs.Rules.{parameters_rule}
-use Rattle.ber_pull.specs.Fields.{IsClosed}
-use Rattle.ber_pull.proofs.Fields.{ruled_closed, sequence_closed, sequence_of_closed}
+use Rattle.x690.specs.ReadTypes.{IsClosed}
+use Rattle.x690_laws.proofs.ClosedTypes.{ruled_closed, sequence_closed, sequence_of_closed}
 
 pub extension_closed : IsClosed Extension
 unfolding Extension

@@ -5,7 +5,7 @@ use Rattle.x690.specs.Layouts.{universal}
 use Rattle.x690.specs.Lists.{one_of}
 use Rattle.x690.specs.Rules.{has_length, no_unused}
 use Rattle.x690.specs.Values.{Leaf, SetOf, Value, values_of}
-use Rattle.ber_pull.specs.Fields.{with_field}
+use Rattle.asn_fields.specs.FieldReadings.{with_field}
 use Rattle.asn_fields.specs.Fields.{unless_false}
 use Rattle.asn_elements.specs.Leaves.{octets_of}
 use Rattle.asn_elements.specs.declared.octets.Octets.{Octets}

@@ -4,8 +4,8 @@ use Rattle.x690.specs.Contents.{Integer}
 use Rattle.x690.specs.DocumentTypes.{version}
 use Rattle.x690.specs.Layouts.{universal}
 use Rattle.x690.specs.Rules.{version_rule}
-use Rattle.ber_pull.specs.Fields.{IsClosed}
-use Rattle.ber_pull.proofs.Fields.{leaf_closed, ruled_closed}
+use Rattle.x690.specs.ReadTypes.{IsClosed}
+use Rattle.x690_laws.proofs.ClosedTypes.{leaf_closed, ruled_closed}
 
 -- as many numbers from this one on, each in the one octet that an INTEGER below 128 has
 abbrev pub one_octets : ℕ → ℕ → List (List ℕ)

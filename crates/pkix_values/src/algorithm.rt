@@ -9,7 +9,7 @@ ghost use Rattle.x690.specs.Identifiers.{rfc8410_algorithms};
 ghost use Rattle.x690.specs.Layouts.{universal};
 ghost use Rattle.x690.specs.Lists.{one_of};
 ghost use Rattle.x690.specs.Values.{Leaf, Same, Sequence, values_of};
-ghost use Rattle.ber_pull.specs.Fields.{with_field};
+ghost use Rattle.asn_fields.specs.FieldReadings.{with_field};
 ghost use Rattle.pkix_values.specs.ClosedTypes.{algorithm_closed};
 
 use crate::identifiers::public_key_length;

@@ -8,7 +8,7 @@ ghost use Rattle.x690.specs.Layouts.{universal};
 ghost use Rattle.x690.specs.TypeTerms.{EndOfFields, Required};
 ghost use Rattle.x690.specs.Values.{Leaf, Same, Sequence, SetOf as SetValue, values_of};
 ghost use Rattle.asn_containers.specs.Containers.{set_items};
-ghost use Rattle.ber_pull.proofs.Fields.{sequence_closed};
+ghost use Rattle.x690_laws.proofs.ClosedTypes.{sequence_closed};
 ghost use Rattle.pkix_values.specs.Values.{attribute_values};
 
 use crate::set_of_some::SetOfSome;

@@ -4,7 +4,7 @@ ghost use Rattle.x690.specs.DocumentTypes.{set_of_some};
 ghost use Rattle.x690.specs.Layouts.{universal};
 ghost use Rattle.x690.specs.Values.{Same, SetOf as SetValue, values_of};
 ghost use Rattle.asn_containers.specs.Containers.{set_items};
-ghost use Rattle.ber_pull.proofs.Fields.{set_of_closed};
+ghost use Rattle.x690_laws.proofs.ClosedTypes.{set_of_closed};
 
 use asn_values::der_text::DerText;
 use asn_values::element::Element;

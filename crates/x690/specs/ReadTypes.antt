@@ -1,6 +1,6 @@
 -- The plain reading of a type: the value that octets say, and the place behind it, or the first fault (profile).
 -- Faults of an element as a whole stand at `place`, where its identifier begins.
-use Rattle.std.specs.Prelude.{Bool, List, None, Option, Some, [], false, length, nat_le, ℕ, ◌&&◌, ◌++◌, ◌∷◌}
+use Rattle.std.specs.Prelude.{Bool, List, None, Option, Some, [], false, length, nat_le, ℕ, ◌&&◌, ◌++◌, ◌∷◌, ◌≡◌}
 use Rattle.tlv_core.specs.Identifier.{Tag}
 use Rattle.tlv_core.specs.Limits.{Limits}
 use Rattle.tlv_core.specs.declared.reason.Reason.{Reason}
@@ -87,3 +87,9 @@ read_element limits type earlier enclosing = due_element limits enclosing (read_
 -- A document of the type, from place 0 on.
 unfoldable pub read_document : Limits → TypeTerm → List ℕ → Outcome Value
 read_document limits type octets = run (read_element limits type [] outermost) 0 octets
+
+-- a type that doesn't look at the earlier fields of its container reads the same behind any
+abbrev pub IsClosed : TypeTerm → Type 0
+IsClosed type =
+    (limits : Limits) (earlier : List Value) (enclosing : Enclosing) (place : ℕ) (tag : Tag) (constructed : Bool)
+    → read_type limits type earlier enclosing place tag constructed ≡ read_type limits type [] enclosing place tag constructed

@@ -1,4 +1,5 @@
 pub mod Answering
+pub mod ClosedTypes
 pub mod Complete
 pub mod Computed
 pub mod ContentLengths

@@ -1,8 +1,8 @@
 use Rattle.std.proofs.Common.{rules, sym, ap, subst, ◌∙◌}
-use Rattle.ber_pull.specs.Fields.{Inside}
+use Rattle.asn_fields.specs.Insides.{Inside}
 use Rattle.ber_pull.specs.Hears.{next_at}
 use Rattle.ber_pull.proofs.Hearing.{hears_as, hears_err, hears_said}
-use Rattle.ber_pull.proofs.Insides.{next_inside, within_limits, within_next, within_none}
+use Rattle.asn_fields.proofs.Insides.{next_inside, within_limits, within_next, within_none}
 use Rattle.x690.specs.ReadHeaders.{next_tag}
 use Rattle.ber_pull.specs.Standing.{enclosing}
 use Rattle.asn_fields.proofs.ShortFields.{begins_here}

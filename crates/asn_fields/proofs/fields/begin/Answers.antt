@@ -1,9 +1,9 @@
 use Rattle.std.proofs.Common.{rules, sym, ap, subst, ◌∙◌}
 use Rattle.ber_pull.proofs.Hearing.{hears_done, hears_err, hears_error, hears_said, hears_then}
-use Rattle.ber_pull.proofs.Fields.{begin_in, begin_wrong}
-use Rattle.ber_pull.proofs.Insides.{opens_within}
+use Rattle.asn_fields.proofs.FieldReadings.{begin_in, begin_wrong}
+use Rattle.asn_fields.proofs.Insides.{opens_within}
 use Rattle.ber_pull.specs.Calls.{read_entering}
-use Rattle.ber_pull.specs.Fields.{Inside}
+use Rattle.asn_fields.specs.Insides.{Inside}
 use Rattle.ber_pull.specs.Standing.{enclosing, opening, used}
 use Rattle.asn_elements.proofs.Answering.{fine_still, given_still, unmoved_answers}
 use Rattle.asn_fields.specs.Fields.{next_of}

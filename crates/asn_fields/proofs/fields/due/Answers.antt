@@ -1,7 +1,7 @@
 use Rattle.std.proofs.Common.{rules}
-use Rattle.ber_pull.proofs.Fields.{take_then}
+use Rattle.asn_fields.proofs.FieldReadings.{take_then}
 use Rattle.ber_pull.proofs.Hearing.{hears_done, hears_error, hears_then}
-use Rattle.ber_pull.proofs.Insides.{within_none}
+use Rattle.asn_fields.proofs.Insides.{within_none}
 use Rattle.asn_fields.specs.Fields.{next_of}
 use Rattle.asn_fields.proofs.Handing.{with_error}
 use Rattle.asn_fields.proofs.fields.due.Goals as goal

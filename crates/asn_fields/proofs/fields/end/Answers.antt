@@ -2,8 +2,8 @@ use Rattle.std.proofs.Common.{sym, ap, ◌∙◌}
 use Rattle.x690.specs.Points.{fault}
 use Rattle.tlv_core.specs.declared.reason.Reason.TheVariants.{Extra}
 use Rattle.ber_pull.proofs.Hearing.{hears_stop}
-use Rattle.ber_pull.proofs.Fields.{end_extra, end_here}
-use Rattle.ber_pull.proofs.Insides.{left_here, stands_none}
+use Rattle.asn_fields.proofs.FieldReadings.{end_extra, end_here}
+use Rattle.asn_fields.proofs.Insides.{left_here, stands_none}
 use Rattle.asn_fields.proofs.fields.end.Goals as goal
 
 pub returns-then-is_some-clause-reads : goal.returns-then-is_some-clause-reads

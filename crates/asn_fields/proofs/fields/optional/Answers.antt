@@ -2,11 +2,11 @@ use Rattle.std.proofs.Common.{rules, Bool, Some, None, sym, subst, ◌∙◌}
 use Rattle.tlv_core.specs.Identifier.{Tag}
 use Rattle.ber_pull.specs.Hears.{next_at}
 use Rattle.ber_pull.proofs.Hearing.{hears_done, hears_error, hears_then}
-use Rattle.ber_pull.proofs.Fields.{optional_absent, optional_other, optional_read}
-use Rattle.ber_pull.proofs.Insides.{field_as, field_given, stands_some, used_within}
+use Rattle.asn_fields.proofs.FieldReadings.{optional_absent, optional_other, optional_read}
+use Rattle.asn_fields.proofs.Insides.{field_as, field_given, stands_some, used_within}
 use Rattle.ber_pull.specs.declared.state.Given.{Given}
 use Rattle.asn_fields.specs.Fields.{next_of}
-use Rattle.ber_pull.specs.Fields.{BeginsBefore}
+use Rattle.asn_fields.specs.Insides.{BeginsBefore}
 use Rattle.asn_fields.proofs.ShortFields.{field_short}
 use Rattle.asn_fields.proofs.Handing.{with_error}
 use Rattle.asn_fields.proofs.fields.optional.Goals as goal

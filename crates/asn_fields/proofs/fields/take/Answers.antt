@@ -5,11 +5,11 @@ use Rattle.x690.specs.Points.{fault}
 use Rattle.tlv_core.specs.declared.reason.Reason.TheVariants.{Missing, WrongTag}
 use Rattle.ber_pull.specs.Hears.{next_at}
 use Rattle.ber_pull.proofs.Hearing.{hears_stop}
-use Rattle.ber_pull.proofs.Fields.{take_missing, take_read, take_wrong}
-use Rattle.ber_pull.proofs.Insides.{field_as, field_given}
+use Rattle.asn_fields.proofs.FieldReadings.{take_missing, take_read, take_wrong}
+use Rattle.asn_fields.proofs.Insides.{field_as, field_given}
 use Rattle.ber_pull.specs.declared.state.Given.{Given}
 use Rattle.asn_fields.specs.Fields.{next_of}
-use Rattle.ber_pull.specs.Fields.{BeginsBefore}
+use Rattle.asn_fields.specs.Insides.{BeginsBefore}
 use Rattle.asn_fields.proofs.ShortFields.{field_short}
 use Rattle.asn_fields.proofs.Handing.{of_value, value_through}
 use Rattle.asn_fields.proofs.fields.take.Goals as goal

@@ -2,7 +2,7 @@ use Rattle.std.proofs.Common.{rules, ◌≡◌, ◌∷◌, [], true, refl}
 use Rattle.tlv_core.specs.Identifier.{identifier}
 use Rattle.tlv_core.specs.Length.{shortest_length}
 use Rattle.x690.specs.DerTexts.{der, der_element, texts_of}
-use Rattle.ber_pull.specs.Fields.{with_field}
+use Rattle.asn_fields.specs.FieldReadings.{with_field}
 use Rattle.asn_fields.specs.Fields.{unless_false}
 use Rattle.asn_fields.proofs.sequence.DefaultFalse.text.Goals as goal
 

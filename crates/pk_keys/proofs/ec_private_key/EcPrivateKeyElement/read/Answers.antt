@@ -3,7 +3,7 @@ use Rattle.tlv_core.specs.declared.fault.ReadError.TheVariants as errors
 use Rattle.tlv_core.specs.declared.reason.Reason.TheVariants.{KeyLength}
 use Rattle.x690.specs.DocumentTypes.{ECPrivateKey}
 use Rattle.x690.specs.Points.{fault}
-use Rattle.ber_pull.proofs.Fields.{rule_holds, rule_refuses, ruled, ruled_error}
+use Rattle.asn_elements.proofs.RuledReadings.{rule_holds, rule_refuses, ruled, ruled_error}
 use Rattle.asn_elements.proofs.Answering.{place_given, refused_by, value_err}
 use Rattle.asn_elements.specs.Leaves.{bit_string_of, octets_of}
 use Rattle.asn_elements.specs.Reading.{read_given}

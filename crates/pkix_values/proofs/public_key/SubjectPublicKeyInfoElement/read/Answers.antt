@@ -5,7 +5,7 @@ use Rattle.x690.specs.Points.{fault}
 use Rattle.x690.specs.Rules.{else_refused}
 use Rattle.x690.specs.Values.{leaf_at}
 use Rattle.x690_laws.proofs.Fairs.{fair_key_bits}
-use Rattle.ber_pull.proofs.Insides.{within_none}
+use Rattle.asn_fields.proofs.Insides.{within_none}
 use Rattle.asn_elements.specs.Leaves.{bit_string_of}
 use Rattle.asn_elements.specs.Reading.{read_given}
 use Rattle.asn_elements.proofs.Answering.{refused_by}

@@ -5,7 +5,7 @@ use Rattle.x690.specs.DocumentTypes.{version}
 use Rattle.x690.specs.Layouts.{universal}
 use Rattle.x690.specs.Points.{fault}
 use Rattle.x690.specs.Values.{Leaf, Same}
-use Rattle.ber_pull.proofs.Fields.{rule_holds, rule_refuses, ruled, ruled_error}
+use Rattle.asn_elements.proofs.RuledReadings.{rule_holds, rule_refuses, ruled, ruled_error}
 use Rattle.asn_elements.proofs.Answering.{place_given, refused_by, value_err}
 use Rattle.asn_elements.specs.Reading.{read_given}
 use Rattle.pkix_values.specs.Versions.{versions}

@@ -1,68 +1,25 @@
 -- The rules by which readers of sequences are put together: into the container, field after field in the order of the ASN.1, its end.
 -- `then'` is what becomes of the values of all fields.
-use Rattle.std.proofs.Common.{◌≡◌, ℕ, Bool, true, false, List, [], ◌∷◌, ◌++◌, Option, Some, None, refl, sym, ◌||◌, ◌∙◌, ap, ap₂, subst, append-nil}
+use Rattle.std.proofs.Common.{◌≡◌, ℕ, Bool, true, false, List, [], ◌∷◌, ◌++◌, Option, Some, None, refl, sym, ◌||◌, ap, subst, append-nil}
 use Rattle.std.specs.Option.{is_some}
 use Rattle.tlv_core.specs.Identifier.{Tag}
 use Rattle.tlv_core.specs.Limits.{Limits}
-use Rattle.tlv_core.specs.declared.fault.Fault.{Fault}
 use Rattle.tlv_core.specs.declared.fault.ReadError.{ReadError}
-use Rattle.tlv_core.specs.declared.reason.Reason.{Reason}
 use Rattle.tlv_core.specs.declared.reason.Reason.TheVariants.{Extra, Missing, WrongTag}
-use Rattle.x690.specs.Contents.{LeafKind}
 use Rattle.x690.specs.Layouts.{same_tag}
 use Rattle.x690.specs.Lists.{one_of}
 use Rattle.x690.specs.Points.{Enclosing, fault}
 use Rattle.x690.specs.ReadHeaders.{ContainerEnds, ElementStands, Next, entered, in_container, next_tag, read_length}
 use Rattle.x690.specs.ReadTypes.{apply_rule, is_this_leaf, read_fields, read_type}
-use Rattle.x690.specs.Reading.{Done, Fail, Halted, Outcome, Reading, Took, Where, choose, require, run, ◌>>=◌}
+use Rattle.x690.specs.Reading.{Done, Reading, Where, choose, require, run, ◌>>=◌}
 use Rattle.x690.specs.Reads.{Heard, Refused, Said}
-use Rattle.x690.specs.TypeTerms.{ChoiceType, Default, DefinedByType, EndOfFields, Fields, LeafType, OpenType, Optional, Required, Rule, RuledType, SequenceOfType, SequenceType, SetOfType, TypeTerm, fits_tag}
+use Rattle.x690.specs.TypeTerms.{Default, DefinedByType, EndOfFields, Fields, Optional, Required, Rule, RuledType, SequenceType, TypeTerm, fits_tag}
 use Rattle.x690.specs.Values.{Sequence, Value, leaf_at, values_of}
-use Rattle.ber_pull.specs.Fields.{IsClosed, but_default, read_begin, read_due, read_end, read_optional, read_take, with_field}
+use Rattle.asn_fields.specs.FieldReadings.{but_default, read_begin, read_due, read_end, read_optional, read_take, with_field}
 use Rattle.ber_pull.specs.Hears.{Hears, heard_error, next_at}
 use Rattle.ber_pull.proofs.Hearing.{hears_done, hears_error, hears_fail, hears_first, hears_off, hears_on, hears_same, hears_second, hears_then}
-use Rattle.x690.proofs.Runs.{bind_assoc, bind_same, halt_bind, run_bind}
-
--- readings that give the same on all octets
-abbrev pub Alike : {A : Type 0} → Reading A → Reading A → Type 0
-Alike p q = (k : ℕ) (s : List ℕ) → run p k s ≡ run q k s
-
-alike_both : {A : Type 0} (p q r : Reading A) → Alike p r → Alike q r → Alike p q
-alike_both p q r x y k s = x k s ∙ sym (y k s)
-
-alike_then : {A : Type 0} (p q r : Reading A) → Alike p q → Alike q r → Alike p r
-alike_then p q r x y k s = x k s ∙ y k s
-
-require_then : {A B : Type 0} (b : Bool) (g : Fault) (p : Reading A) (f : A → Reading B) (q : Reading B) → Alike (p >>= f) q → Alike (require b g p >>= f) (require b g q)
-unfolding require ◌>>=◌
-require_then true g p f q e k s = e k s
-require_then false g p f q e k s = refl
-
-choose_then : {A B : Type 0} (b : Bool) (p p' : Reading A) (f : A → Reading B) (q q' : Reading B) → Alike (p >>= f) q → Alike (p' >>= f) q' → Alike (choose b p p' >>= f) (choose b q q')
-unfolding choose
-choose_then true p p' f q q' e e' k s = e k s
-choose_then false p p' f q q' e e' k s = e' k s
-
-done_then : {A B : Type 0} (a : A) (f : A → Reading B) → Alike (Done a >>= f) (f a)
-unfolding ◌>>=◌
-done_then a f k s = refl
-
--- alike readings, before the same rest
-pub bind_first : {A B : Type 0} (p q : Reading A) (f : A → Reading B) → Alike p q → Alike (p >>= f) (q >>= f)
-bind_first {A} {B} p q f e k s = go (run q k s) refl
-  where
-    go : (o : Outcome A) → run q k s ≡ o → run (p >>= f) k s ≡ run (q >>= f) k s
-    go (Took a j r) x = run_bind p f k s a j r (e k s ∙ x) ∙ sym (run_bind q f k s a j r x)
-    go (Halted g) x = halt_bind p f k s g (e k s ∙ x) ∙ sym (halt_bind q f k s g x)
-
--- An element and what stands behind it, and then the rest.
-behind : {A B X Z : Type 0} (p : Reading A) (q : A → Reading B) (w : A → B → Reading X) (f : X → Reading Z) → Alike ((p >>= λ a. q a >>= λ b. w a b) >>= f) (p >>= λ a. q a >>= λ b. w a b >>= f)
-behind p q w f k s =
-    bind_assoc p (λ a. q a >>= λ b. w a b) f k s
-    ∙ bind_same p (λ a. (q a >>= λ b. w a b) >>= f) (λ a. q a >>= λ b. w a b >>= f) (λ a j t. bind_assoc (q a) (λ b. w a b) f j t) k s
-
-behind_same : {A B Z : Type 0} (p : Reading A) (q : Reading B) (w w' : A → B → Reading Z) → ((a : A) (b : B) → Alike (w a b) (w' a b)) → Alike (p >>= λ a. q >>= λ b. w a b) (p >>= λ a. q >>= λ b. w' a b)
-behind_same p q w w' e k s = bind_same p (λ a. q >>= λ b. w a b) (λ a. q >>= λ b. w' a b) (λ a j t. bind_same q (λ b. w a b) (λ b. w' a b) (e a) j t) k s
+use Rattle.x690.proofs.Runs.{bind_assoc, bind_same}
+use Rattle.x690.proofs.Alike.{Alike, alike_both, alike_then, behind, behind_same, bind_first, choose_then, done_then, require_then}
 
 -- a field that is there, and the fields behind it
 there : {B : Type 0} (p : Reading Value) (q : Reading Next) (rest : Value → Next → Reading (List Value)) (then' : List Value → Reading B) → Alike ((p >>= λ v. q >>= λ n. rest v n >>= λ vs. Done (v ∷ vs)) >>= then') (p >>= λ v. q >>= λ n. rest v n >>= λ vs. then' (v ∷ vs))
@@ -253,58 +210,6 @@ ends l earlier c next then' h k j i s t u x y =
 pub ends_error : {B : Type 0} (l : Limits) (earlier : List Value) (c : Enclosing) (next : Next) (then' : List Value → Reading B) (e : ReadError) (k i : ℕ) (s u : Option (List ℕ)) → Hears (read_end next) k s (heard_error e) i u → Hears (read_fields l EndOfFields earlier c next >>= then') k s (heard_error e) i u
 ends_error l earlier c next then' e k i s u x =
     hears_same _ _ (heard_error e) k i s u (end_alike l earlier c next then') (hears_error _ (λ v. then' []) e k i s u x)
-
--- A type that doesn't look at the earlier fields of its container reads the same behind any.
-
-pub leaf_closed : (own : Tag) (kind : LeafKind) → IsClosed (LeafType own kind)
-unfolding read_type
-leaf_closed own kind l earlier c p tag constructed = refl
-
-pub open_closed : IsClosed OpenType
-unfolding read_type
-open_closed l earlier c p tag constructed = refl
-
-pub sequence_closed : (own : Tag) (fields : Fields) → IsClosed (SequenceType own fields)
-unfolding read_type
-sequence_closed own fields l earlier c p tag constructed = refl
-
-pub sequence_of_closed : (own : Tag) (least : ℕ) (T : TypeTerm) → IsClosed (SequenceOfType own least T)
-unfolding read_type
-sequence_of_closed own least T l earlier c p tag constructed = refl
-
-pub set_of_closed : (own : Tag) (least : ℕ) (T : TypeTerm) → IsClosed (SetOfType own least T)
-unfolding read_type
-set_of_closed own least T l earlier c p tag constructed = refl
-
-pub choice_closed : (first second : TypeTerm) → IsClosed first → IsClosed second → IsClosed (ChoiceType first second)
-unfolding read_type
-choice_closed first second closed closed' l earlier c p tag constructed = ap₂ (choose (fits_tag first tag)) (closed l earlier c p tag constructed) (closed' l earlier c p tag constructed)
-
--- with a rule on the value alone
-pub ruled_closed : (rule : Rule) (T : TypeTerm) → IsClosed T → ((earlier : List Value) → rule earlier ≡ rule []) → IsClosed (RuledType rule T)
-unfolding read_type
-ruled_closed rule T closed alone l earlier c p tag constructed =
-    ap₂ (λ reading rule'. reading >>= λ value. apply_rule p (rule' value) value) (closed l earlier c p tag constructed) (alone earlier)
-
--- A rule at completion.
-
-pub ruled : (l : Limits) (rule : Rule) (T : TypeTerm) (earlier : List Value) (c : Enclosing) (p : ℕ) (tag : Tag) (constructed : Bool) (value : Value) (h : Heard Value) (k j i : ℕ) (s t u : Option (List ℕ)) → Hears (read_type l T earlier c p tag constructed) k s (Said value) j t → Hears (apply_rule p (rule earlier value) value) j t h i u → Hears (read_type l (RuledType rule T) earlier c p tag constructed) k s h i u
-unfolding read_type
-ruled l rule T earlier c p tag constructed value h k j i s t u x y = hears_then _ (λ v. apply_rule p (rule earlier v) v) value h k j i s t u x y
-
-pub ruled_error : (l : Limits) (rule : Rule) (T : TypeTerm) (earlier : List Value) (c : Enclosing) (p : ℕ) (tag : Tag) (constructed : Bool) (e : ReadError) (k i : ℕ) (s u : Option (List ℕ)) → Hears (read_type l T earlier c p tag constructed) k s (heard_error e) i u → Hears (read_type l (RuledType rule T) earlier c p tag constructed) k s (heard_error e) i u
-unfolding read_type
-ruled_error l rule T earlier c p tag constructed e k i s u x = hears_error _ (λ v. apply_rule p (rule earlier v) v) e k i s u x
-
-pub rule_holds : (p : ℕ) (refused : Option Reason) (value : Value) (k : ℕ) (s : Option (List ℕ)) → refused ≡ None → Hears (apply_rule p refused value) k s (Said value) k s
-unfolding apply_rule
-rule_holds p None value k s e = hears_done value k s
-rule_holds p (Some why) value k s e = cc
-
-pub rule_refuses : (p : ℕ) (refused : Option Reason) (why : Reason) (value : Value) (k : ℕ) (s : Option (List ℕ)) → refused ≡ Some why → Hears (apply_rule p refused value) k s (Refused (fault p why)) k s
-unfolding apply_rule
-rule_refuses p None why value k s e = cc
-rule_refuses p (Some other) why value k s e = let is : other ≡ why = cc in subst (λ w. Hears {A = Value} (Fail (fault p other)) k s (Refused (fault p w)) k s) is (hears_fail Value (fault p other) k s)
 
 -- A choice by an earlier field, between types that begin alike.
 

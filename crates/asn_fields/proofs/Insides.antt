@@ -5,13 +5,13 @@ use Rattle.tlv_core.specs.Identifier.{Tag}
 use Rattle.tlv_core.specs.declared.fault.ReadError.{ReadError}
 use Rattle.x690.specs.Points.{Enclosing}
 use Rattle.x690.specs.ReadHeaders.{DefiniteLength, IndefiniteLength, LengthForm, Next, next_tag}
-use Rattle.x690.specs.ReadTypes.{read_type}
+use Rattle.x690.specs.ReadTypes.{IsClosed, read_type}
 use Rattle.x690.specs.Reading.{Done, choose}
 use Rattle.x690.specs.Reads.{Heard}
 use Rattle.x690.specs.TypeTerms.{TypeTerm}
 use Rattle.x690.specs.Values.{Value}
 use Rattle.ber_pull.specs.Calls.{read_next}
-use Rattle.ber_pull.specs.Fields.{BeginsBefore, Inside, IsClosed, Within, given_by}
+use Rattle.asn_fields.specs.Insides.{BeginsBefore, Inside, Within, given_by}
 use Rattle.ber_pull.specs.Hears.{Hears, heard, next_at}
 use Rattle.ber_pull.specs.Standing.{IsAtEnd, Standing, after_next, container_of, enclosing, is_ended, opening, place, used}
 use Rattle.ber_pull.specs.declared.state.Container.{Container}

@@ -1,6 +1,6 @@
 -- What is read of a SEQUENCE, field by field; `next` is what stands at the point.
-use Rattle.std.specs.Prelude.{Bool, IsSome, List, None, Option, Some, [], false, length, true, ℕ, ◌+◌, ◌∷◌, ◌≡◌}
-use Rattle.tlv_core.specs.Identifier.{Tag, identifier}
+use Rattle.std.specs.Prelude.{Bool, List, None, Option, Some, false, true, ℕ, ◌∷◌}
+use Rattle.tlv_core.specs.Identifier.{Tag}
 use Rattle.tlv_core.specs.Limits.{Limits}
 use Rattle.tlv_core.specs.declared.reason.Reason.TheVariants.{Extra, Missing, WrongTag}
 use Rattle.x690.specs.Layouts.{same_tag}
@@ -10,9 +10,6 @@ use Rattle.x690.specs.ReadTypes.{is_this_leaf, read_type}
 use Rattle.x690.specs.Reading.{Done, Fail, Reading, choose, require, ◌>>=◌}
 use Rattle.x690.specs.TypeTerms.{TypeTerm, fits_tag}
 use Rattle.x690.specs.Values.{Value}
-use Rattle.ber_pull.specs.Standing.{IsAtEnd, IsGiven, Standing, enclosing, is_ended}
-use Rattle.ber_pull.specs.declared.state.Container.{Container}
-use Rattle.ber_pull.specs.declared.state.Given.{Given}
 
 -- into a constructed element of this tag: the point inside, and what stands there first
 unfoldable pub read_begin : Limits → Tag → Enclosing → ℕ → Tag → Bool → Reading (Enclosing × Next)
@@ -55,36 +52,3 @@ with_field (Some value) values = value ∷ values
 abbrev pub but_default : Tag → List ℕ → Option Value → Option Value
 but_default own octets None = None
 but_default own octets (Some value) = elim (is_this_leaf own octets value) [ true ↦ None | false ↦ Some value ]
-
--- a type that doesn't look at the earlier fields of its container reads the same behind any
-abbrev pub IsClosed : TypeTerm → Type 0
-IsClosed type =
-    (limits : Limits) (earlier : List Value) (enclosing : Enclosing) (place : ℕ) (tag : Tag) (constructed : Bool)
-    → read_type limits type earlier enclosing place tag constructed ≡ read_type limits type [] enclosing place tag constructed
-
--- the identifier that is given where this stands next
-abbrev pub given_by : Next → Option Given
-given_by (ContainerEnds place) = None
-given_by (ElementStands place tag constructed) = Some (record { at = place; tag = tag; constructed = constructed })
-
--- Inside a container that was opened where `outer` stood, at the point `inside`; no identifier is given.
-pub record Within (outer : Standing) (inside : Enclosing) (now : Standing) : Type 0 where
-  pub container : Container
-  pub is : now ≡ record outer { taken = now.taken; given = None; containers = container ∷ outer.containers }
-  pub point : enclosing now ≡ inside
-  pub open_still : is_ended container ≡ false
-
--- the identifier of the element that stands next ends here, and the element may stand there
-abbrev pub BeginsBefore : Standing → Next → Type 0
-BeginsBefore now (ContainerEnds place) = Unit {0}
-BeginsBefore now (ElementStands place tag constructed) = IsGiven tag now × (place + length (identifier tag constructed) ≡ now.taken)
-
--- The same, with `next` standing next.
-pub record Inside (outer : Standing) (inside : Enclosing) (now : Standing) (next : Next) : Type 0 where
-  pub container : Container
-  pub is : now ≡ record outer { taken = now.taken; given = given_by next; containers = container ∷ outer.containers }
-  pub point : enclosing now ≡ inside
-  -- with an element standing next the container isn't ended
-  pub open_still : IsSome (given_by next) → is_ended container ≡ false
-  pub ended : given_by next ≡ None → IsAtEnd now
-  pub begins : BeginsBefore now next
