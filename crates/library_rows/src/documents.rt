@@ -58,7 +58,7 @@ pub fn document_once<T: Element>(
 
 /// The text of an extension by `normalise_value`, behind an octet 07. The text is its own text; a fault leaves all as
 /// it was.
-#[tactic(auto, using(x690_laws::proofs::LawfulTypes::extension))]
+#[tactic(auto, using(pkix_types::proofs::LawfulTypes::extension))]
 pub fn normalised(alloc: Global, octets: &[u8], limits: Limits) -> Answer {
     let mut src = octets;
     let mut dst = match Vec::from_slice(alloc, &[7]) {
@@ -87,7 +87,7 @@ pub fn normalised(alloc: Global, octets: &[u8], limits: Limits) -> Answer {
 }
 
 /// The text, which is normalised to itself.
-#[tactic(auto, using(x690_laws::proofs::LawfulTypes::extension))]
+#[tactic(auto, using(pkix_types::proofs::LawfulTypes::extension))]
 fn again(alloc: Global, text: &[u8], limits: Limits) -> Answer {
     let mut src = text;
     let mut dst = Vec::new(alloc);

@@ -7,10 +7,11 @@ use Rattle.x690.specs.Lists.{one_of}
 use Rattle.x690.specs.Values.{Value, Leaf, Sequence, NoMembers, FirstMember, leaf_at}
 use Rattle.x690.specs.DerTexts.{der}
 use Rattle.x690.specs.Contents.{LeafContents, ObjectIdentifier, OctetString, segments, Segmented}
-use Rattle.x690.specs.Identifiers.{ec_public_key, rfc8410_algorithms}
-use Rattle.x690.specs.Rules.{else_refused, parameters_rule, ec_parameters_rule, inner_curve_rule, key_version_rule, version_rule}
+use Rattle.pkix_types.specs.Identifiers.{ec_public_key, rfc8410_algorithms}
+use Rattle.pkix_types.specs.Rules.{else_refused, parameters_rule, ec_parameters_rule, inner_curve_rule, key_version_rule, version_rule}
 use Rattle.x690.specs.Fitting.{Fits}
-use Rattle.x690.specs.DocumentTypes.{OneAsymmetricKey, AlgorithmIdentifier, version, private_key, octet_string}
+use Rattle.pkix_types.specs.DocumentTypes.{OneAsymmetricKey, AlgorithmIdentifier, version, private_key}
+use Rattle.x690.specs.UniversalTypes.{octet_string}
 use Rattle.x690.specs.TypeTerms.{RuledType}
 use Rattle.pk_documents.specs.PlainKey.{identifier_contents, key_length, plain_key, SpellsFields}
 use Rattle.pk_documents.specs.PlainKeyLaw.{PlainKeysAreKeys}

@@ -8,7 +8,7 @@ use Rattle.x690.specs.Answers as answers
 use Rattle.x690.specs.Answers.{answer}
 use Rattle.x690.specs.Values.{Value, Same}
 use Rattle.x690.specs.DerTexts.{der}
-use Rattle.x690.specs.DocumentTypes.{CertificationRequest, ECPrivateKey, SubjectPublicKeyInfo}
+use Rattle.pkix_types.specs.DocumentTypes.{CertificationRequest, ECPrivateKey, SubjectPublicKeyInfo}
 use Rattle.x690.specs.Fitting.{Spells}
 use Rattle.x690.specs.TypeTerms.{TypeTerm}
 use Rattle.pk_documents.specs.PlainKey.{SpellsPlainKey}

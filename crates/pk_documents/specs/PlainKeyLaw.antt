@@ -3,7 +3,7 @@ use Rattle.std.specs.Prelude.{ℕ, List}
 use Rattle.tlv_core.specs.Limits.{Limits}
 use Rattle.x690.specs.Values.{Value}
 use Rattle.x690.specs.Fitting.{Spells}
-use Rattle.x690.specs.DocumentTypes.{OneAsymmetricKey}
+use Rattle.pkix_types.specs.DocumentTypes.{OneAsymmetricKey}
 use Rattle.pk_documents.specs.PlainKey.{SpellsPlainKey}
 
 -- What spells a plain key spells the same value as a OneAsymmetricKey.

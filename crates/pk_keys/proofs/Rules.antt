@@ -3,9 +3,9 @@ use Rattle.std.proofs.Common.{◌≡◌, ◌∙◌, List, [], ◌∷◌, Option,
 use Rattle.std.specs.Option.{option_map}
 use Rattle.tlv_core.specs.declared.reason.Reason.TheVariants.{KeyLength}
 use Rattle.x690.specs.Layouts.{context_specific, universal}
-use Rattle.x690.specs.Rules.{ec_rule, else_refused, has_length}
+use Rattle.pkix_types.specs.Rules.{ec_rule, else_refused, has_length}
 use Rattle.x690.specs.Values.{Leaf, Same, Sequence, Value, leaf_at, values_of}
-use Rattle.x690_laws.proofs.Fairs.{fair_ec}
+use Rattle.pkix_types.proofs.Fairs.{fair_ec}
 use Rattle.pk_keys.specs.EcKeys.{ec_key_values, named_length}
 
 module _ {A B : Type 0} (f : A → List ℕ) (g : B → List ℕ) (number key : List ℕ) where

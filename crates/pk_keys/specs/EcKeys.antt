@@ -4,7 +4,7 @@ use Rattle.std.specs.Prelude.{List, None, Option, Some, [], ℕ, ◌≡◌, ◌+
 use Rattle.std.specs.Option.{option_map}
 use Rattle.tlv_core.specs.Identifier.{identifier}
 use Rattle.x690.specs.DerTexts.{der, der_element}
-use Rattle.x690.specs.Identifiers.{curve_lengths, length_under}
+use Rattle.pkix_types.specs.Identifiers.{curve_lengths, length_under}
 use Rattle.x690.specs.Layouts.{context_specific}
 use Rattle.x690.specs.Values.{Sequence, Value, values_of}
 use Rattle.asn_fields.specs.FieldReadings.{with_field}

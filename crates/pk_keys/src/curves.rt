@@ -1,6 +1,6 @@
 // The curves whose private keys have a length of their own, by the contents of their identifiers.
 ghost use Rattle.std.specs.Prelude.{◌≡◌};
-ghost use Rattle.x690.specs.Identifiers.{curve_lengths, length_under};
+ghost use Rattle.pkix_types.specs.Identifiers.{curve_lengths, length_under};
 
 use pkix_values::identifiers::has_contents;
 use tlv_core::oid::Oid;

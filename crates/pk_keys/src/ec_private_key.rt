@@ -3,9 +3,9 @@ ghost use Rattle.asn_fields.proofs.OneFields.{due_one_text, field_one_text, sequ
 ghost use Rattle.std.specs.Prelude.{◌≡◌, ◌↔◌, ◌<◌, ◌^◌, IsTrue, length, true};
 ghost use Rattle.std.specs.Option.{option_map};
 ghost use Rattle.x690.specs.DerTexts.{texts_of};
-ghost use Rattle.x690.specs.DocumentTypes.{ECPrivateKey};
+ghost use Rattle.pkix_types.specs.DocumentTypes.{ECPrivateKey};
 ghost use Rattle.x690.specs.Layouts.{universal};
-ghost use Rattle.x690.specs.Rules.{has_length};
+ghost use Rattle.pkix_types.specs.Rules.{has_length};
 ghost use Rattle.x690.specs.Values.{Leaf, Same, Sequence, values_of};
 ghost use Rattle.asn_elements.specs.Leaves.{bit_string_of, octets_of};
 ghost use Rattle.pk_keys.specs.ClosedTypes.{ec_key_closed};
@@ -150,7 +150,7 @@ impl Element for EcPrivateKey {
 
     ghost closed = { ec_key_closed };
 
-    #[tactic(auto, unfolding(x690::specs::TypeTerms::fits_tag, x690::specs::DocumentTypes::ECPrivateKey))]
+    #[tactic(auto, unfolding(x690::specs::TypeTerms::fits_tag, pkix_types::specs::DocumentTypes::ECPrivateKey))]
     fn fits(tag: Tag) -> bool {
         is_same_tag(universal_tag(16), tag)
     }

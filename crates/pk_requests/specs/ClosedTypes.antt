@@ -1,5 +1,5 @@
 -- Types that don't look at the earlier fields of a container.
-use Rattle.x690.specs.DocumentTypes.{CertificationRequest, CertificationRequestInfo}
+use Rattle.pkix_types.specs.DocumentTypes.{CertificationRequest, CertificationRequestInfo}
 use Rattle.x690.specs.ReadTypes.{IsClosed}
 use Rattle.x690_laws.proofs.ClosedTypes.{sequence_closed}
 

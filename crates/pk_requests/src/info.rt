@@ -3,7 +3,7 @@ ghost use Rattle.asn_fields.proofs.OneFields.{due_one_text, field_one_text, opti
 ghost use Rattle.std.specs.Prelude.{◌≡◌, ◌↔◌, ◌<◌, ◌^◌, IsTrue, length};
 ghost use Rattle.std.specs.Option.{option_map};
 ghost use Rattle.x690.specs.DerTexts.{texts_of};
-ghost use Rattle.x690.specs.DocumentTypes.{CertificationRequestInfo as CertificationRequestInfoType};
+ghost use Rattle.pkix_types.specs.DocumentTypes.{CertificationRequestInfo as CertificationRequestInfoType};
 ghost use Rattle.x690.specs.Layouts.{universal};
 ghost use Rattle.x690.specs.Values.{Same, Sequence, values_of};
 ghost use Rattle.asn_elements.specs.Implicits.{value_under};
@@ -131,12 +131,12 @@ impl Element for CertificationRequestInfo {
 
     ghost closed = { info_closed };
 
-    #[tactic(auto, unfolding(x690::specs::TypeTerms::fits_tag, x690::specs::DocumentTypes::CertificationRequestInfo))]
+    #[tactic(auto, unfolding(x690::specs::TypeTerms::fits_tag, pkix_types::specs::DocumentTypes::CertificationRequestInfo))]
     fn fits(tag: Tag) -> bool {
         is_same_tag(universal_tag(16), tag)
     }
 
-    #[tactic(auto, unfolding(x690::specs::DocumentTypes::CertificationRequestInfo))]
+    #[tactic(auto, unfolding(pkix_types::specs::DocumentTypes::CertificationRequestInfo))]
     fn read<R: Source>(
         alloc: Global,
         pull: &mut Pull<'_, R>,

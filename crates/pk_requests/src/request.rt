@@ -2,7 +2,7 @@
 ghost use Rattle.asn_fields.proofs.OneFields.{due_one_text, last_one_text, sequence_one_text};
 ghost use Rattle.std.specs.Prelude.{◌≡◌, ◌↔◌, ◌<◌, ◌^◌, ◌∷◌, IsTrue, [], length};
 ghost use Rattle.x690.specs.DerTexts.{texts_of};
-ghost use Rattle.x690.specs.DocumentTypes.{CertificationRequest as CertificationRequestType};
+ghost use Rattle.pkix_types.specs.DocumentTypes.{CertificationRequest as CertificationRequestType};
 ghost use Rattle.x690.specs.Layouts.{universal};
 ghost use Rattle.x690.specs.Values.{Same, Sequence, values_of};
 ghost use Rattle.pk_requests.specs.ClosedTypes.{request_closed};
@@ -104,12 +104,12 @@ impl Element for CertificationRequest {
 
     ghost closed = { request_closed };
 
-    #[tactic(auto, unfolding(x690::specs::TypeTerms::fits_tag, x690::specs::DocumentTypes::CertificationRequest))]
+    #[tactic(auto, unfolding(x690::specs::TypeTerms::fits_tag, pkix_types::specs::DocumentTypes::CertificationRequest))]
     fn fits(tag: Tag) -> bool {
         is_same_tag(universal_tag(16), tag)
     }
 
-    #[tactic(auto, unfolding(x690::specs::DocumentTypes::CertificationRequest))]
+    #[tactic(auto, unfolding(pkix_types::specs::DocumentTypes::CertificationRequest))]
     fn read<R: Source>(
         alloc: Global,
         pull: &mut Pull<'_, R>,

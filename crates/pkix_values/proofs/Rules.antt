@@ -2,12 +2,12 @@
 use Rattle.std.proofs.Common.{◌≡◌, ◌∙◌, Bool, true, false, List, [], ◌∷◌, Option, Some, None, ℕ, refl, not, ◌||◌}
 use Rattle.std.specs.Option.{is_some, option_map}
 use Rattle.tlv_core.specs.declared.reason.Reason.TheVariants.{Parameters}
-use Rattle.x690.specs.Identifiers.{rfc8410_algorithms}
+use Rattle.pkix_types.specs.Identifiers.{rfc8410_algorithms}
 use Rattle.x690.specs.Layouts.{universal}
 use Rattle.x690.specs.Lists.{one_of}
-use Rattle.x690.specs.Rules.{else_refused, parameters_rule}
+use Rattle.pkix_types.specs.Rules.{else_refused, parameters_rule}
 use Rattle.x690.specs.Values.{Leaf, Same, Sequence, Value, leaf_at, values_of}
-use Rattle.x690_laws.proofs.Fairs.{fair_parameters}
+use Rattle.pkix_types.proofs.Fairs.{fair_parameters}
 use Rattle.asn_fields.specs.FieldReadings.{with_field}
 
 -- An algorithm with parameters, or without.

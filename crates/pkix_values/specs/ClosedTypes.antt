@@ -1,7 +1,7 @@
 -- Types that don't look at the earlier fields of a container.
 use Rattle.std.specs.Prelude.{refl}
-use Rattle.x690.specs.DocumentTypes.{AlgorithmIdentifier, Extension, Name, NameItem, RequestAttribute, SubjectPublicKeyInfo}
-use Rattle.x690.specs.Rules.{parameters_rule}
+use Rattle.pkix_types.specs.DocumentTypes.{AlgorithmIdentifier, Extension, Name, NameItem, RequestAttribute, SubjectPublicKeyInfo}
+use Rattle.pkix_types.specs.Rules.{parameters_rule}
 use Rattle.x690.specs.ReadTypes.{IsClosed}
 use Rattle.x690_laws.proofs.ClosedTypes.{ruled_closed, sequence_closed, sequence_of_closed}
 

@@ -1,9 +1,9 @@
 -- The values of the types, field by field.
 use Rattle.std.specs.Prelude.{Bool, List, [], length, map, not, ℕ, ◌&&◌, ◌++◌, ◌-◌, ◌||◌, ◌∷◌}
-use Rattle.x690.specs.Identifiers.{length_under, rfc8410_algorithms, rfc8410_lengths}
+use Rattle.pkix_types.specs.Identifiers.{length_under, rfc8410_algorithms, rfc8410_lengths}
 use Rattle.x690.specs.Layouts.{universal}
 use Rattle.x690.specs.Lists.{one_of}
-use Rattle.x690.specs.Rules.{has_length, no_unused}
+use Rattle.pkix_types.specs.Rules.{has_length, no_unused}
 use Rattle.x690.specs.Values.{Leaf, SetOf, Value, values_of}
 use Rattle.asn_fields.specs.FieldReadings.{with_field}
 use Rattle.asn_fields.specs.Fields.{unless_false}

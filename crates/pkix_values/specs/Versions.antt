@@ -1,9 +1,9 @@
 -- The versions of documents, as contents of INTEGERs.
 use Rattle.std.specs.Prelude.{List, [], cond, nat_lt, refl, suc, zero, ℕ, ◌-◌, ◌∷◌, ◌≡◌}
 use Rattle.x690.specs.Contents.{Integer}
-use Rattle.x690.specs.DocumentTypes.{version}
+use Rattle.pkix_types.specs.DocumentTypes.{version}
 use Rattle.x690.specs.Layouts.{universal}
-use Rattle.x690.specs.Rules.{version_rule}
+use Rattle.pkix_types.specs.Rules.{version_rule}
 use Rattle.x690.specs.ReadTypes.{IsClosed}
 use Rattle.x690_laws.proofs.ClosedTypes.{leaf_closed, ruled_closed}
 

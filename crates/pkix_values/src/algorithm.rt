@@ -4,8 +4,8 @@ ghost use Rattle.asn_fields.proofs.OneFields.{due_one_text, field_one_text, opti
 ghost use Rattle.std.specs.Prelude.{◌≡◌, ◌↔◌, ◌<◌, ◌^◌, ◌∷◌, None, IsTrue, [], length, true};
 ghost use Rattle.std.specs.Option.{option_map};
 ghost use Rattle.x690.specs.DerTexts.{texts_of};
-ghost use Rattle.x690.specs.DocumentTypes.{AlgorithmIdentifier as AlgorithmIdentifierType};
-ghost use Rattle.x690.specs.Identifiers.{rfc8410_algorithms};
+ghost use Rattle.pkix_types.specs.DocumentTypes.{AlgorithmIdentifier as AlgorithmIdentifierType};
+ghost use Rattle.pkix_types.specs.Identifiers.{rfc8410_algorithms};
 ghost use Rattle.x690.specs.Layouts.{universal};
 ghost use Rattle.x690.specs.Lists.{one_of};
 ghost use Rattle.x690.specs.Values.{Leaf, Same, Sequence, values_of};
@@ -95,7 +95,7 @@ impl Element for AlgorithmIdentifier {
 
     ghost closed = { algorithm_closed };
 
-    #[tactic(auto, unfolding(x690::specs::TypeTerms::fits_tag, x690::specs::DocumentTypes::AlgorithmIdentifier))]
+    #[tactic(auto, unfolding(x690::specs::TypeTerms::fits_tag, pkix_types::specs::DocumentTypes::AlgorithmIdentifier))]
     fn fits(tag: Tag) -> bool {
         is_same_tag(universal_tag(16), tag)
     }

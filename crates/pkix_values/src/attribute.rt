@@ -3,7 +3,7 @@ ghost use Rattle.x690_laws.proofs.OneTexts.{leaf_one_text};
 ghost use Rattle.asn_fields.proofs.OneFields.{due_one_text, last_one_text, sequence_one_text};
 ghost use Rattle.std.specs.Prelude.{◌≡◌, ◌↔◌, ◌<◌, ◌^◌, IsTrue, length, map};
 ghost use Rattle.x690.specs.DerTexts.{texts_of};
-ghost use Rattle.x690.specs.DocumentTypes.{object_identifier, sequence, set_of_some, ◌⨾◌};
+ghost use Rattle.x690.specs.UniversalTypes.{object_identifier, sequence, set_of_some, ◌⨾◌};
 ghost use Rattle.x690.specs.Layouts.{universal};
 ghost use Rattle.x690.specs.TypeTerms.{EndOfFields, Required};
 ghost use Rattle.x690.specs.Values.{Leaf, Same, Sequence, SetOf as SetValue, values_of};

@@ -1,7 +1,7 @@
 //! Extension of RFC 5280 section 4.1.
 ghost use Rattle.std.specs.Prelude.{◌≡◌, ◌↔◌, ◌<◌, ◌^◌, IsTrue, length};
 ghost use Rattle.x690.specs.DerTexts.{texts_of};
-ghost use Rattle.x690.specs.DocumentTypes.{Extension as ExtensionType};
+ghost use Rattle.pkix_types.specs.DocumentTypes.{Extension as ExtensionType};
 ghost use Rattle.x690.specs.Layouts.{universal};
 ghost use Rattle.x690.specs.Values.{Leaf, Same, Sequence, values_of};
 ghost use Rattle.x690_laws.proofs.OneTexts.{leaf_one_text};
@@ -99,12 +99,12 @@ impl Element for Extension {
 
     ghost closed = { extension_closed };
 
-    #[tactic(auto, unfolding(x690::specs::TypeTerms::fits_tag, x690::specs::DocumentTypes::Extension))]
+    #[tactic(auto, unfolding(x690::specs::TypeTerms::fits_tag, pkix_types::specs::DocumentTypes::Extension))]
     fn fits(tag: Tag) -> bool {
         is_same_tag(universal_tag(16), tag)
     }
 
-    #[tactic(auto, unfolding(x690::specs::DocumentTypes::Extension))]
+    #[tactic(auto, unfolding(pkix_types::specs::DocumentTypes::Extension))]
     fn read<R: Source>(alloc: Global, pull: &mut Pull<'_, R>) -> Result<Extension, ReadError> {
         let (Due(id), (DefaultFalse(critical), Due(value))) = read_sequence(alloc, pull)?;
         Ok(Extension {

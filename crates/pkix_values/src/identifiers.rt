@@ -1,7 +1,7 @@
 //! The object identifiers that the types name, by their contents (X.690 8.19).
 ghost use Rattle.std.specs.Prelude.{◌≡◌, ◌∷◌, []};
 ghost use Rattle.std.specs.Option.{is_some};
-ghost use Rattle.x690.specs.Identifiers.{extension_request, length_under, rfc8410_algorithms, rfc8410_lengths};
+ghost use Rattle.pkix_types.specs.Identifiers.{extension_request, length_under, rfc8410_algorithms, rfc8410_lengths};
 ghost use Rattle.x690.specs.Lists.{one_of, same_octets};
 
 use tlv_core::oid::Oid;

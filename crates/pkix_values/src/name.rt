@@ -3,7 +3,7 @@ ghost use Rattle.x690_laws.proofs.OneTexts.{leaf_one_text, list_one_text};
 ghost use Rattle.asn_fields.proofs.OneFields.{due_one_text, last_one_text, sequence_one_text};
 ghost use Rattle.std.specs.Prelude.{◌≡◌, ◌↔◌, ◌<◌, ◌^◌, ◌∷◌, IsTrue, [], length, map};
 ghost use Rattle.x690.specs.DerTexts.{texts_of};
-ghost use Rattle.x690.specs.DocumentTypes.{Name as NameType, NameItem as NameItemType};
+ghost use Rattle.pkix_types.specs.DocumentTypes.{Name as NameType, NameItem as NameItemType};
 ghost use Rattle.x690.specs.Layouts.{universal};
 ghost use Rattle.x690.specs.Values.{Leaf, Same, Sequence, values_of};
 ghost use Rattle.asn_containers.specs.Containers.{list_items};
@@ -87,12 +87,12 @@ impl Element for NameItem {
 
     ghost closed = { name_item_closed };
 
-    #[tactic(auto, unfolding(x690::specs::TypeTerms::fits_tag, x690::specs::DocumentTypes::NameItem))]
+    #[tactic(auto, unfolding(x690::specs::TypeTerms::fits_tag, pkix_types::specs::DocumentTypes::NameItem))]
     fn fits(tag: Tag) -> bool {
         is_same_tag(universal_tag(16), tag)
     }
 
-    #[tactic(auto, unfolding(x690::specs::DocumentTypes::NameItem))]
+    #[tactic(auto, unfolding(pkix_types::specs::DocumentTypes::NameItem))]
     fn read<R: Source>(alloc: Global, pull: &mut Pull<'_, R>) -> Result<NameItem, ReadError> {
         let (Due(id), Due(value)) = read_sequence(alloc, pull)?;
         Ok(NameItem { id, value })
@@ -147,12 +147,12 @@ impl Element for Name {
 
     ghost closed = { name_closed };
 
-    #[tactic(auto, unfolding(x690::specs::TypeTerms::fits_tag, x690::specs::DocumentTypes::Name))]
+    #[tactic(auto, unfolding(x690::specs::TypeTerms::fits_tag, pkix_types::specs::DocumentTypes::Name))]
     fn fits(tag: Tag) -> bool {
         is_same_tag(universal_tag(16), tag)
     }
 
-    #[tactic(auto, unfolding(x690::specs::DocumentTypes::Name, x690::specs::DocumentTypes::NameItem))]
+    #[tactic(auto, unfolding(pkix_types::specs::DocumentTypes::Name, pkix_types::specs::DocumentTypes::NameItem))]
     fn read<R: Source>(alloc: Global, pull: &mut Pull<'_, R>) -> Result<Name, ReadError> {
         let rdns = List::read(alloc, pull)?;
         Ok(Name { rdns })

@@ -3,7 +3,7 @@ ghost use Rattle.x690_laws.proofs.OneTexts.{leaf_one_text};
 ghost use Rattle.asn_fields.proofs.OneFields.{due_one_text, last_one_text, sequence_one_text};
 ghost use Rattle.std.specs.Prelude.{◌≡◌, ◌↔◌, ◌<◌, ◌^◌, ◌∷◌, IsTrue, [], length, true};
 ghost use Rattle.x690.specs.DerTexts.{der, texts_of};
-ghost use Rattle.x690.specs.DocumentTypes.{SubjectPublicKeyInfo as SubjectPublicKeyInfoType};
+ghost use Rattle.pkix_types.specs.DocumentTypes.{SubjectPublicKeyInfo as SubjectPublicKeyInfoType};
 ghost use Rattle.x690.specs.Layouts.{universal};
 ghost use Rattle.x690.specs.Values.{Leaf, Same, Sequence, values_of};
 ghost use Rattle.asn_elements.specs.Leaves.{bit_string_of};
@@ -101,7 +101,7 @@ impl Element for SubjectPublicKeyInfo {
 
     ghost closed = { public_key_closed };
 
-    #[tactic(auto, unfolding(x690::specs::TypeTerms::fits_tag, x690::specs::DocumentTypes::SubjectPublicKeyInfo))]
+    #[tactic(auto, unfolding(x690::specs::TypeTerms::fits_tag, pkix_types::specs::DocumentTypes::SubjectPublicKeyInfo))]
     fn fits(tag: Tag) -> bool {
         is_same_tag(universal_tag(16), tag)
     }

@@ -5,8 +5,8 @@ ghost use Rattle.std.specs.Option.{is_some, option_map};
 ghost use Rattle.x690.specs.Values.{Same};
 ghost use Rattle.x690.specs.Layouts.{universal};
 ghost use Rattle.x690.specs.DerTexts.{der};
-ghost use Rattle.x690.specs.DocumentTypes.{RequestAttribute as RequestAttributeType};
-ghost use Rattle.x690.specs.Identifiers.{extension_request};
+ghost use Rattle.pkix_types.specs.DocumentTypes.{RequestAttribute as RequestAttributeType};
+ghost use Rattle.pkix_types.specs.Identifiers.{extension_request};
 ghost use Rattle.x690.specs.Lists.{one_of};
 ghost use Rattle.pkix_values.specs.ClosedTypes.{request_attribute_closed};
 ghost use Rattle.pkix_values.specs.Eithers.{either, either_one_text, first_of, is_first, second_of};
@@ -112,7 +112,7 @@ impl Element for RequestAttribute {
 
     ghost closed = { request_attribute_closed };
 
-    #[tactic(auto, unfolding(x690::specs::TypeTerms::fits_tag, x690::specs::DocumentTypes::RequestAttribute))]
+    #[tactic(auto, unfolding(x690::specs::TypeTerms::fits_tag, pkix_types::specs::DocumentTypes::RequestAttribute))]
     fn fits(tag: Tag) -> bool {
         is_same_tag(universal_tag(16), tag)
     }

@@ -1,6 +1,6 @@
 //! SET OF with at least one member (X.680 28, with SIZE (1..MAX)).
 ghost use Rattle.std.specs.Prelude.{◌≡◌, ◌↔◌, ◌<◌, IsTrue, length, map};
-ghost use Rattle.x690.specs.DocumentTypes.{set_of_some};
+ghost use Rattle.x690.specs.UniversalTypes.{set_of_some};
 ghost use Rattle.x690.specs.Layouts.{universal};
 ghost use Rattle.x690.specs.Values.{Same, SetOf as SetValue, values_of};
 ghost use Rattle.asn_containers.specs.Containers.{set_items};

@@ -3,7 +3,7 @@ ghost use Rattle.x690_laws.proofs.OneTexts.{leaf_one_text};
 ghost use Rattle.std.specs.Prelude.{◌≡◌, ◌↔◌, ◌≤◌, ◌<◌, ◌∷◌, IfSome, IsTrue, [], true};
 ghost use Rattle.std.specs.Option.{is_some};
 ghost use Rattle.x690.specs.DerTexts.{der};
-ghost use Rattle.x690.specs.DocumentTypes.{version};
+ghost use Rattle.pkix_types.specs.DocumentTypes.{version};
 ghost use Rattle.x690.specs.Layouts.{universal};
 ghost use Rattle.x690.specs.Lists.{one_of};
 ghost use Rattle.x690.specs.Values.{Leaf};

@@ -2,11 +2,8 @@ pub mod Answers
 pub mod Contents
 pub mod ContentsFaults
 pub mod DerTexts
-pub mod DocumentTypes
 pub mod Fitting
-pub mod FurtherTypes
 pub mod HeaderFaults
-pub mod Identifiers
 pub mod Layouts
 pub mod Lists
 pub mod OpenValues
@@ -17,10 +14,10 @@ pub mod ReadHeaders
 pub mod ReadTypes
 pub mod Reading
 pub mod Reads
-pub mod Rules
 pub mod Stops
 pub mod StringTypes
 pub mod Takes
 pub mod TypeTerms
+pub mod UniversalTypes
 pub mod ValueCodes
 pub mod Values

@@ -6,7 +6,6 @@ pub mod ContentLengths
 pub mod ContentsFaulting
 pub mod Deeper
 pub mod Exactly
-pub mod Fairs
 pub mod Gives
 pub mod Growing
 pub mod GrowthBounds
@@ -17,7 +16,7 @@ pub mod HeaderSound
 pub mod Headers
 pub mod Honesty
 pub mod Judging
-pub mod LawfulTypes
+pub mod LawfulStrings
 pub mod LeafSound
 pub mod Lengths
 pub mod Members
@@ -28,13 +27,7 @@ pub mod Pairing
 pub mod PrefixFree
 pub mod Refit
 pub mod RowsChoices
-pub mod RowsFaults
-pub mod RowsFurtherTypes
-pub mod RowsKeys
 pub mod RowsOpenValues
-pub mod RowsOrder
-pub mod RowsRequests
-pub mod RowsTools
 pub mod Sames
 pub mod ShortTexts
 pub mod Sound

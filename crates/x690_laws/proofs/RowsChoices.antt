@@ -3,7 +3,7 @@ use Rattle.std.proofs.Common.{◌≡◌, codes, refl}
 use Rattle.tlv_core.specs.declared.reason.Reason.TheVariants.{BadInteger, BadText, Missing, Truncated, WrongForm, WrongTag}
 use Rattle.x690.specs.Answers.{Spelled, answer}
 use Rattle.x690.specs.Contents.{Integer}
-use Rattle.x690.specs.DocumentTypes.{integer, sequence, ◌⨾◌}
+use Rattle.x690.specs.UniversalTypes.{integer, sequence, ◌⨾◌}
 use Rattle.x690.specs.Layouts.{context_specific, universal}
 use Rattle.x690.specs.StringTypes.{string_types}
 use Rattle.x690.specs.TypeTerms.{ChoiceType, EndOfFields, LeafType, OpenType, Optional, Required, SequenceOfType, TypeTerm}

@@ -2,7 +2,7 @@
 use Rattle.std.proofs.Common.{◌≡◌, codes, refl}
 use Rattle.tlv_core.specs.declared.reason.Reason.TheVariants.{BadBits, BadBoolean, BadInteger, BadLength, BadNull, BadOid, BadTag, LeftOut, TooDeep, WrongForm}
 use Rattle.x690.specs.Answers.{Spelled, answer}
-use Rattle.x690.specs.DocumentTypes.{explicit, object_identifier}
+use Rattle.x690.specs.UniversalTypes.{explicit, object_identifier}
 use Rattle.x690.specs.TypeTerms.{OpenType}
 use Rattle.x690_laws.proofs.Computed.{computed}
 use Rattle.x690_laws.specs.Examples.{hex, IsDer, refused, usual}

@@ -1,5 +1,4 @@
 pub mod AnswerLaws
-pub mod DocumentLaws
 pub mod Examples
 pub mod FaultLaws
 pub mod GrowthLaws

@@ -4,6 +4,8 @@ use Rattle.tlv_core.specs.Limits.{Limits}
 use Rattle.x690.specs.DerTexts.{der}
 use Rattle.x690.specs.Fitting.{Fits, Spells}
 use Rattle.x690.specs.Layouts.{RawTree}
+use Rattle.x690.specs.Premises.{Lawful}
+use Rattle.x690.specs.StringTypes.{string_types}
 use Rattle.x690.specs.TypeTerms.{Distinct, TypeTerm}
 use Rattle.x690.specs.Values.{Same, Value}
 
@@ -18,3 +20,7 @@ abbrev pub OneText : Type 0
 OneText =
     (limits limits' : Limits) (type : TypeTerm) (v w : Value) (octets octets' : List ℕ) → Distinct type → limits.octets < 2147483648
     → Spells limits type v octets → Spells limits' type w octets' → der v ≡ der w → Same v w
+
+-- The type of all character strings and times is as the laws ask.
+abbrev pub StringsAreLawful : Type 0
+StringsAreLawful = Lawful string_types

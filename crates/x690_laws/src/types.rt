@@ -1,5 +1,5 @@
 //! The laws on the trees and values of a type, for every type term.
-ghost use Rattle.x690_laws.specs.TypeLaws.{OneValue, TextSpells, OneText};
+ghost use Rattle.x690_laws.specs.TypeLaws.{OneValue, TextSpells, OneText, StringsAreLawful};
 
 /// The values that a tree of a type says are the same.
 pub fn a_tree_says_one_value()
@@ -14,4 +14,9 @@ pub fn the_text_spells_the_value()
 /// Values of a type that are spelled, and have one DER text, are the same.
 pub fn one_text_is_one_value()
     ensures { OneText }
+{}
+
+/// The type of all character strings and times has no rule, and no alternative is mistaken for another one.
+pub fn strings_are_lawful()
+    ensures { StringsAreLawful }
 {}

@@ -1,4 +1,4 @@
-use Rattle.x690_laws.proofs.LawfulTypes.{ec_key, public_key_info, request}
+use Rattle.pkix_types.proofs.LawfulTypes.{ec_key, public_key_info, request}
 use Rattle.pk_documents.proofs.normalise.normalise.Goals as goal
 
 pub normalise_value-requires : goal.normalise_value-requires

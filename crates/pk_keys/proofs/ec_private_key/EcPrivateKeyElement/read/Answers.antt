@@ -1,7 +1,7 @@
 use Rattle.std.proofs.Common.{rules, ◌≡◌, ◌∙◌, ◌∷◌, ap, []}
 use Rattle.tlv_core.specs.declared.fault.ReadError.TheVariants as errors
 use Rattle.tlv_core.specs.declared.reason.Reason.TheVariants.{KeyLength}
-use Rattle.x690.specs.DocumentTypes.{ECPrivateKey}
+use Rattle.pkix_types.specs.DocumentTypes.{ECPrivateKey}
 use Rattle.x690.specs.Points.{fault}
 use Rattle.asn_elements.proofs.RuledReadings.{rule_holds, rule_refuses, ruled, ruled_error}
 use Rattle.asn_elements.proofs.Answering.{place_given, refused_by, value_err}

@@ -1,10 +1,10 @@
 use Rattle.std.proofs.Common.{rules, ◌≡◌, [], ◌∷◌, ap, Err, false, true}
 use Rattle.tlv_core.specs.declared.reason.Reason.TheVariants.{KeyLength}
-use Rattle.x690.specs.DocumentTypes.{SubjectPublicKeyInfo}
+use Rattle.pkix_types.specs.DocumentTypes.{SubjectPublicKeyInfo}
 use Rattle.x690.specs.Points.{fault}
-use Rattle.x690.specs.Rules.{else_refused}
+use Rattle.pkix_types.specs.Rules.{else_refused}
 use Rattle.x690.specs.Values.{leaf_at}
-use Rattle.x690_laws.proofs.Fairs.{fair_key_bits}
+use Rattle.pkix_types.proofs.Fairs.{fair_key_bits}
 use Rattle.asn_fields.proofs.Insides.{within_none}
 use Rattle.asn_elements.specs.Leaves.{bit_string_of}
 use Rattle.asn_elements.specs.Reading.{read_given}

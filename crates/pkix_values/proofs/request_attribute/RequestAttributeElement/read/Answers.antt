@@ -1,6 +1,6 @@
 use Rattle.std.proofs.Common.{rules, ◌≡◌, [], ◌∷◌, false, refl, true}
-use Rattle.x690.specs.DocumentTypes.{RequestAttribute}
-use Rattle.x690.specs.Identifiers.{extension_request}
+use Rattle.pkix_types.specs.DocumentTypes.{RequestAttribute}
+use Rattle.pkix_types.specs.Identifiers.{extension_request}
 use Rattle.x690.specs.Lists.{one_of}
 use Rattle.x690.specs.TypeTerms.{fits_tag}
 use Rattle.x690.specs.Values.{leaf_at}

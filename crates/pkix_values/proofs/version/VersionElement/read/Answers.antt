@@ -1,7 +1,7 @@
 use Rattle.std.proofs.Common.{rules, ap, subst, sym, ◌≡◌, ◌∙◌}
 use Rattle.tlv_core.specs.declared.fault.ReadError.TheVariants as errors
 use Rattle.tlv_core.specs.declared.reason.Reason.TheVariants.{Version}
-use Rattle.x690.specs.DocumentTypes.{version}
+use Rattle.pkix_types.specs.DocumentTypes.{version}
 use Rattle.x690.specs.Layouts.{universal}
 use Rattle.x690.specs.Points.{fault}
 use Rattle.x690.specs.Values.{Leaf, Same}

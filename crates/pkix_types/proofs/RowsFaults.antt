@@ -2,8 +2,8 @@
 use Rattle.std.proofs.Common.{◌≡◌, codes, refl}
 use Rattle.tlv_core.specs.declared.reason.Reason.TheVariants.{BadEnd, BadLength, BadTag, Extra, LeftOut, Missing, Parameters, PastEnd, TooDeep, TooLong, Truncated, Version, WrongForm, WrongTag}
 use Rattle.x690.specs.Answers.{answer}
-use Rattle.x690.specs.DocumentTypes.{OneAsymmetricKey, SubjectPublicKeyInfo}
-use Rattle.x690_laws.proofs.Computed.{computed}
+use Rattle.pkix_types.specs.DocumentTypes.{OneAsymmetricKey, SubjectPublicKeyInfo}
+use Rattle.pkix_types.proofs.Computed.{computed}
 use Rattle.x690_laws.specs.Examples.{hex, refused, usual}
 
 a_length_octet_ff : answer usual OneAsymmetricKey (hex (codes "30ff")) ≡ refused 0 BadLength

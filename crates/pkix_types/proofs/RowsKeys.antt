@@ -2,8 +2,8 @@
 use Rattle.std.proofs.Common.{◌≡◌, codes, refl}
 use Rattle.tlv_core.specs.declared.reason.Reason.TheVariants.{BadOid, Curve, KeyLength, Parameters, TooDeep, TooLong, Trailing, Truncated, VersionRule}
 use Rattle.x690.specs.Answers.{Spelled, answer}
-use Rattle.x690.specs.DocumentTypes.{ECPrivateKey, OneAsymmetricKey}
-use Rattle.x690_laws.proofs.Computed.{computed}
+use Rattle.pkix_types.specs.DocumentTypes.{ECPrivateKey, OneAsymmetricKey}
+use Rattle.pkix_types.proofs.Computed.{computed}
 use Rattle.x690_laws.specs.Examples.{hex, IsDer, refused, refused_inside, usual}
 
 the_smallest_key : IsDer usual OneAsymmetricKey (hex (codes "302e020100300506032b657004220420000102030405060708090a0b0c0d0e0f101112131415161718191a1b1c1d1e1f"))

@@ -2,9 +2,9 @@
 use Rattle.std.proofs.Common.{◌≡◌, codes, refl}
 use Rattle.tlv_core.specs.declared.reason.Reason.TheVariants.{BadEnd, BadInteger, BadLength, BadTag, BadText, Extra, KeyLength, LeftOut, Missing, Parameters, PastEnd, TextTooLong, TooLong, Truncated, Version, VersionRule, WrongTag}
 use Rattle.x690.specs.Answers.{Spelled, answer}
-use Rattle.x690.specs.DocumentTypes.{CertificationRequest, ECPrivateKey, Extension, OneAsymmetricKey, SubjectPublicKeyInfo}
+use Rattle.pkix_types.specs.DocumentTypes.{CertificationRequest, ECPrivateKey, Extension, OneAsymmetricKey, SubjectPublicKeyInfo}
 use Rattle.x690.specs.TypeTerms.{OpenType}
-use Rattle.x690_laws.proofs.Computed.{computed}
+use Rattle.pkix_types.proofs.Computed.{computed}
 use Rattle.x690_laws.specs.Examples.{hex, IsDer, refused, refused_inside, usual}
 
 past_the_container_comes_before_past_the_limit : answer (record { depth = 32; octets = 10 }) OneAsymmetricKey (hex (codes "3008027f")) ≡ refused 2 PastEnd

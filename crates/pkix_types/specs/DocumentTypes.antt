@@ -1,40 +1,12 @@
 -- The types of private keys and certification requests, and of their parts, each in the order of its ASN.1.
 use Rattle.std.specs.Prelude.{List, [], ℕ, ◌∷◌}
 use Rattle.tlv_core.specs.declared.reason.Reason.TheVariants.{VersionRule}
-use Rattle.x690.specs.Contents.{BitString, Boolean, Integer, ObjectIdentifier, OctetString}
-use Rattle.x690.specs.Identifiers.{ec_public_key, extension_request, rfc8410_algorithms}
+use Rattle.x690.specs.Contents.{BitString, Boolean}
+use Rattle.pkix_types.specs.Identifiers.{ec_public_key, extension_request, rfc8410_algorithms}
 use Rattle.x690.specs.Layouts.{context_specific, universal}
-use Rattle.x690.specs.Rules.{ec_parameters_rule, ec_rule, inner_curve_rule, inner_ec_rule, key_bits_rule, key_version_rule, parameters_rule, version_rule}
-use Rattle.x690.specs.TypeTerms.{ContainingType, Default, DefinedByType, EndOfFields, Fields, LeafType, OpenType, Optional, RefusedType, Required, RuledType, SequenceOfType, SequenceType, SetOfType, TypeTerm}
-
-infixr 5 ◌⨾◌
--- a field, and those behind it
-abbrev pub ◌⨾◌ : (Fields → Fields) → Fields → Fields
-field ⨾ fields = field fields
-
-abbrev pub sequence : Fields → TypeTerm
-sequence fields = SequenceType (universal 16) fields
-
-abbrev pub sequence_of : TypeTerm → TypeTerm
-sequence_of type = SequenceOfType (universal 16) 0 type
-
-abbrev pub set_of_some : TypeTerm → TypeTerm
-set_of_some type = SetOfType (universal 17) 1 type
-
-abbrev pub explicit : ℕ → TypeTerm → TypeTerm
-explicit number type = SequenceType (context_specific number) (Required type ⨾ EndOfFields)
-
-abbrev pub integer : TypeTerm
-integer = LeafType (universal 2) Integer
-
-abbrev pub bit_string : TypeTerm
-bit_string = LeafType (universal 3) BitString
-
-abbrev pub octet_string : TypeTerm
-octet_string = LeafType (universal 4) OctetString
-
-abbrev pub object_identifier : TypeTerm
-object_identifier = LeafType (universal 6) ObjectIdentifier
+use Rattle.pkix_types.specs.Rules.{ec_parameters_rule, ec_rule, inner_curve_rule, inner_ec_rule, key_bits_rule, key_version_rule, parameters_rule, version_rule}
+use Rattle.x690.specs.TypeTerms.{ContainingType, Default, DefinedByType, EndOfFields, LeafType, OpenType, Optional, RefusedType, Required, RuledType, SetOfType, TypeTerm}
+use Rattle.x690.specs.UniversalTypes.{bit_string, explicit, integer, object_identifier, octet_string, sequence, sequence_of, set_of_some, ◌⨾◌}
 
 -- an INTEGER that is one of these numbers, each below 128
 abbrev pub version : List (List ℕ) → TypeTerm

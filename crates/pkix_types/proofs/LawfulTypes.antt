@@ -1,22 +1,21 @@
 -- The types of documents and of their parts meet what laws ask of a type.
-use Rattle.std.proofs.Common.{◌≡◌, ℕ, ◌==◌, Bool, true, false, List, [], ◌∷◌, length, map, Some, refl, subst, ◌||◌, arith}
+use Rattle.std.proofs.Common.{◌≡◌, ℕ, ◌==◌, Bool, true, false, List, [], ◌∷◌, length, Some, refl, subst, ◌||◌, arith}
 use Rattle.std.proofs.lemmas.Bool.Decides.{nat_tests}
 use Rattle.tlv_core.specs.Identifier.{Tag}
 use Rattle.tlv_core.specs.declared.reason.Reason.{Reason}
 use Rattle.tlv_core.specs.declared.reason.Reason.TheVariants.{Curve, KeyLength, Parameters, Version, VersionRule}
-use Rattle.x690.specs.Contents.{LeafKind, OctetString, Utf8String}
-use Rattle.x690.specs.DocumentTypes.{AlgorithmIdentifier, Attribute, CertificationRequest, CertificationRequestInfo, ECPrivateKey, Extension, Name, NameItem, OneAsymmetricKey, RequestAttribute, SubjectPublicKeyInfo, asymmetric_key, octet_string}
-use Rattle.x690.specs.FurtherTypes.{AsymmetricKeyPackage, EncryptedPrivateKeyInfo, OneAsymmetricKeyWithRsa, OtherPrimeInfo, RSAPrivateKey, no_rule}
-use Rattle.x690.specs.Identifiers.{rsa_encryption}
+use Rattle.pkix_types.specs.DocumentTypes.{AlgorithmIdentifier, Attribute, CertificationRequest, CertificationRequestInfo, ECPrivateKey, Extension, Name, NameItem, OneAsymmetricKey, RequestAttribute, SubjectPublicKeyInfo, asymmetric_key}
+use Rattle.x690.specs.UniversalTypes.{octet_string}
+use Rattle.pkix_types.specs.FurtherTypes.{AsymmetricKeyPackage, EncryptedPrivateKeyInfo, OneAsymmetricKeyWithRsa, OtherPrimeInfo, RSAPrivateKey, no_rule}
+use Rattle.pkix_types.specs.Identifiers.{rsa_encryption}
 use Rattle.x690.specs.Layouts.{context_specific, same_tag, universal}
 use Rattle.x690.specs.Lists.{same_octets}
 use Rattle.x690.specs.Premises.{Fair, Honest, HonestReason, HonestRule, Lawful}
-use Rattle.x690.specs.Rules.{ec_length, ec_parameters_rule, ec_rule, else_refused, inner_curve_rule, inner_ec_rule, key_bits_rule, key_version_rule, own_curve, parameters_rule, rsa_version_rule, version_rule}
-use Rattle.x690.specs.StringTypes.{carried_numbers, carried_string, string_types}
-use Rattle.x690.specs.TypeTerms.{ContainingType, DefinedByType, Distinct, LeafType, TypeTerm, choice_of, fields_fit_tag, fits_tag}
+use Rattle.pkix_types.specs.Rules.{ec_length, ec_parameters_rule, ec_rule, else_refused, inner_curve_rule, inner_ec_rule, key_bits_rule, key_version_rule, own_curve, parameters_rule, rsa_version_rule, version_rule}
+use Rattle.x690.specs.TypeTerms.{ContainingType, DefinedByType, Distinct, TypeTerm, fields_fit_tag, fits_tag}
 use Rattle.x690.specs.Values.{leaf_at}
-use Rattle.x690_laws.proofs.Fairs.{fair_ec, fair_ec_parameters, fair_inner_curve, fair_inner_ec, fair_key_bits, fair_key_version, fair_parameters, fair_rsa_version, fair_version}
-use Rattle.x690_laws.specs.DocumentLaws.{DocumentsAreLawful, FurtherAreLawful}
+use Rattle.pkix_types.proofs.Fairs.{fair_ec, fair_ec_parameters, fair_inner_curve, fair_inner_ec, fair_key_bits, fair_key_version, fair_parameters, fair_rsa_version, fair_version}
+use Rattle.pkix_types.specs.DocumentLaws.{DocumentsAreLawful, FurtherAreLawful}
 
 -- a test that gives one reason is honest where the reason is
 tested : (b : Bool) (why given : Reason) → HonestReason why → else_refused b why ≡ Some given → HonestReason given
@@ -229,15 +228,6 @@ pub key_package : Lawful AsymmetricKeyPackage
 unfolding Fair Honest Distinct AsymmetricKeyPackage
 key_package = record { fair = key_with_rsa.fair; honest = key_with_rsa.honest; distinct = key_with_rsa.distinct }
 
-leaf_or : (own : Tag) (kind : LeafKind) (others : List ℕ) → Lawful (choice_of (LeafType own kind) (map carried_string others))
-unfolding Fair Honest Distinct
-leaf_or own kind [] = record { fair = tt; honest = tt; distinct = tt }
-leaf_or own kind (number ∷ others) = let more = leaf_or (universal number) OctetString others in record { fair = (tt, more.fair); honest = (tt, more.honest); distinct = (tt, more.distinct) }
-
-pub strings : Lawful string_types
-unfolding string_types
-strings = leaf_or (universal 12) Utf8String carried_numbers
-
 pub documents_are_lawful : DocumentsAreLawful
 documents_are_lawful = record {
   key = key;
@@ -254,4 +244,4 @@ documents_are_lawful = record {
 }
 
 pub further_are_lawful : FurtherAreLawful
-further_are_lawful = record { rsa = rsa; key_with_rsa = key_with_rsa; encrypted = encrypted; key_package = key_package; strings = strings }
+further_are_lawful = record { rsa = rsa; key_with_rsa = key_with_rsa; encrypted = encrypted; key_package = key_package }

@@ -2,9 +2,9 @@
 use Rattle.std.proofs.Common.{◌≡◌, codes, refl}
 use Rattle.tlv_core.specs.declared.reason.Reason.TheVariants.{KeyLength}
 use Rattle.x690.specs.Answers.{answer}
-use Rattle.x690.specs.DocumentTypes.{CertificationRequest, ECPrivateKey, OneAsymmetricKey}
-use Rattle.x690.specs.FurtherTypes.{OneAsymmetricKeyWithRsa}
-use Rattle.x690_laws.proofs.Computed.{computed}
+use Rattle.pkix_types.specs.DocumentTypes.{CertificationRequest, ECPrivateKey, OneAsymmetricKey}
+use Rattle.pkix_types.specs.FurtherTypes.{OneAsymmetricKeyWithRsa}
+use Rattle.pkix_types.proofs.Computed.{computed}
 use Rattle.x690_laws.specs.Examples.{hex, IsDer, refused_inside, usual}
 
 -- openssl genpkey -algorithm EC -pkeyopt ec_paramgen_curve:P-256 | openssl pkcs8 -topk8 -nocrypt -outform DER

@@ -1,8 +1,7 @@
 -- What the law on the types of documents says.
-use Rattle.x690.specs.DocumentTypes.{AlgorithmIdentifier, Attribute, CertificationRequest, CertificationRequestInfo, ECPrivateKey, Extension, Name, NameItem, OneAsymmetricKey, RequestAttribute, SubjectPublicKeyInfo}
-use Rattle.x690.specs.FurtherTypes.{AsymmetricKeyPackage, EncryptedPrivateKeyInfo, OneAsymmetricKeyWithRsa, RSAPrivateKey}
+use Rattle.pkix_types.specs.DocumentTypes.{AlgorithmIdentifier, Attribute, CertificationRequest, CertificationRequestInfo, ECPrivateKey, Extension, Name, NameItem, OneAsymmetricKey, RequestAttribute, SubjectPublicKeyInfo}
+use Rattle.pkix_types.specs.FurtherTypes.{AsymmetricKeyPackage, EncryptedPrivateKeyInfo, OneAsymmetricKeyWithRsa, RSAPrivateKey}
 use Rattle.x690.specs.Premises.{Lawful}
-use Rattle.x690.specs.StringTypes.{string_types}
 
 pub record DocumentsAreLawful : Type 0 where
   pub key : Lawful OneAsymmetricKey
@@ -22,4 +21,3 @@ pub record FurtherAreLawful : Type 0 where
   pub key_with_rsa : Lawful OneAsymmetricKeyWithRsa
   pub encrypted : Lawful EncryptedPrivateKeyInfo
   pub key_package : Lawful AsymmetricKeyPackage
-  pub strings : Lawful string_types

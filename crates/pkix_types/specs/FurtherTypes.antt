@@ -2,10 +2,11 @@
 use Rattle.std.specs.Prelude.{List, None, Option, [], ◌∷◌}
 use Rattle.tlv_core.specs.declared.reason.Reason.{Reason}
 use Rattle.tlv_core.specs.declared.reason.Reason.TheVariants.{VersionRule}
-use Rattle.x690.specs.DocumentTypes.{AlgorithmIdentifier, asymmetric_key, integer, octet_string, sequence, version, ◌⨾◌}
-use Rattle.x690.specs.Identifiers.{rsa_encryption}
+use Rattle.pkix_types.specs.DocumentTypes.{AlgorithmIdentifier, asymmetric_key, version}
+use Rattle.x690.specs.UniversalTypes.{integer, octet_string, sequence, ◌⨾◌}
+use Rattle.pkix_types.specs.Identifiers.{rsa_encryption}
 use Rattle.x690.specs.Layouts.{universal}
-use Rattle.x690.specs.Rules.{rsa_version_rule}
+use Rattle.pkix_types.specs.Rules.{rsa_version_rule}
 use Rattle.x690.specs.TypeTerms.{ContainingType, DefinedByType, EndOfFields, Optional, RefusedType, Required, RuledType, SequenceOfType, TypeTerm}
 use Rattle.x690.specs.Values.{Value}
 

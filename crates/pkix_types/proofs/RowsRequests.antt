@@ -2,8 +2,8 @@
 use Rattle.std.proofs.Common.{◌≡◌, codes, refl}
 use Rattle.tlv_core.specs.declared.reason.Reason.TheVariants.{BadText, EmptySet, KeyLength, Parameters}
 use Rattle.x690.specs.Answers.{Spelled, answer}
-use Rattle.x690.specs.DocumentTypes.{CertificationRequest, Name, SubjectPublicKeyInfo}
-use Rattle.x690_laws.proofs.Computed.{computed}
+use Rattle.pkix_types.specs.DocumentTypes.{CertificationRequest, Name, SubjectPublicKeyInfo}
+use Rattle.pkix_types.proofs.Computed.{computed}
 use Rattle.x690_laws.specs.Examples.{hex, IsDer, refused, usual}
 
 a_request_with_no_attributes_in_its_set : IsDer usual CertificationRequest (hex (codes "307f30330201003000302a300506032b6570032100aaaaaaaaaaaaaaaaaaaaaaaaaaaaaaaaaaaaaaaaaaaaaaaaaaaaaaaaaaaaaaaaa000300506032b6570034100bbbbbbbbbbbbbbbbbbbbbbbbbbbbbbbbbbbbbbbbbbbbbbbbbbbbbbbbbbbbbbbbbbbbbbbbbbbbbbbbbbbbbbbbbbbbbbbbbbbbbbbbbbbbbbbbbbbbbbbbbbbbbbbb"))

@@ -2,8 +2,8 @@
 use Rattle.std.proofs.Common.{◌≡◌, codes, refl}
 use Rattle.tlv_core.specs.declared.reason.Reason.TheVariants.{Extra, Missing, TooDeep, Truncated, Version, VersionRule}
 use Rattle.x690.specs.Answers.{Spelled, answer}
-use Rattle.x690.specs.FurtherTypes.{AsymmetricKeyPackage, EncryptedPrivateKeyInfo, OneAsymmetricKeyWithRsa}
-use Rattle.x690_laws.proofs.Computed.{computed}
+use Rattle.pkix_types.specs.FurtherTypes.{AsymmetricKeyPackage, EncryptedPrivateKeyInfo, OneAsymmetricKeyWithRsa}
+use Rattle.pkix_types.proofs.Computed.{computed}
 use Rattle.x690_laws.specs.Examples.{hex, IsDer, refused, refused_inside, usual}
 
 a_broken_rsa_key : answer usual OneAsymmetricKeyWithRsa (hex (codes "3016020100300d06092a864886f70d010101050004023080")) ≡ refused_inside 20 2 Truncated

@@ -3,7 +3,7 @@ use Rattle.std.specs.Prelude.{Bool, List, None, Option, Some, [], false, length,
 use Rattle.tlv_core.specs.Identifier.{Tag}
 use Rattle.tlv_core.specs.declared.reason.Reason.{Reason}
 use Rattle.tlv_core.specs.declared.reason.Reason.TheVariants.{Curve, KeyLength, Parameters, Version, VersionRule}
-use Rattle.x690.specs.Identifiers.{curve_lengths, ec_public_key, length_under, rfc8410_algorithms, rfc8410_lengths}
+use Rattle.pkix_types.specs.Identifiers.{curve_lengths, ec_public_key, length_under, rfc8410_algorithms, rfc8410_lengths}
 use Rattle.x690.specs.Layouts.{context_specific, same_tag, universal}
 use Rattle.x690.specs.Lists.{one_of, same_octets}
 use Rattle.x690.specs.Values.{Value, leaf_at, leaf_contents, sequence_members, value_tag}

@@ -1,0 +1,12 @@
+-- The answer to a document of these types, with all that it stands on open to computation.
+use Rattle.std.proofs.Common.{ℕ, List}
+use Rattle.tlv_core.specs.Limits.{Limits}
+use Rattle.x690.specs.Answers.{Answer, answer}
+use Rattle.x690.specs.TypeTerms.{TypeTerm}
+use Rattle.x690_laws.proofs.Computed as laws
+use Rattle.pkix_types.specs.DocumentTypes.{AlgorithmIdentifier, Attribute, CertificationRequest, CertificationRequestInfo, ECPrivateKey, Extension, Name, NameItem, OneAsymmetricKey, RequestAttribute, SubjectPublicKeyInfo}
+use Rattle.pkix_types.specs.FurtherTypes.{AsymmetricKeyPackage, EncryptedPrivateKeyInfo, OneAsymmetricKeyWithRsa, OtherPrimeInfo, RSAPrivateKey}
+
+unfoldable pub computed : Limits → TypeTerm → List ℕ → Answer
+unfolding laws.computed AlgorithmIdentifier Attribute CertificationRequest CertificationRequestInfo ECPrivateKey Extension Name NameItem OneAsymmetricKey RequestAttribute SubjectPublicKeyInfo AsymmetricKeyPackage EncryptedPrivateKeyInfo OneAsymmetricKeyWithRsa OtherPrimeInfo RSAPrivateKey
+computed limits type octets = answer limits type octets

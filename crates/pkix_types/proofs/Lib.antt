@@ -1,0 +1,9 @@
+pub mod Computed
+pub mod Fairs
+pub mod LawfulTypes
+pub mod RowsFaults
+pub mod RowsFurtherTypes
+pub mod RowsKeys
+pub mod RowsOrder
+pub mod RowsRequests
+pub mod RowsTools
