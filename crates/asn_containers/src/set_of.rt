@@ -12,8 +12,9 @@ ghost use Rattle.ber_pull.specs.declared.state.Given.{Given};
 ghost use Rattle.tlv_core.specs.declared.fault.ReadError.TheVariants.{Memory};
 ghost use Rattle.asn_elements.specs.Reading.{AnswersValue, read_given};
 ghost use Rattle.x690.specs.Values.{Same, SetOf as SetValue, values_of};
-ghost use Rattle.asn_elements.specs.Members.{ascends, ascends_is};
-ghost use Rattle.asn_elements.specs.OwnTags.{set_of_fits};
+ghost use Rattle.asn_elements.specs.Members.{ascends};
+ghost use Rattle.asn_elements.proofs.Ascending.{ascends_is};
+ghost use Rattle.x690_laws.proofs.OwnTags.{set_of_fits};
 ghost use Rattle.asn_elements.specs.declared.build.BuildError.TheVariants.{TooBig};
 
 use crate::members::{read_members, row_of};

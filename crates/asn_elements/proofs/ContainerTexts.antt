@@ -14,7 +14,8 @@ use Rattle.x690.specs.Values.{Sequence, SetOf, Value, values_of}
 use Rattle.x690_laws.proofs.ContentLengths.{arranged_length}
 use Rattle.x690_laws.proofs.Lengths.{der_bag, der_row, ders_values}
 use Rattle.asn_elements.specs.Framing.{framed}
-use Rattle.asn_elements.specs.Members.{ascends, ascends_is}
+use Rattle.asn_elements.specs.Members.{ascends}
+use Rattle.asn_elements.proofs.Ascending.{ascends_is}
 
 -- of a SET OF whose members stand in order
 pub set_text : (tag : Tag) (vs : List Value) → ascends (map der vs) ≡ true → der (SetOf tag (values_of vs)) ≡ framed tag (texts_of vs)

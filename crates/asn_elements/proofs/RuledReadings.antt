@@ -1,5 +1,5 @@
 -- What is heard of a type with a rule on its value: of the type, and then of the rule.
-use Rattle.std.proofs.Common.{◌≡◌, ℕ, Bool, List, Option, Some, None, subst}
+use Rattle.std.proofs.Common.{Bool, List, None, Option, Some, subst, ℕ, ◌≡◌}
 use Rattle.tlv_core.specs.Identifier.{Tag}
 use Rattle.tlv_core.specs.Limits.{Limits}
 use Rattle.tlv_core.specs.declared.fault.ReadError.{ReadError}

@@ -2,7 +2,7 @@
 ghost use Rattle.x690_laws.proofs.OneTexts.{leaf_one_text};
 ghost use Rattle.std.specs.Prelude.{◌≡◌, ◌↔◌, ◌<◌, ◌∷◌, IsTrue, drop, get_or, length};
 ghost use Rattle.x690_laws.proofs.ClosedTypes.{leaf_closed};
-ghost use Rattle.asn_elements.specs.OwnTags.{leaf_fits};
+ghost use Rattle.x690_laws.proofs.OwnTags.{leaf_fits};
 ghost use Rattle.x690.specs.Layouts.{universal};
 ghost use Rattle.x690.specs.Contents.{BitString};
 ghost use Rattle.x690.specs.TypeTerms.{LeafType};

@@ -1,6 +1,6 @@
 //! Character strings and times (X.690 8.23, 8.25).
 ghost use Rattle.x690_laws.proofs.OneTexts.{leaf_one_text};
-ghost use Rattle.asn_elements.specs.ClosedTypes.{strings_closed};
+ghost use Rattle.x690_laws.proofs.ClosedTypes.{strings_closed};
 ghost use Rattle.std.specs.Prelude.{◌≡◌, ◌↔◌, None, Some, IfErr, IfOk, IsSome, IsTrue, IsUtf8, OnOk, true};
 ghost use Rattle.tlv_core.specs.declared.reason.Reason.TheVariants.{WrongTag};
 ghost use Rattle.x690.specs.Layouts.{same_tag, universal};

@@ -1,7 +1,7 @@
 -- The rules by which readers of sequences are put together: into the container, field after field in the order of the ASN.1, its end.
 -- `then'` is what becomes of the values of all fields.
-use Rattle.std.proofs.Common.{◌≡◌, ℕ, Bool, true, false, List, [], ◌∷◌, ◌++◌, Option, Some, None, refl, sym, ◌||◌, ap, subst, append-nil}
 use Rattle.std.specs.Option.{is_some}
+use Rattle.std.proofs.Common.{Bool, List, None, Option, Some, [], ap, append-nil, false, refl, subst, sym, true, ℕ, ◌++◌, ◌||◌, ◌∷◌, ◌≡◌}
 use Rattle.tlv_core.specs.Identifier.{Tag}
 use Rattle.tlv_core.specs.Limits.{Limits}
 use Rattle.tlv_core.specs.declared.fault.ReadError.{ReadError}
@@ -15,11 +15,11 @@ use Rattle.x690.specs.Reading.{Done, Reading, Where, choose, require, run, ◌>>
 use Rattle.x690.specs.Reads.{Heard, Refused, Said}
 use Rattle.x690.specs.TypeTerms.{Default, DefinedByType, EndOfFields, Fields, Optional, Required, Rule, RuledType, SequenceType, TypeTerm, fits_tag}
 use Rattle.x690.specs.Values.{Sequence, Value, leaf_at, values_of}
-use Rattle.asn_fields.specs.FieldReadings.{but_default, read_begin, read_due, read_end, read_optional, read_take, with_field}
+use Rattle.x690.proofs.Alike.{Alike, alike_both, alike_then, behind, behind_same, bind_first, choose_then, done_then, require_then}
+use Rattle.x690.proofs.Runs.{bind_assoc, bind_same}
 use Rattle.ber_pull.specs.Hears.{Hears, heard_error, next_at}
 use Rattle.ber_pull.proofs.Hearing.{hears_done, hears_error, hears_fail, hears_first, hears_off, hears_on, hears_same, hears_second, hears_then}
-use Rattle.x690.proofs.Runs.{bind_assoc, bind_same}
-use Rattle.x690.proofs.Alike.{Alike, alike_both, alike_then, behind, behind_same, bind_first, choose_then, done_then, require_then}
+use Rattle.asn_fields.specs.FieldReadings.{but_default, read_begin, read_due, read_end, read_optional, read_take, with_field}
 
 -- a field that is there, and the fields behind it
 there : {B : Type 0} (p : Reading Value) (q : Reading Next) (rest : Value → Next → Reading (List Value)) (then' : List Value → Reading B) → Alike ((p >>= λ v. q >>= λ n. rest v n >>= λ vs. Done (v ∷ vs)) >>= then') (p >>= λ v. q >>= λ n. rest v n >>= λ vs. then' (v ∷ vs))

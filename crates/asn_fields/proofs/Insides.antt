@@ -1,6 +1,6 @@
 -- Where a reader stands while it reads the fields of a container.
-use Rattle.std.proofs.Common.{◌≡◌, ℕ, Bool, false, IsSome, List, [], ◌∷◌, Option, Some, None, Result, Ok, refl, sym, ◌∙◌, ap, subst}
 use Rattle.std.specs.Option.{is_some}
+use Rattle.std.proofs.Common.{Bool, IsSome, List, None, Ok, Option, Result, Some, [], ap, false, refl, subst, sym, ℕ, ◌∙◌, ◌∷◌, ◌≡◌}
 use Rattle.tlv_core.specs.Identifier.{Tag}
 use Rattle.tlv_core.specs.declared.fault.ReadError.{ReadError}
 use Rattle.x690.specs.Points.{Enclosing}
@@ -11,12 +11,12 @@ use Rattle.x690.specs.Reads.{Heard}
 use Rattle.x690.specs.TypeTerms.{TypeTerm}
 use Rattle.x690.specs.Values.{Value}
 use Rattle.ber_pull.specs.Calls.{read_next}
-use Rattle.asn_fields.specs.Insides.{BeginsBefore, Inside, Within, given_by}
 use Rattle.ber_pull.specs.Hears.{Hears, heard, next_at}
 use Rattle.ber_pull.specs.Standing.{IsAtEnd, Standing, after_next, container_of, enclosing, is_ended, opening, place, used}
-use Rattle.ber_pull.specs.declared.state.Container.{Container}
 use Rattle.ber_pull.specs.declared.state.Container.TheVariants.{Definite, Ended, Indefinite}
+use Rattle.ber_pull.specs.declared.state.Container.{Container}
 use Rattle.ber_pull.proofs.Hearing.{hears_as, hears_at, hears_done}
+use Rattle.asn_fields.specs.Insides.{BeginsBefore, Inside, Within, given_by}
 
 -- A container that was opened isn't ended.
 

@@ -1,2 +1,1 @@
-pub mod ClosedTypes
 pub mod EcKeys

@@ -8,7 +8,7 @@ ghost use Rattle.x690.specs.Layouts.{universal};
 ghost use Rattle.pkix_types.specs.Rules.{has_length};
 ghost use Rattle.x690.specs.Values.{Leaf, Same, Sequence, values_of};
 ghost use Rattle.asn_elements.specs.Leaves.{bit_string_of, octets_of};
-ghost use Rattle.pk_keys.specs.ClosedTypes.{ec_key_closed};
+ghost use Rattle.pkix_types.proofs.ClosedTypes.{ec_key_closed};
 ghost use Rattle.pk_keys.specs.EcKeys.{ec_key_values, fields_apart, named_length, tags_apart, two_optional_one_text};
 
 use crate::curves::private_key_length;

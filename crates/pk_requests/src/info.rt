@@ -7,7 +7,7 @@ ghost use Rattle.pkix_types.specs.DocumentTypes.{CertificationRequestInfo as Cer
 ghost use Rattle.x690.specs.Layouts.{universal};
 ghost use Rattle.x690.specs.Values.{Same, Sequence, values_of};
 ghost use Rattle.asn_elements.specs.Implicits.{value_under};
-ghost use Rattle.pk_requests.specs.ClosedTypes.{info_closed};
+ghost use Rattle.pkix_types.proofs.ClosedTypes.{info_closed};
 ghost use Rattle.pk_requests.specs.Values.{info_values};
 
 use asn_values::der_text::{DerText, same_text};

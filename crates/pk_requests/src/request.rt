@@ -5,7 +5,7 @@ ghost use Rattle.x690.specs.DerTexts.{texts_of};
 ghost use Rattle.pkix_types.specs.DocumentTypes.{CertificationRequest as CertificationRequestType};
 ghost use Rattle.x690.specs.Layouts.{universal};
 ghost use Rattle.x690.specs.Values.{Same, Sequence, values_of};
-ghost use Rattle.pk_requests.specs.ClosedTypes.{request_closed};
+ghost use Rattle.pkix_types.proofs.ClosedTypes.{request_closed};
 
 use crate::info::CertificationRequestInfo;
 use asn_values::bits::Bits;

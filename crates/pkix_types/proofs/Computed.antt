@@ -1,5 +1,5 @@
 -- The answer to a document of these types, with all that it stands on open to computation.
-use Rattle.std.proofs.Common.{ℕ, List}
+use Rattle.std.proofs.Common.{List, ℕ}
 use Rattle.tlv_core.specs.Limits.{Limits}
 use Rattle.x690.specs.Answers.{Answer, answer}
 use Rattle.x690.specs.TypeTerms.{TypeTerm}

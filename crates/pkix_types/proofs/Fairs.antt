@@ -1,16 +1,16 @@
 -- The rules over the types of documents are fair.
-use Rattle.std.proofs.Common.{◌≡◌, ℕ, zero, suc, ◌-◌, ◌==◌, ◌&&◌, ◌||◌, not, Bool, true, false, List, [], ◌∷◌, length, Option, refl, ap, ap₂}
-use Rattle.x690_laws.proofs.OneValue.{octets_same, members_same, leaf_at_same}
-use Rattle.x690_laws.proofs.Complete.{each_length}
+use Rattle.std.proofs.Common.{Bool, List, Option, [], ap, ap₂, false, length, not, refl, suc, true, zero, ℕ, ◌&&◌, ◌-◌, ◌==◌, ◌||◌, ◌∷◌, ◌≡◌}
 use Rattle.tlv_core.specs.Identifier.{Tag}
-use Rattle.tlv_core.specs.declared.reason.Reason.{Reason}
 use Rattle.tlv_core.specs.declared.reason.Reason.TheVariants.{Curve, KeyLength, Parameters, Version, VersionRule}
-use Rattle.pkix_types.specs.Identifiers.{curve_lengths, ec_public_key, length_under, rfc8410_algorithms, rfc8410_lengths}
+use Rattle.tlv_core.specs.declared.reason.Reason.{Reason}
 use Rattle.x690.specs.Layouts.{context_specific, same_tag, universal}
 use Rattle.x690.specs.Lists.{Each, one_of, same_octets}
 use Rattle.x690.specs.Premises.{FairRule}
-use Rattle.pkix_types.specs.Rules.{ec_length, ec_parameters_rule, ec_rule, else_refused, has_length, inner_curve_rule, inner_ec_rule, key_bits_rule, key_version_rule, no_unused, nth_tag, own_curve, parameters_rule, rsa_version_rule, version_rule, with_tag}
 use Rattle.x690.specs.Values.{Leaf, Same, Sequence, SetOf, Value, leaf_at, sequence_members, value_tag}
+use Rattle.x690_laws.proofs.Complete.{each_length}
+use Rattle.x690_laws.proofs.OneValue.{leaf_at_same, members_same, octets_same}
+use Rattle.pkix_types.specs.Identifiers.{curve_lengths, ec_public_key, length_under, rfc8410_algorithms, rfc8410_lengths}
+use Rattle.pkix_types.specs.Rules.{ec_length, ec_parameters_rule, ec_rule, else_refused, has_length, inner_curve_rule, inner_ec_rule, key_bits_rule, key_version_rule, no_unused, nth_tag, own_curve, parameters_rule, rsa_version_rule, version_rule, with_tag}
 
 tag_same : (v w : Value) → Same v w → value_tag v ≡ value_tag w
 unfolding Same

@@ -1,21 +1,21 @@
 -- The types of documents and of their parts meet what laws ask of a type.
-use Rattle.std.proofs.Common.{◌≡◌, ℕ, ◌==◌, Bool, true, false, List, [], ◌∷◌, length, Some, refl, subst, ◌||◌, arith}
+use Rattle.std.proofs.Common.{Bool, List, Some, [], arith, false, length, refl, subst, true, ℕ, ◌==◌, ◌||◌, ◌∷◌, ◌≡◌}
 use Rattle.std.proofs.lemmas.Bool.Decides.{nat_tests}
 use Rattle.tlv_core.specs.Identifier.{Tag}
-use Rattle.tlv_core.specs.declared.reason.Reason.{Reason}
 use Rattle.tlv_core.specs.declared.reason.Reason.TheVariants.{Curve, KeyLength, Parameters, Version, VersionRule}
-use Rattle.pkix_types.specs.DocumentTypes.{AlgorithmIdentifier, Attribute, CertificationRequest, CertificationRequestInfo, ECPrivateKey, Extension, Name, NameItem, OneAsymmetricKey, RequestAttribute, SubjectPublicKeyInfo, asymmetric_key}
-use Rattle.x690.specs.UniversalTypes.{octet_string}
-use Rattle.pkix_types.specs.FurtherTypes.{AsymmetricKeyPackage, EncryptedPrivateKeyInfo, OneAsymmetricKeyWithRsa, OtherPrimeInfo, RSAPrivateKey, no_rule}
-use Rattle.pkix_types.specs.Identifiers.{rsa_encryption}
+use Rattle.tlv_core.specs.declared.reason.Reason.{Reason}
 use Rattle.x690.specs.Layouts.{context_specific, same_tag, universal}
 use Rattle.x690.specs.Lists.{same_octets}
 use Rattle.x690.specs.Premises.{Fair, Honest, HonestReason, HonestRule, Lawful}
-use Rattle.pkix_types.specs.Rules.{ec_length, ec_parameters_rule, ec_rule, else_refused, inner_curve_rule, inner_ec_rule, key_bits_rule, key_version_rule, own_curve, parameters_rule, rsa_version_rule, version_rule}
 use Rattle.x690.specs.TypeTerms.{ContainingType, DefinedByType, Distinct, TypeTerm, fields_fit_tag, fits_tag}
+use Rattle.x690.specs.UniversalTypes.{octet_string}
 use Rattle.x690.specs.Values.{leaf_at}
-use Rattle.pkix_types.proofs.Fairs.{fair_ec, fair_ec_parameters, fair_inner_curve, fair_inner_ec, fair_key_bits, fair_key_version, fair_parameters, fair_rsa_version, fair_version}
 use Rattle.pkix_types.specs.DocumentLaws.{DocumentsAreLawful, FurtherAreLawful}
+use Rattle.pkix_types.specs.DocumentTypes.{AlgorithmIdentifier, Attribute, CertificationRequest, CertificationRequestInfo, ECPrivateKey, Extension, Name, NameItem, OneAsymmetricKey, RequestAttribute, SubjectPublicKeyInfo, asymmetric_key}
+use Rattle.pkix_types.specs.FurtherTypes.{AsymmetricKeyPackage, EncryptedPrivateKeyInfo, OneAsymmetricKeyWithRsa, OtherPrimeInfo, RSAPrivateKey, no_rule}
+use Rattle.pkix_types.specs.Identifiers.{rsa_encryption}
+use Rattle.pkix_types.specs.Rules.{ec_length, ec_parameters_rule, ec_rule, else_refused, inner_curve_rule, inner_ec_rule, key_bits_rule, key_version_rule, own_curve, parameters_rule, rsa_version_rule, version_rule}
+use Rattle.pkix_types.proofs.Fairs.{fair_ec, fair_ec_parameters, fair_inner_curve, fair_inner_ec, fair_key_bits, fair_key_version, fair_parameters, fair_rsa_version, fair_version}
 
 -- a test that gives one reason is honest where the reason is
 tested : (b : Bool) (why given : Reason) → HonestReason why → else_refused b why ≡ Some given → HonestReason given

@@ -1,3 +1,4 @@
+pub mod ClosedTypes
 pub mod Computed
 pub mod Fairs
 pub mod LawfulTypes

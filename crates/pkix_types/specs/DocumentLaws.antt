@@ -1,7 +1,7 @@
 -- What the law on the types of documents says.
+use Rattle.x690.specs.Premises.{Lawful}
 use Rattle.pkix_types.specs.DocumentTypes.{AlgorithmIdentifier, Attribute, CertificationRequest, CertificationRequestInfo, ECPrivateKey, Extension, Name, NameItem, OneAsymmetricKey, RequestAttribute, SubjectPublicKeyInfo}
 use Rattle.pkix_types.specs.FurtherTypes.{AsymmetricKeyPackage, EncryptedPrivateKeyInfo, OneAsymmetricKeyWithRsa, RSAPrivateKey}
-use Rattle.x690.specs.Premises.{Lawful}
 
 pub record DocumentsAreLawful : Type 0 where
   pub key : Lawful OneAsymmetricKey

@@ -2,11 +2,11 @@
 use Rattle.std.specs.Prelude.{List, [], ℕ, ◌∷◌}
 use Rattle.tlv_core.specs.declared.reason.Reason.TheVariants.{VersionRule}
 use Rattle.x690.specs.Contents.{BitString, Boolean}
-use Rattle.pkix_types.specs.Identifiers.{ec_public_key, extension_request, rfc8410_algorithms}
 use Rattle.x690.specs.Layouts.{context_specific, universal}
-use Rattle.pkix_types.specs.Rules.{ec_parameters_rule, ec_rule, inner_curve_rule, inner_ec_rule, key_bits_rule, key_version_rule, parameters_rule, version_rule}
 use Rattle.x690.specs.TypeTerms.{ContainingType, Default, DefinedByType, EndOfFields, LeafType, OpenType, Optional, RefusedType, Required, RuledType, SetOfType, TypeTerm}
 use Rattle.x690.specs.UniversalTypes.{bit_string, explicit, integer, object_identifier, octet_string, sequence, sequence_of, set_of_some, ◌⨾◌}
+use Rattle.pkix_types.specs.Identifiers.{ec_public_key, extension_request, rfc8410_algorithms}
+use Rattle.pkix_types.specs.Rules.{ec_parameters_rule, ec_rule, inner_curve_rule, inner_ec_rule, key_bits_rule, key_version_rule, parameters_rule, version_rule}
 
 -- an INTEGER that is one of these numbers, each below 128
 abbrev pub version : List (List ℕ) → TypeTerm

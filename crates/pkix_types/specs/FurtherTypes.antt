@@ -1,14 +1,14 @@
 -- Types that no reader has yet: RSA keys, encrypted keys and packages of keys. They are terms as the others are.
 use Rattle.std.specs.Prelude.{List, None, Option, [], ◌∷◌}
-use Rattle.tlv_core.specs.declared.reason.Reason.{Reason}
 use Rattle.tlv_core.specs.declared.reason.Reason.TheVariants.{VersionRule}
-use Rattle.pkix_types.specs.DocumentTypes.{AlgorithmIdentifier, asymmetric_key, version}
-use Rattle.x690.specs.UniversalTypes.{integer, octet_string, sequence, ◌⨾◌}
-use Rattle.pkix_types.specs.Identifiers.{rsa_encryption}
+use Rattle.tlv_core.specs.declared.reason.Reason.{Reason}
 use Rattle.x690.specs.Layouts.{universal}
-use Rattle.pkix_types.specs.Rules.{rsa_version_rule}
 use Rattle.x690.specs.TypeTerms.{ContainingType, DefinedByType, EndOfFields, Optional, RefusedType, Required, RuledType, SequenceOfType, TypeTerm}
+use Rattle.x690.specs.UniversalTypes.{integer, octet_string, sequence, ◌⨾◌}
 use Rattle.x690.specs.Values.{Value}
+use Rattle.pkix_types.specs.DocumentTypes.{AlgorithmIdentifier, asymmetric_key, version}
+use Rattle.pkix_types.specs.Identifiers.{rsa_encryption}
+use Rattle.pkix_types.specs.Rules.{rsa_version_rule}
 
 -- RFC 8017 A.1.2: prime, exponent, coefficient.
 unfoldable pub OtherPrimeInfo : TypeTerm

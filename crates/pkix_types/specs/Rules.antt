@@ -1,12 +1,12 @@
 -- The rules over the types of documents: each says why a value is refused, by the earlier fields of its container and itself.
 use Rattle.std.specs.Prelude.{Bool, List, None, Option, Some, [], false, length, not, suc, true, zero, ℕ, ◌&&◌, ◌-◌, ◌==◌, ◌||◌, ◌∷◌}
 use Rattle.tlv_core.specs.Identifier.{Tag}
-use Rattle.tlv_core.specs.declared.reason.Reason.{Reason}
 use Rattle.tlv_core.specs.declared.reason.Reason.TheVariants.{Curve, KeyLength, Parameters, Version, VersionRule}
-use Rattle.pkix_types.specs.Identifiers.{curve_lengths, ec_public_key, length_under, rfc8410_algorithms, rfc8410_lengths}
+use Rattle.tlv_core.specs.declared.reason.Reason.{Reason}
 use Rattle.x690.specs.Layouts.{context_specific, same_tag, universal}
 use Rattle.x690.specs.Lists.{one_of, same_octets}
 use Rattle.x690.specs.Values.{Value, leaf_at, leaf_contents, sequence_members, value_tag}
+use Rattle.pkix_types.specs.Identifiers.{curve_lengths, ec_public_key, length_under, rfc8410_algorithms, rfc8410_lengths}
 
 -- a length that a table gives, if it gives one
 abbrev pub has_length : Option ℕ → ℕ → Bool

@@ -12,6 +12,16 @@ use Rattle.x690.specs.Values.{Leaf, Same, Value}
 use Rattle.pkix_types.proofs.Fairs.{fair_version}
 use Rattle.pkix_values.specs.Versions.{one_octets, versions}
 
+-- those that documents have
+only_0 : versions 0 0 ≡ (0 ∷ []) ∷ []
+only_0 = refl
+
+only_1 : versions 1 1 ≡ (1 ∷ []) ∷ []
+only_1 = refl
+
+from_0_to_1 : versions 0 1 ≡ (0 ∷ []) ∷ (1 ∷ []) ∷ []
+from_0_to_1 = refl
+
 -- a number is listed from the first one on, as many as there are, and below 128
 counted : (count start n : ℕ) → one_of (n ∷ []) (one_octets count start) ≡ nat_le start n && nat_lt n (start + count) && nat_lt n 128
 counted zero start n = grind (arith, nat_tests)

@@ -1,4 +1,3 @@
-pub mod ClosedTypes
 pub mod Eithers
 pub mod Values
 pub mod Versions

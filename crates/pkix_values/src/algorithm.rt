@@ -10,7 +10,7 @@ ghost use Rattle.x690.specs.Layouts.{universal};
 ghost use Rattle.x690.specs.Lists.{one_of};
 ghost use Rattle.x690.specs.Values.{Leaf, Same, Sequence, values_of};
 ghost use Rattle.asn_fields.specs.FieldReadings.{with_field};
-ghost use Rattle.pkix_values.specs.ClosedTypes.{algorithm_closed};
+ghost use Rattle.pkix_types.proofs.ClosedTypes.{algorithm_closed};
 
 use crate::identifiers::public_key_length;
 use asn_values::any::Any;

@@ -8,7 +8,7 @@ ghost use Rattle.x690_laws.proofs.OneTexts.{leaf_one_text};
 ghost use Rattle.asn_fields.specs.Fields.{unless_false};
 ghost use Rattle.asn_fields.proofs.OneFields.{between_one_text, due_one_text, flag_one_text, sequence_one_text};
 ghost use Rattle.asn_elements.specs.Leaves.{octets_of};
-ghost use Rattle.pkix_values.specs.ClosedTypes.{extension_closed};
+ghost use Rattle.pkix_types.proofs.ClosedTypes.{extension_closed};
 ghost use Rattle.pkix_values.specs.Values.{extension_values};
 
 use asn_values::der_text::{DerText, same_text};

@@ -7,7 +7,7 @@ ghost use Rattle.pkix_types.specs.DocumentTypes.{Name as NameType, NameItem as N
 ghost use Rattle.x690.specs.Layouts.{universal};
 ghost use Rattle.x690.specs.Values.{Leaf, Same, Sequence, values_of};
 ghost use Rattle.asn_containers.specs.Containers.{list_items};
-ghost use Rattle.pkix_values.specs.ClosedTypes.{name_closed, name_item_closed};
+ghost use Rattle.pkix_types.proofs.ClosedTypes.{name_closed, name_item_closed};
 
 use crate::set_of_some::SetOfSome;
 use asn_values::any::Any;

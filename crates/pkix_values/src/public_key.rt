@@ -7,7 +7,7 @@ ghost use Rattle.pkix_types.specs.DocumentTypes.{SubjectPublicKeyInfo as Subject
 ghost use Rattle.x690.specs.Layouts.{universal};
 ghost use Rattle.x690.specs.Values.{Leaf, Same, Sequence, values_of};
 ghost use Rattle.asn_elements.specs.Leaves.{bit_string_of};
-ghost use Rattle.pkix_values.specs.ClosedTypes.{public_key_closed};
+ghost use Rattle.pkix_types.proofs.ClosedTypes.{public_key_closed};
 ghost use Rattle.pkix_values.specs.Values.{key_fits};
 
 use crate::algorithm::AlgorithmIdentifier;

@@ -8,7 +8,7 @@ ghost use Rattle.x690.specs.DerTexts.{der};
 ghost use Rattle.pkix_types.specs.DocumentTypes.{RequestAttribute as RequestAttributeType};
 ghost use Rattle.pkix_types.specs.Identifiers.{extension_request};
 ghost use Rattle.x690.specs.Lists.{one_of};
-ghost use Rattle.pkix_values.specs.ClosedTypes.{request_attribute_closed};
+ghost use Rattle.pkix_types.proofs.ClosedTypes.{request_attribute_closed};
 ghost use Rattle.pkix_values.specs.Eithers.{either, either_one_text, first_of, is_first, second_of};
 
 use crate::attribute::{Attribute, AttributeOf};

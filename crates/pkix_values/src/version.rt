@@ -7,7 +7,8 @@ ghost use Rattle.pkix_types.specs.DocumentTypes.{version};
 ghost use Rattle.x690.specs.Layouts.{universal};
 ghost use Rattle.x690.specs.Lists.{one_of};
 ghost use Rattle.x690.specs.Values.{Leaf};
-ghost use Rattle.pkix_values.specs.Versions.{version_closed, versions};
+ghost use Rattle.pkix_types.proofs.ClosedTypes.{version_closed};
+ghost use Rattle.pkix_values.specs.Versions.{versions};
 
 use asn_values::der_text::DerText;
 use asn_values::element::Element;

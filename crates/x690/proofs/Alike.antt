@@ -1,5 +1,5 @@
 -- Readings that give the same on all octets, and what they are put together of.
-use Rattle.std.proofs.Common.{◌≡◌, ℕ, Bool, true, false, List, refl, sym, ◌∙◌}
+use Rattle.std.proofs.Common.{Bool, List, false, refl, sym, true, ℕ, ◌∙◌, ◌≡◌}
 use Rattle.tlv_core.specs.declared.fault.Fault.{Fault}
 use Rattle.x690.specs.Reading.{Done, Halted, Outcome, Reading, Took, choose, require, run, ◌>>=◌}
 use Rattle.x690.proofs.Runs.{bind_assoc, bind_same, halt_bind, run_bind}

@@ -1,10 +1,12 @@
 -- Types that don't look at the earlier fields of their container.
-use Rattle.std.proofs.Common.{◌≡◌, ℕ, List, [], refl, ap₂}
+use Rattle.std.proofs.Common.{List, [], ap₂, map, refl, ℕ, ◌∷◌, ◌≡◌}
 use Rattle.tlv_core.specs.Identifier.{Tag}
-use Rattle.x690.specs.Contents.{LeafKind}
+use Rattle.x690.specs.Contents.{LeafKind, OctetString, Utf8String}
+use Rattle.x690.specs.Layouts.{universal}
 use Rattle.x690.specs.ReadTypes.{IsClosed, apply_rule, read_type}
 use Rattle.x690.specs.Reading.{choose, ◌>>=◌}
-use Rattle.x690.specs.TypeTerms.{ChoiceType, Fields, LeafType, OpenType, Rule, RuledType, SequenceOfType, SequenceType, SetOfType, TypeTerm, fits_tag}
+use Rattle.x690.specs.StringTypes.{carried_numbers, carried_string, string_types}
+use Rattle.x690.specs.TypeTerms.{ChoiceType, Fields, LeafType, OpenType, Rule, RuledType, SequenceOfType, SequenceType, SetOfType, TypeTerm, choice_of, fits_tag}
 use Rattle.x690.specs.Values.{Value}
 
 pub leaf_closed : (own : Tag) (kind : LeafKind) → IsClosed (LeafType own kind)
@@ -36,3 +38,12 @@ pub ruled_closed : (rule : Rule) (T : TypeTerm) → IsClosed T → ((earlier : L
 unfolding read_type
 ruled_closed rule T closed alone l earlier c p tag constructed =
     ap₂ (λ reading rule'. reading >>= λ value. apply_rule p (rule' value) value) (closed l earlier c p tag constructed) (alone earlier)
+
+-- character strings and times
+carried_closed : (first : TypeTerm) (numbers : List ℕ) → IsClosed first → IsClosed (choice_of first (map carried_string numbers))
+carried_closed first [] closed = closed
+carried_closed first (number ∷ numbers) closed = choice_closed first (choice_of (carried_string number) (map carried_string numbers)) closed (carried_closed (carried_string number) numbers (leaf_closed (universal number) OctetString))
+
+pub strings_closed : IsClosed string_types
+unfolding string_types
+strings_closed = carried_closed (LeafType (universal 12) Utf8String) carried_numbers (leaf_closed (universal 12) Utf8String)

@@ -1,5 +1,5 @@
 -- The types of character strings and times meet what laws ask of a type.
-use Rattle.std.proofs.Common.{ℕ, List, [], ◌∷◌, map}
+use Rattle.std.proofs.Common.{List, [], map, ℕ, ◌∷◌}
 use Rattle.tlv_core.specs.Identifier.{Tag}
 use Rattle.x690.specs.Contents.{LeafKind, OctetString, Utf8String}
 use Rattle.x690.specs.Layouts.{universal}

@@ -23,6 +23,7 @@ pub mod Members
 pub mod OneTexts
 pub mod OneValue
 pub mod Order
+pub mod OwnTags
 pub mod Pairing
 pub mod PrefixFree
 pub mod Refit

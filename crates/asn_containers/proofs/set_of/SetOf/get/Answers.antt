@@ -2,7 +2,7 @@ use Rattle.std.proofs.Common.{map, rules, sym}
 use Rattle.std.proofs.lemmas.Option.{slice_get_past}
 use Rattle.x690.specs.DerTexts.{der}
 use Rattle.asn_containers.specs.Containers.{set_items}
-use Rattle.asn_elements.specs.Members.{ascends_is}
+use Rattle.asn_elements.proofs.Ascending.{ascends_is}
 use Rattle.asn_containers.proofs.set_of.SetOf.get.Goals as goal
 
 pub returns-then-i-len-clause-in_order : goal.returns-then-i-len-clause-in_order

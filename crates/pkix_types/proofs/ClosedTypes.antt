@@ -1,0 +1,47 @@
+-- Types that don't look at the earlier fields of their container.
+use Rattle.std.specs.Prelude.{List, refl, ℕ}
+use Rattle.x690.specs.Contents.{Integer}
+use Rattle.x690.specs.Layouts.{universal}
+use Rattle.x690.specs.ReadTypes.{IsClosed}
+use Rattle.x690_laws.proofs.ClosedTypes.{leaf_closed, ruled_closed, sequence_closed, sequence_of_closed}
+use Rattle.pkix_types.specs.DocumentTypes.{AlgorithmIdentifier, CertificationRequest, CertificationRequestInfo, ECPrivateKey, Extension, Name, NameItem, RequestAttribute, SubjectPublicKeyInfo, version}
+use Rattle.pkix_types.specs.Rules.{ec_rule, parameters_rule, version_rule}
+
+pub version_closed : (allowed : List (List ℕ)) → IsClosed (version allowed)
+version_closed allowed = ruled_closed (version_rule allowed) _ (leaf_closed (universal 2) Integer) (λ earlier. refl)
+
+pub extension_closed : IsClosed Extension
+unfolding Extension
+extension_closed = sequence_closed _ _
+
+pub name_item_closed : IsClosed NameItem
+unfolding NameItem
+name_item_closed = sequence_closed _ _
+
+pub name_closed : IsClosed Name
+unfolding Name
+name_closed = sequence_of_closed _ _ _
+
+pub algorithm_closed : IsClosed AlgorithmIdentifier
+unfolding AlgorithmIdentifier
+algorithm_closed = ruled_closed parameters_rule _ (sequence_closed _ _) (λ earlier. refl)
+
+pub public_key_closed : IsClosed SubjectPublicKeyInfo
+unfolding SubjectPublicKeyInfo
+public_key_closed = sequence_closed _ _
+
+pub request_attribute_closed : IsClosed RequestAttribute
+unfolding RequestAttribute
+request_attribute_closed = sequence_closed _ _
+
+pub info_closed : IsClosed CertificationRequestInfo
+unfolding CertificationRequestInfo
+info_closed = sequence_closed _ _
+
+pub request_closed : IsClosed CertificationRequest
+unfolding CertificationRequest
+request_closed = sequence_closed _ _
+
+pub ec_key_closed : IsClosed ECPrivateKey
+unfolding ECPrivateKey
+ec_key_closed = ruled_closed ec_rule _ (sequence_closed _ _) (λ earlier. refl)
