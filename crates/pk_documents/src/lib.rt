@@ -8,8 +8,8 @@
 //! Proved of normalising, for every input: it takes exactly the octets that spell
 //! one value and writes that value's DER text, which reads back as it; or it refuses, writes nothing, and nothing that
 //! the input begins with spells a value. Normalising twice is once, and two inputs get equal texts exactly where their
-//! values are the same. Plain keys are OneAsymmetricKeys by the general definitions of `x690` (`laws`). A fault of a value of a type is the one that the
-//! definitions give. Only tested: which fault comes for plain keys, and where.
+//! values are the same. Plain keys are OneAsymmetricKeys by the general definitions of `pkix_types` (`laws`). A fault
+//! of a value of a type is the one that the definitions give. Only tested: which fault comes for plain keys, and where.
 #![tactic(auto)]
 
 mod cursor;

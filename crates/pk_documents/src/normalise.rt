@@ -84,7 +84,7 @@ pub fn normalise(
 /// `normalise` for one value of a type: the counts of octets taken and written.
 ///
 /// Where there is a fault, or no memory to read the value, `src` and `dst` are as they were; where there is none for the text,
-/// the value's octets are taken and `dst` is as it was. That the type is lawful is the law `x690_laws::documents`.
+/// the value's octets are taken and `dst` is as it was. That the type is lawful is the law `pkix_types::documents`.
 pub fn normalise_value<T: Element>(
     alloc: Global,
     src: &mut &[u8],
