@@ -1,6 +1,6 @@
 //! SEQUENCE OF (X.690 8.10).
 ghost use Rattle.x690_laws.proofs.OneTexts.{list_one_text};
-ghost use Rattle.std.specs.Prelude.{◌≡◌, ◌↔◌, ◌+◌, ◌<◌, ◌^◌, None, Some, IsSome, IsTrue, OnOk, length, map, slice_get};
+ghost use Rattle.std.specs.Prelude.{◌≡◌, ◌↔◌, ◌+◌, ◌<◌, ◌≤◌, ◌^◌, IfOk, None, Some, IsSome, IsTrue, OnOk, length, map, slice_get};
 ghost use Rattle.std.specs.Option.{option_map};
 ghost use Rattle.tlv_core.specs.Sinks.{count, Puts};
 ghost use Rattle.x690_laws.proofs.ClosedTypes.{sequence_of_closed};
@@ -113,6 +113,7 @@ impl<T: Element> List<T> {
         ensures same_source { SameSource pull.old pull.new }
         ensures repeats { Repeats pull.old pull.new result }
         ensures reads { (g : Given) → (standing pull.old).error ≡ None → (standing pull.old).given ≡ Some g → AnswersValue pull.old pull.new (read_given (SequenceOfType (universal 16) 1 T.type_term) (standing pull.old) g) (λ list. Sequence (universal 16) (values_of (map T.value (list_items list)))) result }
+        ensures some { IfOk result (λ list. 0 < length (list_items list)) }
         ensures stands { OnOk result (Uses pull.old pull.new) }
         ensures keeps { Keeps pull.new result }
         ensures read { ReadsFail pull.old pull.new result }
@@ -133,6 +134,7 @@ fn read_list<R: Source, T: Element>(
     ensures same_source { SameSource pull.old pull.new }
     ensures repeats { Repeats pull.old pull.new result }
     ensures reads { (g : Given) → (standing pull.old).error ≡ None → (standing pull.old).given ≡ Some g → AnswersValue pull.old pull.new (read_given (SequenceOfType tag least T.type_term) (standing pull.old) g) (λ list. Sequence tag (values_of (map T.value (list_items list)))) result }
+    ensures least { IfOk result (λ list. least ≤ length (list_items list)) }
     ensures stands { OnOk result (Uses pull.old pull.new) }
     ensures keeps { Keeps pull.new result }
     ensures read { ReadsFail pull.old pull.new result }

@@ -1,8 +1,9 @@
 -- How long the text of a field is that was read.
-use Rattle.std.proofs.Common.{◌<◌, ◌^◌, Bool, List, [], ℕ, IfSome, None, Some, Option, ap, length, arith}
+use Rattle.std.proofs.Common.{◌<◌, ◌≤◌, ◌^◌, Bool, List, [], ℕ, IfSome, None, Some, Option, ap, append-nil, length, arith}
+use Rattle.std.specs.Option.{option_map}
 use Rattle.tlv_core.specs.Identifier.{Tag}
 use Rattle.tlv_core.specs.Limits.{Limits}
-use Rattle.x690.specs.DerTexts.{der}
+use Rattle.x690.specs.DerTexts.{der, texts_of}
 use Rattle.x690.specs.Points.{Enclosing}
 use Rattle.x690.specs.ReadHeaders.{ElementStands, next_tag}
 use Rattle.x690.specs.ReadTypes.{read_type}
@@ -13,6 +14,7 @@ use Rattle.x690_laws.proofs.HeaderSound.{next_took}
 use Rattle.x690_laws.proofs.ShortTexts.{read_texts}
 use Rattle.x690_laws.proofs.Texts.{canonical}
 use Rattle.asn_fields.specs.Insides.{BeginsBefore}
+use Rattle.asn_fields.specs.FieldReadings.{with_field}
 use Rattle.ber_pull.specs.Hears.{Hears, next_at}
 use Rattle.ber_pull.specs.Standing.{IsGiven, Standing, enclosing}
 use Rattle.ber_pull.proofs.Hearing.{hears_given}
@@ -24,12 +26,16 @@ begins_here l c k p (Some t) s o u x fits =
     let next = next_took l c k given.0 (ElementStands p t.0 t.1) s.taken [] given.2 in
     (fits, (let at = next.at in let place = next.place in omega arith))
 
-pub field_short : (T : TypeTerm) (s : Standing) (p : ℕ) (t : Tag) (form : Bool) (v w : Value) (q : ℕ) (o u : Option (List ℕ)) → BeginsBefore s (ElementStands p t form) → Hears (read_type s.limits T [] (enclosing s) p t form) s.taken o (Said v) q u → Same v w → length (der w) < 2 ^ 32
-field_short T s p t form v w q o u b x same =
-    let given = hears_given (read_type s.limits T [] (enclosing s) p t form) v s.taken q o u x in
+-- behind any earlier fields
+pub field_short_behind : (T : TypeTerm) (earlier : List Value) (s : Standing) (p : ℕ) (t : Tag) (form : Bool) (v w : Value) (q : ℕ) (o u : Option (List ℕ)) → BeginsBefore s (ElementStands p t form) → Hears (read_type s.limits T earlier (enclosing s) p t form) s.taken o (Said v) q u → Same v w → length (der w) < 2 ^ 32
+field_short_behind T earlier s p t form v w q o u b x same =
+    let given = hears_given (read_type s.limits T earlier (enclosing s) p t form) v s.taken q o u x in
     let fits = b.0 in
     let few = fits.octets_fit in
-    let short = read_texts.behind s.limits T [] (enclosing s) p t form s.taken given.0 v q [] (omega arith) fits.is_tag fits.depth_fits b.1 given.2 in
+    let short = read_texts.behind s.limits T earlier (enclosing s) p t form s.taken given.0 v q [] (omega arith) fits.is_tag fits.depth_fits b.1 given.2 in
     let is = ap length (canonical v w same) in
     let below = short.below in
     omega arith
+
+pub field_short : (T : TypeTerm) (s : Standing) (p : ℕ) (t : Tag) (form : Bool) (v w : Value) (q : ℕ) (o u : Option (List ℕ)) → BeginsBefore s (ElementStands p t form) → Hears (read_type s.limits T [] (enclosing s) p t form) s.taken o (Said v) q u → Same v w → length (der w) < 2 ^ 32
+field_short T s p t form v w q o u b x same = field_short_behind T [] s p t form v w q o u b x same

@@ -49,29 +49,13 @@ after_begin {own} {own'} {fields} {outer} {new} {inside} {next} {u} earlier p ta
 pub stopped_at_begin : {own own' : Tag} (fields : Fields) (earlier : List Value) (l : Limits) (c : Enclosing) (p : ℕ) (tag : Tag) (constructed : Bool) (e : ReadError) (k i : ℕ) (s u : Option (List ℕ)) → own' ≡ own → Hears (read_begin l own' c p tag constructed) k s (heard_error e) i u → Hears (read_type l (SequenceType own fields) earlier c p tag constructed) k s (heard_error e) i u
 stopped_at_begin {own} {own'} fields earlier l c p tag constructed e k i s u is x = rules.begins_error l own own' fields earlier c p tag constructed e k i s u is x
 
--- with a rule on the value of the whole
-abbrev pub ruled_sequence : ℕ → Rule → List Value → Tag → List Value → Reading Value
-ruled_sequence p rule earlier own values = apply_rule p (rule earlier (Sequence own (values_of values))) (Sequence own (values_of values))
-
-pub after_begin_ruled : {own own' : Tag} {fields : Fields} {outer new : Standing} {inside : Enclosing} {next : Next} {u : Option (List ℕ)} (rule : Rule) (earlier : List Value) (p : ℕ) (tag : Tag) (constructed : Bool) (s : Option (List ℕ)) → own' ≡ own → Hears (read_begin outer.limits own' (enclosing outer) p tag constructed) outer.taken s (Said (inside, next)) new.taken u → Inside outer inside new next → SoFar outer.taken s (read_type outer.limits (RuledType rule (SequenceType own fields)) earlier (enclosing outer) p tag constructed) (ruled_sequence p rule earlier own) fields [] next new u
-after_begin_ruled {own} {own'} {fields} {outer} {new} {inside} {next} {u} rule earlier p tag constructed s is x stands = record {
-  values = [];
-  same = tt;
-  outer = outer;
-  inside = inside;
-  stands = stands;
-  onward = record { rest = λ h i u' y. rules.begins_ruled outer.limits rule own own' fields earlier (enclosing outer) p tag constructed inside next h _ _ _ _ _ _ is x y };
-}
-
-pub stopped_at_begin_ruled : {own own' : Tag} (rule : Rule) (fields : Fields) (earlier : List Value) (l : Limits) (c : Enclosing) (p : ℕ) (tag : Tag) (constructed : Bool) (e : ReadError) (k i : ℕ) (s u : Option (List ℕ)) → own' ≡ own → Hears (read_begin l own' c p tag constructed) k s (heard_error e) i u → Hears (read_type l (RuledType rule (SequenceType own fields)) earlier c p tag constructed) k s (heard_error e) i u
-stopped_at_begin_ruled {own} {own'} rule fields earlier l c p tag constructed e k i s u is x = ruled_error l rule (SequenceType own fields) earlier c p tag constructed e k i s u (stopped_at_begin fields earlier l c p tag constructed e k i s u is x)
-
 -- A field that is due.
 
 module _ {k : ℕ} {s : Option (List ℕ)} {whole : Reading Value} {finish : List Value → Reading Value} {rest : Fields} {T : TypeTerm} {ws : List Value} {next : Next} {now : Standing} {t : Option (List ℕ)} (a : SoFar k s whole finish (Required T rest) ws next now t) where
-  pub after_due : {next' : Next} {new : Standing} {u : Option (List ℕ)} (w : Value) → ((earlier : List Value) (outer : Standing) (inside : Enclosing) → Inside outer inside now next → (v : Value) × Same v w × Hears (read_due outer.limits T earlier inside next) now.taken t (Said (v, next')) new.taken u) → ((outer : Standing) (inside : Enclosing) → Inside outer inside now next → Inside outer inside new next') → SoFar k s whole finish rest (ws ++ (w ∷ [])) next' new u
-  after_due {next'} {new} {u} w reads stands =
-      let f = reads a.values a.outer a.inside a.stands in record {
+  -- which looks at the earlier fields
+  pub after_due_behind : {next' : Next} {new : Standing} {u : Option (List ℕ)} (w : Value) → ((fields : List Value) → Each Same fields ws → (outer : Standing) (inside : Enclosing) → Inside outer inside now next → (v : Value) × Same v w × Hears (read_due outer.limits T fields inside next) now.taken t (Said (v, next')) new.taken u) → ((outer : Standing) (inside : Enclosing) → Inside outer inside now next → Inside outer inside new next') → SoFar k s whole finish rest (ws ++ (w ∷ [])) next' new u
+  after_due_behind {next'} {new} {u} w reads stands =
+      let f = reads a.values a.same a.outer a.inside a.stands in record {
         values = a.values ++ (f.0 ∷ []);
         same = each_last _ _ _ _ a.same f.1;
         outer = a.outer;
@@ -84,8 +68,15 @@ module _ {k : ℕ} {s : Option (List ℕ)} {whole : Reading Value} {finish : Lis
         };
       }
 
+  pub stopped_at_due_behind : (e : ReadError) (i : ℕ) (u : Option (List ℕ)) → ((fields : List Value) → Each Same fields ws → (outer : Standing) (inside : Enclosing) → Inside outer inside now next → Hears (read_due outer.limits T fields inside next) now.taken t (heard_error e) i u) → Hears whole k s (heard_error e) i u
+  stopped_at_due_behind e i u reads = a.onward.rest (heard_error e) i u (rules.due_error a.outer.limits T rest a.values a.inside next _ e _ i _ u (reads a.values a.same a.outer a.inside a.stands))
+
+  -- or doesn't
+  pub after_due : {next' : Next} {new : Standing} {u : Option (List ℕ)} (w : Value) → ((earlier : List Value) (outer : Standing) (inside : Enclosing) → Inside outer inside now next → (v : Value) × Same v w × Hears (read_due outer.limits T earlier inside next) now.taken t (Said (v, next')) new.taken u) → ((outer : Standing) (inside : Enclosing) → Inside outer inside now next → Inside outer inside new next') → SoFar k s whole finish rest (ws ++ (w ∷ [])) next' new u
+  after_due w reads stands = after_due_behind w (λ fields same. reads fields) stands
+
   pub stopped_at_due : (e : ReadError) (i : ℕ) (u : Option (List ℕ)) → ((earlier : List Value) (outer : Standing) (inside : Enclosing) → Inside outer inside now next → Hears (read_due outer.limits T earlier inside next) now.taken t (heard_error e) i u) → Hears whole k s (heard_error e) i u
-  stopped_at_due e i u reads = a.onward.rest (heard_error e) i u (rules.due_error a.outer.limits T rest a.values a.inside next _ e _ i _ u (reads a.values a.outer a.inside a.stands))
+  stopped_at_due e i u reads = stopped_at_due_behind e i u (λ fields same. reads fields)
 
 -- the values of fields, and of those behind them
 pub behind_both : {k : ℕ} {s : Option (List ℕ)} {whole : Reading Value} {finish : List Value → Reading Value} {rest : Fields} {next : Next} {now : Standing} {t : Option (List ℕ)} (ws vs vs' : List Value) → SoFar k s whole finish rest ((ws ++ vs) ++ vs') next now t → SoFar k s whole finish rest (ws ++ (vs ++ vs')) next now t
@@ -236,9 +227,10 @@ field_first vs more None = ap (λ z. z ++ more) (append-nil vs)
 field_first vs more (Some v) = append_assoc vs (v ∷ []) more
 
 module _ {k : ℕ} {s : Option (List ℕ)} {whole : Reading Value} {finish : List Value → Reading Value} {rest : Fields} {T : TypeTerm} {ws : List Value} {next : Next} {now : Standing} {t : Option (List ℕ)} (a : SoFar k s whole finish (Optional T rest) ws next now t) where
-  pub after_optional : {next' : Next} {new : Standing} {u : Option (List ℕ)} (w : Option Value) → ((earlier : List Value) (outer : Standing) (inside : Enclosing) → Inside outer inside now next → (v : Option Value) × SameField v w × Hears (read_optional outer.limits T earlier inside next) now.taken t (Said (v, next')) new.taken u) → ((outer : Standing) (inside : Enclosing) → Inside outer inside now next → Inside outer inside new next') → SoFar k s whole finish rest (ws ++ with_field w []) next' new u
-  after_optional {next'} {new} {u} w reads stands =
-      let f = reads a.values a.outer a.inside a.stands in record {
+  -- which looks at the earlier fields
+  pub after_optional_behind : {next' : Next} {new : Standing} {u : Option (List ℕ)} (w : Option Value) → ((fields : List Value) → Each Same fields ws → (outer : Standing) (inside : Enclosing) → Inside outer inside now next → (v : Option Value) × SameField v w × Hears (read_optional outer.limits T fields inside next) now.taken t (Said (v, next')) new.taken u) → ((outer : Standing) (inside : Enclosing) → Inside outer inside now next → Inside outer inside new next') → SoFar k s whole finish rest (ws ++ with_field w []) next' new u
+  after_optional_behind {next'} {new} {u} w reads stands =
+      let f = reads a.values a.same a.outer a.inside a.stands in record {
         values = a.values ++ with_field f.0 [];
         same = each_field _ _ _ _ a.same f.1;
         outer = a.outer;
@@ -251,8 +243,15 @@ module _ {k : ℕ} {s : Option (List ℕ)} {whole : Reading Value} {finish : Lis
         };
       }
 
+  pub stopped_at_optional_behind : (e : ReadError) (i : ℕ) (u : Option (List ℕ)) → ((fields : List Value) → Each Same fields ws → (outer : Standing) (inside : Enclosing) → Inside outer inside now next → Hears (read_optional outer.limits T fields inside next) now.taken t (heard_error e) i u) → Hears whole k s (heard_error e) i u
+  stopped_at_optional_behind e i u reads = a.onward.rest (heard_error e) i u (rules.optional_error a.outer.limits T rest a.values a.inside next _ e _ i _ u (reads a.values a.same a.outer a.inside a.stands))
+
+  -- or doesn't
+  pub after_optional : {next' : Next} {new : Standing} {u : Option (List ℕ)} (w : Option Value) → ((earlier : List Value) (outer : Standing) (inside : Enclosing) → Inside outer inside now next → (v : Option Value) × SameField v w × Hears (read_optional outer.limits T earlier inside next) now.taken t (Said (v, next')) new.taken u) → ((outer : Standing) (inside : Enclosing) → Inside outer inside now next → Inside outer inside new next') → SoFar k s whole finish rest (ws ++ with_field w []) next' new u
+  after_optional w reads stands = after_optional_behind w (λ fields same. reads fields) stands
+
   pub stopped_at_optional : (e : ReadError) (i : ℕ) (u : Option (List ℕ)) → ((earlier : List Value) (outer : Standing) (inside : Enclosing) → Inside outer inside now next → Hears (read_optional outer.limits T earlier inside next) now.taken t (heard_error e) i u) → Hears whole k s (heard_error e) i u
-  stopped_at_optional e i u reads = a.onward.rest (heard_error e) i u (rules.optional_error a.outer.limits T rest a.values a.inside next _ e _ i _ u (reads a.values a.outer a.inside a.stands))
+  stopped_at_optional e i u reads = stopped_at_optional_behind e i u (λ fields same. reads fields)
 
 -- a field that may be absent, and is said in another way
 pub fields_as : {k : ℕ} {s : Option (List ℕ)} {whole : Reading Value} {finish : List Value → Reading Value} {rest : Fields} {next : Next} {now : Standing} {t : Option (List ℕ)} {o o' : Option Value} (ws : List Value) → o ≡ o' → SoFar k s whole finish rest (ws ++ with_field o' []) next now t → SoFar k s whole finish rest (ws ++ with_field o []) next now t
@@ -329,22 +328,3 @@ module _ {k : ℕ} {s : Option (List ℕ)} {whole : Reading Value} {finish : Lis
 -- the value of the SEQUENCE is the answer
 pub answered : {k : ℕ} {s : Option (List ℕ)} {whole : Reading Value} {own : Tag} {ws : List Value} {j : ℕ} {t : Option (List ℕ)} → AllRead k s whole (as_sequence own) ws j t → (v : Value) × Same v (Sequence own (values_of ws)) × Hears whole k s (Said v) j t
 answered {k} {s} {whole} {own} {ws} {j} {t} a = (Sequence own (values_of a.values), same_lists own a.values ws a.same, a.onward.rest _ j t (hears_done _ j t))
-
--- or its value, said in another way
-pub answered_as : {k : ℕ} {s : Option (List ℕ)} {whole : Reading Value} {own : Tag} {ws ws' : List Value} {j : ℕ} {t : Option (List ℕ)} → ws ≡ ws' → AllRead k s whole (as_sequence own) ws j t → (v : Value) × Same v (Sequence own (values_of ws')) × Hears whole k s (Said v) j t
-answered_as {k} {s} {whole} {own} {ws} {ws'} {j} {t} e a = answered (subst (λ w. AllRead k s whole (as_sequence own) w j t) e a)
-
--- With a rule on the whole.
-
-module _ {k : ℕ} {s : Option (List ℕ)} {whole : Reading Value} {ws : List Value} {j : ℕ} {t : Option (List ℕ)} (p : ℕ) (rule : Rule) (earlier : List Value) (own : Tag) (fair : FairRule rule) (a : AllRead k s whole (ruled_sequence p rule earlier own) ws j t) where
-  pub answered_by_rule : rule earlier (Sequence own (values_of ws)) ≡ None → (v : Value) × Same v (Sequence own (values_of ws)) × Hears whole k s (Said v) j t
-  answered_by_rule e =
-      let value = Sequence own (values_of a.values) in
-      let same = same_lists own a.values ws a.same in
-      (value, same, a.onward.rest _ j t (rule_holds p (rule earlier value) value j t (fair earlier earlier value (Sequence own (values_of ws)) (each_refl earlier) same ∙ e)))
-
-  pub refused_by_rule : (why : Reason) → rule earlier (Sequence own (values_of ws)) ≡ Some why → Hears whole k s (Refused (fault p why)) j t
-  refused_by_rule why e =
-      let value = Sequence own (values_of a.values) in
-      let same = same_lists own a.values ws a.same in
-      a.onward.rest _ j t (rule_refuses p (rule earlier value) why value j t (fair earlier earlier value (Sequence own (values_of ws)) (each_refl earlier) same ∙ e))

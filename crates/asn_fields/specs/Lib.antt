@@ -1,4 +1,6 @@
-pub mod FieldReadings
 pub mod Fields
-pub mod Insides
+pub mod ApartLaws
+pub mod Apart
 pub mod SoFar
+pub mod FieldReadings
+pub mod Insides

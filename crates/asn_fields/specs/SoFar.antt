@@ -1,5 +1,5 @@
 -- A SEQUENCE that is read field by field: what was read so far, and what is left to read.
-use Rattle.std.specs.Prelude.{List, MatchResult, Option, Result, ℕ, ◌++◌}
+use Rattle.std.specs.Prelude.{List, MatchResult, Option, Result, [], ℕ, ◌++◌}
 use Rattle.tlv_core.specs.declared.fault.ReadError.{ReadError}
 use Rattle.tlv_core.specs.declared.source.Source.{Ghosts}
 use Rattle.x690.specs.Lists.{Each}
@@ -33,3 +33,9 @@ abbrev pub ReadsFields : {R A : Type 0} {s : Ghosts R} → Pull R s → Pull R s
 ReadsFields old new next next' fields values result =
     (k : ℕ) (s : Option (List ℕ)) (whole : Reading Value) (finish : List Value → Reading Value) (rest : Fields) (ws : List Value) → SoFar k s whole finish (fields rest) ws (next_of next) old.state (told old)
     → MatchResult result (λ x. SoFar k s whole finish rest (ws ++ values x) (next_of next') new.state (told new)) (λ e. Hears whole k s (heard_error e) new.state.taken (told new))
+
+-- The same of the first fields of the container.
+abbrev pub ReadsFirst : {R A : Type 0} {s : Ghosts R} → Pull R s → Pull R s → code.Next → code.Next → (Fields → Fields) → (A → List Value) → Result A ReadError → Type 0
+ReadsFirst old new next next' fields values result =
+    (k : ℕ) (s : Option (List ℕ)) (whole : Reading Value) (finish : List Value → Reading Value) (rest : Fields) → SoFar k s whole finish (fields rest) [] (next_of next) old.state (told old)
+    → MatchResult result (λ x. SoFar k s whole finish rest (values x) (next_of next') new.state (told new)) (λ e. Hears whole k s (heard_error e) new.state.taken (told new))

@@ -1,24 +1,17 @@
 //! The fields of a SEQUENCE, one call each, in the order of its ASN.1 (X.690 8.9).
 //!
-//! A reader of a type is a list of these calls: `begin` with the type's tag, then `due` or `optional` for each field, then `end`.
-//! Its proof is a list of the rules of `proofs/SoFar.antt` in the same order: `after_` each call that gave a value, which keep in a
-//! record what was read so far and what is left, and `answered`, or `stopped_at_` the call that failed, where it returns.
-//! A rule on a field is tested between `take` and `ahead`, which `due` is put together from; one on the whole value behind `end`.
-//! `take`, `due` and `optional` also tell that the text of a field is short.
-ghost use Rattle.std.specs.Prelude.{◌≡◌, ◌<◌, ◌^◌, IfOk, IfSome, IsSome, List, None, OnOk, Some, length};
-ghost use Rattle.std.specs.Option.{option_map};
+//! A reader of a type is a list of these calls: `begin` with the type's tag, then `due` or `optional` for each field,
+//! then `end`. Its proof is a list of the rules of `proofs/SoFar.antt` in the same order: `after_` each call that gave
+//! a value, which keep in a record what was read so far and what is left, and `answered`, or `stopped_at_` the call
+//! that failed, where it returns. A rule on a field is tested between `take` and `ahead`, which `due` is put together
+//! from; one on the whole value behind `end`. `take`, `due` and `optional` also tell that the text of a field is short.
+ghost use Rattle.std.specs.Prelude.{◌≡◌, ◌<◌, ◌^◌, IfOk, IfSome, IsSome, None, OnOk, length};
 ghost use Rattle.x690.specs.DerTexts.{der};
-ghost use Rattle.x690.specs.Points.{Enclosing};
-ghost use Rattle.x690.specs.ReadHeaders.{next_tag};
-ghost use Rattle.x690.specs.Values.{Same, Value};
-ghost use Rattle.asn_fields.specs.Insides.{Inside, Within};
-ghost use Rattle.asn_fields.specs.FieldReadings.{read_begin, read_due, read_end, read_optional, read_take};
+ghost use Rattle.asn_fields.specs.FieldReadings.{read_end};
 ghost use Rattle.ber_pull.specs.Hears.{heard};
-ghost use Rattle.ber_pull.specs.Standing.{Standing, enclosing, used};
-ghost use Rattle.ber_pull.specs.View.{standing, AsksNoMemory, SameSource, Repeats, Keeps, ReadsFail, Onward, Answers};
-ghost use Rattle.ber_pull.specs.declared.state.Given.{Given};
-ghost use Rattle.asn_fields.specs.Fields.{AnswersField, AnswersInside, IsInside, SameField, StaysInside, next_of};
-ghost use Rattle.asn_elements.specs.Reading.{AnswersValue};
+ghost use Rattle.ber_pull.specs.View.{standing, AsksNoMemory, SameSource, Repeats, Keeps, ReadsFail, Onward};
+ghost use Rattle.asn_fields.specs.Apart.{BeginsAs};
+ghost use Rattle.asn_fields.specs.Fields.{AnswersAhead, AnswersBegin, AnswersDue, AnswersInside, AnswersOptional, AnswersTake, IsInside, LeavesContainer, LeavesWithin, StandsAhead, StandsInto, StaysInside, next_of};
 
 use asn_elements::element::Element;
 use asn_elements::leaf_reading::expect_tag;
@@ -42,8 +35,8 @@ pub fn ahead<R: Source>(pull: &mut Pull<'_, R>) -> Result<Next, ReadError>
     requires fine { (standing pull.old).error ≡ None }
     requires used { (standing pull.old).given ≡ None }
     ensures same_source { SameSource pull.old pull.new }
-    ensures reads { (outer : Standing) → (inside : Enclosing) → Within outer inside (standing pull.old) → Answers pull.old pull.new (next_tag outer.limits inside) (heard next_of result) }
-    ensures stands { IfOk result (λ next. (outer : Standing) → (inside : Enclosing) → Within outer inside (standing pull.old) → Inside outer inside (standing pull.new) (next_of next)) }
+    ensures reads { AnswersAhead pull.old pull.new result }
+    ensures stands { IfOk result (StandsAhead pull.old pull.new) }
     ensures keeps { Keeps pull.new result }
     ensures read { ReadsFail pull.old pull.new result }
     ensures onward { Onward pull.old pull.new }
@@ -61,8 +54,8 @@ pub fn begin<R: Source>(pull: &mut Pull<'_, R>, tag: Tag) -> Result<Next, ReadEr
     requires { (standing pull.old).error ≡ None → IsSome (standing pull.old).given }
     ensures same_source { SameSource pull.old pull.new }
     ensures repeats { Repeats pull.old pull.new result }
-    ensures reads { (given : Given) → (standing pull.old).error ≡ None → (standing pull.old).given ≡ Some given → Answers pull.old pull.new (read_begin (standing pull.old).limits tag (enclosing (standing pull.old)) given.at given.tag given.constructed) (heard (λ next. (enclosing (standing pull.new), next_of next)) result) }
-    ensures stands { IfOk result (λ next. Inside (standing pull.old) (enclosing (standing pull.new)) (standing pull.new) (next_of next)) }
+    ensures reads { AnswersBegin pull.old pull.new tag result }
+    ensures stands { IfOk result (StandsInto pull.old pull.new) }
     ensures keeps { Keeps pull.new result }
     ensures read { ReadsFail pull.old pull.new result }
     ensures onward { Onward pull.old pull.new }
@@ -74,7 +67,8 @@ pub fn begin<R: Source>(pull: &mut Pull<'_, R>, tag: Tag) -> Result<Next, ReadEr
     Ok(next)
 }
 
-/// A field that is due, by itself: what stands behind it is looked at by `ahead`. A rule on the field is tested between the two.
+/// A field that is due, by itself: what stands behind it is looked at by `ahead`. A rule on the field is tested between
+/// the two.
 ///
 /// Faults: `Missing` at the end of the container, `WrongTag` at another element; those of the field.
 pub fn take<R: Source, T: Element>(
@@ -85,9 +79,10 @@ pub fn take<R: Source, T: Element>(
     requires fine { (standing pull.old).error ≡ None }
     requires inside { IsInside pull.old next }
     ensures same_source { SameSource pull.old pull.new }
-    ensures reads { (earlier : List Value) → (outer : Standing) → (inside : Enclosing) → Inside outer inside (standing pull.old) (next_of next) → AnswersValue pull.old pull.new (read_take outer.limits T.type_term earlier inside (next_of next)) T.value result }
+    ensures reads { AnswersTake pull.old pull.new next T.type_term T.value result }
     ensures short { IfOk result (λ field. length (der (T.value field)) < 2 ^ 32) }
-    ensures stands { OnOk result ((outer : Standing) → (inside : Enclosing) → Inside outer inside (standing pull.old) (next_of next) → Within outer inside (standing pull.new)) }
+    ensures begins { IfOk result (λ field. BeginsAs T.type_term (T.value field)) }
+    ensures stands { OnOk result (LeavesWithin pull.old pull.new next) }
     ensures keeps { Keeps pull.new result }
     ensures read { ReadsFail pull.old pull.new result }
     ensures onward { Onward pull.old pull.new }
@@ -113,8 +108,9 @@ pub fn due<R: Source, T: Element>(
     requires fine { (standing pull.old).error ≡ None }
     requires inside { IsInside pull.old next.old }
     ensures same_source { SameSource pull.old pull.new }
-    ensures reads { (earlier : List Value) → AnswersField pull.old pull.new next.old (λ outer inside. read_due outer.limits T.type_term earlier inside (next_of next.old)) Same T.value (next_of next.new) result }
+    ensures reads { AnswersDue pull.old pull.new next.old next.new T.type_term T.value result }
     ensures short { IfOk result (λ field. length (der (T.value field)) < 2 ^ 32) }
+    ensures begins { IfOk result (λ field. BeginsAs T.type_term (T.value field)) }
     ensures stands { OnOk result (StaysInside pull.old pull.new next.old next.new) }
     ensures keeps { Keeps pull.new result }
     ensures read { ReadsFail pull.old pull.new result }
@@ -136,8 +132,9 @@ pub fn optional<R: Source, T: Element>(
     requires fine { (standing pull.old).error ≡ None }
     requires inside { IsInside pull.old next.old }
     ensures same_source { SameSource pull.old pull.new }
-    ensures reads { (earlier : List Value) → AnswersField pull.old pull.new next.old (λ outer inside. read_optional outer.limits T.type_term earlier inside (next_of next.old)) SameField (option_map T.value) (next_of next.new) result }
+    ensures reads { AnswersOptional pull.old pull.new next.old next.new T.type_term T.value result }
     ensures short { IfOk result (λ field. IfSome field (λ f. length (der (T.value f)) < 2 ^ 32)) }
+    ensures begins { IfOk result (λ field. IfSome field (λ f. BeginsAs T.type_term (T.value f))) }
     ensures stands { OnOk result (StaysInside pull.old pull.new next.old next.new) }
     ensures keeps { Keeps pull.new result }
     ensures read { ReadsFail pull.old pull.new result }
@@ -163,7 +160,7 @@ pub fn end<R: Source>(pull: &mut Pull<'_, R>, next: Next) -> Result<(), ReadErro
     requires inside { IsInside pull.old next }
     ensures same_source { SameSource pull.old pull.new }
     ensures reads { AnswersInside pull.old pull.new next (λ _ _. read_end (next_of next)) (heard (λ u. u) result) }
-    ensures stands { OnOk result ((outer : Standing) → (inside : Enclosing) → Inside outer inside (standing pull.old) (next_of next) → standing pull.new ≡ used (standing pull.new).taken outer) }
+    ensures stands { OnOk result (LeavesContainer pull.old pull.new next) }
     ensures keeps { Keeps pull.new result }
     ensures read { ReadsFail pull.old pull.new result }
     ensures onward { Onward pull.old pull.new }

@@ -1,15 +1,35 @@
-//! SEQUENCEs by their fields, and explicit tags (X.690 8.9, 8.14): `asn_values` passes all of it on.
+//! SEQUENCEs by their fields (X.690 8.9), and explicit tags (8.14).
 //!
-//! `sequence` reads a SEQUENCE by the list of its fields, `parts` writes one. `fields` has the calls beneath: it begins a SEQUENCE, reads its fields (due,
-//! optional, whatever stands next) and ends it, for types with a rule on a field or a field whose type depends on an earlier one. `Tagged` is an explicit
-//! tag round one value.
+//! A SEQUENCE is kept as the list of its fields: a `record::Form` names them in the order of the ASN.1, and
+//! `record::Record` of it is the type, with its text, its reader and its comparison. In the list stand
 //!
-//! Proved here: `read_sequence` answers what the plain reading of a SEQUENCE of these fields gives, the first fault included; so does each call of `fields`
-//! where it stands, so that a reader is a list of calls in the order of the ASN.1. What `parts` writes is the DER text of a SEQUENCE of these values. `Tagged` is read,
-//! written and compared as its type says.
+//! - `due::Due`, `optional::Optional` and `default_false::DefaultFalse`, whose types say all;
+//! - `judged::Judged`, with a rule that looks at the earlier fields, and `chosen::Chosen`, whose type goes by them;
+//! - `Optional<refused::Refused<K>>`, a field that may not stand at all.
+//!
+//! `ruled::Ruled` is a value of any type with a rule on it, `tagged::Tagged` one behind an explicit tag. `sequence`
+//! reads a SEQUENCE by its list, `parts` writes one, and `fields` has the calls beneath: they begin a SEQUENCE, read
+//! its fields and end it.
+//!
+//! Proved here, once for all types: what `Record` and the others read is what the plain reading of the type that their
+//! list says gives for the octets taken, the first fault included, also that of a rule at its place; a value keeps what
+//! its rules say; what is written is the DER text of the value, by its length, whole and octet by octet; and two values
+//! with one text are the same, as long as no field that may be absent begins as what may follow it, which is computed
+//! from the types (`apart`).
 #![tactic(auto)]
 
+pub mod chosen;
+pub mod default_false;
+pub mod due;
+pub mod either;
+pub mod field_list;
 pub mod fields;
+pub mod judged;
+pub mod kept;
+pub mod optional;
 pub mod parts;
+pub mod record;
+pub mod refused;
+pub mod ruled;
 pub mod sequence;
 pub mod tagged;

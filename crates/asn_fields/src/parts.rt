@@ -1,14 +1,10 @@
-//! The text of a SEQUENCE by its fields: a header, and then the text of each that is there (X.690 8.9). More than two are pairs in pairs, `(A, (B, C))`.
-ghost use Rattle.std.specs.Prelude.{◌≡◌, ◌+◌, ◌++◌, ◌<◌, ◌^◌, ◌∷◌, List, [], length, slice_get};
-ghost use Rattle.std.specs.Option.{option_map};
+//! The text of a SEQUENCE by its fields: a header, and then the text of each that is there (X.690 8.9). More than two
+//! are pairs in pairs, `(A, (B, C))`.
+ghost use Rattle.std.specs.Prelude.{◌≡◌, ◌+◌, ◌++◌, ◌<◌, ◌^◌, List, length, slice_get};
 ghost use Rattle.tlv_core.specs.Sinks.{count, Puts};
 ghost use Rattle.x690.specs.DerTexts.{der, texts_of};
 ghost use Rattle.x690.specs.Values.{Sequence, Value, values_of};
-ghost use Rattle.asn_fields.specs.FieldReadings.{with_field};
-ghost use Rattle.asn_fields.specs.Fields.{unless_false};
 
-use crate::sequence::DefaultFalse;
-use asn_elements::der_text::DerText;
 use asn_elements::framing::{Stands, element_size, find_octet, put_header};
 use tlv_core::sink::{Sink, WriteError};
 use tlv_core::tag::Tag;
@@ -33,75 +29,6 @@ pub trait Parts: Drop {
     fn octet(&self, i: u64) -> Option<u8>
         requires { length (texts_of (values self.now)) < 2 ^ 63 }
         ensures { result ≡ slice_get (texts_of (values self.now)) i };
-}
-
-/// A field.
-#[derive(Drop)]
-pub struct Field<'a, T: DerText>(pub &'a T);
-
-impl<'a, T: DerText> Parts for Field<'a, T> {
-    ghost values = { λ field. T.value field.0.now ∷ [] };
-
-    fn length(&self) -> u64 {
-        self.0.size()
-    }
-
-    fn put<W: Target>(&self, sink: &mut Sink<'_, W>) -> Result<(), WriteError> {
-        self.0.put(sink)
-    }
-
-    fn octet(&self, i: u64) -> Option<u8> {
-        self.0.octet(i)
-    }
-}
-
-/// A field that may be absent.
-#[derive(Drop)]
-pub struct OptionalField<'a, T: DerText>(pub Option<&'a T>);
-
-impl<'a, T: DerText> Parts for OptionalField<'a, T> {
-    ghost values = { λ field. with_field (option_map (λ r. T.value r.now) field.0) [] };
-
-    fn length(&self) -> u64 {
-        match self.0 {
-            Some(field) => field.size(),
-            None => 0,
-        }
-    }
-
-    fn put<W: Target>(&self, sink: &mut Sink<'_, W>) -> Result<(), WriteError> {
-        match self.0 {
-            Some(field) => field.put(sink),
-            None => sink.put(&[]),
-        }
-    }
-
-    fn octet(&self, i: u64) -> Option<u8> {
-        match self.0 {
-            Some(field) => field.octet(i),
-            None => None,
-        }
-    }
-}
-
-impl Parts for DefaultFalse {
-    ghost values = { λ field. with_field (unless_false field.0) [] };
-
-    fn length(&self) -> u64 {
-        self.text().len() as u64
-    }
-
-    fn put<W: Target>(&self, sink: &mut Sink<'_, W>) -> Result<(), WriteError> {
-        sink.put(self.text())
-    }
-
-    fn octet(&self, i: u64) -> Option<u8> {
-        if i < self.length() {
-            Some(self.text()[i as usize])
-        } else {
-            None
-        }
-    }
 }
 
 impl<A: Parts, B: Parts> Parts for (A, B) {

@@ -8,7 +8,8 @@ ghost use Rattle.x690.specs.TypeTerms.{EndOfFields, Required, SequenceType};
 ghost use Rattle.x690.specs.Values.{Same, Sequence, values_of};
 ghost use Rattle.x690_laws.proofs.ClosedTypes.{sequence_closed};
 
-use crate::sequence::{Due, read_sequence_as};
+use crate::due::Due;
+use crate::sequence::read_sequence_as;
 use asn_elements::der_text::{DerText, same_text};
 use asn_elements::element::Element;
 use asn_elements::framing::{Stands, element_size, find_octet, put_header};

@@ -1,7 +1,7 @@
 //! The values of ASN.1's types, each with its one text in DER (X.690 10, 11).
 //!
 //! `DerText` is what has a text, `Element` what can be read as well, from any source and in any layout of BER. There are the leaves
-//! `Bool`, `Int`, `Null`, `Bits`, `Octets`, `Text` and `tlv_core`'s `Oid`, the containers `List` and `SetOf`, `Tagged` for explicit tags, `Implicit` for implicit ones, and `Any`, an open value.
+//! `Bool`, `Int`, `Null`, `Bits`, `Octets`, `Text` and `tlv_core`'s `Oid`, the containers `List`, `ListOfSome` and `SetOf`, `Tagged` for explicit tags, `Implicit` for implicit ones, and `Any`, an open value.
 //! `sequence` reads a SEQUENCE by the list of its fields and `parts` writes one; `fields` reads one field by field.
 //!
 //! This crate is the table of contents: what stands here is proved in `asn_elements` (the traits and the leaves), `asn_fields`, `asn_containers`
@@ -15,7 +15,7 @@
 //! as the plain reading of `T`'s type under that tag says; exactly elements of that tag are of it.
 #![tactic(auto)]
 
-pub use asn_containers::{list, set_of};
+pub use asn_containers::{list, list_of_some, set_of};
 pub use asn_elements::{
     bits, boolean, build, der_text, element, framing, implicit, integer, leaf_reading, null,
     object_identifier, octets, tags, text,

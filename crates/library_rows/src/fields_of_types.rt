@@ -11,7 +11,7 @@ use pk_keys::ec_private_key::EcPrivateKey;
 use pk_requests::info::CertificationRequestInfo;
 use pk_requests::request::CertificationRequest;
 use pkix_values::algorithm::AlgorithmIdentifier;
-use pkix_values::attribute::AttributeOf;
+use pkix_values::attribute::Attribute;
 use pkix_values::extension::Extension;
 use pkix_values::name::{Name, NameItem};
 use pkix_values::public_key::SubjectPublicKeyInfo;
@@ -151,8 +151,8 @@ impl Described for SubjectPublicKeyInfo {
     }
 }
 
-impl<T: Element> Described for AttributeOf<T> {
-    fn is_same(&self, other: &AttributeOf<T>) -> bool {
+impl Described for Attribute {
+    fn is_same(&self, other: &Attribute) -> bool {
         self.same(other)
     }
 
@@ -186,7 +186,7 @@ impl Described for RequestAttribute {
     fn describe(&self, line: &mut Line) -> Result<(), AllocError> {
         line.octets("type", self.id().content())?;
         match self.plain() {
-            Some(attribute) => line.number("plain values", attribute.values().len())?,
+            Some(values) => line.number("plain values", values.len())?,
             None => line.part("not plain")?,
         }
         let Some(lists) = self.extensions() else {

@@ -4,7 +4,7 @@ use crate::fields::Line;
 use crate::reading::{Reading, Told};
 use asn_values::boolean::Bool;
 use asn_values::integer::Int;
-use asn_values::sequence::{DefaultFalse, Due, Fields, Optional, read_sequence};
+use asn_values::sequence::{DefaultFalse, Due, FirstFields, Optional, read_sequence};
 use ber_pull::pull::Pull;
 use std::alloc::{AllocError, Global};
 use std::marker::PhantomData;
@@ -14,7 +14,7 @@ use tlv_core::reason::Reason;
 use tlv_core::source::Source;
 
 /// An INTEGER and a BOOLEAN.
-pub trait IntegerAndBoolean: Fields {
+pub trait IntegerAndBoolean: FirstFields {
     /// The INTEGER.
     fn integer(&self) -> &Int;
 
@@ -72,7 +72,10 @@ impl<F: IntegerAndBoolean> Reading for LineOf<F> {
     }
 }
 
-fn sequence<R: Source, F: Fields>(alloc: Global, pull: &mut Pull<'_, R>) -> Result<F, ReadError> {
+fn sequence<R: Source, F: FirstFields>(
+    alloc: Global,
+    pull: &mut Pull<'_, R>,
+) -> Result<F, ReadError> {
     match pull.next_tag()? {
         Some(_) => read_sequence(alloc, pull),
         None => Err(pull.refuse(0, Reason::Missing, None)),

@@ -18,7 +18,7 @@ pub fn write_signed_part<W: Target>(
     dst: &mut W,
 ) -> Result<u64, WriteError>
     requires { W.has_failed dst.old ≡ false }
-    ensures { WritesText (der (⟦<CertificationRequestInfo as DerText>⟧.value request.now.info)) (W.contents dst.old) (W.contents dst.new) (W.has_failed dst.new) result }
+    ensures { WritesText (der (⟦<CertificationRequestInfo as DerText>⟧.value request.now.0.fields.0.0)) (W.contents dst.old) (W.contents dst.new) (W.has_failed dst.new) result }
 {
     write_value(request.info(), dst)
 }

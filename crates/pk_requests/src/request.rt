@@ -1,19 +1,16 @@
 //! CertificationRequest of RFC 2986 section 4.2.
-ghost use Rattle.asn_fields.proofs.OneFields.{due_one_text, last_one_text, sequence_one_text};
-ghost use Rattle.std.specs.Prelude.{◌≡◌, ◌↔◌, ◌<◌, ◌^◌, ◌∷◌, IsTrue, [], length};
-ghost use Rattle.x690.specs.DerTexts.{texts_of};
+ghost use Rattle.std.proofs.lemmas.Bool.{ltb-true};
+ghost use Rattle.std.specs.Prelude.{◌≡◌, ◌↔◌, IsTrue, refl};
 ghost use Rattle.pkix_types.specs.DocumentTypes.{CertificationRequest as CertificationRequestType};
-ghost use Rattle.x690.specs.Layouts.{universal};
-ghost use Rattle.x690.specs.Values.{Same, Sequence, values_of};
+ghost use Rattle.x690.specs.Values.{Same};
 ghost use Rattle.pkix_types.proofs.ClosedTypes.{request_closed};
 
 use crate::info::CertificationRequestInfo;
+use asn_fields::record::{Form, Record};
 use asn_values::bits::Bits;
-use asn_values::der_text::{DerText, same_text};
+use asn_values::der_text::DerText;
 use asn_values::element::Element;
-use asn_values::parts::{Field, put_sequence, sequence_octet, sequence_size};
-use asn_values::sequence::{Due, read_sequence};
-use asn_values::tags::{is_same_tag, universal_tag};
+use asn_values::sequence::Due;
 use ber_pull::pull::Pull;
 use pkix_values::algorithm::AlgorithmIdentifier;
 use std::alloc::Global;
@@ -23,102 +20,87 @@ use tlv_core::source::Source;
 use tlv_core::tag::Tag;
 use tlv_core::target::Target;
 
+/// certificationRequestInfo, signatureAlgorithm, signature.
+#[derive(Drop)]
+pub struct RequestForm;
+
+impl Form for RequestForm {
+    type Fields = (
+        Due<CertificationRequestInfo>,
+        (Due<AlgorithmIdentifier>, Due<Bits>),
+    );
+
+    ghost parted = { refl };
+
+    ghost few = { ltb-true _ _ refl };
+}
+
 /// A certification request. Whether its signature is good isn't looked at.
 #[derive(Drop)]
-pub struct CertificationRequest {
-    info: CertificationRequestInfo,
-    signature_algorithm: AlgorithmIdentifier,
-    signature: Bits,
-    ghost small: { length (texts_of (⟦<CertificationRequestInfo as DerText>⟧.value info ∷ ⟦<AlgorithmIdentifier as DerText>⟧.value signature_algorithm ∷ ⟦<Bits as DerText>⟧.value signature ∷ [])) < 2 ^ 63 },
-}
+pub struct CertificationRequest(Record<RequestForm>);
 
 impl CertificationRequest {
     /// What the signature covers, as its DER text.
     pub fn info(&self) -> &CertificationRequestInfo
-        ensures { result.now ≡ self.now.info }
+        ensures { result.now ≡ self.now.0.fields.0.0 }
     {
-        &self.info
+        &self.0.fields().0.0
     }
 
     /// By which algorithm it is signed.
     pub fn signature_algorithm(&self) -> &AlgorithmIdentifier
-        ensures { result.now ≡ self.now.signature_algorithm }
+        ensures { result.now ≡ self.now.0.fields.1.0.0 }
     {
-        &self.signature_algorithm
+        &self.0.fields().1.0.0
     }
 
     /// The signature.
     pub fn signature(&self) -> &Bits
-        ensures { result.now ≡ self.now.signature }
+        ensures { result.now ≡ self.now.0.fields.1.1.0 }
     {
-        &self.signature
+        &self.0.fields().1.1.0
     }
 
     /// Whether the two are the same.
     pub fn same(&self, other: &CertificationRequest) -> bool
         ensures { IsTrue result ↔ Same (⟦<CertificationRequest as DerText>⟧.value self.now) (⟦<CertificationRequest as DerText>⟧.value other.now) }
     {
-        same_text(self, other)
-    }
-
-    fn parts(
-        &self,
-    ) -> (
-        Field<'_, CertificationRequestInfo>,
-        (Field<'_, AlgorithmIdentifier>, Field<'_, Bits>),
-    )
-        ensures info { result.0.0.now ≡ self.now.info }
-        ensures signature_algorithm { result.1.0.0.now ≡ self.now.signature_algorithm }
-        ensures signature { result.1.1.0.now ≡ self.now.signature }
-    {
-        (
-            Field(&self.info),
-            (Field(&self.signature_algorithm), Field(&self.signature)),
-        )
+        self.0.same(&other.0)
     }
 }
 
 impl DerText for CertificationRequest {
-    ghost value = { λ r. Sequence (universal 16) (values_of (⟦<CertificationRequestInfo as DerText>⟧.value r.info ∷ ⟦<AlgorithmIdentifier as DerText>⟧.value r.signature_algorithm ∷ ⟦<Bits as DerText>⟧.value r.signature ∷ [])) };
+    ghost value = { λ x. ⟦<Record<RequestForm> as DerText>⟧.value x.0 };
 
-    ghost one_text = { λ x y. sequence_one_text (universal 16)
-        (⟦<CertificationRequestInfo as DerText>⟧.value x.info ∷ ⟦<AlgorithmIdentifier as DerText>⟧.value x.signature_algorithm ∷ ⟦<Bits as DerText>⟧.value x.signature ∷ [])
-        (⟦<CertificationRequestInfo as DerText>⟧.value y.info ∷ ⟦<AlgorithmIdentifier as DerText>⟧.value y.signature_algorithm ∷ ⟦<Bits as DerText>⟧.value y.signature ∷ [])
-        (due_one_text (⟦<CertificationRequestInfo as DerText>⟧.one_text x.info y.info) (due_one_text (⟦<AlgorithmIdentifier as DerText>⟧.one_text x.signature_algorithm y.signature_algorithm) (last_one_text (⟦<Bits as DerText>⟧.one_text x.signature y.signature)))) };
+    ghost one_text = { λ x y. ⟦<Record<RequestForm> as DerText>⟧.one_text x.0 y.0 };
 
     fn size(&self) -> u64 {
-        sequence_size(universal_tag(16), &self.parts())
+        self.0.size()
     }
 
     fn put<W: Target>(&self, sink: &mut Sink<'_, W>) -> Result<(), WriteError> {
-        put_sequence(universal_tag(16), &self.parts(), sink)
+        self.0.put(sink)
     }
 
     fn octet(&self, i: u64) -> Option<u8> {
-        sequence_octet(universal_tag(16), &self.parts(), i)
+        self.0.octet(i)
     }
 }
 
+#[tactic(auto, unfolding(pkix_types::specs::DocumentTypes::CertificationRequest))]
 impl Element for CertificationRequest {
     ghost type_term = { CertificationRequestType };
 
     ghost closed = { request_closed };
 
-    #[tactic(auto, unfolding(x690::specs::TypeTerms::fits_tag, pkix_types::specs::DocumentTypes::CertificationRequest))]
     fn fits(tag: Tag) -> bool {
-        is_same_tag(universal_tag(16), tag)
+        Record::<RequestForm>::fits(tag)
     }
 
-    #[tactic(auto, unfolding(pkix_types::specs::DocumentTypes::CertificationRequest))]
     fn read<R: Source>(
         alloc: Global,
         pull: &mut Pull<'_, R>,
     ) -> Result<CertificationRequest, ReadError> {
-        let (Due(info), (Due(signature_algorithm), Due(signature))) = read_sequence(alloc, pull)?;
-        Ok(CertificationRequest {
-            info,
-            signature_algorithm,
-            signature,
-        })
+        Ok(CertificationRequest(Record::<RequestForm>::read(alloc, pull)?))
     }
 }

@@ -4,7 +4,7 @@ use Rattle.x690.specs.Contents.{Integer}
 use Rattle.x690.specs.Layouts.{universal}
 use Rattle.x690.specs.ReadTypes.{IsClosed}
 use Rattle.x690_laws.proofs.ClosedTypes.{leaf_closed, ruled_closed, sequence_closed, sequence_of_closed}
-use Rattle.pkix_types.specs.DocumentTypes.{AlgorithmIdentifier, CertificationRequest, CertificationRequestInfo, ECPrivateKey, Extension, Name, NameItem, RequestAttribute, SubjectPublicKeyInfo, version}
+use Rattle.pkix_types.specs.DocumentTypes.{AlgorithmIdentifier, Attribute, CertificationRequest, CertificationRequestInfo, ECPrivateKey, Extension, Name, NameItem, RequestAttribute, SubjectPublicKeyInfo, version}
 use Rattle.pkix_types.specs.Rules.{ec_rule, parameters_rule, version_rule}
 
 pub version_closed : (allowed : List (List ℕ)) → IsClosed (version allowed)
@@ -45,3 +45,7 @@ request_closed = sequence_closed _ _
 pub ec_key_closed : IsClosed ECPrivateKey
 unfolding ECPrivateKey
 ec_key_closed = ruled_closed ec_rule _ (sequence_closed _ _) (λ earlier. refl)
+
+pub attribute_closed : IsClosed Attribute
+unfolding Attribute
+attribute_closed = sequence_closed _ _

@@ -8,3 +8,4 @@ pub mod RowsKeys
 pub mod RowsOrder
 pub mod RowsRequests
 pub mod RowsTools
+pub mod RuleLaws

@@ -1,3 +1,4 @@
 pub mod Eithers
+pub mod Forms
 pub mod Values
 pub mod Versions

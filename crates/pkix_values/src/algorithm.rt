@@ -1,24 +1,23 @@
 //! AlgorithmIdentifier of RFC 5280 section 4.1.1.2.
-ghost use Rattle.x690_laws.proofs.OneTexts.{leaf_one_text};
-ghost use Rattle.asn_fields.proofs.OneFields.{due_one_text, field_one_text, optional_one_text, sequence_one_text};
-ghost use Rattle.std.specs.Prelude.{◌≡◌, ◌↔◌, ◌<◌, ◌^◌, ◌∷◌, None, IsTrue, [], length, true};
+ghost use Rattle.std.proofs.lemmas.Bool.{ltb-true};
+ghost use Rattle.std.specs.Prelude.{◌≡◌, ◌↔◌, ◌∷◌, IsTrue, [], None, refl, true};
 ghost use Rattle.std.specs.Option.{option_map};
-ghost use Rattle.x690.specs.DerTexts.{texts_of};
 ghost use Rattle.pkix_types.specs.DocumentTypes.{AlgorithmIdentifier as AlgorithmIdentifierType};
-ghost use Rattle.pkix_types.specs.Identifiers.{rfc8410_algorithms};
-ghost use Rattle.x690.specs.Layouts.{universal};
-ghost use Rattle.x690.specs.Lists.{one_of};
-ghost use Rattle.x690.specs.Values.{Leaf, Same, Sequence, values_of};
-ghost use Rattle.asn_fields.specs.FieldReadings.{with_field};
 ghost use Rattle.pkix_types.proofs.ClosedTypes.{algorithm_closed};
+ghost use Rattle.pkix_types.specs.Identifiers.{rfc8410_algorithms};
+ghost use Rattle.x690.specs.Lists.{one_of};
+ghost use Rattle.pkix_types.specs.Rules.{parameters_rule};
+ghost use Rattle.x690.specs.Values.{Same, leaf_at};
+ghost use Rattle.pkix_types.proofs.Fairs.{fair_parameters};
+ghost use Rattle.pkix_values.specs.Forms.{honest_parameters};
 
 use crate::identifiers::public_key_length;
+use asn_fields::record::{Form, Record};
+use asn_fields::ruled::{Ruled, Rules};
 use asn_values::any::Any;
-use asn_values::der_text::{DerText, same_text};
+use asn_values::der_text::DerText;
 use asn_values::element::Element;
-use asn_values::parts::{Field, OptionalField, put_sequence, sequence_octet, sequence_size};
-use asn_values::sequence::{Due, Optional, read_sequence};
-use asn_values::tags::{is_same_tag, universal_tag};
+use asn_values::sequence::{Due, Optional};
 use ber_pull::pull::Pull;
 use std::alloc::Global;
 use tlv_core::fault::ReadError;
@@ -29,89 +28,111 @@ use tlv_core::source::Source;
 use tlv_core::tag::Tag;
 use tlv_core::target::Target;
 
+/// algorithm, parameters; the algorithms of RFC 8410 have no parameters (its section 3).
+#[derive(Drop)]
+pub struct AlgorithmForm;
+
+impl Form for AlgorithmForm {
+    type Fields = (Due<Oid>, Optional<Any>);
+
+    ghost parted = { refl };
+
+    ghost few = { ltb-true _ _ refl };
+}
+
+impl Rules<Record<AlgorithmForm>> for AlgorithmForm {
+    ghost rule = { parameters_rule };
+
+    ghost fair = { fair_parameters };
+
+    ghost honest = { honest_parameters };
+
+    ghost alone = { λ earlier. refl };
+
+    fn judge(value: &Record<AlgorithmForm>) -> Option<Reason> {
+        let (Due(algorithm), Optional(parameters)) = value.fields();
+        if parameters.is_some() && public_key_length(algorithm).is_some() {
+            Some(Reason::Parameters)
+        } else {
+            None
+        }
+    }
+}
+
 /// An algorithm, and what it depends on.
 #[derive(Drop)]
-pub struct AlgorithmIdentifier {
-    algorithm: Oid,
-    parameters: Option<Any>,
-    ghost bare: { one_of algorithm rfc8410_algorithms ≡ true → parameters ≡ None },
-    ghost small: { length (texts_of (Leaf (universal 6) algorithm ∷ with_field (option_map (⟦<Any as DerText>⟧.value) parameters) [])) < 2 ^ 63 },
-}
+pub struct AlgorithmIdentifier(Ruled<Record<AlgorithmForm>, AlgorithmForm>);
 
 impl AlgorithmIdentifier {
     /// Which one it is.
     pub fn algorithm(&self) -> &Oid
-        ensures { result.now ≡ self.now.algorithm }
+        ensures { result.now ≡ self.now.0.value.fields.0.0 }
     {
-        &self.algorithm
+        &self.0.value().fields().0.0
     }
 
-    /// What it depends on. The algorithms of RFC 8410 have no parameters (its section 3).
+    /// What it depends on. The algorithms of RFC 8410 have no parameters.
     pub fn parameters(&self) -> Option<&Any>
-        ensures value { option_map (λ r. r.now) result ≡ self.now.parameters }
-        ensures bare { one_of self.now.algorithm rfc8410_algorithms ≡ true → result ≡ None }
+        ensures value { option_map (λ r. r.now) result ≡ self.now.0.value.fields.1.0 }
+        ensures bare { one_of self.now.0.value.fields.0.0 rfc8410_algorithms ≡ true → result ≡ None }
     {
-        self.parameters.as_ref()
+        self.0.value().fields().1.0.as_ref()
     }
 
     /// Whether the two are the same.
     pub fn same(&self, other: &AlgorithmIdentifier) -> bool
-        ensures { IsTrue result ↔ Same (Sequence (universal 16) (values_of (Leaf (universal 6) self.now.algorithm ∷ with_field (option_map (⟦<Any as DerText>⟧.value) self.now.parameters) []))) (Sequence (universal 16) (values_of (Leaf (universal 6) other.now.algorithm ∷ with_field (option_map (⟦<Any as DerText>⟧.value) other.now.parameters) []))) }
+        ensures { IsTrue result ↔ Same (⟦<AlgorithmIdentifier as DerText>⟧.value self.now) (⟦<AlgorithmIdentifier as DerText>⟧.value other.now) }
     {
-        same_text(self, other)
+        self.0.same(&other.0)
     }
+}
 
-    fn parts(&self) -> (Field<'_, Oid>, OptionalField<'_, Any>)
-        ensures algorithm { result.0.0.now ≡ self.now.algorithm }
-        ensures parameters { option_map (λ r. ⟦<Any as DerText>⟧.value r.now) result.1.0 ≡ option_map (⟦<Any as DerText>⟧.value) self.now.parameters }
-    {
-        (
-            Field(&self.algorithm),
-            OptionalField(self.parameters.as_ref()),
-        )
+/// What begins with the name of an algorithm.
+pub trait NamesAlgorithm: Element {
+    /// Which one it is.
+    fn algorithm(&self) -> &Oid
+        ensures { result.now ≡ leaf_at (0 ∷ 0 ∷ []) (Self.value self.now ∷ []) };
+}
+
+impl NamesAlgorithm for AlgorithmIdentifier {
+    #[tactic(auto, unfolding(x690::specs::Values::leaf_at))]
+    fn algorithm(&self) -> &Oid {
+        AlgorithmIdentifier::algorithm(self)
     }
 }
 
 impl DerText for AlgorithmIdentifier {
-    ghost value = { λ a. Sequence (universal 16) (values_of (Leaf (universal 6) a.algorithm ∷ with_field (option_map (⟦<Any as DerText>⟧.value) a.parameters) [])) };
+    ghost value = { λ x. ⟦<Ruled<Record<AlgorithmForm>, AlgorithmForm> as DerText>⟧.value x.0 };
 
-    ghost one_text = { λ x y. sequence_one_text (universal 16) (Leaf (universal 6) x.algorithm ∷ with_field (option_map (⟦<Any as DerText>⟧.value) x.parameters) []) (Leaf (universal 6) y.algorithm ∷ with_field (option_map (⟦<Any as DerText>⟧.value) y.parameters) []) (due_one_text (leaf_one_text (universal 6) (universal 6) x.algorithm y.algorithm) (optional_one_text (option_map (⟦<Any as DerText>⟧.value) x.parameters) (option_map (⟦<Any as DerText>⟧.value) y.parameters) (field_one_text (⟦<Any as DerText>⟧.value) (⟦<Any as DerText>⟧.one_text) x.parameters y.parameters))) };
+    ghost one_text = { λ x y. ⟦<Ruled<Record<AlgorithmForm>, AlgorithmForm> as DerText>⟧.one_text x.0 y.0 };
 
     fn size(&self) -> u64 {
-        sequence_size(universal_tag(16), &self.parts())
+        self.0.size()
     }
 
     fn put<W: Target>(&self, sink: &mut Sink<'_, W>) -> Result<(), WriteError> {
-        put_sequence(universal_tag(16), &self.parts(), sink)
+        self.0.put(sink)
     }
 
     fn octet(&self, i: u64) -> Option<u8> {
-        sequence_octet(universal_tag(16), &self.parts(), i)
+        self.0.octet(i)
     }
 }
 
+#[tactic(auto, unfolding(pkix_types::specs::DocumentTypes::AlgorithmIdentifier))]
 impl Element for AlgorithmIdentifier {
     ghost type_term = { AlgorithmIdentifierType };
 
     ghost closed = { algorithm_closed };
 
-    #[tactic(auto, unfolding(x690::specs::TypeTerms::fits_tag, pkix_types::specs::DocumentTypes::AlgorithmIdentifier))]
     fn fits(tag: Tag) -> bool {
-        is_same_tag(universal_tag(16), tag)
+        Ruled::<Record<AlgorithmForm>, AlgorithmForm>::fits(tag)
     }
 
     fn read<R: Source>(
         alloc: Global,
         pull: &mut Pull<'_, R>,
     ) -> Result<AlgorithmIdentifier, ReadError> {
-        let at = pull.at();
-        let (Due(algorithm), Optional(parameters)) = read_sequence(alloc, pull)?;
-        if parameters.is_some() && public_key_length(&algorithm).is_some() {
-            return Err(pull.refuse(at, Reason::Parameters, None));
-        }
-        Ok(AlgorithmIdentifier {
-            algorithm,
-            parameters,
-        })
+        Ok(AlgorithmIdentifier(Ruled::<Record<AlgorithmForm>, AlgorithmForm>::read(alloc, pull)?))
     }
 }

@@ -1,24 +1,17 @@
 //! Attribute of RFC 2986 section 4.1.
-ghost use Rattle.x690_laws.proofs.OneTexts.{leaf_one_text};
-ghost use Rattle.asn_fields.proofs.OneFields.{due_one_text, last_one_text, sequence_one_text};
-ghost use Rattle.std.specs.Prelude.{◌≡◌, ◌↔◌, ◌<◌, ◌^◌, IsTrue, length, map};
-ghost use Rattle.x690.specs.DerTexts.{texts_of};
-ghost use Rattle.x690.specs.UniversalTypes.{object_identifier, sequence, set_of_some, ◌⨾◌};
-ghost use Rattle.x690.specs.Layouts.{universal};
-ghost use Rattle.x690.specs.TypeTerms.{EndOfFields, Required};
-ghost use Rattle.x690.specs.Values.{Leaf, Same, Sequence, SetOf as SetValue, values_of};
-ghost use Rattle.asn_containers.specs.Containers.{set_items};
-ghost use Rattle.x690_laws.proofs.ClosedTypes.{sequence_closed};
-ghost use Rattle.pkix_values.specs.Values.{attribute_values};
+ghost use Rattle.std.proofs.lemmas.Bool.{ltb-true};
+ghost use Rattle.std.specs.Prelude.{◌≡◌, ◌↔◌, IsTrue, refl};
+ghost use Rattle.pkix_types.specs.DocumentTypes.{Attribute as AttributeType};
+ghost use Rattle.x690.specs.Values.{Same};
+ghost use Rattle.pkix_types.proofs.ClosedTypes.{attribute_closed};
 
 use crate::set_of_some::SetOfSome;
+use asn_fields::record::{Form, Record};
 use asn_values::any::Any;
-use asn_values::der_text::{DerText, same_text};
+use asn_values::der_text::DerText;
 use asn_values::element::Element;
-use asn_values::parts::{Field, put_sequence, sequence_octet, sequence_size};
-use asn_values::sequence::{Due, read_sequence};
+use asn_values::sequence::Due;
 use asn_values::set_of::SetOf;
-use asn_values::tags::{is_same_tag, universal_tag};
 use ber_pull::pull::Pull;
 use std::alloc::Global;
 use tlv_core::fault::ReadError;
@@ -28,77 +21,74 @@ use tlv_core::source::Source;
 use tlv_core::tag::Tag;
 use tlv_core::target::Target;
 
-/// An attribute: of what type it is, and its values, of which there is at least one.
-pub type Attribute = AttributeOf<Any>;
-
-/// An attribute whose values are of the type `T`.
+/// type, values.
 #[derive(Drop)]
-pub struct AttributeOf<T: DerText> {
-    pub(crate) id: Oid,
-    pub(crate) values: SetOfSome<T>,
-    ghost small: { length (texts_of (attribute_values T.value id (set_items values.items))) < 2 ^ 63 },
+pub struct AttributeForm;
+
+impl Form for AttributeForm {
+    type Fields = (Due<Oid>, Due<SetOfSome<Any>>);
+
+    ghost parted = { refl };
+
+    ghost few = { ltb-true _ _ refl };
 }
 
-impl<T: DerText> AttributeOf<T> {
+/// An attribute: of what type it is, and its values, of which there is at least one.
+#[derive(Drop)]
+pub struct Attribute(Record<AttributeForm>);
+
+impl Attribute {
     /// Its type.
     pub fn id(&self) -> &Oid
-        ensures { result.now ≡ self.now.id }
+        ensures { result.now ≡ self.now.0.fields.0.0 }
     {
-        &self.id
+        &self.0.fields().0.0
     }
 
     /// Its values, in the order of their texts.
-    pub fn values(&self) -> &SetOf<T>
-        ensures { result.now ≡ self.now.values.items }
+    pub fn values(&self) -> &SetOf<Any>
+        ensures { result.now ≡ self.now.0.fields.1.0.items }
     {
-        self.values.items()
+        self.0.fields().1.0.items()
     }
 
     /// Whether the two are the same.
-    pub fn same(&self, other: &AttributeOf<T>) -> bool
-        ensures { IsTrue result ↔ Same (Sequence (universal 16) (values_of (attribute_values T.value self.now.id (set_items self.now.values.items)))) (Sequence (universal 16) (values_of (attribute_values T.value other.now.id (set_items other.now.values.items)))) }
+    pub fn same(&self, other: &Attribute) -> bool
+        ensures { IsTrue result ↔ Same (⟦<Attribute as DerText>⟧.value self.now) (⟦<Attribute as DerText>⟧.value other.now) }
     {
-        same_text(self, other)
-    }
-
-    fn parts(&self) -> (Field<'_, Oid>, Field<'_, SetOfSome<T>>)
-        ensures id { result.0.0.now ≡ self.now.id }
-        ensures values { result.1.0.now ≡ self.now.values }
-    {
-        (Field(&self.id), Field(&self.values))
+        self.0.same(&other.0)
     }
 }
 
-impl<T: DerText> DerText for AttributeOf<T> {
-    ghost value = { λ a. Sequence (universal 16) (values_of (attribute_values T.value a.id (set_items a.values.items))) };
+impl DerText for Attribute {
+    ghost value = { λ x. ⟦<Record<AttributeForm> as DerText>⟧.value x.0 };
 
-    ghost one_text = { λ x y. sequence_one_text (universal 16) (attribute_values T.value x.id (set_items x.values.items)) (attribute_values T.value y.id (set_items y.values.items)) (due_one_text (leaf_one_text (universal 6) (universal 6) x.id y.id) (last_one_text (⟦<SetOfSome<T> as DerText>⟧.one_text x.values y.values))) };
+    ghost one_text = { λ x y. ⟦<Record<AttributeForm> as DerText>⟧.one_text x.0 y.0 };
 
     fn size(&self) -> u64 {
-        sequence_size(universal_tag(16), &self.parts())
+        self.0.size()
     }
 
     fn put<W: Target>(&self, sink: &mut Sink<'_, W>) -> Result<(), WriteError> {
-        put_sequence(universal_tag(16), &self.parts(), sink)
+        self.0.put(sink)
     }
 
     fn octet(&self, i: u64) -> Option<u8> {
-        sequence_octet(universal_tag(16), &self.parts(), i)
+        self.0.octet(i)
     }
 }
 
-impl<T: Element> Element for AttributeOf<T> {
-    ghost type_term = { sequence (Required object_identifier ⨾ Required (set_of_some T.type_term) ⨾ EndOfFields) };
+#[tactic(auto, unfolding(pkix_types::specs::DocumentTypes::Attribute))]
+impl Element for Attribute {
+    ghost type_term = { AttributeType };
 
-    ghost closed = { sequence_closed _ _ };
+    ghost closed = { attribute_closed };
 
-    #[tactic(auto, unfolding(x690::specs::TypeTerms::fits_tag))]
     fn fits(tag: Tag) -> bool {
-        is_same_tag(universal_tag(16), tag)
+        Record::<AttributeForm>::fits(tag)
     }
 
-    fn read<R: Source>(alloc: Global, pull: &mut Pull<'_, R>) -> Result<AttributeOf<T>, ReadError> {
-        let (Due(id), Due(values)) = read_sequence(alloc, pull)?;
-        Ok(AttributeOf { id, values })
+    fn read<R: Source>(alloc: Global, pull: &mut Pull<'_, R>) -> Result<Attribute, ReadError> {
+        Ok(Attribute(Record::<AttributeForm>::read(alloc, pull)?))
     }
 }

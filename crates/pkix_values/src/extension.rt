@@ -1,22 +1,15 @@
 //! Extension of RFC 5280 section 4.1.
-ghost use Rattle.std.specs.Prelude.{◌≡◌, ◌↔◌, ◌<◌, ◌^◌, IsTrue, length};
-ghost use Rattle.x690.specs.DerTexts.{texts_of};
+ghost use Rattle.std.proofs.lemmas.Bool.{ltb-true};
+ghost use Rattle.std.specs.Prelude.{◌≡◌, ◌↔◌, IsTrue, refl};
 ghost use Rattle.pkix_types.specs.DocumentTypes.{Extension as ExtensionType};
-ghost use Rattle.x690.specs.Layouts.{universal};
-ghost use Rattle.x690.specs.Values.{Leaf, Same, Sequence, values_of};
-ghost use Rattle.x690_laws.proofs.OneTexts.{leaf_one_text};
-ghost use Rattle.asn_fields.specs.Fields.{unless_false};
-ghost use Rattle.asn_fields.proofs.OneFields.{between_one_text, due_one_text, flag_one_text, sequence_one_text};
-ghost use Rattle.asn_elements.specs.Leaves.{octets_of};
+ghost use Rattle.x690.specs.Values.{Same};
 ghost use Rattle.pkix_types.proofs.ClosedTypes.{extension_closed};
-ghost use Rattle.pkix_values.specs.Values.{extension_values};
 
-use asn_values::der_text::{DerText, same_text};
+use asn_fields::record::{Form, Record};
+use asn_values::der_text::DerText;
 use asn_values::element::Element;
 use asn_values::octets::Octets;
-use asn_values::parts::{Field, put_sequence, sequence_octet, sequence_size};
-use asn_values::sequence::{DefaultFalse, Due, read_sequence};
-use asn_values::tags::{is_same_tag, universal_tag};
+use asn_values::sequence::{DefaultFalse, Due};
 use ber_pull::pull::Pull;
 use std::alloc::Global;
 use tlv_core::fault::ReadError;
@@ -26,91 +19,81 @@ use tlv_core::source::Source;
 use tlv_core::tag::Tag;
 use tlv_core::target::Target;
 
+/// extnID, critical, extnValue.
+#[derive(Drop)]
+pub struct ExtensionForm;
+
+impl Form for ExtensionForm {
+    type Fields = (Due<Oid>, (DefaultFalse, Due<Octets>));
+
+    ghost parted = { refl };
+
+    ghost few = { ltb-true _ _ refl };
+}
+
 /// An extension of a certificate or a request; what it says is carried.
 #[derive(Drop)]
-pub struct Extension {
-    id: Oid,
-    critical: bool,
-    value: Octets,
-    ghost small: { length (texts_of (extension_values id critical value)) < 2 ^ 63 },
-}
+pub struct Extension(Record<ExtensionForm>);
 
 impl Extension {
     /// What it is about.
     pub fn id(&self) -> &Oid
-        ensures { result.now ≡ self.now.id }
+        ensures { result.now ≡ self.now.0.fields.0.0 }
     {
-        &self.id
+        &self.0.fields().0.0
     }
 
     /// Whether one who doesn't know it has to refuse the certificate.
     pub fn critical(&self) -> bool
-        ensures { result ≡ self.now.critical }
+        ensures { result ≡ self.now.0.fields.1.0.0 }
     {
-        self.critical
+        self.0.fields().1.0.0
     }
 
     /// What it says: the octets of a DER text of another type.
     pub fn value(&self) -> &Octets
-        ensures { result.now ≡ self.now.value }
+        ensures { result.now ≡ self.now.0.fields.1.1.0 }
     {
-        &self.value
+        &self.0.fields().1.1.0
     }
 
     /// Whether the two are the same.
     pub fn same(&self, other: &Extension) -> bool
-        ensures { IsTrue result ↔ Same (Sequence (universal 16) (values_of (extension_values self.now.id self.now.critical self.now.value))) (Sequence (universal 16) (values_of (extension_values other.now.id other.now.critical other.now.value))) }
+        ensures { IsTrue result ↔ Same (⟦<Extension as DerText>⟧.value self.now) (⟦<Extension as DerText>⟧.value other.now) }
     {
-        same_text(self, other)
-    }
-
-    fn parts(&self) -> (Field<'_, Oid>, (DefaultFalse, Field<'_, Octets>))
-        ensures id { result.0.0.now ≡ self.now.id }
-        ensures critical { result.1.0.0 ≡ self.now.critical }
-        ensures value { result.1.1.0.now ≡ self.now.value }
-    {
-        (
-            Field(&self.id),
-            (DefaultFalse(self.critical), Field(&self.value)),
-        )
+        self.0.same(&other.0)
     }
 }
 
 impl DerText for Extension {
-    ghost value = { λ e. Sequence (universal 16) (values_of (extension_values e.id e.critical e.value)) };
+    ghost value = { λ x. ⟦<Record<ExtensionForm> as DerText>⟧.value x.0 };
 
-    ghost one_text = { λ x y. sequence_one_text (universal 16) (extension_values x.id x.critical x.value) (extension_values y.id y.critical y.value) (due_one_text (leaf_one_text (universal 6) (universal 6) x.id y.id) (between_one_text (unless_false x.critical) (unless_false y.critical) (Leaf (universal 4) (octets_of x.value)) (Leaf (universal 4) (octets_of y.value)) (flag_one_text x.critical y.critical) (leaf_one_text (universal 4) (universal 4) (octets_of x.value) (octets_of y.value)))) };
+    ghost one_text = { λ x y. ⟦<Record<ExtensionForm> as DerText>⟧.one_text x.0 y.0 };
 
     fn size(&self) -> u64 {
-        sequence_size(universal_tag(16), &self.parts())
+        self.0.size()
     }
 
     fn put<W: Target>(&self, sink: &mut Sink<'_, W>) -> Result<(), WriteError> {
-        put_sequence(universal_tag(16), &self.parts(), sink)
+        self.0.put(sink)
     }
 
     fn octet(&self, i: u64) -> Option<u8> {
-        sequence_octet(universal_tag(16), &self.parts(), i)
+        self.0.octet(i)
     }
 }
 
+#[tactic(auto, unfolding(pkix_types::specs::DocumentTypes::Extension))]
 impl Element for Extension {
     ghost type_term = { ExtensionType };
 
     ghost closed = { extension_closed };
 
-    #[tactic(auto, unfolding(x690::specs::TypeTerms::fits_tag, pkix_types::specs::DocumentTypes::Extension))]
     fn fits(tag: Tag) -> bool {
-        is_same_tag(universal_tag(16), tag)
+        Record::<ExtensionForm>::fits(tag)
     }
 
-    #[tactic(auto, unfolding(pkix_types::specs::DocumentTypes::Extension))]
     fn read<R: Source>(alloc: Global, pull: &mut Pull<'_, R>) -> Result<Extension, ReadError> {
-        let (Due(id), (DefaultFalse(critical), Due(value))) = read_sequence(alloc, pull)?;
-        Ok(Extension {
-            id,
-            critical,
-            value,
-        })
+        Ok(Extension(Record::<ExtensionForm>::read(alloc, pull)?))
     }
 }

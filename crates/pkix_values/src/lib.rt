@@ -7,7 +7,6 @@
 
 pub mod algorithm;
 pub mod attribute;
-mod either;
 pub mod extension;
 pub mod identifiers;
 pub mod name;

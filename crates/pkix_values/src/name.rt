@@ -1,22 +1,17 @@
 //! Names of RFC 5280 section 4.1.2.4.
-ghost use Rattle.x690_laws.proofs.OneTexts.{leaf_one_text, list_one_text};
-ghost use Rattle.asn_fields.proofs.OneFields.{due_one_text, last_one_text, sequence_one_text};
-ghost use Rattle.std.specs.Prelude.{◌≡◌, ◌↔◌, ◌<◌, ◌^◌, ◌∷◌, IsTrue, [], length, map};
-ghost use Rattle.x690.specs.DerTexts.{texts_of};
+ghost use Rattle.std.proofs.lemmas.Bool.{ltb-true};
+ghost use Rattle.std.specs.Prelude.{◌≡◌, ◌↔◌, IsTrue, refl};
 ghost use Rattle.pkix_types.specs.DocumentTypes.{Name as NameType, NameItem as NameItemType};
-ghost use Rattle.x690.specs.Layouts.{universal};
-ghost use Rattle.x690.specs.Values.{Leaf, Same, Sequence, values_of};
-ghost use Rattle.asn_containers.specs.Containers.{list_items};
+ghost use Rattle.x690.specs.Values.{Same};
 ghost use Rattle.pkix_types.proofs.ClosedTypes.{name_closed, name_item_closed};
 
 use crate::set_of_some::SetOfSome;
+use asn_fields::record::{Form, Record};
 use asn_values::any::Any;
-use asn_values::der_text::{DerText, same_text};
+use asn_values::der_text::DerText;
 use asn_values::element::Element;
 use asn_values::list::List;
-use asn_values::parts::{Field, put_sequence, sequence_octet, sequence_size};
-use asn_values::sequence::{Due, read_sequence};
-use asn_values::tags::{is_same_tag, universal_tag};
+use asn_values::sequence::Due;
 use ber_pull::pull::Pull;
 use std::alloc::Global;
 use tlv_core::fault::ReadError;
@@ -26,76 +21,75 @@ use tlv_core::source::Source;
 use tlv_core::tag::Tag;
 use tlv_core::target::Target;
 
+/// type, value.
+#[derive(Drop)]
+pub struct NameItemForm;
+
+impl Form for NameItemForm {
+    type Fields = (Due<Oid>, Due<Any>);
+
+    ghost parted = { refl };
+
+    ghost few = { ltb-true _ _ refl };
+}
+
 /// AttributeTypeAndValue: one item of a name, as a country or an organization.
 #[derive(Drop)]
-pub struct NameItem {
-    id: Oid,
-    value: Any,
-    ghost small: { length (texts_of (Leaf (universal 6) id ∷ ⟦<Any as DerText>⟧.value value ∷ [])) < 2 ^ 63 },
-}
+pub struct NameItem(Record<NameItemForm>);
 
 impl NameItem {
     /// What it tells.
     pub fn id(&self) -> &Oid
-        ensures { result.now ≡ self.now.id }
+        ensures { result.now ≡ self.now.0.fields.0.0 }
     {
-        &self.id
+        &self.0.fields().0.0
     }
 
     /// What is told.
     pub fn value(&self) -> &Any
-        ensures { result.now ≡ self.now.value }
+        ensures { result.now ≡ self.now.0.fields.1.0 }
     {
-        &self.value
+        &self.0.fields().1.0
     }
 
     /// Whether the two are the same.
     pub fn same(&self, other: &NameItem) -> bool
-        ensures { IsTrue result ↔ Same (Sequence (universal 16) (values_of (Leaf (universal 6) self.now.id ∷ ⟦<Any as DerText>⟧.value self.now.value ∷ []))) (Sequence (universal 16) (values_of (Leaf (universal 6) other.now.id ∷ ⟦<Any as DerText>⟧.value other.now.value ∷ []))) }
+        ensures { IsTrue result ↔ Same (⟦<NameItem as DerText>⟧.value self.now) (⟦<NameItem as DerText>⟧.value other.now) }
     {
-        same_text(self, other)
-    }
-
-    fn parts(&self) -> (Field<'_, Oid>, Field<'_, Any>)
-        ensures id { result.0.0.now ≡ self.now.id }
-        ensures value { result.1.0.now ≡ self.now.value }
-    {
-        (Field(&self.id), Field(&self.value))
+        self.0.same(&other.0)
     }
 }
 
 impl DerText for NameItem {
-    ghost value = { λ item. Sequence (universal 16) (values_of (Leaf (universal 6) item.id ∷ ⟦<Any as DerText>⟧.value item.value ∷ [])) };
+    ghost value = { λ x. ⟦<Record<NameItemForm> as DerText>⟧.value x.0 };
 
-    ghost one_text = { λ x y. sequence_one_text (universal 16) (Leaf (universal 6) x.id ∷ ⟦<Any as DerText>⟧.value x.value ∷ []) (Leaf (universal 6) y.id ∷ ⟦<Any as DerText>⟧.value y.value ∷ []) (due_one_text (leaf_one_text (universal 6) (universal 6) x.id y.id) (last_one_text (⟦<Any as DerText>⟧.one_text x.value y.value))) };
+    ghost one_text = { λ x y. ⟦<Record<NameItemForm> as DerText>⟧.one_text x.0 y.0 };
 
     fn size(&self) -> u64 {
-        sequence_size(universal_tag(16), &self.parts())
+        self.0.size()
     }
 
     fn put<W: Target>(&self, sink: &mut Sink<'_, W>) -> Result<(), WriteError> {
-        put_sequence(universal_tag(16), &self.parts(), sink)
+        self.0.put(sink)
     }
 
     fn octet(&self, i: u64) -> Option<u8> {
-        sequence_octet(universal_tag(16), &self.parts(), i)
+        self.0.octet(i)
     }
 }
 
+#[tactic(auto, unfolding(pkix_types::specs::DocumentTypes::NameItem))]
 impl Element for NameItem {
     ghost type_term = { NameItemType };
 
     ghost closed = { name_item_closed };
 
-    #[tactic(auto, unfolding(x690::specs::TypeTerms::fits_tag, pkix_types::specs::DocumentTypes::NameItem))]
     fn fits(tag: Tag) -> bool {
-        is_same_tag(universal_tag(16), tag)
+        Record::<NameItemForm>::fits(tag)
     }
 
-    #[tactic(auto, unfolding(pkix_types::specs::DocumentTypes::NameItem))]
     fn read<R: Source>(alloc: Global, pull: &mut Pull<'_, R>) -> Result<NameItem, ReadError> {
-        let (Due(id), Due(value)) = read_sequence(alloc, pull)?;
-        Ok(NameItem { id, value })
+        Ok(NameItem(Record::<NameItemForm>::read(alloc, pull)?))
     }
 }
 
@@ -118,16 +112,16 @@ impl Name {
 
     /// Whether the two are the same.
     pub fn same(&self, other: &Name) -> bool
-        ensures { IsTrue result ↔ Same (Sequence (universal 16) (values_of (map (⟦<SetOfSome<NameItem> as DerText>⟧.value) (list_items self.now.rdns)))) (Sequence (universal 16) (values_of (map (⟦<SetOfSome<NameItem> as DerText>⟧.value) (list_items other.now.rdns)))) }
+        ensures { IsTrue result ↔ Same (⟦<Name as DerText>⟧.value self.now) (⟦<Name as DerText>⟧.value other.now) }
     {
         self.rdns.same(&other.rdns)
     }
 }
 
 impl DerText for Name {
-    ghost value = { λ name. Sequence (universal 16) (values_of (map (⟦<SetOfSome<NameItem> as DerText>⟧.value) (list_items name.rdns))) };
+    ghost value = { λ x. ⟦<List<SetOfSome<NameItem>> as DerText>⟧.value x.rdns };
 
-    ghost one_text = { λ x y. list_one_text (⟦<SetOfSome<NameItem> as DerText>⟧.value) (⟦<SetOfSome<NameItem> as DerText>⟧.one_text) (universal 16) (list_items x.rdns) (list_items y.rdns) };
+    ghost one_text = { λ x y. ⟦<List<SetOfSome<NameItem>> as DerText>⟧.one_text x.rdns y.rdns };
 
     fn size(&self) -> u64 {
         self.rdns.size()
@@ -142,17 +136,16 @@ impl DerText for Name {
     }
 }
 
+#[tactic(auto, unfolding(pkix_types::specs::DocumentTypes::Name, pkix_types::specs::DocumentTypes::NameItem))]
 impl Element for Name {
     ghost type_term = { NameType };
 
     ghost closed = { name_closed };
 
-    #[tactic(auto, unfolding(x690::specs::TypeTerms::fits_tag, pkix_types::specs::DocumentTypes::Name))]
     fn fits(tag: Tag) -> bool {
-        is_same_tag(universal_tag(16), tag)
+        List::<Rdn>::fits(tag)
     }
 
-    #[tactic(auto, unfolding(pkix_types::specs::DocumentTypes::Name, pkix_types::specs::DocumentTypes::NameItem))]
     fn read<R: Source>(alloc: Global, pull: &mut Pull<'_, R>) -> Result<Name, ReadError> {
         let rdns = List::read(alloc, pull)?;
         Ok(Name { rdns })

@@ -6,8 +6,9 @@ use Rattle.x690.specs.Layouts.{universal}
 use Rattle.x690.specs.ReadTypes.{IsClosed, apply_rule, read_type}
 use Rattle.x690.specs.Reading.{choose, ◌>>=◌}
 use Rattle.x690.specs.StringTypes.{carried_numbers, carried_string, string_types}
-use Rattle.x690.specs.TypeTerms.{ChoiceType, Fields, LeafType, OpenType, Rule, RuledType, SequenceOfType, SequenceType, SetOfType, TypeTerm, choice_of, fits_tag}
+use Rattle.x690.specs.TypeTerms.{ChoiceType, Fields, LeafType, OpenType, RefusedType, Rule, RuledType, SequenceOfType, SequenceType, SetOfType, TypeTerm, choice_of, fits_tag}
 use Rattle.x690.specs.Values.{Value}
+use Rattle.tlv_core.specs.declared.reason.Reason.{Reason}
 
 pub leaf_closed : (own : Tag) (kind : LeafKind) → IsClosed (LeafType own kind)
 unfolding read_type
@@ -47,3 +48,7 @@ carried_closed first (number ∷ numbers) closed = choice_closed first (choice_o
 pub strings_closed : IsClosed string_types
 unfolding string_types
 strings_closed = carried_closed (LeafType (universal 12) Utf8String) carried_numbers (leaf_closed (universal 12) Utf8String)
+
+pub refused_closed : (own : Tag) (why : Reason) → IsClosed (RefusedType own why)
+unfolding read_type
+refused_closed own why limits earlier enclosing place tag constructed = refl

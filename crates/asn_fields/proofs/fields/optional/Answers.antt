@@ -7,6 +7,7 @@ use Rattle.asn_fields.proofs.Insides.{field_as, field_given, stands_some, used_w
 use Rattle.ber_pull.specs.declared.state.Given.{Given}
 use Rattle.asn_fields.specs.Fields.{next_of}
 use Rattle.asn_fields.specs.Insides.{BeginsBefore}
+use Rattle.asn_fields.proofs.FieldTags.{field_tagged}
 use Rattle.asn_fields.proofs.ShortFields.{field_short}
 use Rattle.asn_fields.proofs.Handing.{with_error}
 use Rattle.asn_fields.proofs.fields.optional.Goals as goal
@@ -74,3 +75,15 @@ returns-clause-short g c =
     let given : Given = record { at = at; tag = c.in-Some.tag; constructed = c.in-Some.field-0-1 } in
     let read = c.in_ok-field.ensures.reads given c.requires.fine (field_given outer inside c.args.pull.now.state at n t a c.in-Some.is) in
     field_short g.T.Element.type_term c.args.pull.now.state at c.in-Some.tag c.in-Some.field-0-1 read.0 (g.T.DerText.value c.in_ok-field.field) _ _ _ (subst (λ w. BeginsBefore c.args.pull.now.state (next_at at w)) c.in-Some.is a.begins) read.2 read.1
+
+pub returns-clause-begins : goal.returns-clause-begins
+returns-clause-begins g c =
+    let outer = c.requires.inside.0 in
+    let inside = c.requires.inside.1 in
+    let a = c.requires.inside.2 in
+    let at = c.args.next.now.at in
+    let n = c.args.next.now.tag in
+    let t : Tag × Bool = (c.in-Some.tag, c.in-Some.field-0-1) in
+    let given : Given = record { at = at; tag = c.in-Some.tag; constructed = c.in-Some.field-0-1 } in
+    let read = c.in_ok-field.ensures.reads given c.requires.fine (field_given outer inside c.args.pull.now.state at n t a c.in-Some.is) in
+    field_tagged g.T.Element.type_term c.args.pull.now.state at c.in-Some.tag c.in-Some.field-0-1 read.0 (g.T.DerText.value c.in_ok-field.field) _ _ _ (subst (λ w. BeginsBefore c.args.pull.now.state (next_at at w)) c.in-Some.is a.begins) read.2 read.1

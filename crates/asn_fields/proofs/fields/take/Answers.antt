@@ -1,4 +1,6 @@
-use Rattle.std.proofs.Common.{Bool, ap, length, subst, sym, ◌<◌, ◌^◌, ◌∙◌}
+use Rattle.std.proofs.Common.{Bool, ap, length, subst, sym, true, ◌<◌, ◌^◌, ◌≡◌, ◌∙◌}
+use Rattle.asn_fields.specs.Apart.{may_begin}
+use Rattle.x690.specs.Values.{value_tag}
 use Rattle.x690.specs.DerTexts.{der}
 use Rattle.tlv_core.specs.Identifier.{Tag}
 use Rattle.x690.specs.Points.{fault}
@@ -10,6 +12,7 @@ use Rattle.asn_fields.proofs.Insides.{field_as, field_given}
 use Rattle.ber_pull.specs.declared.state.Given.{Given}
 use Rattle.asn_fields.specs.Fields.{next_of}
 use Rattle.asn_fields.specs.Insides.{BeginsBefore}
+use Rattle.asn_fields.proofs.FieldTags.{field_tagged}
 use Rattle.asn_fields.proofs.ShortFields.{field_short}
 use Rattle.asn_fields.proofs.Handing.{of_value, value_through}
 use Rattle.asn_fields.proofs.fields.take.Goals as goal
@@ -46,4 +49,15 @@ returns-clause-short g c =
     let given : Given = record { at = at; tag = c.in-Some.tag; constructed = c.in-Some.field-0-1 } in
     of_value c.read.result g.T.DerText.value _ _ _ _ _ (λ field. length (der (g.T.DerText.value field)) < 2 ^ 32)
     (λ x v same h. field_short g.T.Element.type_term c.args.pull.now.state at c.in-Some.tag c.in-Some.field-0-1 v (g.T.DerText.value x) _ _ _ (subst (λ w. BeginsBefore c.args.pull.now.state (next_at at w)) c.in-Some.is a.begins) h same)
+    (c.read.ensures.reads given c.requires.fine (field_given c.requires.inside.0 c.requires.inside.1 c.args.pull.now.state at n t a c.in-Some.is))
+
+pub returns-clause-begins : goal.returns-clause-begins
+returns-clause-begins g c =
+    let a = c.requires.inside.2 in
+    let at = c.args.next.at in
+    let n = c.args.next.tag in
+    let t : Tag × Bool = (c.in-Some.tag, c.in-Some.field-0-1) in
+    let given : Given = record { at = at; tag = c.in-Some.tag; constructed = c.in-Some.field-0-1 } in
+    of_value c.read.result g.T.DerText.value _ _ _ _ _ (λ field. may_begin g.T.Element.type_term (value_tag (g.T.DerText.value field)) ≡ true)
+    (λ x v same h. field_tagged g.T.Element.type_term c.args.pull.now.state at c.in-Some.tag c.in-Some.field-0-1 v (g.T.DerText.value x) _ _ _ (subst (λ w. BeginsBefore c.args.pull.now.state (next_at at w)) c.in-Some.is a.begins) h same)
     (c.read.ensures.reads given c.requires.fine (field_given c.requires.inside.0 c.requires.inside.1 c.args.pull.now.state at n t a c.in-Some.is))

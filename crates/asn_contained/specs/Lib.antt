@@ -1,0 +1,4 @@
+pub mod ClosedTypes
+pub mod Contained
+pub mod DependentLaws
+pub mod Dependents

@@ -1,0 +1,155 @@
+//! What a list of fields is, in the order of the ASN.1 (X.690 8.9): `(A, B)` is `A` in front of `B`, and more of them
+//! are pairs in pairs, `(A, (B, C))`.
+ghost use Rattle.std.specs.Prelude.{◌≡◌, ◌+◌, ◌++◌, ◌*◌, ◌^◌, ◌<◌, ◌≤◌, ◌&&◌, ℕ, Bool, IfOk, List, None, OnOk, length, slice_get, true};
+ghost use Rattle.tlv_core.specs.Sinks.{count, Puts};
+ghost use Rattle.x690.specs.DerTexts.{texts_of};
+ghost use Rattle.x690.specs.TypeTerms.{Fields as FieldTypes};
+ghost use Rattle.x690.specs.Values.{Value};
+ghost use Rattle.ber_pull.specs.View.{standing, SameSource, Keeps, ReadsFail, Onward};
+ghost use Rattle.asn_fields.specs.Fields.{IsInside, StaysInside};
+ghost use Rattle.asn_fields.specs.Apart.{BeginsAsTyped, Tells};
+ghost use Rattle.asn_fields.specs.SoFar.{ReadsFields, ReadsFirst};
+ghost use Rattle.asn_fields.specs.ApartLaws.{both_begin, both_tell};
+
+use crate::fields::Next;
+use ber_pull::pull::Pull;
+use std::alloc::Global;
+use tlv_core::fault::ReadError;
+use tlv_core::sink::{Sink, WriteError};
+use tlv_core::source::Source;
+use tlv_core::target::Target;
+
+/// Fields one after another, and their types.
+pub trait FieldsText: Sized + Drop {
+    /// Their types, in front of those behind them.
+    ghost types: { FieldTypes → FieldTypes };
+
+    /// How many there are at most.
+    ghost most: { ℕ };
+
+    /// The values of those that are there.
+    ghost values: { Self → List Value };
+
+    /// Each that is there begins as its type may.
+    ghost known: { Self → Bool };
+
+    /// They begin as their types may,
+    ghost begins: { BeginsAsTyped known types values };
+
+    /// and are told by their texts.
+    ghost tells: { Tells known types values };
+
+    /// The length of their texts.
+    fn size(&self) -> u64
+        requires { length (texts_of (values self.now)) < 2 ^ 63 }
+        ensures { result ≡ length (texts_of (values self.now)) };
+
+    /// Writes their texts.
+    fn put<W: Target>(&self, sink: &mut Sink<'_, W>) -> Result<(), WriteError>
+        requires { count sink.old + length (texts_of (values self.now)) < 2 ^ 64 }
+        ensures { Puts (texts_of (values self.now)) sink.old sink.new result };
+
+    /// Octet `i` of their texts.
+    fn octet(&self, i: u64) -> Option<u8>
+        requires { length (texts_of (values self.now)) < 2 ^ 63 }
+        ensures { result ≡ slice_get (texts_of (values self.now)) i };
+}
+
+/// Fields that are read as their types say, whatever stands before them.
+pub trait Fields: FieldsText {
+    /// Reads them where they stand next, as the plain reading does.
+    fn read<R: Source>(
+        alloc: Global,
+        pull: &mut Pull<'_, R>,
+        next: &mut Next,
+    ) -> Result<Self, ReadError>
+        requires fine { (standing pull.old).error ≡ None }
+        requires inside { IsInside pull.old next.old }
+        ensures same_source { SameSource pull.old pull.new }
+        ensures reads { ReadsFields pull.old pull.new next.old next.new Self.types Self.values result }
+        ensures short { IfOk result (λ fields. length (texts_of (Self.values fields)) ≤ Self.most * 2 ^ 32) }
+        ensures known { IfOk result (λ fields. Self.known fields ≡ true) }
+        ensures stands { OnOk result (StaysInside pull.old pull.new next.old next.new) }
+        ensures keeps { Keeps pull.new result }
+        ensures read { ReadsFail pull.old pull.new result }
+        ensures onward { Onward pull.old pull.new };
+}
+
+/// The first fields of a SEQUENCE: those before a field are known where it is read.
+pub trait FirstFields: FieldsText {
+    /// Reads them at the begin of the container, as the plain reading does.
+    fn read_first<R: Source>(
+        alloc: Global,
+        pull: &mut Pull<'_, R>,
+        next: &mut Next,
+    ) -> Result<Self, ReadError>
+        requires fine { (standing pull.old).error ≡ None }
+        requires inside { IsInside pull.old next.old }
+        ensures same_source { SameSource pull.old pull.new }
+        ensures reads { ReadsFirst pull.old pull.new next.old next.new Self.types Self.values result }
+        ensures short { IfOk result (λ fields. length (texts_of (Self.values fields)) ≤ Self.most * 2 ^ 32) }
+        ensures known { IfOk result (λ fields. Self.known fields ≡ true) }
+        ensures stands { OnOk result (StaysInside pull.old pull.new next.old next.new) }
+        ensures keeps { Keeps pull.new result }
+        ensures read { ReadsFail pull.old pull.new result }
+        ensures onward { Onward pull.old pull.new };
+}
+
+impl<A: FieldsText, B: FieldsText> FieldsText for (A, B) {
+    ghost types = { λ rest. A.types (B.types rest) };
+
+    ghost most = { A.most + B.most };
+
+    ghost values = { λ both. A.values both.0 ++ B.values both.1 };
+
+    ghost known = { λ both. A.known both.0 && B.known both.1 };
+
+    ghost begins = { both_begin A.known A.types A.values B.known B.types B.values A.begins B.begins };
+
+    ghost tells = { both_tell A.known A.types A.values B.known B.types B.values B.begins A.tells B.tells };
+
+    fn size(&self) -> u64 {
+        let (first, rest) = self;
+        first.size() + rest.size()
+    }
+
+    fn put<W: Target>(&self, sink: &mut Sink<'_, W>) -> Result<(), WriteError> {
+        let (first, rest) = self;
+        first.put(sink)?;
+        rest.put(sink)
+    }
+
+    fn octet(&self, i: u64) -> Option<u8> {
+        let (first, rest) = self;
+        let size = first.size();
+        if i < size {
+            first.octet(i)
+        } else {
+            rest.octet(i - size)
+        }
+    }
+}
+
+impl<A: Fields, B: Fields> Fields for (A, B) {
+    fn read<R: Source>(
+        alloc: Global,
+        pull: &mut Pull<'_, R>,
+        next: &mut Next,
+    ) -> Result<(A, B), ReadError> {
+        let first = A::read(alloc, pull, next)?;
+        let rest = B::read(alloc, pull, next)?;
+        Ok((first, rest))
+    }
+}
+
+impl<A: FirstFields, B: Fields> FirstFields for (A, B) {
+    fn read_first<R: Source>(
+        alloc: Global,
+        pull: &mut Pull<'_, R>,
+        next: &mut Next,
+    ) -> Result<(A, B), ReadError> {
+        let first = A::read_first(alloc, pull, next)?;
+        let rest = B::read(alloc, pull, next)?;
+        Ok((first, rest))
+    }
+}

@@ -1,0 +1,77 @@
+//! A field that may be absent.
+ghost use Rattle.std.specs.Prelude.{None, Some, []};
+ghost use Rattle.std.specs.Option.{option_map};
+ghost use Rattle.x690.specs.TypeTerms.{Optional as OptionalType};
+ghost use Rattle.asn_fields.specs.FieldReadings.{with_field};
+ghost use Rattle.asn_fields.specs.Apart.{fits_one};
+ghost use Rattle.asn_fields.specs.ApartLaws.{field_one_text, optional_begins, optional_tells};
+
+use crate::field_list::{Fields, FieldsText, FirstFields};
+use crate::fields::{Next, optional};
+use asn_elements::element::Element;
+use ber_pull::pull::Pull;
+use std::alloc::Global;
+use tlv_core::fault::ReadError;
+use tlv_core::sink::{Sink, WriteError};
+use tlv_core::source::Source;
+use tlv_core::target::Target;
+
+/// A field that may be absent.
+#[derive(Drop)]
+pub struct Optional<T: Drop>(pub Option<T>);
+
+impl<T: Element> FieldsText for Optional<T> {
+    ghost types = { λ rest. OptionalType T.type_term rest };
+
+    ghost most = { 1 };
+
+    ghost values = { λ field. with_field (option_map T.value field.0) [] };
+
+    ghost known = { λ field. fits_one T.type_term (option_map T.value field.0) };
+
+    ghost begins = { λ x rest vs h b. optional_begins T.type_term (option_map T.value x.0) rest vs h b };
+
+    ghost tells = { λ x y rest vs ws h k d b c e. optional_tells T.type_term (option_map T.value x.0) (option_map T.value y.0) rest vs ws (field_one_text T.value T.one_text x.0 y.0) h k d b c e };
+
+    fn size(&self) -> u64 {
+        match &self.0 {
+            Some(field) => field.size(),
+            None => 0,
+        }
+    }
+
+    fn put<W: Target>(&self, sink: &mut Sink<'_, W>) -> Result<(), WriteError> {
+        match &self.0 {
+            Some(field) => field.put(sink),
+            None => sink.put(&[]),
+        }
+    }
+
+    fn octet(&self, i: u64) -> Option<u8> {
+        match &self.0 {
+            Some(field) => field.octet(i),
+            None => None,
+        }
+    }
+}
+
+impl<T: Element> Fields for Optional<T> {
+    fn read<R: Source>(
+        alloc: Global,
+        pull: &mut Pull<'_, R>,
+        next: &mut Next,
+    ) -> Result<Optional<T>, ReadError> {
+        let field = optional::<R, T>(alloc, pull, next)?;
+        Ok(Optional(field))
+    }
+}
+
+impl<T: Element> FirstFields for Optional<T> {
+    fn read_first<R: Source>(
+        alloc: Global,
+        pull: &mut Pull<'_, R>,
+        next: &mut Next,
+    ) -> Result<Optional<T>, ReadError> {
+        <Optional<T> as Fields>::read(alloc, pull, next)
+    }
+}
