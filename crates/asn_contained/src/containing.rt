@@ -26,11 +26,11 @@ use tlv_core::source::Source;
 use tlv_core::tag::Tag;
 use tlv_core::target::Target;
 
-/// The element that the OCTET STRING of this tag contains which `next_tag` has given. It is read as a document of its own,
-/// under the same limits.
+/// The element that the OCTET STRING of this tag contains which `next_tag` has given. It is read as a document of its
+/// own, under the same limits.
 ///
-/// Faults, at the OCTET STRING: `WrongTag`, those of an OCTET STRING; `Inner`, with the place inside and the reason, where
-/// its octets aren't one element of the type and nothing else.
+/// Faults, at the OCTET STRING: `WrongTag`, those of an OCTET STRING; `Inner`, with the place inside and the reason,
+/// where its octets aren't one element of the type and nothing else.
 pub fn read_contained<R: Source, T: Element>(
     alloc: Global,
     pull: &mut Pull<'_, R>,
@@ -84,7 +84,8 @@ impl<T: DerText> Containing<T> {
 
     /// Whether the two are the same.
     pub fn same(&self, other: &Containing<T>) -> bool
-        ensures { IsTrue result ↔ Same (Leaf (universal 4) (der (T.value self.now.inner))) (Leaf (universal 4) (der (T.value other.now.inner))) }
+        ensures { IsTrue result ↔ Same (Leaf (universal 4) (der (T.value self.now.inner)))
+            (Leaf (universal 4) (der (T.value other.now.inner))) }
     {
         same_text(self, other)
     }
@@ -116,7 +117,8 @@ impl<T: DerText> Containing<T> {
 impl<T: DerText> DerText for Containing<T> {
     ghost value = { λ c. Leaf (universal 4) (der (T.value c.inner)) };
 
-    ghost one_text = { λ x y. leaf_one_text (universal 4) (universal 4) (der (T.value x.inner)) (der (T.value y.inner)) };
+    ghost one_text = { λ x y. leaf_one_text (universal 4) (universal 4) (der (T.value x.inner))
+        (der (T.value y.inner)) };
 
     fn size(&self) -> u64 {
         self.size_as(universal_tag(4))

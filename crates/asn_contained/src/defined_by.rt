@@ -55,9 +55,11 @@ impl<A: FieldsText, X: DependentElement<A>, Y: DependentElement<A>, K: Defines<A
 
     ghost value = { λ x. either_of X.value Y.value x.value };
 
-    ghost suits = { λ vs x. suits_as (one_of (leaf_at K.path vs) K.octets) (X.suits vs) (Y.suits vs) x.value };
+    ghost suits = { λ vs x. suits_as (one_of (leaf_at K.path vs) K.octets) (X.suits vs)
+        (Y.suits vs) x.value };
 
-    ghost one_text = { λ vs ws x y. defined_one_text X.value Y.value X.suits Y.suits K.path K.octets X.one_text Y.one_text vs ws x.value y.value };
+    ghost one_text = { λ vs ws x y. defined_one_text X.value Y.value X.suits Y.suits K.path K.octets
+        X.one_text Y.one_text vs ws x.value y.value };
 
     #[tactic(auto, unfolding(x690::specs::TypeTerms::fits_tag))]
     fn fits(tag: Tag) -> bool {

@@ -1,8 +1,8 @@
 //! Fields whose type or rule goes by those before them.
 //!
 //! `Dependent<A, F>` are the fields `A` and one behind them, `F`, that is due; in `OptionalDependent<A, F>` it may be
-//! absent. `F` is put together of `Independent`, an element of any type, `DefinedBy`, one of two by a leaf of the fields
-//! before it, `RuledBehind` and `RuledContaining`, with a rule that looks at these fields, and `Refused`.
+//! absent. `F` is put together of `Independent`, an element of any type, `DefinedBy`, one of two by a leaf of the
+//! fields before it, `RuledBehind` and `RuledContaining`, with a rule that looks at these fields, and `Refused`.
 ghost use Rattle.std.specs.Prelude.{◌≡◌, ◌+◌, ◌++◌, ◌<◌, ◌^◌, ◌∷◌, ◌&&◌, Bool as Truth, IfOk, IfSome, IsSome, List, None, OnOk, [], length, slice_get, true};
 ghost use Rattle.tlv_core.specs.Sinks.{count, Puts};
 ghost use Rattle.x690.specs.DerTexts.{der, texts_of};
@@ -54,7 +54,8 @@ pub trait DependentElement<A: FieldsText>: Sized + Drop {
     ) -> Result<Self, ReadError>
         requires { (standing pull.old).error ≡ None → IsSome (standing pull.old).given }
         ensures same_source { SameSource pull.old pull.new }
-        ensures reads { AnswersBehind pull.old pull.new type_term (A.values earlier.now) Self.value result }
+        ensures reads { AnswersBehind pull.old pull.new type_term
+            (A.values earlier.now) Self.value result }
         ensures suits { IfOk result (λ x. Self.suits (A.values earlier.now) x ≡ true) }
         ensures stands { OnOk result (Uses pull.old pull.new) }
         ensures keeps { Keeps pull.new result }
@@ -127,7 +128,8 @@ fn take_dependent<R: Source, A: FieldsText, F: DependentElement<A>>(
     requires fine { (standing pull.old).error ≡ None }
     requires inside { IsInside pull.old next }
     ensures same_source { SameSource pull.old pull.new }
-    ensures reads { TakesBehind pull.old pull.new next F.type_term (A.values earlier.now) F.value result }
+    ensures reads { TakesBehind pull.old pull.new next F.type_term
+        (A.values earlier.now) F.value result }
     ensures suits { IfOk result (λ field. F.suits (A.values earlier.now) field ≡ true) }
     ensures short { IfOk result (λ field. length (der (F.value field)) < 2 ^ 32) }
     ensures begins { IfOk result (λ field. may_begin F.type_term (value_tag (F.value field)) ≡ true) }
@@ -159,7 +161,8 @@ pub fn due_dependent<R: Source, A: FieldsText, F: DependentElement<A>>(
     requires fine { (standing pull.old).error ≡ None }
     requires inside { IsInside pull.old next.old }
     ensures same_source { SameSource pull.old pull.new }
-    ensures reads { DueBehind pull.old pull.new next.old next.new F.type_term (A.values earlier.now) F.value result }
+    ensures reads { DueBehind pull.old pull.new next.old next.new F.type_term
+        (A.values earlier.now) F.value result }
     ensures suits { IfOk result (λ field. F.suits (A.values earlier.now) field ≡ true) }
     ensures short { IfOk result (λ field. length (der (F.value field)) < 2 ^ 32) }
     ensures begins { IfOk result (λ field. may_begin F.type_term (value_tag (F.value field)) ≡ true) }
@@ -185,10 +188,13 @@ pub fn optional_dependent<R: Source, A: FieldsText, F: DependentElement<A>>(
     requires fine { (standing pull.old).error ≡ None }
     requires inside { IsInside pull.old next.old }
     ensures same_source { SameSource pull.old pull.new }
-    ensures reads { OptionalBehind pull.old pull.new next.old next.new F.type_term (A.values earlier.now) F.value result }
-    ensures suits { IfOk result (λ field. suits_where_there (F.suits (A.values earlier.now)) field ≡ true) }
+    ensures reads { OptionalBehind pull.old pull.new next.old next.new F.type_term
+        (A.values earlier.now) F.value result }
+    ensures suits { IfOk result (λ field. suits_where_there (F.suits (A.values earlier.now)) field
+        ≡ true) }
     ensures short { IfOk result (λ field. IfSome field (λ f. length (der (F.value f)) < 2 ^ 32)) }
-    ensures begins { IfOk result (λ field. IfSome field (λ f. may_begin F.type_term (value_tag (F.value f)) ≡ true)) }
+    ensures begins { IfOk result (λ field. IfSome field
+        (λ f. may_begin F.type_term (value_tag (F.value f)) ≡ true)) }
     ensures stands { OnOk result (StaysInside pull.old pull.new next.old next.new) }
     ensures keeps { Keeps pull.new result }
     ensures read { ReadsFail pull.old pull.new result }
@@ -276,9 +282,11 @@ impl<A: FieldsText, F: DependentElement<A>> FieldsText for Dependent<A, F> {
 
     ghost known = { λ d. A.known d.earlier && may_begin F.type_term (value_tag (F.value d.field)) };
 
-    ghost begins = { λ x. dependent_begin A.known A.types A.values F.value F.type_term A.begins (x.earlier, x.field) };
+    ghost begins = { λ x. dependent_begin A.known A.types A.values F.value F.type_term A.begins
+        (x.earlier, x.field) };
 
-    ghost tells = { λ x y. dependent_tell A.known A.types A.values F.value F.type_term F.suits F.one_text A.tells (x.earlier, x.field) (y.earlier, y.field) x.suits y.suits };
+    ghost tells = { λ x y. dependent_tell A.known A.types A.values F.value F.type_term F.suits
+        F.one_text A.tells (x.earlier, x.field) (y.earlier, y.field) x.suits y.suits };
 
     fn size(&self) -> u64 {
         Parts::length(&self.parts())

@@ -1,8 +1,8 @@
 //! OCTET STRINGs that contain an element, and fields whose type or rule goes by those before them.
 //!
-//! `containing` has the OCTET STRING itself (X.690 8.7, X.682 11), `whole` what reads the octets inside: one element and
-//! nothing else. `dependent` and `optional_dependent` put a field behind those that it depends on, so that all of them are
-//! the fields of a `Record` of `asn_fields`; what such a field may be stands in `defined_by`, `ruled_behind`,
+//! `containing` has the OCTET STRING itself (X.690 8.7, X.682 11), `whole` what reads the octets inside: one element
+//! and nothing else. `dependent` and `optional_dependent` put a field behind those that it depends on, so that all of
+//! them are the fields of a `Record` of `asn_fields`; what such a field may be stands in `defined_by`, `ruled_behind`,
 //! `ruled_containing` and `asn_fields::refused`, which nest.
 //!
 //! Proved here: all of these are read as the plain reading of their types says, the first fault and its place inside

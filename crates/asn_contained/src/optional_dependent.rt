@@ -100,9 +100,11 @@ impl<A: FieldsText, F: DependentElement<A>> FieldsText for OptionalDependent<A, 
 
     ghost known = { λ d. A.known d.earlier && fits_one F.type_term (option_map F.value d.field) };
 
-    ghost begins = { λ x. optional_begin A.known A.types A.values F.value F.type_term A.begins (x.earlier, x.field) };
+    ghost begins = { λ x. optional_begin A.known A.types A.values F.value F.type_term A.begins
+        (x.earlier, x.field) };
 
-    ghost tells = { λ x y. optional_tell A.known A.types A.values F.value F.type_term F.suits F.one_text A.tells (x.earlier, x.field) (y.earlier, y.field) x.suits y.suits };
+    ghost tells = { λ x y. optional_tell A.known A.types A.values F.value F.type_term F.suits
+        F.one_text A.tells (x.earlier, x.field) (y.earlier, y.field) x.suits y.suits };
 
     fn size(&self) -> u64 {
         Parts::length(&self.parts())

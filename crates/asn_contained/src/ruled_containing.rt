@@ -47,7 +47,8 @@ impl<A: FieldsText, T: Element, K: FieldRules<A, T>> DependentElement<A> for Rul
 
     ghost suits = { λ vs x. passes (K.rule vs (T.value x.string.inner)) };
 
-    ghost one_text = { λ vs ws x y same h k. leaf_one_text (universal 4) (universal 4) (der (T.value x.string.inner)) (der (T.value y.string.inner)) };
+    ghost one_text = { λ vs ws x y same h k. leaf_one_text (universal 4) (universal 4)
+        (der (T.value x.string.inner)) (der (T.value y.string.inner)) };
 
     #[tactic(auto, unfolding(x690::specs::TypeTerms::fits_tag))]
     fn fits(tag: Tag) -> bool {

@@ -11,7 +11,8 @@ use tlv_core::limits::Limits;
 use tlv_core::reason::Reason;
 use tlv_core::source::Source;
 
-/// Reads the element at the start of a source, and answers it with the number of octets taken; not one past it is taken.
+/// Reads the element at the start of a source, and answers it with the number of octets taken; not one past it is
+/// taken.
 ///
 /// Faults: the first one of the octets as a document of the type, with its place in octets from the start.
 pub fn read_element<R: Source, T: Element>(
@@ -20,10 +21,12 @@ pub fn read_element<R: Source, T: Element>(
     limits: Limits,
 ) -> Result<(T, u64), ReadError>
     requires { R.has_failed src.old ≡ false }
-    ensures reads { ReadsElement limits T.type_term T.value (R.remaining src.old) (R.remaining src.new) result }
+    ensures reads { ReadsElement limits T.type_term T.value (R.remaining src.old)
+        (R.remaining src.new) result }
     ensures short { IfOk result (λ read. length (der (T.value read.0)) < 2 ^ 32) }
     // A failed read is answered where the source failed, and nowhere else.
-    ensures read { MatchResult result (λ _. R.has_failed src.new ≡ false) (IsFailedRead (R.has_failed src.new)) }
+    ensures read { MatchResult result (λ _. R.has_failed src.new ≡ false)
+        (IsFailedRead (R.has_failed src.new)) }
 {
     let mut pull = Pull::new(src, limits);
     let Some(_) = pull.next_tag()? else {
@@ -38,7 +41,8 @@ pub fn read_element<R: Source, T: Element>(
 ///
 /// Faults: those of `read_element`; `Trailing` at the first octet behind it.
 pub fn read_whole<T: Element>(alloc: Global, octets: &[u8], limits: Limits) -> Result<T, ReadError>
-    ensures inside { MatchResult result (λ x. IsValueInside limits T.type_term octets.now (T.value x)) (HaltsInside limits T.type_term octets.now) }
+    ensures inside { MatchResult result (λ x. IsValueInside limits T.type_term octets.now
+        (T.value x)) (HaltsInside limits T.type_term octets.now) }
     ensures short { IfOk result (λ x. length (der (T.value x)) < 2 ^ 32) }
 {
     let mut rest = octets;

@@ -1,8 +1,9 @@
 //! SEQUENCE OF and SET OF (X.690 8.10, 8.12, 11.6): `asn_values` passes all of it on.
 //!
-//! Proved here, for `List`, `ListOfSome` and `SetOf`: `put` writes the DER text, `size` is its length, `octet` its octets; the members of a `SetOf` ascend as 11.6 has it, equal
-//! ones kept. A reader answers what the plain reading of its type gives for the octets taken: a value that is the same up to the order in SET OF, or
-//! the first fault. `from_items` refuses exactly what it names. `same` is the same value, a SET OF as a multiset.
+//! Proved here, for `List`, `ListOfSome` and `SetOf`: `put` writes the DER text, `size` is its length, `octet` its
+//! octets; the members of a `SetOf` ascend as 11.6 has it, equal ones kept. A reader answers what the plain reading of
+//! its type gives for the octets taken: a value that is the same up to the order in SET OF, or the first fault.
+//! `from_items` refuses exactly what it names. `same` is the same value, a SET OF as a multiset.
 #![tactic(auto)]
 
 pub mod list;

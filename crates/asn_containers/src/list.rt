@@ -63,26 +63,32 @@ impl<T: DerText> List<T> {
 
     /// Whether the two are the same.
     pub fn same(&self, other: &List<T>) -> bool
-        ensures { IsTrue result ↔ Same (Sequence (universal 16) (values_of (map T.value (list_items self.now)))) (Sequence (universal 16) (values_of (map T.value (list_items other.now)))) }
+        ensures { IsTrue result ↔ Same
+            (Sequence (universal 16) (values_of (map T.value (list_items self.now))))
+            (Sequence (universal 16) (values_of (map T.value (list_items other.now)))) }
     {
         same_text(self, other)
     }
 
     fn size_as(&self, tag: Tag) -> u64
-        ensures { result ≡ length (der (Sequence tag (values_of (map T.value (list_items self.now))))) }
+        ensures { result ≡ length (der
+            (Sequence tag (values_of (map T.value (list_items self.now))))) }
     {
         self.row.size(tag)
     }
 
     fn put_as<W: Target>(&self, sink: &mut Sink<'_, W>, tag: Tag) -> Result<(), WriteError>
-        requires { count sink.old + length (der (Sequence tag (values_of (map T.value (list_items self.now))))) < 2 ^ 64 }
-        ensures { Puts (der (Sequence tag (values_of (map T.value (list_items self.now))))) sink.old sink.new result }
+        requires { count sink.old + length
+            (der (Sequence tag (values_of (map T.value (list_items self.now))))) < 2 ^ 64 }
+        ensures { Puts (der (Sequence tag (values_of (map T.value (list_items self.now))))) sink.old
+            sink.new result }
     {
         self.row.put(tag, sink)
     }
 
     fn octet_as(&self, i: u64, tag: Tag) -> Option<u8>
-        ensures { result ≡ slice_get (der (Sequence tag (values_of (map T.value (list_items self.now))))) i }
+        ensures { result ≡ slice_get (der
+            (Sequence tag (values_of (map T.value (list_items self.now))))) i }
     {
         self.row.octet(tag, i)
     }
@@ -91,7 +97,8 @@ impl<T: DerText> List<T> {
 impl<T: DerText> DerText for List<T> {
     ghost value = { λ list. Sequence (universal 16) (values_of (map T.value (list_items list))) };
 
-    ghost one_text = { λ x y. list_one_text T.value T.one_text (universal 16) (list_items x) (list_items y) };
+    ghost one_text = { λ x y. list_one_text T.value T.one_text (universal 16) (list_items x)
+        (list_items y) };
 
     fn size(&self) -> u64 {
         self.size_as(universal_tag(16))
@@ -107,12 +114,17 @@ impl<T: DerText> DerText for List<T> {
 }
 
 impl<T: Element> List<T> {
-    /// Reads the list that is given, which has at least one member: in an empty one `Missing` stands where the first would.
+    /// Reads the list that is given, which has at least one member: in an empty one `Missing` stands where the first
+    /// would.
     pub fn read_some<R: Source>(alloc: Global, pull: &mut Pull<'_, R>) -> Result<List<T>, ReadError>
         requires { (standing pull.old).error ≡ None → IsSome (standing pull.old).given }
         ensures same_source { SameSource pull.old pull.new }
         ensures repeats { Repeats pull.old pull.new result }
-        ensures reads { (g : Given) → (standing pull.old).error ≡ None → (standing pull.old).given ≡ Some g → AnswersValue pull.old pull.new (read_given (SequenceOfType (universal 16) 1 T.type_term) (standing pull.old) g) (λ list. Sequence (universal 16) (values_of (map T.value (list_items list)))) result }
+        ensures reads { (g : Given) → (standing pull.old).error ≡ None
+            → (standing pull.old).given ≡ Some g
+            → AnswersValue pull.old pull.new
+            (read_given (SequenceOfType (universal 16) 1 T.type_term) (standing pull.old) g)
+            (λ list. Sequence (universal 16) (values_of (map T.value (list_items list)))) result }
         ensures some { IfOk result (λ list. 0 < length (list_items list)) }
         ensures stands { OnOk result (Uses pull.old pull.new) }
         ensures keeps { Keeps pull.new result }
@@ -133,7 +145,11 @@ fn read_list<R: Source, T: Element>(
     requires { (standing pull.old).error ≡ None → IsSome (standing pull.old).given }
     ensures same_source { SameSource pull.old pull.new }
     ensures repeats { Repeats pull.old pull.new result }
-    ensures reads { (g : Given) → (standing pull.old).error ≡ None → (standing pull.old).given ≡ Some g → AnswersValue pull.old pull.new (read_given (SequenceOfType tag least T.type_term) (standing pull.old) g) (λ list. Sequence tag (values_of (map T.value (list_items list)))) result }
+    ensures reads { (g : Given) → (standing pull.old).error ≡ None
+        → (standing pull.old).given ≡ Some g
+        → AnswersValue pull.old pull.new
+        (read_given (SequenceOfType tag least T.type_term) (standing pull.old) g)
+        (λ list. Sequence tag (values_of (map T.value (list_items list)))) result }
     ensures least { IfOk result (λ list. least ≤ length (list_items list)) }
     ensures stands { OnOk result (Uses pull.old pull.new) }
     ensures keeps { Keeps pull.new result }

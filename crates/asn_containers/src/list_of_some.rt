@@ -38,14 +38,17 @@ impl<T: DerText> ListOfSome<T> {
 
     /// Whether the two are the same.
     pub fn same(&self, other: &ListOfSome<T>) -> bool
-        ensures { IsTrue result ↔ Same (Sequence (universal 16) (values_of (map T.value (list_items self.now.items)))) (Sequence (universal 16) (values_of (map T.value (list_items other.now.items)))) }
+        ensures { IsTrue result ↔ Same
+            (Sequence (universal 16) (values_of (map T.value (list_items self.now.items))))
+            (Sequence (universal 16) (values_of (map T.value (list_items other.now.items)))) }
     {
         self.items.same(&other.items)
     }
 }
 
 impl<T: DerText> DerText for ListOfSome<T> {
-    ghost value = { λ some. Sequence (universal 16) (values_of (map T.value (list_items some.items))) };
+    ghost value = { λ some. Sequence (universal 16)
+        (values_of (map T.value (list_items some.items))) };
 
     ghost one_text = { λ x y. ⟦<List<T> as DerText>⟧.one_text x.items y.items };
 

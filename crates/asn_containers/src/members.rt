@@ -24,7 +24,10 @@ pub fn read_members<R: Source, T: Element>(
     requires { (standing pull.old).error ≡ None → IsSome (standing pull.old).given }
     ensures same_source { SameSource pull.old pull.new }
     ensures repeats { Repeats pull.old pull.new result }
-    ensures reads { (g : Given) → (standing pull.old).error ≡ None → (standing pull.old).given ≡ Some g → AnswersMembers pull.old pull.new (read_given_members T.type_term (standing pull.old) g) (λ v. map T.value v.0.items) (λ v. v.1) result }
+    ensures reads { (g : Given) → (standing pull.old).error ≡ None
+        → (standing pull.old).given ≡ Some g
+        → AnswersMembers pull.old pull.new (read_given_members T.type_term (standing pull.old) g)
+        (λ v. map T.value v.0.items) (λ v. v.1) result }
     ensures short { IfOk result (λ v. length (texts_of (map T.value v.0.items)) < 2 ^ 63) }
     ensures stands { OnOk result (Uses pull.old pull.new) }
     ensures keeps { Keeps pull.new result }
@@ -54,7 +57,8 @@ pub fn row_of<R: Source, T: DerText>(
     ensures same_source { SameSource pull.old pull.new }
     ensures made { IfOk result (λ row. row.items ≡ items) }
     ensures still { OnOk result (pull.new ≡ pull.old) }
-    ensures stops { IfErr result (λ e. (e ≡ Memory) × (source pull.new ≡ source pull.old) × (standing pull.new ≡ failed_with e (standing pull.old))) }
+    ensures stops { IfErr result (λ e. (e ≡ Memory) × (source pull.new ≡ source pull.old)
+        × (standing pull.new ≡ failed_with e (standing pull.old))) }
     ensures keeps { Keeps pull.new result }
     ensures read { ReadsFail pull.old pull.new result }
     ensures onward { Onward pull.old pull.new }

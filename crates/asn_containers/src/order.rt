@@ -14,8 +14,8 @@ use asn_elements::texts::ascend;
 use std::alloc::{AllocError, Global};
 use std::cmp::Ordering;
 
-/// A member while it is put in order, with its text, which stands among those of all members: an allocation for each would take
-/// more memory than a small member.
+/// A member while it is put in order, with its text, which stands among those of all members: an allocation for each
+/// would take more memory than a small member.
 #[derive(Drop)]
 struct Keyed<'a, T: DerText> {
     item: T,
@@ -54,19 +54,21 @@ impl<'a, T: DerText> Ord for Keyed<'a, T> {
 impl<'a, T: DerText> PartialOrd for Keyed<'a, T> {
     ghost partial_cmp = { as_partial_cmp (on (λ k. k.text.now) (slice_cmp nat_cmp)) };
 
-    ghost laws = { partial_order_from_own_ties (Prim.search (comparing, rules)) (Prim.search (comparing, rules)) };
+    ghost laws = { partial_order_from_own_ties (Prim.search (comparing, rules))
+        (Prim.search (comparing, rules)) };
 
     fn partial_cmp(&self, other: &Keyed<'a, T>) -> Option<Ordering> {
         Some(self.cmp(other))
     }
 }
 
-/// Whether the items, whose texts stand one after another in `octets`, are in order. The places where the texts begin are given back before
-/// the items are put in order.
+/// Whether the items, whose texts stand one after another in `octets`, are in order. The places where the texts begin
+/// are given back before the items are put in order.
 fn is_in_order<T: DerText>(alloc: Global, items: &[T], octets: &[u8]) -> Result<bool, AllocError>
     requires texts { octets.now ≡ texts_of (map T.value items.now) }
     requires small { length octets.now < 2 ^ 63 }
-    ensures { IfOk result (λ answer. IsTrue answer ↔ IsSorted (slice_cmp nat_cmp) (map der (map T.value items.now))) }
+    ensures { IfOk result (λ answer. IsTrue answer
+        ↔ IsSorted (slice_cmp nat_cmp) (map der (map T.value items.now))) }
 {
     let (starts, _) = starts_of(alloc, items)?;
     Ok(ascend(octets, &starts))

@@ -70,7 +70,8 @@ pub const LONGEST: u64 = 1 << 40;
 
 /// The length of the texts of the items, `None` where it is more than 2^40.
 pub fn contents_length<T: DerText>(items: &[T]) -> Option<u64>
-    ensures some { IfSome result (λ content. (content ≡ length (texts_of (map T.value items.now))) × (content ≤ 2 ^ 40)) }
+    ensures some { IfSome result (λ content. (content ≡ length (texts_of (map T.value items.now)))
+        × (content ≤ 2 ^ 40)) }
     ensures none { IsNone result → 2 ^ 40 < length (texts_of (map T.value items.now)) }
 {
     let mut content = 0u64;
@@ -138,8 +139,10 @@ impl<T: DerText> Row<T> {
 
     /// Writes the text with this tag.
     pub fn put<W: Target>(&self, tag: Tag, sink: &mut Sink<'_, W>) -> Result<(), WriteError>
-        requires { count sink.old + length (framed tag (texts_of (map T.value self.now.items.items))) < 2 ^ 64 }
-        ensures { Puts (framed tag (texts_of (map T.value self.now.items.items))) sink.old sink.new result }
+        requires { count sink.old + length
+            (framed tag (texts_of (map T.value self.now.items.items))) < 2 ^ 64 }
+        ensures { Puts (framed tag (texts_of (map T.value self.now.items.items))) sink.old sink.new
+            result }
     {
         put_header(tag, true, self.content, sink)?;
         put_texts(&self.items, sink)

@@ -45,7 +45,8 @@ pub struct SetOf<T: DerText> {
 
 /// Whether the text of the SET OF of these items is longer than 2^40 octets.
 fn is_long<T: DerText>(items: &[T]) -> bool
-    ensures { IsTrue result ↔ (2 ^ 40 < length (der (SetValue (universal 17) (values_of (map T.value items.now))))) }
+    ensures { IsTrue result ↔ (2 ^ 40
+        < length (der (SetValue (universal 17) (values_of (map T.value items.now))))) }
 {
     match contents_length(items) {
         Some(content) => element_size(universal_tag(17), content) > LONGEST,
@@ -61,7 +62,9 @@ impl<T: DerText> SetOf<T> {
     /// Errors: `TooBig` where its text would be longer than 2^40 octets, `Memory`.
     pub fn from_items(alloc: Global, items: Vec<T>) -> Result<SetOf<T>, BuildError>
         ensures made { IfOk result (λ set. IsPermutation items.items (set_items set)) }
-        ensures too_big { (result ≡ Err TooBig) ↔ (2 ^ 40 < length (der (SetValue (universal 17) (values_of (map T.value items.items))))) }
+        ensures too_big { (result ≡ Err TooBig)
+            ↔ (2 ^ 40 < length (der
+            (SetValue (universal 17) (values_of (map T.value items.items))))) }
     {
         if is_long(&items) {
             return Err(BuildError::TooBig);
@@ -99,7 +102,9 @@ impl<T: DerText> SetOf<T> {
 
     /// Whether the two are the same.
     pub fn same(&self, other: &SetOf<T>) -> bool
-        ensures { IsTrue result ↔ Same (SetValue (universal 17) (values_of (map T.value (set_items self.now)))) (SetValue (universal 17) (values_of (map T.value (set_items other.now)))) }
+        ensures { IsTrue result ↔ Same
+            (SetValue (universal 17) (values_of (map T.value (set_items self.now))))
+            (SetValue (universal 17) (values_of (map T.value (set_items other.now)))) }
     {
         same_text(self, other)
     }
@@ -110,7 +115,9 @@ impl<T: DerText> DerText for SetOf<T> {
 
     ghost value = { λ set. SetValue (universal 17) (values_of (map T.value (set_items set))) };
 
-    ghost one_text = { λ x y. set_one_text T.value T.one_text (universal 17) (set_items x) (set_items y) (ascends_is (map der (map T.value (set_items x))) x.in_order) (ascends_is (map der (map T.value (set_items y))) y.in_order) };
+    ghost one_text = { λ x y. set_one_text T.value T.one_text (universal 17) (set_items x)
+        (set_items y) (ascends_is (map der (map T.value (set_items x))) x.in_order)
+        (ascends_is (map der (map T.value (set_items y))) y.in_order) };
 
     fn size(&self) -> u64 {
         self.size_as(universal_tag(17))
@@ -130,7 +137,9 @@ impl<T: DerText> ImplicitText for SetOf<T> {
 
     ghost value_as = { λ own set. SetValue own (values_of (map T.value (set_items set))) };
 
-    ghost one_text_as = { λ own x y. set_one_text T.value T.one_text own (set_items x) (set_items y) (ascends_is (map der (map T.value (set_items x))) x.in_order) (ascends_is (map der (map T.value (set_items y))) y.in_order) };
+    ghost one_text_as = { λ own x y. set_one_text T.value T.one_text own (set_items x) (set_items y)
+        (ascends_is (map der (map T.value (set_items x))) x.in_order)
+        (ascends_is (map der (map T.value (set_items y))) y.in_order) };
 
     fn size_as(&self, tag: Tag) -> u64 {
         self.row.size(tag)
@@ -156,7 +165,11 @@ impl<T: Element> SetOf<T> {
         requires { (standing pull.old).error ≡ None → IsSome (standing pull.old).given }
         ensures same_source { SameSource pull.old pull.new }
         ensures repeats { Repeats pull.old pull.new result }
-        ensures reads { (g : Given) → (standing pull.old).error ≡ None → (standing pull.old).given ≡ Some g → AnswersValue pull.old pull.new (read_given (SetOfType (universal 17) 1 T.type_term) (standing pull.old) g) (λ set. SetValue (universal 17) (values_of (map T.value (set_items set)))) result }
+        ensures reads { (g : Given) → (standing pull.old).error ≡ None
+            → (standing pull.old).given ≡ Some g
+            → AnswersValue pull.old pull.new
+            (read_given (SetOfType (universal 17) 1 T.type_term) (standing pull.old) g)
+            (λ set. SetValue (universal 17) (values_of (map T.value (set_items set)))) result }
         ensures some { IfOk result (λ set. 0 < length (set_items set)) }
         ensures stands { OnOk result (Uses pull.old pull.new) }
         ensures keeps { Keeps pull.new result }
@@ -176,7 +189,11 @@ impl<T: Element> SetOf<T> {
         requires { (standing pull.old).error ≡ None → IsSome (standing pull.old).given }
         ensures same_source { SameSource pull.old pull.new }
         ensures repeats { Repeats pull.old pull.new result }
-        ensures reads { (g : Given) → (standing pull.old).error ≡ None → (standing pull.old).given ≡ Some g → AnswersValue pull.old pull.new (read_given (SetOfType tag least T.type_term) (standing pull.old) g) (λ set. SetValue tag (values_of (map T.value (set_items set)))) result }
+        ensures reads { (g : Given) → (standing pull.old).error ≡ None
+            → (standing pull.old).given ≡ Some g
+            → AnswersValue pull.old pull.new
+            (read_given (SetOfType tag least T.type_term) (standing pull.old) g)
+            (λ set. SetValue tag (values_of (map T.value (set_items set)))) result }
         ensures least { IfOk result (λ set. least ≤ length (set_items set)) }
         ensures stands { OnOk result (Uses pull.old pull.new) }
         ensures keeps { Keeps pull.new result }
@@ -206,7 +223,8 @@ fn put_in_order<R: Source, T: DerText>(
     ensures same { IfOk result (λ sorted. IsPermutation items.items sorted.items) }
     ensures in_order { IfOk result (λ sorted. ascends (map der (map T.value sorted.items)) ≡ true) }
     ensures still { OnOk result (pull.new ≡ pull.old) }
-    ensures stops { IfErr result (λ e. (e ≡ Memory) × (source pull.new ≡ source pull.old) × (standing pull.new ≡ failed_with e (standing pull.old))) }
+    ensures stops { IfErr result (λ e. (e ≡ Memory) × (source pull.new ≡ source pull.old)
+        × (standing pull.new ≡ failed_with e (standing pull.old))) }
     ensures keeps { Keeps pull.new result }
     ensures read { ReadsFail pull.old pull.new result }
     ensures onward { Onward pull.old pull.new }

@@ -61,7 +61,8 @@ impl DerText for Bits {
 
     ghost value = { λ bits. Leaf (universal 3) (bit_string_of bits) };
 
-    ghost one_text = { λ x y. leaf_one_text (universal 3) (universal 3) (bit_string_of x) (bit_string_of y) };
+    ghost one_text = { λ x y. leaf_one_text (universal 3) (universal 3) (bit_string_of x)
+        (bit_string_of y) };
 
     fn size(&self) -> u64 {
         self.size_as(universal_tag(3))

@@ -56,7 +56,8 @@ impl DerText for Bool {
 
     ghost value = { λ b. Leaf (universal 1) (cond (truth b) 255 0 ∷ []) };
 
-    ghost one_text = { λ x y. leaf_one_text (universal 1) (universal 1) (cond (truth x) 255 0 ∷ []) (cond (truth y) 255 0 ∷ []) };
+    ghost one_text = { λ x y. leaf_one_text (universal 1) (universal 1) (cond (truth x) 255 0 ∷ [])
+        (cond (truth y) 255 0 ∷ []) };
 
     fn size(&self) -> u64 {
         leaf_size(universal_tag(1), &self.contents())

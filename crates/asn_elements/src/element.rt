@@ -22,13 +22,17 @@ pub trait Element: DerText {
     fn fits(tag: Tag) -> bool
         ensures { result ≡ fits_tag type_term tag };
 
-    /// Reads the element that `next_tag` has given, as the plain reading of the type does: a value is one that the octets taken
-    /// spell, a fault is the first one, and want of memory or a failed read may come in place of any answer. On an error the reader has failed with it.
+    /// Reads the element that `next_tag` has given, as the plain reading of the type does: a value is one that the
+    /// octets taken spell, a fault is the first one, and want of memory or a failed read may come in place of any
+    /// answer. On an error the reader has failed with it.
     fn read<R: Source>(alloc: Global, pull: &mut Pull<'_, R>) -> Result<Self, ReadError>
         requires { (standing pull.old).error ≡ None → IsSome (standing pull.old).given }
         ensures same_source { SameSource pull.old pull.new }
         ensures repeats { Repeats pull.old pull.new result }
-        ensures reads { (g : Given) → (standing pull.old).error ≡ None → (standing pull.old).given ≡ Some g → AnswersValue pull.old pull.new (read_given type_term (standing pull.old) g) Self.value result }
+        ensures reads { (g : Given) → (standing pull.old).error ≡ None
+            → (standing pull.old).given ≡ Some g
+            → AnswersValue pull.old pull.new
+            (read_given type_term (standing pull.old) g) Self.value result }
         ensures stands { OnOk result (Uses pull.old pull.new) }
         ensures keeps { Keeps pull.new result }
         ensures read { ReadsFail pull.old pull.new result }

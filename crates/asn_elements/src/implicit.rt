@@ -28,13 +28,15 @@ pub trait ImplicitText: DerText {
     ghost value_as: { Identified → Self → Value };
 
     /// Two of the type that have one text under a tag are the same under it.
-    ghost one_text_as: { (own : Identified) (x y : Self) → der (value_as own x) ≡ der (value_as own y) → Same (value_as own x) (value_as own y) };
+    ghost one_text_as: { (own : Identified) (x y : Self)
+        → der (value_as own x) ≡ der (value_as own y) → Same (value_as own x) (value_as own y) };
 
     /// The length of its text under an implicit tag, in octets.
     fn size_as(&self, tag: Tag) -> u64
         ensures { result ≡ length (der (value_as tag self.now)) };
 
-    /// Writes its text under an implicit tag. Where the writer fails, the first octets are out, as many as the sink's count rose by.
+    /// Writes its text under an implicit tag. Where the writer fails, the first octets are out, as many as the sink's
+    /// count rose by.
     fn put_as<W: Target>(&self, sink: &mut Sink<'_, W>, tag: Tag) -> Result<(), WriteError>
         requires { count sink.old + length (der (value_as tag self.now)) < 2 ^ 64 }
         ensures { Puts (der (value_as tag self.now)) sink.old sink.new result };
@@ -49,8 +51,9 @@ pub trait ImplicitElement: ImplicitText {
     /// Its type under a tag.
     ghost type_as: { Identified → TypeTerm };
 
-    /// Reads the element that `next_tag` has given as one under this tag, as the plain reading of the type does: a value is one that the octets taken
-    /// spell, a fault is the first one, and want of memory or a failed read may come in place of any answer. On an error the reader has failed with it.
+    /// Reads the element that `next_tag` has given as one under this tag, as the plain reading of the type does: a
+    /// value is one that the octets taken spell, a fault is the first one, and want of memory or a failed read may come
+    /// in place of any answer. On an error the reader has failed with it.
     fn read_as<R: Source>(
         alloc: Global,
         pull: &mut Pull<'_, R>,
@@ -59,7 +62,10 @@ pub trait ImplicitElement: ImplicitText {
         requires { (standing pull.old).error ≡ None → IsSome (standing pull.old).given }
         ensures same_source { SameSource pull.old pull.new }
         ensures repeats { Repeats pull.old pull.new result }
-        ensures reads { (g : Given) → (standing pull.old).error ≡ None → (standing pull.old).given ≡ Some g → AnswersValue pull.old pull.new (read_given (type_as tag) (standing pull.old) g) (Self.value_as tag) result }
+        ensures reads { (g : Given) → (standing pull.old).error ≡ None
+            → (standing pull.old).given ≡ Some g
+            → AnswersValue pull.old pull.new (read_given (type_as tag) (standing pull.old) g)
+            (Self.value_as tag) result }
         ensures stands { OnOk result (Uses pull.old pull.new) }
         ensures keeps { Keeps pull.new result }
         ensures read { ReadsFail pull.old pull.new result }
@@ -90,7 +96,8 @@ impl<const N: u8, T: ImplicitText> Implicit<N, T> {
 
     /// Whether the two are the same.
     pub fn same(&self, other: &Implicit<N, T>) -> bool
-        ensures { IsTrue result ↔ Same (T.value_as (context_specific N) (value_under self.now)) (T.value_as (context_specific N) (value_under other.now)) }
+        ensures { IsTrue result ↔ Same (T.value_as (context_specific N) (value_under self.now))
+            (T.value_as (context_specific N) (value_under other.now)) }
     {
         same_text(self, other)
     }

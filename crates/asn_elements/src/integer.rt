@@ -24,7 +24,8 @@ use tlv_core::source::Source;
 use tlv_core::tag::Tag;
 use tlv_core::target::Target;
 
-/// An INTEGER, by its contents: two's complement, the most significant octet first, in as few octets as hold it (X.690 8.3).
+/// An INTEGER, by its contents: two's complement, the most significant octet first, in as few octets as hold it (X.690
+/// 8.3).
 #[derive(Drop)]
 pub struct Int {
     content: Vec<u8>,
@@ -36,12 +37,14 @@ impl Int {
 
     /// The INTEGER with these contents.
     ///
-    /// Errors: `TooBig` where the text would be longer than 2^40 octets, `Bad` where there are no octets, or
-    /// the first nine bits are all 0 or all 1 (X.690 8.3.2), `Memory`.
+    /// Errors: `TooBig` where the text would be longer than 2^40 octets, `Bad` where there are no octets, or the first
+    /// nine bits are all 0 or all 1 (X.690 8.3.2), `Memory`.
     pub fn from_content(alloc: Global, octets: &[u8]) -> Result<Int, BuildError>
         ensures made { IfOk result (λ n. integer_of n ≡ octets.now) }
-        ensures too_big { (result ≡ Err TooBig) ↔ (2 ^ 40 < length (der (Leaf (universal 2) octets.now))) }
-        ensures bad { (result ≡ Err Bad) ↔ ((length (der (Leaf (universal 2) octets.now)) ≤ 2 ^ 40) × (IsInteger octets.now → ⊥)) }
+        ensures too_big { (result ≡ Err TooBig)
+            ↔ (2 ^ 40 < length (der (Leaf (universal 2) octets.now))) }
+        ensures bad { (result ≡ Err Bad) ↔ ((length (der (Leaf (universal 2) octets.now)) ≤ 2 ^ 40)
+            × (IsInteger octets.now → ⊥)) }
     {
         if is_long_leaf(universal_tag(2), octets) {
             return Err(BuildError::TooBig);
@@ -86,7 +89,8 @@ impl DerText for Int {
 
     ghost value = { λ n. Leaf (universal 2) (integer_of n) };
 
-    ghost one_text = { λ x y. leaf_one_text (universal 2) (universal 2) (integer_of x) (integer_of y) };
+    ghost one_text = { λ x y. leaf_one_text (universal 2) (universal 2) (integer_of x)
+        (integer_of y) };
 
     fn size(&self) -> u64 {
         leaf_size(universal_tag(2), &self.content)

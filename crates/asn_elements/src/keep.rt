@@ -19,7 +19,8 @@ pub fn keep<R: Source, T: Drop>(
     ensures kept { OnOk result (items.new.items ≡ items.old.items ++ item ∷ []) }
     ensures still { OnOk result (pull.new ≡ pull.old) }
     ensures unchanged { IfErr result (λ _. items.new.items ≡ items.old.items) }
-    ensures stops { IfErr result (λ e. (e ≡ Memory) × (source pull.new ≡ source pull.old) × (standing pull.new ≡ failed_with e (standing pull.old))) }
+    ensures stops { IfErr result (λ e. (e ≡ Memory) × (source pull.new ≡ source pull.old)
+        × (standing pull.new ≡ failed_with e (standing pull.old))) }
     ensures keeps { Keeps pull.new result }
     ensures read { ReadsFail pull.old pull.new result }
     ensures onward { Onward pull.old pull.new }

@@ -40,9 +40,18 @@ pub fn expect_tag<R: Source>(pull: &mut Pull<'_, R>, own: Tag) -> Result<u64, Re
     requires { (standing pull.old).error ≡ None → IsSome (standing pull.old).given }
     ensures same_source { SameSource pull.old pull.new }
     ensures repeats { Repeats pull.old pull.new result }
-    ensures reads { (g : Given) → (standing pull.old).error ≡ None → (standing pull.old).given ≡ Some g → Answers pull.old pull.new (require (same_tag own g.tag) (fault g.at WrongTag) (Done (tt {0}))) (heard (λ _. tt {0}) result) }
-    ensures stops { (g : Given) → (standing pull.old).error ≡ None → (standing pull.old).given ≡ Some g → IfErr result (λ e. (p : Reading Value) → Answers pull.old pull.new (require (same_tag own g.tag) (fault g.at WrongTag) p) (heard_error e)) }
-    ensures is { (g : Given) → (standing pull.old).error ≡ None → (standing pull.old).given ≡ Some g → IfOk result (λ at. (at ≡ g.at) × (same_tag own g.tag ≡ true)) }
+    ensures reads { (g : Given) → (standing pull.old).error ≡ None
+        → (standing pull.old).given ≡ Some g
+        → Answers pull.old pull.new
+        (require (same_tag own g.tag) (fault g.at WrongTag) (Done (tt {0})))
+        (heard (λ _. tt {0}) result) }
+    ensures stops { (g : Given) → (standing pull.old).error ≡ None
+        → (standing pull.old).given ≡ Some g
+        → IfErr result (λ e. (p : Reading Value)
+        → Answers pull.old pull.new (require (same_tag own g.tag) (fault g.at WrongTag) p)
+        (heard_error e)) }
+    ensures is { (g : Given) → (standing pull.old).error ≡ None → (standing pull.old).given ≡ Some g
+        → IfOk result (λ at. (at ≡ g.at) × (same_tag own g.tag ≡ true)) }
     ensures same { OnOk result (Unmoved pull.old pull.new) }
     ensures fine { OnOk result ((standing pull.old).error ≡ None) }
     ensures keeps { Keeps pull.new result }
@@ -110,7 +119,10 @@ fn read_primitive_leaf<R: Source>(
     requires given { (standing pull.old).error ≡ None → IsSome (standing pull.old).given }
     ensures same_source { SameSource pull.old pull.new }
     ensures repeats { Repeats pull.old pull.new result }
-    ensures reads { (own : Identified) (g : Given) → (standing pull.old).error ≡ None → (standing pull.old).given ≡ Some g → Answers pull.old pull.new (read_given_leaf (kind_of kind) own (standing pull.old) g) (heard (λ _. Leaf own contents.new.items) result) }
+    ensures reads { (own : Identified) (g : Given) → (standing pull.old).error ≡ None
+        → (standing pull.old).given ≡ Some g
+        → Answers pull.old pull.new (read_given_leaf (kind_of kind) own (standing pull.old) g)
+        (heard (λ _. Leaf own contents.new.items) result) }
     ensures contents { OnOk result (HasContents kind contents.new.items) }
     ensures stands { OnOk result (Uses pull.old pull.new) }
     ensures keeps { Keeps pull.new result }
@@ -131,7 +143,10 @@ fn read_bits_leaf<R: Source>(alloc: Global, pull: &mut Pull<'_, R>) -> Result<Ve
     requires { (standing pull.old).error ≡ None → IsSome (standing pull.old).given }
     ensures same_source { SameSource pull.old pull.new }
     ensures repeats { Repeats pull.old pull.new result }
-    ensures reads { (own : Identified) (g : Given) → (standing pull.old).error ≡ None → (standing pull.old).given ≡ Some g → Answers pull.old pull.new (read_given_leaf BitString own (standing pull.old) g) (heard (λ v. Leaf own v.items) result) }
+    ensures reads { (own : Identified) (g : Given) → (standing pull.old).error ≡ None
+        → (standing pull.old).given ≡ Some g
+        → Answers pull.old pull.new (read_given_leaf BitString own (standing pull.old) g)
+        (heard (λ v. Leaf own v.items) result) }
     ensures some { IfOk result (λ v. 0 < length v.items) }
     ensures stands { OnOk result (Uses pull.old pull.new) }
     ensures keeps { Keeps pull.new result }
@@ -161,7 +176,11 @@ fn read_octets_leaf<R: Source>(
     requires { (standing pull.old).error ≡ None → IsSome (standing pull.old).given }
     ensures same_source { SameSource pull.old pull.new }
     ensures repeats { Repeats pull.old pull.new result }
-    ensures reads { (own : Identified) (g : Given) → (standing pull.old).error ≡ None → (standing pull.old).given ≡ Some g → Answers pull.old pull.new (read_given_leaf (string_kind utf8) own (standing pull.old) g) (heard (λ v. Leaf own v.items) result) }
+    ensures reads { (own : Identified) (g : Given) → (standing pull.old).error ≡ None
+        → (standing pull.old).given ≡ Some g
+        → Answers pull.old pull.new
+        (read_given_leaf (string_kind utf8) own (standing pull.old) g)
+        (heard (λ v. Leaf own v.items) result) }
     ensures contents { IfOk result (λ v. reading.is_contents (string_kind utf8) v.items ≡ true) }
     ensures stands { OnOk result (Uses pull.old pull.new) }
     ensures keeps { Keeps pull.new result }
@@ -187,7 +206,10 @@ pub fn read_leaf_into<R: Source>(
     requires { (standing pull.old).error ≡ None → IsSome (standing pull.old).given }
     ensures same_source { SameSource pull.old pull.new }
     ensures repeats { Repeats pull.old pull.new result }
-    ensures reads { (own : Identified) (g : Given) → (standing pull.old).error ≡ None → (standing pull.old).given ≡ Some g → Answers pull.old pull.new (read_given_leaf (kind_of kind) own (standing pull.old) g) (heard (λ _. Leaf own contents.new.items) result) }
+    ensures reads { (own : Identified) (g : Given) → (standing pull.old).error ≡ None
+        → (standing pull.old).given ≡ Some g
+        → Answers pull.old pull.new (read_given_leaf (kind_of kind) own (standing pull.old) g)
+        (heard (λ _. Leaf own contents.new.items) result) }
     ensures contents { OnOk result (HasContents kind contents.new.items) }
     ensures stands { OnOk result (Uses pull.old pull.new) }
     ensures keeps { Keeps pull.new result }
@@ -212,7 +234,10 @@ pub fn read_leaf<R: Source>(
     requires { (standing pull.old).error ≡ None → IsSome (standing pull.old).given }
     ensures same_source { SameSource pull.old pull.new }
     ensures repeats { Repeats pull.old pull.new result }
-    ensures reads { (own : Identified) (g : Given) → (standing pull.old).error ≡ None → (standing pull.old).given ≡ Some g → Answers pull.old pull.new (read_given_leaf (kind_of kind) own (standing pull.old) g) (heard (λ v. Leaf own v.items) result) }
+    ensures reads { (own : Identified) (g : Given) → (standing pull.old).error ≡ None
+        → (standing pull.old).given ≡ Some g
+        → Answers pull.old pull.new (read_given_leaf (kind_of kind) own (standing pull.old) g)
+        (heard (λ v. Leaf own v.items) result) }
     ensures contents { IfOk result (λ v. HasContents kind v.items) }
     ensures stands { OnOk result (Uses pull.old pull.new) }
     ensures keeps { Keeps pull.new result }
@@ -234,7 +259,11 @@ pub fn read_leaf_as<R: Source>(
     requires { (standing pull.old).error ≡ None → IsSome (standing pull.old).given }
     ensures same_source { SameSource pull.old pull.new }
     ensures repeats { Repeats pull.old pull.new result }
-    ensures reads { (g : Given) → (standing pull.old).error ≡ None → (standing pull.old).given ≡ Some g → AnswersValue pull.old pull.new (read_given (LeafType own (kind_of kind)) (standing pull.old) g) (λ v. Leaf own v.items) result }
+    ensures reads { (g : Given) → (standing pull.old).error ≡ None
+        → (standing pull.old).given ≡ Some g
+        → AnswersValue pull.old pull.new
+        (read_given (LeafType own (kind_of kind)) (standing pull.old) g)
+        (λ v. Leaf own v.items) result }
     ensures contents { IfOk result (λ v. HasContents kind v.items) }
     ensures stands { OnOk result (Uses pull.old pull.new) }
     ensures keeps { Keeps pull.new result }

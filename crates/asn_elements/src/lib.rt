@@ -1,14 +1,18 @@
-//! What elements of ASN.1 are, and the leaves among them (X.690 8, 10, 11): `asn_values` passes all of it on but `keep` and `texts`.
+//! What elements of ASN.1 are, and the leaves among them (X.690 8, 10, 11): `asn_values` passes all of it on but `keep`
+//! and `texts`.
 //!
-//! `DerText` is what has a text in DER, `Element` what can be read as well, from any source and in any layout of BER. There are the leaves
-//! `Bool`, `Int`, `Null`, `Bits`, `Octets`, `Text` and `tlv_core`'s `Oid`. `ImplicitText` and `ImplicitElement` are what has a text and can be read under
-//! a tag in place of its own (X.690 8.14.3): `Bits`, and `asn_containers`' `SetOf`. `Implicit<N, T>` is such a value under the context-specific tag [N].
+//! `DerText` is what has a text in DER, `Element` what can be read as well, from any source and in any layout of BER.
+//! There are the leaves `Bool`, `Int`, `Null`, `Bits`, `Octets`, `Text` and `tlv_core`'s `Oid`. `ImplicitText` and
+//! `ImplicitElement` are what has a text and can be read under a tag in place of its own (X.690 8.14.3): `Bits`, and
+//! `asn_containers`' `SetOf`. `Implicit<N, T>` is such a value under the context-specific tag [N].
 //!
-//! Proved here, for each of them: `put` writes the text, `size` is its length, `octet` its octets, `der_text` the whole. A reader answers what the plain reading
-//! of its type (`x690`) gives for the octets taken: that value, or the first fault; a failed read only where that octet was needed; want of memory says nothing.
-//! The same under each implicit tag: the text is the value's under that tag, an element is read as the type under it, and exactly elements of that tag are of it.
-//! `from_content` and `from_slice` refuse exactly what they name. `same` is proved to be the same value.
-//! The lemmas on texts and readings of members stand here too, since lists, sets and open values share them.
+//! Proved here, for each of them: `put` writes the text, `size` is its length, `octet` its octets, `der_text` the
+//! whole. A reader answers what the plain reading of its type (`x690`) gives for the octets taken: that value, or the
+//! first fault; a failed read only where that octet was needed; want of memory says nothing. The same under each
+//! implicit tag: the text is the value's under that tag, an element is read as the type under it, and exactly elements
+//! of that tag are of it. `from_content` and `from_slice` refuse exactly what they name. `same` is proved to be the
+//! same value. The lemmas on texts and readings of members stand here too, since lists, sets and open values share
+//! them.
 #![tactic(auto)]
 
 pub mod bits;

@@ -51,7 +51,10 @@ pub fn read_identifier<R: Source>(alloc: Global, pull: &mut Pull<'_, R>) -> Resu
     requires { (standing pull.old).error ≡ None → IsSome (standing pull.old).given }
     ensures same_source { SameSource pull.old pull.new }
     ensures repeats { Repeats pull.old pull.new result }
-    ensures reads { (own : Identified) (g : Given) → (standing pull.old).error ≡ None → (standing pull.old).given ≡ Some g → Answers pull.old pull.new (read_given_leaf ObjectIdentifier own (standing pull.old) g) (heard (λ oid. Leaf own oid) result) }
+    ensures reads { (own : Identified) (g : Given) → (standing pull.old).error ≡ None
+        → (standing pull.old).given ≡ Some g
+        → Answers pull.old pull.new (read_given_leaf ObjectIdentifier own (standing pull.old) g)
+        (heard (λ oid. Leaf own oid) result) }
     ensures stands { OnOk result (Uses pull.old pull.new) }
     ensures keeps { Keeps pull.new result }
     ensures read { ReadsFail pull.old pull.new result }
@@ -74,7 +77,10 @@ pub fn read_identifier_into<R: Source>(
     requires { (standing pull.old).error ≡ None → IsSome (standing pull.old).given }
     ensures same_source { SameSource pull.old pull.new }
     ensures repeats { Repeats pull.old pull.new result }
-    ensures reads { (own : Identified) (g : Given) → (standing pull.old).error ≡ None → (standing pull.old).given ≡ Some g → Answers pull.old pull.new (read_given_leaf ObjectIdentifier own (standing pull.old) g) (heard (λ _. Leaf own contents.new.items) result) }
+    ensures reads { (own : Identified) (g : Given) → (standing pull.old).error ≡ None
+        → (standing pull.old).given ≡ Some g
+        → Answers pull.old pull.new (read_given_leaf ObjectIdentifier own (standing pull.old) g)
+        (heard (λ _. Leaf own contents.new.items) result) }
     ensures contents { OnOk result (IsObjectIdentifier contents.new.items) }
     ensures stands { OnOk result (Uses pull.old pull.new) }
     ensures keeps { Keeps pull.new result }
@@ -98,7 +104,11 @@ fn read_identifier_as<R: Source>(
     requires { (standing pull.old).error ≡ None → IsSome (standing pull.old).given }
     ensures same_source { SameSource pull.old pull.new }
     ensures repeats { Repeats pull.old pull.new result }
-    ensures reads { (g : Given) → (standing pull.old).error ≡ None → (standing pull.old).given ≡ Some g → AnswersValue pull.old pull.new (read_given (LeafType own ObjectIdentifier) (standing pull.old) g) (λ oid. Leaf own oid) result }
+    ensures reads { (g : Given) → (standing pull.old).error ≡ None
+        → (standing pull.old).given ≡ Some g
+        → AnswersValue pull.old pull.new
+        (read_given (LeafType own ObjectIdentifier) (standing pull.old) g)
+        (λ oid. Leaf own oid) result }
     ensures stands { OnOk result (Uses pull.old pull.new) }
     ensures keeps { Keeps pull.new result }
     ensures read { ReadsFail pull.old pull.new result }

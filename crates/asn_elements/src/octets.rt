@@ -37,7 +37,8 @@ impl Octets {
     /// Errors: `TooBig` where the text would be longer than 2^40 octets, `Memory`.
     pub fn from_slice(alloc: Global, octets: &[u8]) -> Result<Octets, BuildError>
         ensures made { IfOk result (λ o. octets_of o ≡ octets.now) }
-        ensures too_big { (result ≡ Err TooBig) ↔ (2 ^ 40 < length (der (Leaf (universal 4) octets.now))) }
+        ensures too_big { (result ≡ Err TooBig)
+            ↔ (2 ^ 40 < length (der (Leaf (universal 4) octets.now))) }
     {
         if is_long_leaf(universal_tag(4), octets) {
             return Err(BuildError::TooBig);

@@ -29,8 +29,8 @@ use tlv_core::source::Source;
 use tlv_core::tag::{Class, Tag};
 use tlv_core::target::Target;
 
-/// A character string or time, of whichever type its tag says (X.680 table 1). A UTF8String is UTF-8; of all others the octets are
-/// carried as they are.
+/// A character string or time, of whichever type its tag says (X.680 table 1). A UTF8String is UTF-8; of all others the
+/// octets are carried as they are.
 #[derive(Drop)]
 pub struct Text {
     tag: Tag,
@@ -60,7 +60,8 @@ impl Text {
 
     /// Whether the two are of one type, and have the same octets.
     pub fn same(&self, other: &Text) -> bool
-        ensures { IsTrue result ↔ ((text_tag self.now ≡ text_tag other.now) × (text_octets self.now ≡ text_octets other.now)) }
+        ensures { IsTrue result ↔ ((text_tag self.now ≡ text_tag other.now)
+            × (text_octets self.now ≡ text_octets other.now)) }
     {
         is_same_tag(self.tag, other.tag) && self.octets == other.octets
     }
@@ -90,8 +91,13 @@ fn expect_string<R: Source>(pull: &mut Pull<'_, R>) -> Result<Tag, ReadError>
     requires { (standing pull.old).error ≡ None → IsSome (standing pull.old).given }
     ensures same_source { SameSource pull.old pull.new }
     ensures repeats { Repeats pull.old pull.new result }
-    ensures stops { (g : Given) → (standing pull.old).error ≡ None → (standing pull.old).given ≡ Some g → IfErr result (λ e. (p : Reading Value) → Answers pull.old pull.new (require (fits_tag string_types g.tag) (fault g.at WrongTag) p) (heard_error e)) }
-    ensures is { (g : Given) → (standing pull.old).error ≡ None → (standing pull.old).given ≡ Some g → IfOk result (λ tag. tag ≡ g.tag) }
+    ensures stops { (g : Given) → (standing pull.old).error ≡ None
+        → (standing pull.old).given ≡ Some g
+        → IfErr result (λ e. (p : Reading Value)
+        → Answers pull.old pull.new
+        (require (fits_tag string_types g.tag) (fault g.at WrongTag) p) (heard_error e)) }
+    ensures is { (g : Given) → (standing pull.old).error ≡ None → (standing pull.old).given ≡ Some g
+        → IfOk result (λ tag. tag ≡ g.tag) }
     ensures string { IfOk result (λ tag. fits_tag string_types tag ≡ true) }
     ensures same { OnOk result (Unmoved pull.old pull.new) }
     ensures fine { OnOk result ((standing pull.old).error ≡ None) }
@@ -114,7 +120,8 @@ impl DerText for Text {
 
     ghost value = { λ text. Leaf (text_tag text) (text_octets text) };
 
-    ghost one_text = { λ x y. leaf_one_text (text_tag x) (text_tag y) (text_octets x) (text_octets y) };
+    ghost one_text = { λ x y. leaf_one_text (text_tag x) (text_tag y) (text_octets x)
+        (text_octets y) };
 
     fn size(&self) -> u64 {
         leaf_size(self.tag, &self.octets)

@@ -10,7 +10,8 @@ ghost use Rattle.asn_elements.specs.Members.{StandIn};
 pub fn text_at<'a>(octets: &'a [u8], starts: &[u64], i: usize) -> &'a [u8]
     requires stand { (values : List Value) × StandIn values octets.now starts.now }
     requires inside { i < length starts.now }
-    ensures { (values : List Value) → StandIn values octets.now starts.now → result.now ≡ get_or (map der values) i [] }
+    ensures { (values : List Value) → StandIn values octets.now starts.now
+        → result.now ≡ get_or (map der values) i [] }
 {
     let end = if i + 1 < starts.len() {
         starts[i + 1] as usize
@@ -23,7 +24,8 @@ pub fn text_at<'a>(octets: &'a [u8], starts: &[u64], i: usize) -> &'a [u8]
 /// Whether no text is less than the one before it.
 pub fn ascend(octets: &[u8], starts: &[u64]) -> bool
     requires { (values : List Value) × StandIn values octets.now starts.now }
-    ensures { (values : List Value) → StandIn values octets.now starts.now → (IsTrue result ↔ IsSorted (slice_cmp nat_cmp) (map der values)) }
+    ensures { (values : List Value) → StandIn values octets.now starts.now
+        → (IsTrue result ↔ IsSorted (slice_cmp nat_cmp) (map der values)) }
 {
     for i in 1..starts.len() {
         let before = text_at(octets, starts, i - 1);

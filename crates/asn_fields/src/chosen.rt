@@ -58,7 +58,8 @@ impl<A: FieldsText, X: Element, Y: Element, K: Choice<A, X, Y>> Chosen<A, X, Y, 
     /// The field.
     pub fn field(&self) -> &Either<X, Y>
         ensures value { result.now ≡ self.now.field }
-        ensures chosen { is_first result.now ≡ one_of (leaf_at K.path (A.values self.now.earlier)) K.octets }
+        ensures chosen { is_first result.now ≡ one_of
+            (leaf_at K.path (A.values self.now.earlier)) K.octets }
     {
         &self.field
     }
@@ -94,17 +95,23 @@ impl<'a, X: Element, Y: Element> Parts for Picked<'a, X, Y> {
 }
 
 impl<A: FieldsText, X: Element, Y: Element, K: Choice<A, X, Y>> FieldsText for Chosen<A, X, Y, K> {
-    ghost types = { λ rest. A.types (Required (DefinedByType K.path K.octets X.type_term Y.type_term) rest) };
+    ghost types = { λ rest. A.types (Required
+        (DefinedByType K.path K.octets X.type_term Y.type_term) rest) };
 
     ghost most = { A.most + 1 };
 
     ghost values = { λ c. A.values c.earlier ++ (either_of X.value Y.value c.field ∷ []) };
 
-    ghost known = { λ c. A.known c.earlier && known_either A.known A.types A.values X.value Y.value X.one_text Y.one_text X.type_term Y.type_term K.path K.octets c.field };
+    ghost known = { λ c. A.known c.earlier
+        && known_either A.known A.types A.values X.value Y.value X.one_text Y.one_text
+        X.type_term Y.type_term K.path K.octets c.field };
 
-    ghost begins = { λ x. chosen_begin A.known A.types A.values X.value Y.value X.one_text Y.one_text X.type_term Y.type_term K.path K.octets A.begins (x.earlier, x.field) };
+    ghost begins = { λ x. chosen_begin A.known A.types A.values X.value Y.value X.one_text
+        Y.one_text X.type_term Y.type_term K.path K.octets A.begins (x.earlier, x.field) };
 
-    ghost tells = { λ x y. chosen_tell A.known A.types A.values X.value Y.value X.one_text Y.one_text X.type_term Y.type_term K.path K.octets A.tells (x.earlier, x.field) (y.earlier, y.field) x.chosen y.chosen };
+    ghost tells = { λ x y. chosen_tell A.known A.types A.values X.value Y.value X.one_text
+        Y.one_text X.type_term Y.type_term K.path K.octets A.tells (x.earlier, x.field)
+        (y.earlier, y.field) x.chosen y.chosen };
 
     fn size(&self) -> u64 {
         let parts = (Kept(&self.earlier), Picked(&self.field));

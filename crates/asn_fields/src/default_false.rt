@@ -26,7 +26,8 @@ pub struct DefaultFalse(pub bool);
 
 /// Whether the BOOLEAN is there and TRUE.
 fn is_true(field: Option<Bool>) -> bool
-    ensures { unless_false result ≡ but_default (universal 1) (0 ∷ []) (option_map (⟦<Bool as DerText>⟧.value) field) }
+    ensures { unless_false result ≡ but_default (universal 1) (0 ∷ [])
+        (option_map (⟦<Bool as DerText>⟧.value) field) }
 {
     match field {
         Some(b) => b.value(),
@@ -52,9 +53,12 @@ impl FieldsText for DefaultFalse {
 
     ghost known = { λ field. true };
 
-    ghost begins = { λ x rest vs h b. default_begins (universal 1) (0 ∷ []) (LeafType (universal 1) Boolean) (unless_false x.0) rest vs (flag_fits x.0) b };
+    ghost begins = { λ x rest vs h b. default_begins (universal 1) (0 ∷ [])
+        (LeafType (universal 1) Boolean) (unless_false x.0) rest vs (flag_fits x.0) b };
 
-    ghost tells = { λ x y rest vs ws h k d b c e. default_tells (universal 1) (0 ∷ []) (LeafType (universal 1) Boolean) (unless_false x.0) (unless_false y.0) rest vs ws (flag_one_text x.0 y.0) (flag_fits x.0) (flag_fits y.0) d b c e };
+    ghost tells = { λ x y rest vs ws h k d b c e. default_tells (universal 1) (0 ∷ [])
+        (LeafType (universal 1) Boolean) (unless_false x.0) (unless_false y.0) rest vs ws
+        (flag_one_text x.0 y.0) (flag_fits x.0) (flag_fits y.0) d b c e };
 
     fn size(&self) -> u64 {
         self.text().len() as u64

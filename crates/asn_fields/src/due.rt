@@ -30,7 +30,8 @@ impl<T: Element> FieldsText for Due<T> {
 
     ghost begins = { λ x rest vs h b. due_begins T.type_term (T.value x.0) rest vs h };
 
-    ghost tells = { λ x y rest vs ws h k d b c e. due_tells T.type_term (T.value x.0) (T.value y.0) rest vs ws (T.one_text x.0 y.0) d e };
+    ghost tells = { λ x y rest vs ws h k d b c e. due_tells T.type_term (T.value x.0)
+        (T.value y.0) rest vs ws (T.one_text x.0 y.0) d e };
 
     fn size(&self) -> u64 {
         self.0.size()

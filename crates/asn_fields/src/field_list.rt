@@ -66,8 +66,10 @@ pub trait Fields: FieldsText {
         requires fine { (standing pull.old).error ≡ None }
         requires inside { IsInside pull.old next.old }
         ensures same_source { SameSource pull.old pull.new }
-        ensures reads { ReadsFields pull.old pull.new next.old next.new Self.types Self.values result }
-        ensures short { IfOk result (λ fields. length (texts_of (Self.values fields)) ≤ Self.most * 2 ^ 32) }
+        ensures reads { ReadsFields pull.old pull.new next.old next.new Self.types Self.values
+            result }
+        ensures short { IfOk result (λ fields. length (texts_of (Self.values fields))
+            ≤ Self.most * 2 ^ 32) }
         ensures known { IfOk result (λ fields. Self.known fields ≡ true) }
         ensures stands { OnOk result (StaysInside pull.old pull.new next.old next.new) }
         ensures keeps { Keeps pull.new result }
@@ -87,7 +89,8 @@ pub trait FirstFields: FieldsText {
         requires inside { IsInside pull.old next.old }
         ensures same_source { SameSource pull.old pull.new }
         ensures reads { ReadsFirst pull.old pull.new next.old next.new Self.types Self.values result }
-        ensures short { IfOk result (λ fields. length (texts_of (Self.values fields)) ≤ Self.most * 2 ^ 32) }
+        ensures short { IfOk result (λ fields. length (texts_of (Self.values fields))
+            ≤ Self.most * 2 ^ 32) }
         ensures known { IfOk result (λ fields. Self.known fields ≡ true) }
         ensures stands { OnOk result (StaysInside pull.old pull.new next.old next.new) }
         ensures keeps { Keeps pull.new result }
@@ -106,7 +109,8 @@ impl<A: FieldsText, B: FieldsText> FieldsText for (A, B) {
 
     ghost begins = { both_begin A.known A.types A.values B.known B.types B.values A.begins B.begins };
 
-    ghost tells = { both_tell A.known A.types A.values B.known B.types B.values B.begins A.tells B.tells };
+    ghost tells = { both_tell A.known A.types A.values B.known B.types B.values B.begins A.tells
+        B.tells };
 
     fn size(&self) -> u64 {
         let (first, rest) = self;

@@ -159,7 +159,8 @@ pub fn end<R: Source>(pull: &mut Pull<'_, R>, next: Next) -> Result<(), ReadErro
     requires fine { (standing pull.old).error ≡ None }
     requires inside { IsInside pull.old next }
     ensures same_source { SameSource pull.old pull.new }
-    ensures reads { AnswersInside pull.old pull.new next (λ _ _. read_end (next_of next)) (heard (λ u. u) result) }
+    ensures reads { AnswersInside pull.old pull.new next (λ _ _. read_end (next_of next))
+        (heard (λ u. u) result) }
     ensures stands { OnOk result (LeavesContainer pull.old pull.new next) }
     ensures keeps { Keeps pull.new result }
     ensures read { ReadsFail pull.old pull.new result }

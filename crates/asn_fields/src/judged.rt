@@ -70,11 +70,14 @@ impl<A: FieldsText, T: Element, K: FieldRules<A, T>> FieldsText for Judged<A, T,
 
     ghost values = { λ j. A.values j.fields.0 ++ (T.value j.fields.1.0 ∷ []) };
 
-    ghost known = { λ j. A.known j.fields.0 && may_begin T.type_term (value_tag (T.value j.fields.1.0)) };
+    ghost known = { λ j. A.known j.fields.0
+        && may_begin T.type_term (value_tag (T.value j.fields.1.0)) };
 
-    ghost begins = { λ x. judged_begin A.known A.types A.values T.value T.one_text T.type_term K.rule A.begins (x.fields.0, x.fields.1.0) };
+    ghost begins = { λ x. judged_begin A.known A.types A.values T.value T.one_text T.type_term
+        K.rule A.begins (x.fields.0, x.fields.1.0) };
 
-    ghost tells = { λ x y. judged_tell A.known A.types A.values T.value T.one_text T.type_term K.rule A.tells (x.fields.0, x.fields.1.0) (y.fields.0, y.fields.1.0) };
+    ghost tells = { λ x y. judged_tell A.known A.types A.values T.value T.one_text T.type_term
+        K.rule A.tells (x.fields.0, x.fields.1.0) (y.fields.0, y.fields.1.0) };
 
     fn size(&self) -> u64 {
         self.fields.size()

@@ -29,9 +29,12 @@ impl<T: Element> FieldsText for Optional<T> {
 
     ghost known = { λ field. fits_one T.type_term (option_map T.value field.0) };
 
-    ghost begins = { λ x rest vs h b. optional_begins T.type_term (option_map T.value x.0) rest vs h b };
+    ghost begins = { λ x rest vs h b. optional_begins T.type_term
+        (option_map T.value x.0) rest vs h b };
 
-    ghost tells = { λ x y rest vs ws h k d b c e. optional_tells T.type_term (option_map T.value x.0) (option_map T.value y.0) rest vs ws (field_one_text T.value T.one_text x.0 y.0) h k d b c e };
+    ghost tells = { λ x y rest vs ws h k d b c e. optional_tells T.type_term
+        (option_map T.value x.0) (option_map T.value y.0) rest vs ws
+        (field_one_text T.value T.one_text x.0 y.0) h k d b c e };
 
     fn size(&self) -> u64 {
         match &self.0 {

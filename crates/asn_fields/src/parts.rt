@@ -71,7 +71,8 @@ pub fn put_sequence<P: Parts, W: Target>(
     sink: &mut Sink<'_, W>,
 ) -> Result<(), WriteError>
     requires small { length (texts_of (P.values parts.now)) < 2 ^ 63 }
-    requires room { count sink.old + length (der (Sequence tag (values_of (P.values parts.now)))) < 2 ^ 64 }
+    requires room { count sink.old + length (der (Sequence tag (values_of (P.values parts.now))))
+        < 2 ^ 64 }
     ensures { Puts (der (Sequence tag (values_of (P.values parts.now)))) sink.old sink.new result }
 {
     put_header(tag, true, parts.length(), sink)?;

@@ -54,7 +54,9 @@ impl<K: Form> Record<K> {
 
     /// Whether the two are the same.
     pub fn same(&self, other: &Record<K>) -> bool
-        ensures { IsTrue result ↔ Same (Sequence (universal 16) (values_of (K.Fields.values self.now.fields))) (Sequence (universal 16) (values_of (K.Fields.values other.now.fields))) }
+        ensures { IsTrue result ↔ Same
+            (Sequence (universal 16) (values_of (K.Fields.values self.now.fields)))
+            (Sequence (universal 16) (values_of (K.Fields.values other.now.fields))) }
     {
         same_text(self, other)
     }
@@ -63,7 +65,8 @@ impl<K: Form> Record<K> {
 impl<K: Form> DerText for Record<K> {
     ghost value = { λ r. Sequence (universal 16) (values_of (K.Fields.values r.fields)) };
 
-    ghost one_text = { λ x y. record_one_text K.Fields.known K.Fields.types K.Fields.values K.Fields.tells x.parted (universal 16) x.fields y.fields x.known y.known };
+    ghost one_text = { λ x y. record_one_text K.Fields.known K.Fields.types K.Fields.values
+        K.Fields.tells x.parted (universal 16) x.fields y.fields x.known y.known };
 
     fn size(&self) -> u64 {
         sequence_size(universal_tag(16), &Kept(&self.fields))

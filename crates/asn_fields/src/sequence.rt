@@ -32,7 +32,8 @@ pub fn read_sequence<R: Source, F: FirstFields>(
     requires { (standing pull.old).error ≡ None → IsSome (standing pull.old).given }
     ensures same_source { SameSource pull.old pull.new }
     ensures repeats { Repeats pull.old pull.new result }
-    ensures reads { AnswersSequence pull.old pull.new (universal 16) (F.types EndOfFields) F.values result }
+    ensures reads { AnswersSequence pull.old pull.new (universal 16)
+        (F.types EndOfFields) F.values result }
     ensures short { IfOk result (λ fields. length (texts_of (F.values fields)) ≤ F.most * 2 ^ 32) }
     ensures known { IfOk result (λ fields. F.known fields ≡ true) }
     ensures stands { OnOk result (Uses pull.old pull.new) }

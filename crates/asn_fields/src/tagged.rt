@@ -39,7 +39,9 @@ impl<const N: u8, T: DerText> Tagged<N, T> {
 
     /// Whether the two are the same.
     pub fn same(&self, other: &Tagged<N, T>) -> bool
-        ensures { IsTrue result ↔ Same (Sequence (context_specific N) (values_of (T.value self.now.inner ∷ []))) (Sequence (context_specific N) (values_of (T.value other.now.inner ∷ []))) }
+        ensures { IsTrue result ↔ Same
+            (Sequence (context_specific N) (values_of (T.value self.now.inner ∷ [])))
+            (Sequence (context_specific N) (values_of (T.value other.now.inner ∷ []))) }
     {
         same_text(self, other)
     }
@@ -51,15 +53,18 @@ impl<const N: u8, T: DerText> Tagged<N, T> {
     }
 
     fn put_as<W: Target>(&self, sink: &mut Sink<'_, W>, tag: Tag) -> Result<(), WriteError>
-        requires { count sink.old + length (der (Sequence tag (values_of (T.value self.now.inner ∷ [])))) < 2 ^ 64 }
-        ensures { Puts (der (Sequence tag (values_of (T.value self.now.inner ∷ [])))) sink.old sink.new result }
+        requires { count sink.old + length
+            (der (Sequence tag (values_of (T.value self.now.inner ∷ [])))) < 2 ^ 64 }
+        ensures { Puts (der (Sequence tag (values_of (T.value self.now.inner ∷ [])))) sink.old
+            sink.new result }
     {
         put_header(tag, true, self.inner.size(), sink)?;
         self.inner.put(sink)
     }
 
     fn octet_as(&self, i: u64, tag: Tag) -> Option<u8>
-        ensures { result ≡ slice_get (der (Sequence tag (values_of (T.value self.now.inner ∷ [])))) i }
+        ensures { result ≡ slice_get (der (Sequence tag (values_of (T.value self.now.inner ∷ []))))
+            i }
     {
         match find_octet(tag, true, self.inner.size(), i) {
             Stands::InHeader(octet) => Some(octet),
@@ -71,7 +76,8 @@ impl<const N: u8, T: DerText> Tagged<N, T> {
 impl<const N: u8, T: DerText> DerText for Tagged<N, T> {
     ghost value = { λ tagged. Sequence (context_specific N) (values_of (T.value tagged.inner ∷ [])) };
 
-    ghost one_text = { λ x y. single_one_text T.value T.one_text (context_specific N) x.inner y.inner };
+    ghost one_text = { λ x y. single_one_text T.value T.one_text
+        (context_specific N) x.inner y.inner };
 
     fn size(&self) -> u64 {
         self.size_as(context_tag(u32::from(N)))

@@ -1,7 +1,8 @@
 //! Open values: elements of any type, read by their tags alone.
 //!
-//! Universal tags say their types (X.680 8.6); elements of other classes keep their octets where they are primitive, and their elements in
-//! order where they are constructed. An open value is kept as its DER text, so that writing and comparing it is a matter of octets.
+//! Universal tags say their types (X.680 8.6); elements of other classes keep their octets where they are primitive,
+//! and their elements in order where they are constructed. An open value is kept as its DER text, so that writing and
+//! comparing it is a matter of octets.
 ghost use Rattle.std.proofs.Common.{ap, sym, ◌∙◌};
 ghost use Rattle.x690_laws.proofs.OneValue.{same_of};
 ghost use Rattle.std.specs.Prelude.{◌≡◌, ◌↔◌, IfOk, IsTrue};
@@ -71,7 +72,8 @@ impl DerText for Any {
 
     ghost value = { open_value_of };
 
-    ghost one_text = { λ x y e. same_of (open_value_of x) (open_value_of y) (ap open_value (sym x.whole ∙ e ∙ y.whole)) };
+    ghost one_text = { λ x y e. same_of (open_value_of x) (open_value_of y)
+        (ap open_value (sym x.whole ∙ e ∙ y.whole)) };
 
     fn size(&self) -> u64 {
         self.text.len() as u64

@@ -2,8 +2,9 @@
 //!
 //! An `Any` holds its text in DER, with the members of each SET inside in their order.
 //!
-//! Proved here: a reader answers what the plain reading of an open value gives for the octets taken, whatever the layout: the text of a value that is the same up to
-//! the order in SET OF, or the first fault; that text says the value again, so `same` is the same value; `put`, `size` and `octet` are the text's.
+//! Proved here: a reader answers what the plain reading of an open value gives for the octets taken, whatever the
+//! layout: the text of a value that is the same up to the order in SET OF, or the first fault; that text says the value
+//! again, so `same` is the same value; `put`, `size` and `octet` are the text's.
 #![tactic(auto)]
 
 pub mod any;

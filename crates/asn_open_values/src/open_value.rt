@@ -36,7 +36,8 @@ fn push_element(
     constructed: bool,
     contents: &[u8],
 ) -> Result<(), AllocError>
-    ensures { OnOk result (text.new.items ≡ text.old.items ++ (der_header tag constructed (length contents.now) ++ contents.now)) }
+    ensures { OnOk result (text.new.items ≡ text.old.items
+        ++ (der_header tag constructed (length contents.now) ++ contents.now)) }
 {
     let length = contents.len() as u64;
     match short_header(tag, constructed, length) {
@@ -57,9 +58,11 @@ fn append_element<R: Source>(
 ) -> Result<(), ReadError>
     requires { (standing pull.old).error ≡ None }
     ensures same_source { SameSource pull.old pull.new }
-    ensures put { OnOk result (text.new.items ≡ text.old.items ++ (der_header tag constructed (length contents.now) ++ contents.now)) }
+    ensures put { OnOk result (text.new.items ≡ text.old.items
+        ++ (der_header tag constructed (length contents.now) ++ contents.now)) }
     ensures still { OnOk result (pull.new ≡ pull.old) }
-    ensures stops { IfErr result (λ e. (e ≡ Memory) × (source pull.new ≡ source pull.old) × (standing pull.new ≡ failed_with e (standing pull.old))) }
+    ensures stops { IfErr result (λ e. (e ≡ Memory) × (source pull.new ≡ source pull.old)
+        × (standing pull.new ≡ failed_with e (standing pull.old))) }
     ensures keeps { Keeps pull.new result }
     ensures read { ReadsFail pull.old pull.new result }
     ensures onward { Onward pull.old pull.new }
@@ -70,7 +73,8 @@ fn append_element<R: Source>(
     }
 }
 
-/// The DER contents of the leaf that is given, whatever its tag, in place of what the vector holds; of a form that has no kind its octets as they are.
+/// The DER contents of the leaf that is given, whatever its tag, in place of what the vector holds; of a form that has
+/// no kind its octets as they are.
 #[inline(always)]
 fn read_contents<R: Source>(
     alloc: Global,
@@ -81,7 +85,10 @@ fn read_contents<R: Source>(
     requires { (standing pull.old).error ≡ None → IsSome (standing pull.old).given }
     ensures same_source { SameSource pull.old pull.new }
     ensures repeats { Repeats pull.old pull.new result }
-    ensures reads { (own : Identified) (g : Given) → (standing pull.old).error ≡ None → (standing pull.old).given ≡ Some g → Answers pull.old pull.new (read_given_contents form own (standing pull.old) g) (heard (λ _. Leaf own contents.new.items) result) }
+    ensures reads { (own : Identified) (g : Given) → (standing pull.old).error ≡ None
+        → (standing pull.old).given ≡ Some g
+        → Answers pull.old pull.new (read_given_contents form own (standing pull.old) g)
+        (heard (λ _. Leaf own contents.new.items) result) }
     ensures stands { OnOk result (Uses pull.old pull.new) }
     ensures keeps { Keeps pull.new result }
     ensures read { ReadsFail pull.old pull.new result }
@@ -109,7 +116,10 @@ fn append_leaf<R: Source>(
     requires { (standing pull.old).error ≡ None → IsSome (standing pull.old).given }
     ensures same_source { SameSource pull.old pull.new }
     ensures repeats { Repeats pull.old pull.new result }
-    ensures reads { (g : Given) → (standing pull.old).error ≡ None → (standing pull.old).given ≡ Some g → AnswersText pull.old pull.new (read_given_contents form tag (standing pull.old) g) text.old.items text.new.items result }
+    ensures reads { (g : Given) → (standing pull.old).error ≡ None
+        → (standing pull.old).given ≡ Some g
+        → AnswersText pull.old pull.new
+        (read_given_contents form tag (standing pull.old) g) text.old.items text.new.items result }
     ensures stands { OnOk result (Uses pull.old pull.new) }
     ensures keeps { Keeps pull.new result }
     ensures read { ReadsFail pull.old pull.new result }
@@ -130,9 +140,12 @@ fn arranged<R: Source>(
     requires fine { (standing pull.old).error ≡ None }
     requires texts { (values : List Value) × StandIn values octets.items starts.now }
     ensures same_source { SameSource pull.old pull.new }
-    ensures is { IfOk result (λ contents. (values : List Value) (tag : Identified) → StandIn values octets.items starts.now → der (container is_set tag (values_of values)) ≡ framed tag contents.items) }
+    ensures is { IfOk result (λ contents. (values : List Value) (tag : Identified)
+        → StandIn values octets.items starts.now
+        → der (container is_set tag (values_of values)) ≡ framed tag contents.items) }
     ensures still { OnOk result (pull.new ≡ pull.old) }
-    ensures stops { IfErr result (λ e. (e ≡ Memory) × (source pull.new ≡ source pull.old) × (standing pull.new ≡ failed_with e (standing pull.old))) }
+    ensures stops { IfErr result (λ e. (e ≡ Memory) × (source pull.new ≡ source pull.old)
+        × (standing pull.new ≡ failed_with e (standing pull.old))) }
     ensures keeps { Keeps pull.new result }
     ensures read { ReadsFail pull.old pull.new result }
     ensures onward { Onward pull.old pull.new }
@@ -156,7 +169,11 @@ fn read_members<R: Source>(
     requires { (standing pull.old).error ≡ None → IsSome (standing pull.old).given }
     ensures same_source { SameSource pull.old pull.new }
     ensures repeats { Repeats pull.old pull.new result }
-    ensures reads { (deep : ℕ) (g : Given) → (standing pull.old).error ≡ None → (standing pull.old).given ≡ Some g → (standing pull.old).limits.depth ≤ suc deep + length (standing pull.old).containers → AnswersTexts pull.old pull.new (read_given_open_members deep (standing pull.old) g) (λ r. r.0.items) (λ r. r.1.items) result }
+    ensures reads { (deep : ℕ) (g : Given) → (standing pull.old).error ≡ None
+        → (standing pull.old).given ≡ Some g
+        → (standing pull.old).limits.depth ≤ suc deep + length (standing pull.old).containers
+        → AnswersTexts pull.old pull.new (read_given_open_members deep (standing pull.old) g)
+        (λ r. r.0.items) (λ r. r.1.items) result }
     ensures texts { IfOk result (λ r. (values : List Value) × StandIn values r.0.items r.1.items) }
     ensures stands { OnOk result (Uses pull.old pull.new) }
     ensures keeps { Keeps pull.new result }
@@ -188,7 +205,12 @@ fn append_container<R: Source>(
     requires { (standing pull.old).error ≡ None → IsSome (standing pull.old).given }
     ensures same_source { SameSource pull.old pull.new }
     ensures repeats { Repeats pull.old pull.new result }
-    ensures reads { (deep : ℕ) (g : Given) → (standing pull.old).error ≡ None → (standing pull.old).given ≡ Some g → (standing pull.old).limits.depth ≤ suc deep + length (standing pull.old).containers → AnswersText pull.old pull.new (read_given_container deep is_set tag (standing pull.old) g) text.old.items text.new.items result }
+    ensures reads { (deep : ℕ) (g : Given) → (standing pull.old).error ≡ None
+        → (standing pull.old).given ≡ Some g
+        → (standing pull.old).limits.depth ≤ suc deep + length (standing pull.old).containers
+        → AnswersText pull.old pull.new
+        (read_given_container deep is_set tag (standing pull.old) g) text.old.items
+        text.new.items result }
     ensures stands { OnOk result (Uses pull.old pull.new) }
     ensures keeps { Keeps pull.new result }
     ensures read { ReadsFail pull.old pull.new result }
@@ -199,9 +221,11 @@ fn append_container<R: Source>(
     append_element(pull, text, tag, true, &contents)
 }
 
-/// Appends the text of the open value that is given, of this tag and form. Contents of leaves are read in `room`, which is used again for each.
+/// Appends the text of the open value that is given, of this tag and form. Contents of leaves are read in `room`, which
+/// is used again for each.
 ///
-/// Faults, at the identifier: `LeftOut` of a universal tag that isn't read; those of a leaf and its contents, of `Pull::enter`, and of members.
+/// Faults, at the identifier: `LeftOut` of a universal tag that isn't read; those of a leaf and its contents, of
+/// `Pull::enter`, and of members.
 #[cycle(open)]
 pub fn append_open<R: Source>(
     alloc: Global,
@@ -215,7 +239,11 @@ pub fn append_open<R: Source>(
     requires next { (standing pull.old).error ≡ None → IsNext tag constructed (standing pull.old) }
     ensures same_source { SameSource pull.old pull.new }
     ensures repeats { Repeats pull.old pull.new result }
-    ensures reads { (deep : ℕ) (g : Given) → (standing pull.old).error ≡ None → (standing pull.old).given ≡ Some g → (standing pull.old).limits.depth ≤ deep + length (standing pull.old).containers → AnswersText pull.old pull.new (read_given_open deep (standing pull.old) g) text.old.items text.new.items result }
+    ensures reads { (deep : ℕ) (g : Given) → (standing pull.old).error ≡ None
+        → (standing pull.old).given ≡ Some g
+        → (standing pull.old).limits.depth ≤ deep + length (standing pull.old).containers
+        → AnswersText pull.old pull.new
+        (read_given_open deep (standing pull.old) g) text.old.items text.new.items result }
     ensures stands { OnOk result (Uses pull.old pull.new) }
     ensures keeps { Keeps pull.new result }
     ensures read { ReadsFail pull.old pull.new result }

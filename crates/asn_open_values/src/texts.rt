@@ -11,7 +11,8 @@ use std::alloc::{AllocError, Global};
 /// The texts, each for itself.
 fn cut<'a>(alloc: Global, octets: &'a [u8], starts: &[u64]) -> Result<Vec<&'a [u8]>, AllocError>
     requires { (values : List Value) × StandIn values octets.now starts.now }
-    ensures { IfOk result (λ texts. (values : List Value) → StandIn values octets.now starts.now → map (λ t. t.now) texts.items ≡ map der values) }
+    ensures { IfOk result (λ texts. (values : List Value) → StandIn values octets.now starts.now
+        → map (λ t. t.now) texts.items ≡ map der values) }
 {
     let mut texts = Vec::with_capacity(alloc, starts.len())?;
     for i in 0..starts.len() {
@@ -31,11 +32,12 @@ fn joined(alloc: Global, capacity: usize, texts: &[&[u8]]) -> Result<Vec<u8>, Al
     Ok(octets)
 }
 
-/// The texts that stand one after another in `octets`, each beginning at one of `starts`, in the order of SET OF; equal ones stay.
-/// No DER text begins another one, so the plain order of octets, in which nothing is padded, is that order.
+/// The texts that stand one after another in `octets`, each beginning at one of `starts`, in the order of SET OF; equal
+/// ones stay. No DER text begins another one, so the plain order of octets, in which nothing is padded, is that order.
 pub fn in_order(alloc: Global, octets: Vec<u8>, starts: &[u64]) -> Result<Vec<u8>, AllocError>
     requires { (values : List Value) × StandIn values octets.items starts.now }
-    ensures { IfOk result (λ sorted. (values : List Value) → StandIn values octets.items starts.now → sorted.items ≡ join (arrange (map der values))) }
+    ensures { IfOk result (λ sorted. (values : List Value) → StandIn values octets.items starts.now
+        → sorted.items ≡ join (arrange (map der values))) }
 {
     // In DER they stand so already.
     if ascend(&octets, starts) {

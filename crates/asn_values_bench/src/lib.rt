@@ -13,7 +13,8 @@ use tlv_core::limits::Limits;
 use tlv_core::sink::Sink;
 use tlv_core::target::ToWrite;
 
-/// Reads the value that `src` begins with and writes its text where `dst` begins: the length of the text, 0 where it doesn't fit.
+/// Reads the value that `src` begins with and writes its text where `dst` begins: the length of the text, 0 where it
+/// doesn't fit.
 fn copy_text<T: Element>(alloc: Global, src: &[u8], dst: &mut [u8]) -> Result<u64, ReadError> {
     let Some(limits) = Limits::new(64, 2_147_483_647) else {
         return Ok(0);

@@ -29,7 +29,10 @@ impl<R: Source> Pull<'_, R> {
         requires { (standing self.old).error ≡ None → IsSome (standing self.old).given }
         ensures same_source { SameSource self.old self.new }
         ensures repeats { Repeats self.old self.new result }
-        ensures reads { (g : Given) → (standing self.old).error ≡ None → (standing self.old).given ≡ Some g → Answers self.old self.new (read_primitive (standing self.old) g) (heard (λ v. v.items) result) }
+        ensures reads { (g : Given) → (standing self.old).error ≡ None
+            → (standing self.old).given ≡ Some g
+            → Answers self.old self.new (read_primitive (standing self.old) g)
+            (heard (λ v. v.items) result) }
         ensures stands { OnOk result (Uses self.old self.new) }
         ensures keeps { Keeps self.new result }
         ensures read { ReadsFail self.old self.new result }
@@ -40,14 +43,17 @@ impl<R: Source> Pull<'_, R> {
         Ok(octets)
     }
 
-    /// The same, in place of what the vector holds: its room is used again, so that many small elements need no allocation each.
-    /// What the vector holds after an error isn't said.
+    /// The same, in place of what the vector holds: its room is used again, so that many small elements need no
+    /// allocation each. What the vector holds after an error isn't said.
     #[inline(always)]
     pub fn primitive_into(&mut self, octets: &mut Vec<u8>) -> Result<(), ReadError>
         requires { (standing self.old).error ≡ None → IsSome (standing self.old).given }
         ensures same_source { SameSource self.old self.new }
         ensures repeats { Repeats self.old self.new result }
-        ensures reads { (g : Given) → (standing self.old).error ≡ None → (standing self.old).given ≡ Some g → Answers self.old self.new (read_primitive (standing self.old) g) (heard (λ _. octets.new.items) result) }
+        ensures reads { (g : Given) → (standing self.old).error ≡ None
+            → (standing self.old).given ≡ Some g
+            → Answers self.old self.new (read_primitive (standing self.old) g)
+            (heard (λ _. octets.new.items) result) }
         ensures stands { OnOk result (Uses self.old self.new) }
         ensures keeps { Keeps self.new result }
         ensures read { ReadsFail self.old self.new result }
@@ -72,7 +78,9 @@ impl<R: Source> Pull<'_, R> {
     ) -> Result<(), ReadError>
         requires { (standing self.old).error ≡ None }
         ensures same_source { SameSource self.old self.new }
-        ensures reads { Answers self.old self.new (primitive_contents (standing self.old).limits (enclosing (standing self.old)) start) (heard (λ _. octets.new.items) result) }
+        ensures reads { Answers self.old self.new
+            (primitive_contents (standing self.old).limits (enclosing (standing self.old)) start)
+            (heard (λ _. octets.new.items) result) }
         ensures stands { OnOk result (Uses self.old self.new) }
         ensures keeps { Keeps self.new result }
         ensures read { ReadsFail self.old self.new result }
@@ -89,7 +97,8 @@ impl<R: Source> Pull<'_, R> {
         requires live { (standing self.old).error ≡ None }
         requires within { (standing self.old).taken + count ≤ (standing self.old).limits.octets }
         ensures same_source { SameSource self.old self.new }
-        ensures reads { Answers self.old self.new (next_octets count) (heard (λ _. octets.new.items) result) }
+        ensures reads { Answers self.old self.new (next_octets count)
+            (heard (λ _. octets.new.items) result) }
         ensures stands { Moves self.old self.new result }
         ensures read { ReadsFail self.old self.new result }
         ensures onward { Onward self.old self.new }
@@ -128,9 +137,11 @@ impl<R: Source> Pull<'_, R> {
         requires live { (standing self.old).error ≡ None }
         requires some { 0 < length room.old }
         requires short { length room.old ≤ 1024 }
-        requires within { (standing self.old).taken + length room.old ≤ (standing self.old).limits.octets }
+        requires within { (standing self.old).taken + length room.old
+            ≤ (standing self.old).limits.octets }
         ensures same_source { SameSource self.old self.new }
-        ensures adds { (most : ℕ) → length room.old ≤ most → AddsPiece self.old self.new octets.old.items octets.new.items most result }
+        ensures adds { (most : ℕ) → length room.old ≤ most
+            → AddsPiece self.old self.new octets.old.items octets.new.items most result }
         ensures stands { Moves self.old self.new result }
         ensures read { ReadsFail self.old self.new result }
         ensures onward { Onward self.old self.new }

@@ -31,7 +31,9 @@ impl<R: Source> Pull<'_, R> {
     pub(crate) fn octet(&mut self, start: u32) -> Result<u8, ReadError>
         requires { (standing self.old).error ≡ None }
         ensures same_source { SameSource self.old self.new }
-        ensures reads { Answers self.old self.new (header_octet (standing self.old).limits (enclosing (standing self.old)).nearest_end start) (heard (λ x. x) result) }
+        ensures reads { Answers self.old self.new
+            (header_octet (standing self.old).limits
+            (enclosing (standing self.old)).nearest_end start) (heard (λ x. x) result) }
         ensures stands { Moves self.old self.new result }
         ensures advances { OnOk result ((standing self.new).taken ≡ (standing self.old).taken + 1) }
         ensures octet { IfOk result (λ x. x < 256) }
@@ -67,9 +69,13 @@ impl<R: Source> Pull<'_, R> {
     pub(crate) fn end_of_contents(&mut self, start: u32) -> Result<(), ReadError>
         requires { (standing self.old).error ≡ None }
         ensures same_source { SameSource self.old self.new }
-        ensures reads { Answers self.old self.new (read_end_of_contents (standing self.old).limits (enclosing (standing self.old)) start) (heard (λ _. ContainerEnds start) result) }
-        ensures indefinite { OnOk result (ends_with_zeros (enclosing (standing self.old)).innermost ≡ true) }
-        ensures stands { OnOk result (standing self.new ≡ ending (moved (standing self.new).taken (standing self.old))) }
+        ensures reads { Answers self.old self.new
+            (read_end_of_contents (standing self.old).limits
+            (enclosing (standing self.old)) start) (heard (λ _. ContainerEnds start) result) }
+        ensures indefinite { OnOk result (ends_with_zeros (enclosing (standing self.old)).innermost
+            ≡ true) }
+        ensures stands { OnOk result (standing self.new
+            ≡ ending (moved (standing self.new).taken (standing self.old))) }
         ensures ends { OnOk result (is_over (standing self.new) ≡ true) }
         ensures keeps { Keeps self.new result }
         ensures read { ReadsFail self.old self.new result }
@@ -92,7 +98,9 @@ impl<R: Source> Pull<'_, R> {
     pub(crate) fn tag_number(&mut self, start: u32, first: u8) -> Result<u32, ReadError>
         requires { (standing self.old).error ≡ None }
         ensures same_source { SameSource self.old self.new }
-        ensures reads { Answers self.old self.new (read_tag_number (standing self.old).limits (enclosing (standing self.old)).nearest_end start first) (heard (λ n. n) result) }
+        ensures reads { Answers self.old self.new
+            (read_tag_number (standing self.old).limits
+            (enclosing (standing self.old)).nearest_end start first) (heard (λ n. n) result) }
         ensures stands { Moves self.old self.new result }
         ensures below { IfOk result (λ n. n < 2 ^ 28) }
         ensures low { IfOk result (λ n. n < 31 → n ≡ first % 32) }
@@ -112,7 +120,9 @@ impl<R: Source> Pull<'_, R> {
     fn high_tag_number(&mut self, start: u32) -> Result<u32, ReadError>
         requires { (standing self.old).error ≡ None }
         ensures same_source { SameSource self.old self.new }
-        ensures reads { Answers self.old self.new (read_high_number (standing self.old).limits (enclosing (standing self.old)).nearest_end start 4 0) (heard (λ n. n) result) }
+        ensures reads { Answers self.old self.new
+            (read_high_number (standing self.old).limits
+            (enclosing (standing self.old)).nearest_end start 4 0) (heard (λ n. n) result) }
         ensures stands { Moves self.old self.new result }
         ensures below { IfOk result (λ n. (n < 2 ^ 28) × (31 ≤ n)) }
         ensures read { ReadsFail self.old self.new result }
@@ -141,7 +151,9 @@ impl<R: Source> Pull<'_, R> {
     pub(crate) fn length(&mut self, start: u32) -> Result<LengthForm, ReadError>
         requires { (standing self.old).error ≡ None }
         ensures same_source { SameSource self.old self.new }
-        ensures reads { Answers self.old self.new (read_length (standing self.old).limits (enclosing (standing self.old)).nearest_end start) (heard form_of result) }
+        ensures reads { Answers self.old self.new
+            (read_length (standing self.old).limits
+            (enclosing (standing self.old)).nearest_end start) (heard form_of result) }
         ensures stands { Moves self.old self.new result }
         ensures within { IfOk result (IsWithin (standing self.new)) }
         ensures advances { OnOk result ((standing self.old).taken < (standing self.new).taken) }
@@ -165,9 +177,12 @@ impl<R: Source> Pull<'_, R> {
     pub(crate) fn definite_length(&mut self, start: u32) -> Result<u32, ReadError>
         requires { (standing self.old).error ≡ None }
         ensures same_source { SameSource self.old self.new }
-        ensures reads { Answers self.old self.new (read_definite_length (standing self.old).limits (enclosing (standing self.old)).nearest_end start) (heard (λ n. n) result) }
+        ensures reads { Answers self.old self.new
+            (read_definite_length (standing self.old).limits
+            (enclosing (standing self.old)).nearest_end start) (heard (λ n. n) result) }
         ensures stands { Moves self.old self.new result }
-        ensures within { IfOk result (λ n. (standing self.new).taken + n ≤ (standing self.new).limits.octets) }
+        ensures within { IfOk result (λ n. (standing self.new).taken + n
+            ≤ (standing self.new).limits.octets) }
         ensures read { ReadsFail self.old self.new result }
         ensures memory { AsksNoMemory self.old result }
         ensures onward { Onward self.old self.new }
@@ -184,9 +199,12 @@ impl<R: Source> Pull<'_, R> {
     fn number(&mut self, start: u32, first: u8) -> Result<u32, ReadError>
         requires { (standing self.old).error ≡ None }
         ensures same_source { SameSource self.old self.new }
-        ensures reads { Answers self.old self.new (read_number (standing self.old).limits (enclosing (standing self.old)).nearest_end start first) (heard (λ n. n) result) }
+        ensures reads { Answers self.old self.new
+            (read_number (standing self.old).limits
+            (enclosing (standing self.old)).nearest_end start first) (heard (λ n. n) result) }
         ensures stands { Moves self.old self.new result }
-        ensures within { IfOk result (λ n. (standing self.new).taken + n ≤ (standing self.new).limits.octets) }
+        ensures within { IfOk result (λ n. (standing self.new).taken + n
+            ≤ (standing self.new).limits.octets) }
         ensures read { ReadsFail self.old self.new result }
         ensures memory { AsksNoMemory self.old result }
         ensures onward { Onward self.old self.new }
@@ -203,7 +221,9 @@ impl<R: Source> Pull<'_, R> {
     fn big_endian(&mut self, start: u32, count: u8) -> Result<u64, ReadError>
         requires { (standing self.old).error ≡ None }
         ensures same_source { SameSource self.old self.new }
-        ensures reads { AnswersClipped self.old self.new (read_big_endian (standing self.old).limits (enclosing (standing self.old)).nearest_end start count 0) result }
+        ensures reads { AnswersClipped self.old self.new
+            (read_big_endian (standing self.old).limits
+            (enclosing (standing self.old)).nearest_end start count 0) result }
         ensures stands { Moves self.old self.new result }
         ensures below { IfOk result (λ m. m < 2 ^ 40) }
         ensures read { ReadsFail self.old self.new result }
@@ -224,9 +244,13 @@ impl<R: Source> Pull<'_, R> {
         requires live { (standing self.old).error ≡ None }
         requires below { number < 2 ^ 40 }
         ensures same_source { SameSource self.old self.new }
-        ensures reads { (n : ℕ) → IsClipped n number → Answers self.old self.new (fit_contents (standing self.old).limits (enclosing (standing self.old)).nearest_end start n) (heard (λ m. m) result) }
+        ensures reads { (n : ℕ) → IsClipped n number
+            → Answers self.old self.new
+            (fit_contents (standing self.old).limits
+            (enclosing (standing self.old)).nearest_end start n) (heard (λ m. m) result) }
         ensures stands { Moves self.old self.new result }
-        ensures within { IfOk result (λ n. (standing self.new).taken + n ≤ (standing self.new).limits.octets) }
+        ensures within { IfOk result (λ n. (standing self.new).taken + n
+            ≤ (standing self.new).limits.octets) }
         ensures read { ReadsFail self.old self.new result }
         ensures memory { AsksNoMemory self.old result }
         ensures onward { Onward self.old self.new }

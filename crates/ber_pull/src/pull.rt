@@ -70,16 +70,29 @@ impl<'a, R: Source> Pull<'a, R> {
     pub fn next_tag(&mut self) -> Result<Option<(Tag, bool)>, ReadError>
         ensures same_source { SameSource self.old self.new }
         ensures repeats { Repeats self.old self.new result }
-        ensures reads { (standing self.old).error ≡ None → Answers self.old self.new (read_next (standing self.old)) (heard (next_at (place (standing self.old))) result) }
-        ensures again { IfSome (standing self.old).given (λ g. IfOk result (λ next. (next ≡ Some (g.tag, g.constructed)) × Unmoved self.old self.new)) }
-        ensures given { (g : Given) → (standing self.old).error ≡ None → (standing self.old).given ≡ Some g → (result ≡ Ok (Some (g.tag, g.constructed))) × Unmoved self.old self.new }
-        ensures stands { (standing self.old).given ≡ None → IfOk result (λ next. standing self.new ≡ after_next (standing self.new).taken next (standing self.old)) }
+        ensures reads { (standing self.old).error ≡ None
+            → Answers self.old self.new (read_next (standing self.old))
+            (heard (next_at (place (standing self.old))) result) }
+        ensures again { IfSome (standing self.old).given
+            (λ g. IfOk result (λ next. (next ≡ Some (g.tag, g.constructed))
+            × Unmoved self.old self.new)) }
+        ensures given { (g : Given) → (standing self.old).error ≡ None
+            → (standing self.old).given ≡ Some g
+            → (result ≡ Ok (Some (g.tag, g.constructed))) × Unmoved self.old self.new }
+        ensures stands { (standing self.old).given ≡ None
+            → IfOk result (λ next. standing self.new
+            ≡ after_next (standing self.new).taken next (standing self.old)) }
         ensures gives { IfOk result (λ next. IsSome next → IsSome (standing self.new).given) }
-        ensures ended { (standing self.old).error ≡ None → IsAtEnd (standing self.old) → (result ≡ Ok None) × Unmoved self.old self.new }
-        ensures ends { (standing self.old).given ≡ None → IfOk result (λ next. next ≡ None → IsAtEnd (standing self.new)) }
+        ensures ended { (standing self.old).error ≡ None → IsAtEnd (standing self.old)
+            → (result ≡ Ok None) × Unmoved self.old self.new }
+        ensures ends { (standing self.old).given ≡ None
+            → IfOk result (λ next. next ≡ None → IsAtEnd (standing self.new)) }
         ensures fits { IfOk result (λ next. IfSome next (λ t. IsGiven t.0 (standing self.new))) }
-        ensures tells { IfOk result (λ next. IfSome next (λ t. IfSome (standing self.new).given (λ g. (g.tag ≡ t.0) × (g.constructed ≡ t.1)))) }
-        ensures advances { (standing self.old).given ≡ None → IfOk result (λ next. IsSome next → (standing self.old).taken < (standing self.new).taken) }
+        ensures tells { IfOk result (λ next. IfSome next
+            (λ t. IfSome (standing self.new).given (λ g. (g.tag ≡ t.0) × (g.constructed ≡ t.1)))) }
+        ensures advances { (standing self.old).given ≡ None
+            → IfOk result (λ next. IsSome next
+            → (standing self.old).taken < (standing self.new).taken) }
         ensures keeps { Keeps self.new result }
         ensures read { ReadsFail self.old self.new result }
         ensures memory { AsksNoMemory self.old result }
@@ -120,7 +133,10 @@ impl<'a, R: Source> Pull<'a, R> {
         requires { (standing self.old).error ≡ None → IsSome (standing self.old).given }
         ensures same_source { SameSource self.old self.new }
         ensures repeats { Repeats self.old self.new result }
-        ensures reads { (g : Given) → (standing self.old).error ≡ None → (standing self.old).given ≡ Some g → Answers self.old self.new (read_entering (standing self.old) g) (heard (λ _. enclosing (standing self.new)) result) }
+        ensures reads { (g : Given) → (standing self.old).error ≡ None
+            → (standing self.old).given ≡ Some g
+            → Answers self.old self.new (read_entering (standing self.old) g)
+            (heard (λ _. enclosing (standing self.new)) result) }
         ensures stands { OnOk result (Opens self.old self.new) }
         ensures advances { OnOk result ((standing self.old).taken < (standing self.new).taken) }
         ensures keeps { Keeps self.new result }
@@ -148,9 +164,14 @@ impl<'a, R: Source> Pull<'a, R> {
         requires { (standing self.old).error ≡ None → (standing self.old).containers ≡ [] → ⊥ }
         ensures same_source { SameSource self.old self.new }
         ensures repeats { Repeats self.old self.new result }
-        ensures reads { (standing self.old).error ≡ None → Answers self.old self.new (read_leaving (standing self.old)) (heard (λ u. u) result) }
-        ensures stands { OnOk result (standing self.new ≡ closing (moved (standing self.new).taken (standing self.old))) }
-        ensures ended { (standing self.old).error ≡ None → IsAtEnd (standing self.old) → (result ≡ Ok tt) × (source self.new ≡ source self.old) × (standing self.new ≡ closing (standing self.old)) }
+        ensures reads { (standing self.old).error ≡ None
+            → Answers self.old self.new (read_leaving (standing self.old))
+            (heard (λ u. u) result) }
+        ensures stands { OnOk result (standing self.new
+            ≡ closing (moved (standing self.new).taken (standing self.old))) }
+        ensures ended { (standing self.old).error ≡ None → IsAtEnd (standing self.old)
+            → (result ≡ Ok tt) × (source self.new ≡ source self.old)
+            × (standing self.new ≡ closing (standing self.old)) }
         ensures keeps { Keeps self.new result }
         ensures read { ReadsFail self.old self.new result }
         ensures memory { AsksNoMemory self.old result }
@@ -172,8 +193,11 @@ impl<'a, R: Source> Pull<'a, R> {
         requires { IsSome inside ↔ (why ≡ Inner) }
         ensures same_source { SameSource self.old self.new }
         ensures same { source self.new ≡ source self.old }
-        ensures first { (standing self.old).error ≡ None → (result ≡ refused (record { at = at; why = why; inside = inside })) × (standing self.new ≡ failed_with result (standing self.old)) }
-        ensures again { (error : ReadError) → (standing self.old).error ≡ Some error → (result ≡ error) × (standing self.new ≡ standing self.old) }
+        ensures first { (standing self.old).error ≡ None
+            → (result ≡ refused (record { at = at; why = why; inside = inside }))
+            × (standing self.new ≡ failed_with result (standing self.old)) }
+        ensures again { (error : ReadError) → (standing self.old).error ≡ Some error
+            → (result ≡ error) × (standing self.new ≡ standing self.old) }
     {
         if let Some(error) = self.state.error() {
             return error;
@@ -187,8 +211,10 @@ impl<'a, R: Source> Pull<'a, R> {
     pub fn no_memory(&mut self) -> ReadError
         ensures same_source { SameSource self.old self.new }
         ensures same { source self.new ≡ source self.old }
-        ensures first { (standing self.old).error ≡ None → (result ≡ Memory) × (standing self.new ≡ failed_with Memory (standing self.old)) }
-        ensures again { (error : ReadError) → (standing self.old).error ≡ Some error → (result ≡ error) × (standing self.new ≡ standing self.old) }
+        ensures first { (standing self.old).error ≡ None
+            → (result ≡ Memory) × (standing self.new ≡ failed_with Memory (standing self.old)) }
+        ensures again { (error : ReadError) → (standing self.old).error ≡ Some error
+            → (result ≡ error) × (standing self.new ≡ standing self.old) }
     {
         if let Some(error) = self.state.error() {
             return error;

@@ -9,7 +9,8 @@ use tlv_core::tag::Tag;
 pub enum Container {
     /// Its length is definite: the place behind its contents.
     Definite(u32),
-    /// Its length is indefinite, and its end is still to come: the end of the nearest container of definite length around it.
+    /// Its length is indefinite, and its end is still to come: the end of the nearest container of definite length
+    /// around it.
     Indefinite(Option<u32>),
     /// Its length is indefinite, and its end-of-contents octets are taken.
     Ended(Option<u32>),
@@ -45,9 +46,19 @@ impl Model for State {
     ghost use Rattle.std.specs.Prelude.{take, reverse, length, IfSome, ◌≡◌, ◌<◌, ◌≤◌};
     ghost use Rattle.tlv_core.specs.Identifier.{IsTag};
 
-    ghost view = { λ s. record { limits = s.limits; taken = s.taken; given = s.given; containers = reverse (take s.depth s.containers); error = s.error } };
+    ghost view = { λ s. record {
+      limits = s.limits;
+      taken = s.taken;
+      given = s.given;
+      containers
+          = reverse (take s.depth s.containers);
+      error = s.error;
+    } };
 
-    ghost invariant = { λ s. (s.depth ≤ s.limits.depth) × (s.limits.depth ≤ 64) × (s.taken ≤ s.limits.octets) × (s.limits.octets ≤ 2147483647) × IfSome s.given (λ g. (s.depth < s.limits.depth) × IsTag g.tag) × (length s.containers ≡ 64) };
+    ghost invariant = { λ s. (s.depth ≤ s.limits.depth) × (s.limits.depth ≤ 64)
+        × (s.taken ≤ s.limits.octets) × (s.limits.octets ≤ 2147483647)
+        × IfSome s.given (λ g. (s.depth < s.limits.depth) × IsTag g.tag)
+        × (length s.containers ≡ 64) };
 }
 
 ghost use Rattle.std.specs.Prelude.{◌≡◌, ◌<◌, ◌≤◌, ◌^◌, ◌+◌, IfSome, None, length, nat_lt, not};

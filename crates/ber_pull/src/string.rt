@@ -52,7 +52,8 @@ impl Joined {
 
     /// A primitive segment with these contents may follow.
     fn may_follow(&self, contents: &[u8]) -> bool
-        ensures { result ≡ (not self.now.is_bits || (reading.is_bit_segment contents.now && (self.now.unused == 0))) }
+        ensures { result ≡ (not self.now.is_bits
+            || (reading.is_bit_segment contents.now && (self.now.unused == 0))) }
     {
         !self.is_bits || (is_bit_segment(contents) && self.unused == 0)
     }
@@ -61,7 +62,8 @@ impl Joined {
     fn add(&mut self, mut contents: Vec<u8>) -> Result<(), AllocError>
         requires { self.old.is_bits ≡ true → reading.is_bit_segment contents.items ≡ true }
         ensures kind { self.new.is_bits ≡ self.old.is_bits }
-        ensures more { OnOk result ((s : List (List ℕ)) → Joins self.old s → Joins self.new (s ++ (contents.items ∷ []))) }
+        ensures more { OnOk result ((s : List (List ℕ)) → Joins self.old s
+            → Joins self.new (s ++ (contents.items ∷ []))) }
     {
         if self.is_bits {
             self.unused = contents.remove(0);
@@ -128,7 +130,10 @@ impl<R: Source> Pull<'_, R> {
         requires { (standing self.old).error ≡ None → IsSome (standing self.old).given }
         ensures same_source { SameSource self.old self.new }
         ensures repeats { Repeats self.old self.new result }
-        ensures reads { (g : Given) → (standing self.old).error ≡ None → (standing self.old).given ≡ Some g → Answers self.old self.new (read_octets (standing self.old) g) (heard (λ v. v.items) result) }
+        ensures reads { (g : Given) → (standing self.old).error ≡ None
+            → (standing self.old).given ≡ Some g
+            → Answers self.old self.new (read_octets (standing self.old) g)
+            (heard (λ v. v.items) result) }
         ensures stands { OnOk result (Uses self.old self.new) }
         ensures keeps { Keeps self.new result }
         ensures read { ReadsFail self.old self.new result }
@@ -141,14 +146,18 @@ impl<R: Source> Pull<'_, R> {
         Ok(joined.octets)
     }
 
-    /// The number of unused bits of the BIT STRING that `next_tag` gave, and its octets, segments joined and unused bits 0.
+    /// The number of unused bits of the BIT STRING that `next_tag` gave, and its octets, segments joined and unused
+    /// bits 0.
     ///
     /// Faults: those of `octets`, and `BadBits` at the identifier of a primitive segment.
     pub fn bits(&mut self, alloc: Global) -> Result<(u8, Vec<u8>), ReadError>
         requires { (standing self.old).error ≡ None → IsSome (standing self.old).given }
         ensures same_source { SameSource self.old self.new }
         ensures repeats { Repeats self.old self.new result }
-        ensures reads { (g : Given) → (standing self.old).error ≡ None → (standing self.old).given ≡ Some g → Answers self.old self.new (read_bits (standing self.old) g) (heard (λ v. (v.0, v.1.items)) result) }
+        ensures reads { (g : Given) → (standing self.old).error ≡ None
+            → (standing self.old).given ≡ Some g
+            → Answers self.old self.new (read_bits (standing self.old) g)
+            (heard (λ v. (v.0, v.1.items)) result) }
         ensures stands { OnOk result (Uses self.old self.new) }
         ensures keeps { Keeps self.new result }
         ensures read { ReadsFail self.old self.new result }
@@ -167,7 +176,9 @@ impl<R: Source> Pull<'_, R> {
         requires live { (standing self.old).error ≡ None }
         requires given { IsSome (standing self.old).given }
         ensures same_source { SameSource self.old self.new }
-        ensures reads { (g : Given) → (standing self.old).given ≡ Some g → AnswersJoined self.old self.new (read_segments (segment_number is_bits) (standing self.old) g) result }
+        ensures reads { (g : Given) → (standing self.old).given ≡ Some g
+            → AnswersJoined self.old self.new
+            (read_segments (segment_number is_bits) (standing self.old) g) result }
         ensures kind { IfOk result (λ joined. joined.is_bits ≡ is_bits) }
         ensures stands { OnOk result (Uses self.old self.new) }
         ensures keeps { Keeps self.new result }
@@ -198,8 +209,11 @@ impl<R: Source> Pull<'_, R> {
         ensures reads { (around : List Container) (v : Level) (vs : List Level) (s : List (List ℕ)) → Stacked (standing self.old) around (v ∷ vs) (standing self.old).containers → Joins joined.old s →
             Steps self.old self.new around (segment_number joined.old.is_bits) (read_rest (segment_number joined.old.is_bits) (standing self.old).limits (v ∷ vs) s) joined.new result }
         ensures kind { joined.new.is_bits ≡ joined.old.is_bits }
-        ensures stands { OnOk result (standing self.new ≡ among (standing self.new) (standing self.old)) }
-        ensures falls { OnOk result (2 * (standing self.old).taken + length (standing self.new).containers < 2 * (standing self.new).taken + length (standing self.old).containers) }
+        ensures stands { OnOk result (standing self.new
+            ≡ among (standing self.new) (standing self.old)) }
+        ensures falls { OnOk result (2 * (standing self.old).taken
+            + length (standing self.new).containers < 2 * (standing self.new).taken
+            + length (standing self.old).containers) }
         ensures keeps { Keeps self.new result }
         ensures read { ReadsFail self.old self.new result }
         ensures onward { Onward self.old self.new }
@@ -225,7 +239,10 @@ impl<R: Source> Pull<'_, R> {
     fn segment(&mut self, alloc: Global, start: u32, joined: &mut Joined) -> Result<(), ReadError>
         requires live { (standing self.old).error ≡ None }
         ensures same_source { SameSource self.old self.new }
-        ensures reads { (s : List (List ℕ)) → Joins joined.old s → AddsSegment self.old self.new (read_one_segment (segment_number joined.old.is_bits) (standing self.old).limits (enclosing (standing self.old)) s start) joined.new result }
+        ensures reads { (s : List (List ℕ)) → Joins joined.old s
+            → AddsSegment self.old self.new
+            (read_one_segment (segment_number joined.old.is_bits) (standing self.old).limits
+            (enclosing (standing self.old)) s start) joined.new result }
         ensures kind { joined.new.is_bits ≡ joined.old.is_bits }
         ensures stands { OnOk result (Uses self.old self.new) }
         ensures keeps { Keeps self.new result }

@@ -3,15 +3,12 @@
 //! `tests/`, and `tools/refused_growths.py` refuses each growth of memory in turn meanwhile. Not part of pkder.
 //!
 //! Standard input is a line of words, below, and the octets behind it.
-//!   read TYPE             a value, in pieces, cut at each octet and with octets behind it: its text, or the fault
-//!   document TYPE         the same by `read_value`
-//!   normalise extension   the same by `normalise_value`, once
-//!   same TYPE             two values one after another: whether they are the same
-//!   fields TYPE           what each field reader answers
-//!   signed request        what the signature covers, written to a target of `room` octets, `piece` of them at once
-//!   written request       the whole, to the same
-//!   make TYPE             a value made of the octets
-//!   compare integer-set   two values made of two parts, each behind its length in two octets
+//!   read TYPE a value, in pieces, cut at each octet and with octets behind it: its text, or the fault document TYPE
+//!   the same by `read_value` normalise extension the same by `normalise_value`, once same TYPE two values one after
+//!   another: whether they are the same fields TYPE what each field reader answers signed request what the signature
+//!   covers, written to a target of `room` octets, `piece` of them at once written request the whole, to the same make
+//!   TYPE a value made of the octets compare integer-set two values made of two parts, each behind its length in two
+//!   octets
 //! Behind them may stand `depth N`, `limit N`, `room N` and `piece N`. Before read, document and make `once` does the
 //! task once, so that no memory is asked for but by the libraries, and tells of a reader that wanted memory how many
 //! octets it took; `again` asks that reader further, too.

@@ -10,8 +10,7 @@ use asn_values::set_of::SetOf;
 use std::alloc::{AllocError, Global};
 
 /// The INTEGER with these contents, the OCTET STRING of these octets, the SET OF an INTEGER for each of them, or the
-/// SET OF an OCTET STRING for each
-/// part of them.
+/// SET OF an OCTET STRING for each part of them.
 pub fn made(alloc: Global, name: &str, octets: &[u8], is_checked: bool) -> Answer {
     match name {
         "integer" => told(alloc, Int::from_content(alloc, octets), is_checked),

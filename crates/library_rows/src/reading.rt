@@ -94,8 +94,8 @@ impl<K: Reader> Reading for TextOf<K> {
     }
 }
 
-/// The answer of a reading to octets, with which `followed` begins: the same in all pieces. Each octet that is taken
-/// is needed, and no other is asked for.
+/// The answer of a reading to octets, with which `followed` begins: the same in all pieces. Each octet that is taken is
+/// needed, and no other is asked for.
 pub fn checked<K: Reading>(
     alloc: Global,
     octets: &[u8],

@@ -22,8 +22,8 @@ pub fn checked_text<T: DerText>(alloc: Global, value: &T) -> Answer {
     }
 }
 
-/// Whether `size`, `octet` and `put` tell this text, also into a target that takes 3 octets at once, and one that
-/// takes all but one in all.
+/// Whether `size`, `octet` and `put` tell this text, also into a target that takes 3 octets at once, and one that takes
+/// all but one in all.
 fn has_text<T: DerText>(alloc: Global, value: &T, text: &[u8]) -> Result<bool, AllocError> {
     let size = text.len();
     if value.size() != size as u64 || value.octet(size as u64).is_some() {

@@ -108,7 +108,8 @@ impl<'a> Cursor<'a> {
 
     /// One octet of the header at `start`.
     fn octet(&mut self, room: Room, start: u64) -> Result<u8, Fault>
-        ensures ok { IfOk result (λ x. (self.old.rest.now ≡ x ∷ self.new.rest.now) × (self.new.at ≡ self.old.at + 1) × (self.new.at ≤ room.end)) }
+        ensures ok { IfOk result (λ x. (self.old.rest.now ≡ x ∷ self.new.rest.now)
+            × (self.new.at ≡ self.old.at + 1) × (self.new.at ≤ room.end)) }
         ensures err { OnErr result (NoOctet self.old.rest.now self.old.at room.end) }
         ensures inside { IfErr result InsideMatches }
     {
@@ -125,8 +126,11 @@ impl<'a> Cursor<'a> {
 
     /// The identifier octet of the element that stands here.
     pub fn identifier(&mut self, room: Room) -> Result<u8, Fault>
-        ensures ok { IfOk result (λ x. (self.old.rest.now ≡ x ∷ self.new.rest.now) × (self.new.at ≡ self.old.at + 1) × (self.new.at ≤ room.end) × (room.too_deep ≡ false)) }
-        ensures err { OnErr result ((x : ℕ) (rest : List ℕ) → self.old.rest.now ≡ x ∷ rest → IsPlainIdentifier x → self.old.at < room.end → room.too_deep ≡ false → ⊥) }
+        ensures ok { IfOk result (λ x. (self.old.rest.now ≡ x ∷ self.new.rest.now)
+            × (self.new.at ≡ self.old.at + 1) × (self.new.at ≤ room.end)
+            × (room.too_deep ≡ false)) }
+        ensures err { OnErr result ((x : ℕ) (rest : List ℕ) → self.old.rest.now ≡ x ∷ rest
+            → IsPlainIdentifier x → self.old.at < room.end → room.too_deep ≡ false → ⊥) }
         ensures inside { IfErr result InsideMatches }
     {
         let start = self.at;
@@ -149,7 +153,10 @@ impl<'a> Cursor<'a> {
     /// The next `count` octets as a big-endian number; a number of 2^32 or more may come out as another such one.
     fn number(&mut self, room: Room, start: u64, count: u8) -> Result<u64, Fault>
         requires { self.old.at ≤ room.end }
-        ensures ok { IfOk result (λ n. (octets : List ℕ) × (self.old.rest.now ≡ octets ++ self.new.rest.now) × (length octets ≡ count) × (self.new.at ≡ self.old.at + count) × (self.new.at ≤ room.end) × Capped (big_endian 0 octets) n) }
+        ensures ok { IfOk result (λ n. (octets : List ℕ)
+            × (self.old.rest.now ≡ octets ++ self.new.rest.now) × (length octets ≡ count)
+            × (self.new.at ≡ self.old.at + count) × (self.new.at ≤ room.end)
+            × Capped (big_endian 0 octets) n) }
         ensures err { OnErr result (NoNumber count self.old.rest.now self.old.at room.end) }
         ensures inside { IfErr result InsideMatches }
     {
@@ -166,7 +173,8 @@ impl<'a> Cursor<'a> {
     /// The definite length of the element at `start`, wherever its contents end.
     fn claimed(&mut self, room: Room, start: u64, indefinite: Reason) -> Result<u64, Fault>
         requires { indefinite ≢ Inner }
-        ensures ok { IfOk result (λ n. Claimed self.old.rest.now self.old.at n self.new.rest.now self.new.at room.end) }
+        ensures ok { IfOk result (λ n. Claimed self.old.rest.now self.old.at n self.new.rest.now
+            self.new.at room.end) }
         ensures err { OnErr result (NoLength self.old.rest.now self.old.at room.end) }
         ensures inside { IfErr result InsideMatches }
     {
@@ -182,7 +190,8 @@ impl<'a> Cursor<'a> {
     /// The definite length of the element at `start`, whose contents end within the room.
     fn length(&mut self, room: Room, start: u64, indefinite: Reason) -> Result<u64, Fault>
         requires { indefinite ≢ Inner }
-        ensures ok { IfOk result (λ n. Measured n self.old.rest.now self.old.at self.new.rest.now self.new.at room.end) }
+        ensures ok { IfOk result (λ n. Measured n self.old.rest.now self.old.at self.new.rest.now
+            self.new.at room.end) }
         ensures err { OnErr result (NoLength self.old.rest.now self.old.at room.end) }
         ensures inside { IfErr result InsideMatches }
     {
@@ -195,8 +204,10 @@ impl<'a> Cursor<'a> {
 
     /// The header of the element that is due: the number of its contents octets, which end within the room.
     pub fn header(&mut self, due: Due, room: Room) -> Result<u64, Fault>
-        ensures ok { IfOk result (λ n. Opened due.identifier n self.old.rest.now self.old.at self.new.rest.now self.new.at room.end × (room.too_deep ≡ false)) }
-        ensures err { IsPlainIdentifier due.identifier → room.too_deep ≡ false → OnErr result (NoHeader due.identifier self.old.rest.now self.old.at room.end) }
+        ensures ok { IfOk result (λ n. Opened due.identifier n self.old.rest.now self.old.at
+            self.new.rest.now self.new.at room.end × (room.too_deep ≡ false)) }
+        ensures err { IsPlainIdentifier due.identifier → room.too_deep ≡ false
+            → OnErr result (NoHeader due.identifier self.old.rest.now self.old.at room.end) }
         ensures inside { IfErr result InsideMatches }
     {
         let start = self.at;
@@ -223,8 +234,11 @@ impl<'a> Cursor<'a> {
 
     /// The contents of the primitive element that is due.
     pub fn primitive(&mut self, due: Due, room: Room) -> Result<&'a [u8], Fault>
-        ensures ok { IfOk result (λ contents. (octets : List ℕ) × Stands due.identifier contents.now octets self.old.rest.now self.old.at self.new.rest.now self.new.at room.end × (room.too_deep ≡ false)) }
-        ensures err { IsPlainIdentifier due.identifier → room.too_deep ≡ false → OnErr result (NoElement due.identifier self.old.rest.now self.old.at room.end) }
+        ensures ok { IfOk result (λ contents. (octets : List ℕ)
+            × Stands due.identifier contents.now octets self.old.rest.now self.old.at
+            self.new.rest.now self.new.at room.end × (room.too_deep ≡ false)) }
+        ensures err { IsPlainIdentifier due.identifier → room.too_deep ≡ false
+            → OnErr result (NoElement due.identifier self.old.rest.now self.old.at room.end) }
         ensures inside { IfErr result InsideMatches }
     {
         let n = self.header(due, room)? as usize;

@@ -17,18 +17,23 @@ use tlv_core::target::Target;
 
 /// Reads one value, and answers it with the number of octets taken; not one octet past it is taken.
 ///
-/// Faults: the first one that the octets have as a document of the type, and last of all `TextTooLong` at place 0, where the
-/// DER text of the value is longer than the limit of octets.
+/// Faults: the first one that the octets have as a document of the type, and last of all `TextTooLong` at place 0,
+/// where the DER text of the value is longer than the limit of octets.
 pub fn read_value<R: Source, T: Element>(
     alloc: Global,
     src: &mut R,
     limits: Limits,
 ) -> Result<(T, u64), ReadError>
     requires { R.has_failed src.old ≡ false }
-    // What was taken spells the value; a fault is the answer to the octets told; where a read failed, the octets before are too few.
-    ensures reads { MatchResult result (λ read. ReadsValue limits T.type_term (T.value read.0) (R.remaining src.old) (R.remaining src.new) read.1) (λ error. StopsReading limits T.type_term error (R.remaining src.old) (R.remaining src.new)) }
+    // What was taken spells the value; a fault is the answer to the octets told; where a read failed, the octets before
+    // are too few.
+    ensures reads { MatchResult result (λ read. ReadsValue limits T.type_term (T.value read.0)
+        (R.remaining src.old) (R.remaining src.new) read.1)
+        (λ error. StopsReading limits T.type_term error (R.remaining src.old)
+        (R.remaining src.new)) }
     // A failed read is answered where the source failed, and nowhere else.
-    ensures read { MatchResult result (λ _. R.has_failed src.new ≡ false) (IsFailedRead (R.has_failed src.new)) }
+    ensures read { MatchResult result (λ _. R.has_failed src.new ≡ false)
+        (IsFailedRead (R.has_failed src.new)) }
 {
     let mut pull = Pull::new(src, limits);
     let Some(_) = pull.next_tag()? else {
@@ -51,7 +56,8 @@ pub fn read_value<R: Source, T: Element>(
 /// Where the writer fails, the first octets of the text are out, as many as the error tells.
 pub fn write_value<T: DerText, W: Target>(value: &T, dst: &mut W) -> Result<u64, WriteError>
     requires { W.has_failed dst.old ≡ false }
-    ensures { WritesText (der (T.value value.now)) (W.contents dst.old) (W.contents dst.new) (W.has_failed dst.new) result }
+    ensures { WritesText (der (T.value value.now)) (W.contents dst.old) (W.contents dst.new)
+        (W.has_failed dst.new) result }
 {
     let size = value.size();
     let mut sink = Sink::new(dst);

@@ -59,8 +59,8 @@ impl From<AllocError> for NormaliseError {
     }
 }
 
-/// Reads the document that `src` begins with, leaves `src` behind it, and appends its DER text to `dst`.
-/// Answers the octets taken and the octets written.
+/// Reads the document that `src` begins with, leaves `src` behind it, and appends its DER text to `dst`. Answers the
+/// octets taken and the octets written.
 pub fn normalise(
     alloc: Global,
     src: &mut &[u8],
@@ -69,7 +69,9 @@ pub fn normalise(
     limits: Limits,
 ) -> Result<(u64, u64), NormaliseError>
     // The octets taken spell one value, and its DER text was written: see the record's fields.
-    ensures normalised { IfOk result (λ counts. (value : Value) × Normalised (SpellsDocument kind) limits value src.old.now src.new.now dst.old.items dst.new.items counts.0 counts.1) }
+    ensures normalised { IfOk result (λ counts. (value : Value)
+        × Normalised (SpellsDocument kind) limits value src.old.now src.new.now dst.old.items
+        dst.new.items counts.0 counts.1) }
     ensures refused { IfErr result (λ error. Refused kind limits error src.old.now src.new.now) }
     ensures unwritten { OnErr result (dst.new.items ≡ dst.old.items) }
 {
@@ -83,8 +85,9 @@ pub fn normalise(
 
 /// `normalise` for one value of a type: the counts of octets taken and written.
 ///
-/// Where there is a fault, or no memory to read the value, `src` and `dst` are as they were; where there is none for the text,
-/// the value's octets are taken and `dst` is as it was. That the type is lawful is the law `pkix_types::documents`.
+/// Where there is a fault, or no memory to read the value, `src` and `dst` are as they were; where there is none for
+/// the text, the value's octets are taken and `dst` is as it was. That the type is lawful is the law
+/// `pkix_types::documents`.
 pub fn normalise_value<T: Element>(
     alloc: Global,
     src: &mut &[u8],
@@ -92,8 +95,11 @@ pub fn normalise_value<T: Element>(
     limits: Limits,
 ) -> Result<(u64, u64), NormaliseError>
     requires { Lawful T.type_term }
-    ensures normalised { IfOk result (λ counts. (value : Value) × Normalised (SpelledAs T.type_term) limits value src.old.now src.new.now dst.old.items dst.new.items counts.0 counts.1) }
-    ensures refused { IfErr result (λ error. RefusedAs T.type_term limits error src.old.now src.new.now) }
+    ensures normalised { IfOk result (λ counts. (value : Value)
+        × Normalised (SpelledAs T.type_term) limits value src.old.now src.new.now dst.old.items
+        dst.new.items counts.0 counts.1) }
+    ensures refused { IfErr result (λ error. RefusedAs T.type_term limits error src.old.now
+        src.new.now) }
     ensures unwritten { OnErr result (dst.new.items ≡ dst.old.items) }
 {
     let mut rest: &[u8] = *src;
@@ -110,7 +116,9 @@ fn normalise_plain_key(
     dst: &mut Vec<u8>,
     limits: Limits,
 ) -> Result<(u64, u64), NormaliseError>
-    ensures normalised { IfOk result (λ counts. (value : Value) × Normalised SpellsPlainKey limits value src.old.now src.new.now dst.old.items dst.new.items counts.0 counts.1) }
+    ensures normalised { IfOk result (λ counts. (value : Value)
+        × Normalised SpellsPlainKey limits value src.old.now src.new.now dst.old.items
+        dst.new.items counts.0 counts.1) }
     ensures refused { IfErr result (λ error. RefusedPlainKey limits error src.old.now src.new.now) }
     ensures unwritten { OnErr result (dst.new.items ≡ dst.old.items) }
 {

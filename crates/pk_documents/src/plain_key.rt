@@ -25,7 +25,8 @@ impl Algorithm {
     /// The algorithm with these contents of an object identifier.
     fn of(contents: &[u8]) -> Option<Algorithm>
         ensures found { IfSome result (λ algorithm. contents.now ≡ identifier_contents algorithm) }
-        ensures none { IsNone result → (algorithm : Algorithm) → contents.now ≡ identifier_contents algorithm → ⊥ }
+        ensures none { IsNone result → (algorithm : Algorithm)
+            → contents.now ≡ identifier_contents algorithm → ⊥ }
     {
         match contents {
             [0x2B, 0x65, 0x6E] => Some(Algorithm::X25519),
@@ -88,7 +89,8 @@ fn version_refused(contents: &[u8]) -> Option<Reason>
 /// The octets of the CurvePrivateKey (RFC 8410 section 7) that these octets are, and nothing else.
 fn curve_private_key(octets: &[u8], limits: Limits) -> Result<&[u8], Fault>
     ensures ok { IfOk result (λ secret. Element 0x04 secret.now octets.now) }
-    ensures err { length octets.now ≤ limits.octets → OnErr result ((secret : List ℕ) → Element 0x04 secret octets.now → ⊥) }
+    ensures err { length octets.now ≤ limits.octets
+        → OnErr result ((secret : List ℕ) → Element 0x04 secret octets.now → ⊥) }
     ensures inside { IfErr result InsideMatches }
 {
     let mut cursor = Cursor::new(octets);
@@ -102,9 +104,11 @@ fn curve_private_key(octets: &[u8], limits: Limits) -> Result<&[u8], Fault>
 impl<'a> Cursor<'a> {
     /// The version that is due: INTEGER 0.
     fn version(&mut self, room: Room) -> Result<(), Fault>
-        ensures ok { OnOk result (Part VersionPart self.old.rest.now self.old.at self.new.rest.now self.new.at room.end) }
+        ensures ok { OnOk result (Part VersionPart self.old.rest.now self.old.at self.new.rest.now
+            self.new.at room.end) }
         ensures shallow { OnOk result (room.too_deep ≡ false) }
-        ensures err { room.too_deep ≡ false → OnErr result (NoPart VersionPart self.old.rest.now self.old.at room.end) }
+        ensures err { room.too_deep ≡ false
+            → OnErr result (NoPart VersionPart self.old.rest.now self.old.at room.end) }
         ensures inside { IfErr result InsideMatches }
     {
         let start = self.at;
@@ -117,9 +121,13 @@ impl<'a> Cursor<'a> {
 
     /// The AlgorithmIdentifier that is due: one of the four, without parameters.
     fn algorithm(&mut self, room: Room, too_deep: bool) -> Result<Algorithm, Fault>
-        ensures ok { IfOk result (λ algorithm. Part (AlgorithmPart algorithm) self.old.rest.now self.old.at self.new.rest.now self.new.at room.end) }
+        ensures ok { IfOk result (λ algorithm. Part
+            (AlgorithmPart algorithm) self.old.rest.now self.old.at self.new.rest.now self.new.at
+            room.end) }
         ensures shallow { OnOk result (too_deep ≡ false) }
-        ensures err { room.too_deep ≡ false → too_deep ≡ false → OnErr result ((algorithm : AnAlgorithm) → NoPart (AlgorithmPart algorithm) self.old.rest.now self.old.at room.end) }
+        ensures err { room.too_deep ≡ false → too_deep ≡ false
+            → OnErr result ((algorithm : AnAlgorithm)
+            → NoPart (AlgorithmPart algorithm) self.old.rest.now self.old.at room.end) }
         ensures inside { IfErr result InsideMatches }
     {
         let start = self.at;
@@ -149,9 +157,13 @@ impl<'a> Cursor<'a> {
         limits: Limits,
     ) -> Result<&'a [u8], Fault>
         requires { room.end ≤ limits.octets }
-        ensures ok { IfOk result (λ secret. Part (KeyPart secret.now) self.old.rest.now self.old.at self.new.rest.now self.new.at room.end) }
+        ensures ok { IfOk result (λ secret. Part
+            (KeyPart secret.now) self.old.rest.now self.old.at self.new.rest.now self.new.at
+            room.end) }
         ensures fits { IfOk result (λ secret. length secret.now ≡ key_length algorithm) }
-        ensures err { room.too_deep ≡ false → OnErr result ((secret : List ℕ) → length secret ≡ key_length algorithm → NoPart (KeyPart secret) self.old.rest.now self.old.at room.end) }
+        ensures err { room.too_deep ≡ false
+            → OnErr result ((secret : List ℕ) → length secret ≡ key_length algorithm
+            → NoPart (KeyPart secret) self.old.rest.now self.old.at room.end) }
         ensures inside { IfErr result InsideMatches }
     {
         let start = self.at;
@@ -174,7 +186,8 @@ impl<'a> Cursor<'a> {
 
     /// The end of the key: what stands before it is refused.
     fn finish(&mut self, room: Room) -> Result<(), Fault>
-        ensures ok { OnOk result ((self.new.rest.now ≡ self.old.rest.now) × (self.new.at ≡ self.old.at) × (room.end ≤ self.old.at)) }
+        ensures ok { OnOk result ((self.new.rest.now ≡ self.old.rest.now)
+            × (self.new.at ≡ self.old.at) × (room.end ≤ self.old.at)) }
         ensures err { OnErr result (self.old.at < room.end) }
         ensures inside { IfErr result InsideMatches }
     {
@@ -192,9 +205,13 @@ impl<'a> Cursor<'a> {
 
     /// The plain key that the octets begin with, within the limits.
     pub fn plain_key(&mut self, limits: Limits) -> Result<PlainKey<'a>, Fault>
-        ensures ok { IfOk result (λ key. Part (KeyText key.algorithm key.secret.now) self.old.rest.now self.old.at self.new.rest.now self.new.at limits.octets) }
+        ensures ok { IfOk result (λ key. Part
+            (KeyText key.algorithm key.secret.now) self.old.rest.now self.old.at
+            self.new.rest.now self.new.at limits.octets) }
         ensures deep { OnOk result (3 ≤ limits.depth) }
-        ensures err { 3 ≤ limits.depth → OnErr result ((algorithm : AnAlgorithm) (secret : List ℕ) → NoPart (KeyText algorithm secret) self.old.rest.now self.old.at limits.octets) }
+        ensures err { 3 ≤ limits.depth → OnErr result
+            ((algorithm : AnAlgorithm) (secret : List ℕ)
+            → NoPart (KeyText algorithm secret) self.old.rest.now self.old.at limits.octets) }
         ensures inside { IfErr result InsideMatches }
     {
         let n = self.header(SEQUENCE, Room::outermost(limits))?;

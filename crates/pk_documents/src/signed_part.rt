@@ -10,7 +10,8 @@ use pk_requests::request::CertificationRequest;
 use tlv_core::sink::WriteError;
 use tlv_core::target::Target;
 
-/// Writes the octets that the signature of a request covers, the DER text of its info (RFC 2986 section 4.2), and answers their number.
+/// Writes the octets that the signature of a request covers, the DER text of its info (RFC 2986 section 4.2), and
+/// answers their number.
 ///
 /// Where the writer fails, the first of them are out, as many as the error tells.
 pub fn write_signed_part<W: Target>(
@@ -18,7 +19,9 @@ pub fn write_signed_part<W: Target>(
     dst: &mut W,
 ) -> Result<u64, WriteError>
     requires { W.has_failed dst.old ≡ false }
-    ensures { WritesText (der (⟦<CertificationRequestInfo as DerText>⟧.value request.now.0.fields.0.0)) (W.contents dst.old) (W.contents dst.new) (W.has_failed dst.new) result }
+    ensures { WritesText (der (⟦<CertificationRequestInfo as DerText>⟧.value
+        request.now.0.fields.0.0)) (W.contents dst.old) (W.contents dst.new)
+        (W.has_failed dst.new) result }
 {
     write_value(request.info(), dst)
 }

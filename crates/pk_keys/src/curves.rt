@@ -5,7 +5,8 @@ ghost use Rattle.pkix_types.specs.Identifiers.{curve_lengths, length_under};
 use pkix_values::identifiers::has_contents;
 use tlv_core::oid::Oid;
 
-/// The number of octets of a private key on this curve (RFC 5915 section 3, SEC 2): secp224r1, secp256r1, secp256k1, secp384r1, secp521r1.
+/// The number of octets of a private key on this curve (RFC 5915 section 3, SEC 2): secp224r1, secp256r1, secp256k1,
+/// secp384r1, secp521r1.
 pub fn private_key_length(curve: &Oid) -> Option<usize>
     ensures { result ≡ length_under curve_lengths curve.now }
 {

@@ -66,7 +66,8 @@ impl Rules<Record<EcKeyForm>> for EcKeyForm {
 
 /// Whether the key has the length that goes with the curve, where it names one that has a length of its own.
 fn has_length_of(curve: &Option<Tagged<0, Oid>>, key: &Octets) -> bool
-    ensures { result ≡ has_length (named_length (option_map (λ c. c.inner) curve.now)) (length (octets_of key.now)) }
+    ensures { result ≡ has_length (named_length (option_map (λ c. c.inner) curve.now))
+        (length (octets_of key.now)) }
 {
     let Some(named) = curve else {
         return true;
@@ -77,22 +78,27 @@ fn has_length_of(curve: &Option<Tagged<0, Oid>>, key: &Octets) -> bool
     }
 }
 
-/// An EC private key. It may name its curve, and may have its public key beside it; whether that is its own isn't looked at.
+/// An EC private key. It may name its curve, and may have its public key beside it; whether that is its own isn't
+/// looked at.
 #[derive(Drop)]
 pub struct EcPrivateKey(Ruled<Record<EcKeyForm>, EcKeyForm>);
 
 impl EcPrivateKey {
-    /// The private key. On secp224r1, secp256r1, secp256k1, secp384r1 and secp521r1 it has as many octets as the order of the base point.
+    /// The private key. On secp224r1, secp256r1, secp256k1, secp384r1 and secp521r1 it has as many octets as the order
+    /// of the base point.
     pub fn key(&self) -> &Octets
         ensures value { result.now ≡ self.now.0.value.fields.0.1.0 }
-        ensures fits { has_length (named_length (option_map (λ c. c.inner) self.now.0.value.fields.1.0.0)) (length (octets_of result.now)) ≡ true }
+        ensures fits { has_length (named_length
+            (option_map (λ c. c.inner) self.now.0.value.fields.1.0.0))
+            (length (octets_of result.now)) ≡ true }
     {
         &self.0.value().fields().0.1.0
     }
 
     /// The curve that it names.
     pub fn curve(&self) -> Option<&Oid>
-        ensures { option_map (λ r. r.now) result ≡ option_map (λ c. c.inner) self.now.0.value.fields.1.0.0 }
+        ensures { option_map (λ r. r.now) result
+            ≡ option_map (λ c. c.inner) self.now.0.value.fields.1.0.0 }
     {
         match &self.0.value().fields().1.0.0 {
             Some(curve) => Some(curve.value()),
@@ -102,7 +108,8 @@ impl EcPrivateKey {
 
     /// The public key.
     pub fn public_key(&self) -> Option<&Bits>
-        ensures { option_map (λ r. r.now) result ≡ option_map (λ k. k.inner) self.now.0.value.fields.1.1.0 }
+        ensures { option_map (λ r. r.now) result
+            ≡ option_map (λ k. k.inner) self.now.0.value.fields.1.1.0 }
     {
         match &self.0.value().fields().1.1.0 {
             Some(key) => Some(key.value()),
@@ -112,7 +119,8 @@ impl EcPrivateKey {
 
     /// Whether the two are the same.
     pub fn same(&self, other: &EcPrivateKey) -> bool
-        ensures { IsTrue result ↔ Same (⟦<EcPrivateKey as DerText>⟧.value self.now) (⟦<EcPrivateKey as DerText>⟧.value other.now) }
+        ensures { IsTrue result ↔ Same (⟦<EcPrivateKey as DerText>⟧.value self.now)
+            (⟦<EcPrivateKey as DerText>⟧.value other.now) }
     {
         self.0.same(&other.0)
     }

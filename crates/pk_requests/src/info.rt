@@ -74,7 +74,8 @@ impl CertificationRequestInfo {
 
     /// Whether the two are the same.
     pub fn same(&self, other: &CertificationRequestInfo) -> bool
-        ensures { IsTrue result ↔ Same (⟦<CertificationRequestInfo as DerText>⟧.value self.now) (⟦<CertificationRequestInfo as DerText>⟧.value other.now) }
+        ensures { IsTrue result ↔ Same (⟦<CertificationRequestInfo as DerText>⟧.value self.now)
+            (⟦<CertificationRequestInfo as DerText>⟧.value other.now) }
     {
         self.0.same(&other.0)
     }

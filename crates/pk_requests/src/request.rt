@@ -63,7 +63,8 @@ impl CertificationRequest {
 
     /// Whether the two are the same.
     pub fn same(&self, other: &CertificationRequest) -> bool
-        ensures { IsTrue result ↔ Same (⟦<CertificationRequest as DerText>⟧.value self.now) (⟦<CertificationRequest as DerText>⟧.value other.now) }
+        ensures { IsTrue result ↔ Same (⟦<CertificationRequest as DerText>⟧.value self.now)
+            (⟦<CertificationRequest as DerText>⟧.value other.now) }
     {
         self.0.same(&other.0)
     }

@@ -1,7 +1,7 @@
 //! `pkder` reads one document in BER or DER from standard input and writes its one DER text to standard output.
 //!
-//! Proved here: what `run` answers and writes for every input, memory apart; the exit status and the line on
-//! standard error of each outcome. Only tested, by the tables of `tests/`: which command lines are accepted, and `main`.
+//! Proved here: what `run` answers and writes for every input, memory apart; the exit status and the line on standard
+//! error of each outcome. Only tested, by the tables of `tests/`: which command lines are accepted, and `main`.
 #![tactic(auto)]
 
 mod input;

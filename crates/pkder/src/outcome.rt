@@ -58,7 +58,8 @@ fn number_line(alloc: Global, words: &str, number: u64) -> Result<String, AllocE
 }
 
 fn fault_line(alloc: Global, fault: &DocumentFault) -> Result<String, AllocError>
-    ensures { IfOk result (λ text. string_bytes text ≡ codes "fault at " ++ place_text fault.now.at fault.now.why ++ inside_text fault.now.inside ++ line_feed) }
+    ensures { IfOk result (λ text. string_bytes text ≡ codes "fault at "
+        ++ place_text fault.now.at fault.now.why ++ inside_text fault.now.inside ++ line_feed) }
 {
     let mut text = String::from_str(alloc, "fault at ")?;
     push_place(&mut text, fault.at, fault.why)?;

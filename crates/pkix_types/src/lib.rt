@@ -2,8 +2,8 @@
 //! terms of `x690`, and their rules.
 //!
 //! They are definitions, in `specs/`: the contracts of their readers cite them, and `docs/definitions.md` says in which
-//! order to read them. Proved here: they are as the laws of `x690_laws` ask of a type (`documents`). `proofs/Rows*.antt`
-//! have documents with their answers, closed by computing.
+//! order to read them. Proved here: they are as the laws of `x690_laws` ask of a type (`documents`).
+//! `proofs/Rows*.antt` have documents with their answers, closed by computing.
 #![tactic(auto)]
 
 pub mod documents;

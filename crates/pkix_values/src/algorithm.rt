@@ -81,7 +81,8 @@ impl AlgorithmIdentifier {
 
     /// Whether the two are the same.
     pub fn same(&self, other: &AlgorithmIdentifier) -> bool
-        ensures { IsTrue result ↔ Same (⟦<AlgorithmIdentifier as DerText>⟧.value self.now) (⟦<AlgorithmIdentifier as DerText>⟧.value other.now) }
+        ensures { IsTrue result ↔ Same (⟦<AlgorithmIdentifier as DerText>⟧.value self.now)
+            (⟦<AlgorithmIdentifier as DerText>⟧.value other.now) }
     {
         self.0.same(&other.0)
     }
@@ -104,7 +105,8 @@ impl NamesAlgorithm for AlgorithmIdentifier {
 impl DerText for AlgorithmIdentifier {
     ghost value = { λ x. ⟦<Ruled<Record<AlgorithmForm>, AlgorithmForm> as DerText>⟧.value x.0 };
 
-    ghost one_text = { λ x y. ⟦<Ruled<Record<AlgorithmForm>, AlgorithmForm> as DerText>⟧.one_text x.0 y.0 };
+    ghost one_text = { λ x y. ⟦<Ruled<Record<AlgorithmForm>, AlgorithmForm> as DerText>⟧.one_text
+        x.0 y.0 };
 
     fn size(&self) -> u64 {
         self.0.size()

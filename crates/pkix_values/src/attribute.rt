@@ -54,7 +54,8 @@ impl Attribute {
 
     /// Whether the two are the same.
     pub fn same(&self, other: &Attribute) -> bool
-        ensures { IsTrue result ↔ Same (⟦<Attribute as DerText>⟧.value self.now) (⟦<Attribute as DerText>⟧.value other.now) }
+        ensures { IsTrue result ↔ Same (⟦<Attribute as DerText>⟧.value self.now)
+            (⟦<Attribute as DerText>⟧.value other.now) }
     {
         self.0.same(&other.0)
     }

@@ -59,7 +59,8 @@ impl Extension {
 
     /// Whether the two are the same.
     pub fn same(&self, other: &Extension) -> bool
-        ensures { IsTrue result ↔ Same (⟦<Extension as DerText>⟧.value self.now) (⟦<Extension as DerText>⟧.value other.now) }
+        ensures { IsTrue result ↔ Same (⟦<Extension as DerText>⟧.value self.now)
+            (⟦<Extension as DerText>⟧.value other.now) }
     {
         self.0.same(&other.0)
     }

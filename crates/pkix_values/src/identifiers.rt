@@ -13,7 +13,8 @@ pub fn has_contents(id: &Oid, contents: &[u8]) -> bool
     id.content() == contents
 }
 
-/// The number of octets of a public key under an algorithm of RFC 8410 (RFC 7748 section 5, RFC 8032 sections 5.1.5, 5.2.5).
+/// The number of octets of a public key under an algorithm of RFC 8410 (RFC 7748 section 5, RFC 8032 sections 5.1.5,
+/// 5.2.5).
 pub fn public_key_length(algorithm: &Oid) -> Option<usize>
     ensures length { result ≡ length_under rfc8410_lengths algorithm.now }
     ensures listed { is_some result ≡ one_of algorithm.now rfc8410_algorithms }

@@ -54,7 +54,8 @@ impl NameItem {
 
     /// Whether the two are the same.
     pub fn same(&self, other: &NameItem) -> bool
-        ensures { IsTrue result ↔ Same (⟦<NameItem as DerText>⟧.value self.now) (⟦<NameItem as DerText>⟧.value other.now) }
+        ensures { IsTrue result ↔ Same (⟦<NameItem as DerText>⟧.value self.now)
+            (⟦<NameItem as DerText>⟧.value other.now) }
     {
         self.0.same(&other.0)
     }
@@ -112,7 +113,8 @@ impl Name {
 
     /// Whether the two are the same.
     pub fn same(&self, other: &Name) -> bool
-        ensures { IsTrue result ↔ Same (⟦<Name as DerText>⟧.value self.now) (⟦<Name as DerText>⟧.value other.now) }
+        ensures { IsTrue result ↔ Same (⟦<Name as DerText>⟧.value self.now)
+            (⟦<Name as DerText>⟧.value other.now) }
     {
         self.rdns.same(&other.rdns)
     }

@@ -57,7 +57,8 @@ impl<T: NamesAlgorithm> FieldRules<Due<T>, Bits> for PublicKeyForm {
     }
 }
 
-/// Whether the key is as RFC 8410 has it, where the algorithm is one of its four: of the length that goes with it, without unused bits.
+/// Whether the key is as RFC 8410 has it, where the algorithm is one of its four: of the length that goes with it,
+/// without unused bits.
 fn is_key_of(algorithm: &Oid, key: &Bits) -> bool
     ensures { result ≡ key_fits algorithm.now (bit_string_of key.now) }
 {
@@ -82,14 +83,16 @@ impl SubjectPublicKeyInfo {
     /// The key. Under the algorithms of RFC 8410 it has the length that goes with the algorithm, and no unused bits.
     pub fn key(&self) -> &Bits
         ensures value { result.now ≡ self.now.0.fields.fields.1.0 }
-        ensures fits { key_fits self.now.0.fields.fields.0.0.0.value.fields.0.0 (bit_string_of result.now) ≡ true }
+        ensures fits { key_fits self.now.0.fields.fields.0.0.0.value.fields.0.0
+            (bit_string_of result.now) ≡ true }
     {
         self.0.fields().field()
     }
 
     /// Whether the two are the same.
     pub fn same(&self, other: &SubjectPublicKeyInfo) -> bool
-        ensures { IsTrue result ↔ Same (⟦<SubjectPublicKeyInfo as DerText>⟧.value self.now) (⟦<SubjectPublicKeyInfo as DerText>⟧.value other.now) }
+        ensures { IsTrue result ↔ Same (⟦<SubjectPublicKeyInfo as DerText>⟧.value self.now)
+            (⟦<SubjectPublicKeyInfo as DerText>⟧.value other.now) }
     {
         self.0.same(&other.0)
     }

@@ -75,8 +75,10 @@ impl RequestAttribute {
     /// The lists of extensions of extensionRequest.
     #[tactic(auto, unfolding(x690::specs::Values::leaf_at))]
     pub fn extensions(&self) -> Option<&SetOf<List<Extension>>>
-        ensures value { option_map (λ r. r.now) result ≡ option_map (λ some. some.items) (first_of self.now.0.fields.field) }
-        ensures by_type { is_some result ≡ one_of self.now.0.fields.earlier.0 (extension_request ∷ []) }
+        ensures value { option_map (λ r. r.now) result
+            ≡ option_map (λ some. some.items) (first_of self.now.0.fields.field) }
+        ensures by_type { is_some result ≡ one_of self.now.0.fields.earlier.0
+            (extension_request ∷ []) }
     {
         match self.0.fields().field() {
             Either::First(lists) => Some(lists.items()),
@@ -87,8 +89,10 @@ impl RequestAttribute {
     /// The values of an attribute of any other type.
     #[tactic(auto, unfolding(x690::specs::Values::leaf_at))]
     pub fn plain(&self) -> Option<&SetOf<Any>>
-        ensures value { option_map (λ r. r.now) result ≡ option_map (λ some. some.items) (second_of self.now.0.fields.field) }
-        ensures by_type { is_some result ≡ not (one_of self.now.0.fields.earlier.0 (extension_request ∷ [])) }
+        ensures value { option_map (λ r. r.now) result
+            ≡ option_map (λ some. some.items) (second_of self.now.0.fields.field) }
+        ensures by_type { is_some result ≡ not
+            (one_of self.now.0.fields.earlier.0 (extension_request ∷ [])) }
     {
         match self.0.fields().field() {
             Either::First(_) => None,
@@ -98,7 +102,8 @@ impl RequestAttribute {
 
     /// Whether the two are the same.
     pub fn same(&self, other: &RequestAttribute) -> bool
-        ensures { IsTrue result ↔ Same (⟦<RequestAttribute as DerText>⟧.value self.now) (⟦<RequestAttribute as DerText>⟧.value other.now) }
+        ensures { IsTrue result ↔ Same (⟦<RequestAttribute as DerText>⟧.value self.now)
+            (⟦<RequestAttribute as DerText>⟧.value other.now) }
     {
         self.0.same(&other.0)
     }

@@ -36,7 +36,9 @@ impl<T: DerText> SetOfSome<T> {
 
     /// Whether the two are the same.
     pub fn same(&self, other: &SetOfSome<T>) -> bool
-        ensures { IsTrue result ↔ Same (SetValue (universal 17) (values_of (map T.value (set_items self.now.items)))) (SetValue (universal 17) (values_of (map T.value (set_items other.now.items)))) }
+        ensures { IsTrue result ↔ Same
+            (SetValue (universal 17) (values_of (map T.value (set_items self.now.items))))
+            (SetValue (universal 17) (values_of (map T.value (set_items other.now.items)))) }
     {
         self.items.same(&other.items)
     }

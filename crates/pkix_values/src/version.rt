@@ -23,8 +23,8 @@ use tlv_core::source::Source;
 use tlv_core::tag::Tag;
 use tlv_core::target::Target;
 
-/// The version of a document: an INTEGER from `LEAST` to `MOST`, and no more than 127 even where `MOST` is. Another INTEGER is refused at its
-/// identifier as `Version`.
+/// The version of a document: an INTEGER from `LEAST` to `MOST`, and no more than 127 even where `MOST` is. Another
+/// INTEGER is refused at its identifier as `Version`.
 #[derive(Clone, Copy)]
 pub struct Version<const LEAST: u8, const MOST: u8> {
     number: u8,
@@ -81,7 +81,8 @@ fn number_of<const LEAST: u8, const MOST: u8>(contents: &[u8]) -> Option<u8>
 impl<const LEAST: u8, const MOST: u8> DerText for Version<LEAST, MOST> {
     ghost value = { λ v. Leaf (universal 2) (v.number ∷ []) };
 
-    ghost one_text = { λ x y. leaf_one_text (universal 2) (universal 2) (x.number ∷ []) (y.number ∷ []) };
+    ghost one_text = { λ x y. leaf_one_text (universal 2) (universal 2) (x.number ∷ [])
+        (y.number ∷ []) };
 
     fn size(&self) -> u64 {
         3

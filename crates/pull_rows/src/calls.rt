@@ -113,8 +113,8 @@ fn agree_in_pieces(
     Ok(())
 }
 
-/// From a source that fails behind its first octets, however many, the answers are those from the slice as far as
-/// those octets go.
+/// From a source that fails behind its first octets, however many, the answers are those from the slice as far as those
+/// octets go.
 fn agree_in_failures(
     alloc: Global,
     task: &Task,

@@ -1,10 +1,10 @@
 //! Tries `ber_pull` and `tlv_core` by their public calls, one task a run: for the tables of `tests/`, which
 //! `tools/rows.py --line` hands to it. Not part of pkder.
 //!
-//! Standard input is a line of words, which are the task, and then the octets for it. Standard output is a line
-//! with the answer. Where there is none a line on standard error says why, and the status is 2 for what is refused,
-//! 3 for a failed read and for want of memory, 4 for words that no task has, and 9 where two answers differ that
-//! have to be the same.
+//! Standard input is a line of words, which are the task, and then the octets for it. Standard output is a line with
+//! the answer. Where there is none a line on standard error says why, and the status is 2 for what is refused, 3 for a
+//! failed read and for want of memory, 4 for words that no task has, and 9 where two answers differ that have to be the
+//! same.
 #![tactic(auto)]
 
 mod calls;

@@ -23,8 +23,8 @@ impl Read for Breaks<'_> {
     }
 }
 
-/// What a source of the octets gives, at most `ROOM` of them per read: `pieces SIZE ROOM ends|fails`,
-/// `slice ROOM READS`, `reader ROOM READS`, or `breaking FIRST ROOM`, a reader that breaks behind its first octets.
+/// What a source of the octets gives, at most `ROOM` of them per read: `pieces SIZE ROOM ends|fails`, `slice ROOM
+/// READS`, `reader ROOM READS`, or `breaking FIRST ROOM`, a reader that breaks behind its first octets.
 pub fn answered(alloc: Global, words: &[&str], octets: &[u8]) -> Result<String, Refusal> {
     let [kind, one, two, rest @ ..] = words else {
         return Err(Refusal::Words);

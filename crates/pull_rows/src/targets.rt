@@ -44,8 +44,8 @@ struct Steps {
     puts: Vec<usize>,
 }
 
-/// What becomes of the octets, handed out in order by `write COUNT ..` and then `put COUNT ..`, behind
-/// `stops ROOM SIZE`, `vector`, or `zero MOST` and `error MOST`, a writer that answers 0 or an error behind so many.
+/// What becomes of the octets, handed out in order by `write COUNT ..` and then `put COUNT ..`, behind `stops ROOM
+/// SIZE`, `vector`, or `zero MOST` and `error MOST`, a writer that answers 0 or an error behind so many.
 pub fn answered(alloc: Global, words: &[&str], octets: &[u8]) -> Result<String, Refusal> {
     let [kind, most, rest @ ..] = words else {
         return Err(Refusal::Words);

@@ -1,5 +1,5 @@
-//! Allowed ::= SEQUENCE { number INTEGER, sealed [0], octets OCTET STRING OPTIONAL }, where nothing may stand as sealed, no
-//! octets behind 0, and as many as the number has behind another one.
+//! Allowed ::= SEQUENCE { number INTEGER, sealed [0], octets OCTET STRING OPTIONAL }, where nothing may stand as
+//! sealed, no octets behind 0, and as many as the number has behind another one.
 ghost use Rattle.std.proofs.lemmas.Bool.{ltb-true};
 ghost use Rattle.std.specs.Prelude.{◌∷◌, [], refl};
 ghost use Rattle.tlv_core.specs.declared.reason.Reason.TheVariants as why;

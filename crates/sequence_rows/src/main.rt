@@ -1,7 +1,9 @@
-//! A program that tests the kinds of fields of `asn_fields` on rows of tables, with types of its own. Not part of pkder.
+//! A program that tests the kinds of fields of `asn_fields` on rows of tables, with types of its own. Not part of
+//! pkder.
 //!
-//! Standard input is the name of a type on a line, and the octets behind it. Status 0 goes with the DER text on standard
-//! output, 2 with a fault on standard error, 3 with a failed write or want of memory, 4 with a line that names no type.
+//! Standard input is the name of a type on a line, and the octets behind it. Status 0 goes with the DER text on
+//! standard output, 2 with a fault on standard error, 3 with a failed write or want of memory, 4 with a line that names
+//! no type.
 #![tactic(auto)]
 
 mod allowed;

@@ -1,4 +1,5 @@
-//! Note ::= SEQUENCE { number INTEGER, subject OBJECT IDENTIFIER OPTIONAL, lines SEQUENCE SIZE (1..MAX) OF OCTET STRING }.
+//! Note ::= SEQUENCE { number INTEGER, subject OBJECT IDENTIFIER OPTIONAL, lines SEQUENCE SIZE (1..MAX) OF OCTET STRING
+//! }.
 ghost use Rattle.std.proofs.lemmas.Bool.{ltb-true};
 ghost use Rattle.std.specs.Prelude.{refl};
 

@@ -6,8 +6,8 @@ use crate::reason::Reason;
 use std::alloc::{AllocError, AllocFailed};
 use thiserror::Error;
 
-/// Where and why a document is refused first. `at` counts octets from the start of the document, from 0.
-/// `inside` is `Some` exactly where `why` is `Inner`: the place and reason of the fault in the octets of the OCTET STRING at `at`.
+/// Where and why a document is refused first. `at` counts octets from the start of the document, from 0. `inside` is
+/// `Some` exactly where `why` is `Inner`: the place and reason of the fault in the octets of the OCTET STRING at `at`.
 #[derive(Clone, Copy, Debug, PartialEq, Eq)]
 pub struct Fault {
     pub at: u64,

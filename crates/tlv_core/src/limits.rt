@@ -4,8 +4,8 @@ ghost use Rattle.tlv_core.specs.Limits.{IsLimits};
 
 use std::marker::Model;
 
-/// The greatest depth of nesting, 1 to 64, the outermost element being at depth 1; and the greatest number of octets
-/// of a document and of its DER text, 1 to 2,147,483,647.
+/// The greatest depth of nesting, 1 to 64, the outermost element being at depth 1; and the greatest number of octets of
+/// a document and of its DER text, 1 to 2,147,483,647.
 #[derive(Clone, Copy, Debug, PartialEq, Eq)]
 pub struct Limits {
     depth: u8,

@@ -58,7 +58,8 @@ impl Oid {
     /// The object identifier with these arcs. `Bad` where there is none.
     pub fn from_arcs(alloc: Global, arcs: &[u128]) -> Result<Oid, OidError>
         ensures made { IfOk result (λ oid. ObjectIdentifierOctets arcs.now oid) }
-        ensures bad { (result ≡ Err Bad) ↔ ((octets : List ℕ) → ObjectIdentifierOctets arcs.now octets → ⊥) }
+        ensures bad { (result ≡ Err Bad) ↔ ((octets : List ℕ)
+            → ObjectIdentifierOctets arcs.now octets → ⊥) }
     {
         let Some(first) = leading_subidentifier(arcs) else {
             return Err(OidError::Bad);
@@ -96,7 +97,8 @@ impl Oid {
 
     /// The number of arcs, 2 or more.
     pub fn arc_count(&self) -> usize
-        ensures count { (arcs : List ℕ) → ObjectIdentifierOctets arcs self.now → result ≡ length arcs }
+        ensures count { (arcs : List ℕ) → ObjectIdentifierOctets arcs self.now
+            → result ≡ length arcs }
         ensures is { IsObjectIdentifier self.now }
     {
         self.arcs.len()
@@ -104,7 +106,8 @@ impl Oid {
 
     /// The arc at this place, counted from 0.
     pub fn arc(&self, i: usize) -> Option<u128>
-        ensures value { (arcs : List ℕ) → ObjectIdentifierOctets arcs self.now → result ≡ slice_get arcs i }
+        ensures value { (arcs : List ℕ) → ObjectIdentifierOctets arcs self.now
+            → result ≡ slice_get arcs i }
         ensures is { IsObjectIdentifier self.now }
     {
         if i < self.arcs.len() {
@@ -124,7 +127,8 @@ impl Oid {
 
 /// The subidentifier of the first two arcs, where all arcs are those of an object identifier.
 fn leading_subidentifier(arcs: &[u128]) -> Option<u128>
-    ensures some { IfSome result (λ first. ObjectIdentifierOctets arcs.now (flat_map base128 (first ∷ drop 2 arcs.now))) }
+    ensures some { IfSome result (λ first. ObjectIdentifierOctets arcs.now
+        (flat_map base128 (first ∷ drop 2 arcs.now))) }
     ensures none { IsNone result → (octets : List ℕ) → ObjectIdentifierOctets arcs.now octets → ⊥ }
 {
     if arcs.len() < 2 || arcs[0] > 2 {

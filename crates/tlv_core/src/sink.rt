@@ -46,8 +46,8 @@ impl<'a, W: Target> Sink<'a, W> {
         self.written
     }
 
-    /// Writes the octets. Where the writer fails the first of them are out, as many as `written` rose by;
-    /// from then on every call answers that error and writes nothing.
+    /// Writes the octets. Where the writer fails the first of them are out, as many as `written` rose by; from then on
+    /// every call answers that error and writes nothing.
     pub fn put(&mut self, octets: &[u8]) -> Result<(), WriteError>
         requires { count self.old + length octets.now < 2 ^ 64 }
         ensures { Puts octets.now self.old self.new result }

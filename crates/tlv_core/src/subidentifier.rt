@@ -10,7 +10,8 @@ pub(crate) fn first_subidentifier(octets: &[u8]) -> Option<(u128, usize)>
     ensures within { IfSome result (λ found. found.1 ≤ length octets.now) }
     ensures below { IfSome result (λ found. found.0 < 2 ^ 128) }
     ensures digits { IfSome result (λ found. take found.1 octets.now ≡ base128 found.0) }
-    ensures none { IsNone result → (n : ℕ) (rest : List ℕ) → n < 2 ^ 128 → octets.now ≡ base128 n ++ rest → ⊥ }
+    ensures none { IsNone result → (n : ℕ) (rest : List ℕ) → n < 2 ^ 128
+        → octets.now ≡ base128 n ++ rest → ⊥ }
 {
     let mut number: u128 = 0;
     for (i, octet) in octets.iter().enumerate() {
@@ -30,7 +31,8 @@ pub(crate) fn first_subidentifier(octets: &[u8]) -> Option<(u128, usize)>
 
 /// Puts the base-128 digits of the number behind the octets, each with bit 8 set.
 fn push_leading_base128(octets: &mut Vec<u8>, number: u128) -> Result<(), AllocError>
-    ensures { IfOk result (λ _. octets.new.items ≡ octets.old.items ++ leading_base128 number number) }
+    ensures { IfOk result (λ _. octets.new.items ≡ octets.old.items
+        ++ leading_base128 number number) }
 {
     if number > 0 {
         push_leading_base128(octets, number / 128)?;

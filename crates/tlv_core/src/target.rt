@@ -15,8 +15,8 @@ pub trait Target {
     /// Whether it has failed.
     ghost has_failed: { Self → Bool };
 
-    /// Appends the first octets of the piece and answers their number: 0 only for an empty piece.
-    /// `Failed` where it has failed; none is then appended.
+    /// Appends the first octets of the piece and answers their number: 0 only for an empty piece. `Failed` where it has
+    /// failed; none is then appended.
     fn write(&mut self, piece: &[u8]) -> Result<usize, Failed>
         requires { has_failed self.old ≡ false }
         ensures bound { WritesAtMost result piece.now }
@@ -29,7 +29,8 @@ pub trait Target {
         ensures { result ≡ has_failed self.now };
 }
 
-/// A target over any writer. An error of it, `Interrupted` too, or 0 written of a piece that isn't empty makes the target failed.
+/// A target over any writer. An error of it, `Interrupted` too, or 0 written of a piece that isn't empty makes the
+/// target failed.
 #[derive(Drop)]
 pub struct ToWrite<W> {
     inner: W,

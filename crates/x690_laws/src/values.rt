@@ -6,9 +6,9 @@ pub fn same_is_an_equivalence()
     ensures { Equivalence }
 {}
 
-/// The order of SET OF (X.690 11.6) is total and transitive. No DER text begins another one, so texts that tie are equal.
-/// On DER texts it is the plain order of octets, in which nothing is padded.
-/// There is one list of a SET OF's texts that ascends, and the DER text has its members in this order.
+/// The order of SET OF (X.690 11.6) is total and transitive. No DER text begins another one, so texts that tie are
+/// equal. On DER texts it is the plain order of octets, in which nothing is padded. There is one list of a SET OF's
+/// texts that ascends, and the DER text has its members in this order.
 pub fn set_of_has_one_arrangement()
     ensures { Arrangement }
 {}

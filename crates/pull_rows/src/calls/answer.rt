@@ -70,9 +70,9 @@ pub fn are_same(found: &[Answer], whole: &[Answer]) -> bool {
     found.len() == whole.len() && found.iter().zip(whole).all(|(answer, due)| *answer == *due)
 }
 
-/// Whether the answers are those that are due from a source which fails behind so many octets, where `whole` are
-/// those from a slice, and need so many. The first call that needs an octet behind answers that reading failed there,
-/// and so does each later one; what is truncated at the end of the octets fails there too.
+/// Whether the answers are those that are due from a source which fails behind so many octets, where `whole` are those
+/// from a slice, and need so many. The first call that needs an octet behind answers that reading failed there, and so
+/// does each later one; what is truncated at the end of the octets fails there too.
 pub fn are_failing(found: &[Answer], whole: &[Answer], told: usize, needs: usize) -> bool {
     let unread = ReadError::Read { at: told as u64 };
     let is_short = told < needs;

@@ -60,9 +60,11 @@ fn make_call<R: Source>(
     call: Call,
 ) -> (usize, Answer)
     requires few { inside < 1000 }
-    requires inside { (standing pull.old).error ≡ None → length (standing pull.old).containers ≡ inside }
+    requires inside { (standing pull.old).error ≡ None
+        → length (standing pull.old).containers ≡ inside }
     ensures few { result.0 ≤ inside + 1 }
-    ensures inside { (standing pull.new).error ≡ None → length (standing pull.new).containers ≡ result.0 }
+    ensures inside { (standing pull.new).error ≡ None
+        → length (standing pull.new).containers ≡ result.0 }
 {
     match call {
         Call::At => (inside, Answer::At(pull.at())),
@@ -85,8 +87,8 @@ fn make_call<R: Source>(
     }
 }
 
-/// The answer of a call that needs an element, where one stands; and how many containers are open then.
-/// It stands for `leave` too where nothing is open, as it is after an error, which each call repeats.
+/// The answer of a call that needs an element, where one stands; and how many containers are open then. It stands for
+/// `leave` too where nothing is open, as it is after an error, which each call repeats.
 fn element<R: Source>(
     alloc: Global,
     pull: &mut Pull<'_, R>,
@@ -94,9 +96,11 @@ fn element<R: Source>(
     call: Call,
 ) -> (usize, Answer)
     requires few { inside < 1000 }
-    requires inside { (standing pull.old).error ≡ None → length (standing pull.old).containers ≡ inside }
+    requires inside { (standing pull.old).error ≡ None
+        → length (standing pull.old).containers ≡ inside }
     ensures few { result.0 ≤ inside + 1 }
-    ensures inside { (standing pull.new).error ≡ None → length (standing pull.new).containers ≡ result.0 }
+    ensures inside { (standing pull.new).error ≡ None
+        → length (standing pull.new).containers ≡ result.0 }
 {
     if let Ok(None) = pull.next_tag() {
         return (inside, Answer::End);
