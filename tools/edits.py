@@ -3,17 +3,18 @@
 
 The edits stand in crates/NAME/edits, written as those of must-fail/ are. Without names all are tried, and the control.
 
-A crate is proved once, and each round begins over a copy of what that check kept. A round is one check of the crate
-with many edits in it, at most one in a function. A function's proof rests on the contracts of what it calls and on its
-own code alone, so each edit is judged by what the check says of its own function:
+A round is one check of the crate with many edits in it, at most one in a function, over what the rounds before it
+proved; the first one looks at the whole crate, the others at the functions with edits alone. A function's proof rests
+on the contracts of what it calls and on its own code alone, so each edit is judged by what the check says of its own
+function:
   refused    a part of the function's own proof failed
   waits      the function calls one that has no proof in this round, so the edit comes again in the next one
 What this doesn't tell is tried alone, as `rt ci` tries the edits of must-fail/: an edit outside of functions, one whose
 function is proved with it, those of a round that can't be read, or in which a function failed that none of them is in.
 
 --beside-gate is for use beside `rt ci`: standard input names each crate once it is proved, and the libraries are those
-that `rt ci` left. --over-kept is for use at work: it begins with what `rt check` kept. The script reads the lines of
-the toolchain's check and calls its script `rt`, of this kit both.
+that `rt ci` left. Else the crate is proved first, with --over-kept over what `rt check` kept. The script reads the
+lines of the toolchain's check and calls its script `rt`, of this kit both.
 
 Each edit has a line, and the last line is 'edits: N passed, M failed'."""
 import importlib.machinery
@@ -70,19 +71,18 @@ def functions_in(text):
 
 
 class Code:
-    """The functions of a crate, by the paths that a check names them by."""
+    """The functions of a crate, by where they stand and by the paths that a check names them by."""
 
     def __init__(self, crate):
-        self.crate, self.modules, self.paths, self.cycles = crate, set(), set(), {}
+        self.crate, self.paths, self.cycles = crate, set(), {}
+        walked = os.walk(f"{crate.folder}/src")
+        files = [f"{at}/{it}" for at, _, names in walked for it in names if it.endswith(".rt")]
+        self.texts = {self.module_in(os.path.relpath(it, crate.folder)): rtlib.text_of(it) for it in files}
 
     def look(self, said):
-        """Reads the functions' paths off a check of the crate as it stands, and which have their proof together."""
+        """Reads the functions' paths off a check of the whole crate, and which have their proof together."""
         self.paths = set(re.findall(rf"(?m)^fn {self.crate.name}::(\S+): ", said))
-        walked = os.walk(f"{self.crate.folder}/src")
-        files = [f"{at}/{it}" for at, _, names in walked for it in names if it.endswith(".rt")]
-        texts = {self.module_in(os.path.relpath(it, self.crate.folder)): rtlib.text_of(it) for it in files}
-        self.modules = {*texts}
-        for module, text in texts.items():
+        for module, text in self.texts.items():
             for _, _, of_type, name, cycle in functions_in(text):
                 self.cycles.update({it: cycle for it in self.paths_of(module, of_type, name) if cycle})
 
@@ -93,7 +93,7 @@ class Code:
     def module_of(self, path):
         inside = path.split("::")
         above = ["::".join(inside[:it]) for it in range(len(inside))]
-        return [it for it in above if it in self.modules or not it][-1]
+        return [it for it in above if it in self.texts or not it][-1]
 
     def paths_of(self, module, of_type, name):
         """The paths that a function of a file may have: under the file's module, or else under that of its type."""
@@ -129,8 +129,8 @@ class Edit:
         self.text = rtlib.text_of(file) or ""
         self.why = rt.read_edit(file, code.crate.folder)[1]
 
-    def paths(self):
-        """Returns the paths of the functions that it is in; none where a part of it is in no function."""
+    def functions(self):
+        """Returns module, type, name and cycle of the functions that it is in; none where a part of it is in none."""
         found, path, done = set(), "", ""
         for line in [] if self.why else self.text.split("\n"):
             if line.startswith("file: "):
@@ -138,17 +138,17 @@ class Edit:
             elif line.startswith("old: "):
                 texts = rt.edited(done, self.code.crate.folder)[0] or {}
                 text = texts.get(path) or rtlib.text_of(f"{self.code.crate.folder}/{path}")
-                paths = self.paths_at(path, text, line[len("old: ") :])
-                if not paths:
+                at = next(i for i, it in enumerate(text.split("\n")) if line[len("old: ") :] in it)
+                around = [it[2:] for it in functions_in(text) if it[0] <= at <= it[1]]
+                if not around or not path.startswith("src/"):
                     return set()
-                found |= paths
+                found.add((self.code.module_in(path), *around[-1]))
             done += f"{line}\n"
         return found
 
-    def paths_at(self, path, text, old):
-        at = next(i for i, line in enumerate(text.split("\n")) if old in line)
-        found = [it for it in functions_in(text) if it[0] <= at <= it[1]] if path.startswith("src/") else []
-        return self.code.paths_of(self.code.module_in(path), found[-1][2], found[-1][3]) if found else set()
+    def paths(self):
+        """Returns the paths of these functions."""
+        return set().union(*(self.code.paths_of(*it[:3]) for it in self.functions()))
 
 
 def failures(code, said):
@@ -182,60 +182,64 @@ def refusal(why):
 
 
 class Trial:
-    """The edits of one crate, tried over what a check of the crate as it stands kept."""
+    """The edits of one crate, tried over what the rounds before proved."""
 
-    def __init__(self, code, kept):
+    def __init__(self, code, kept, is_known):
         self.code, self.crate, self.kept, self.flags = code, code.crate, kept, ["--jobs", "1"]
-        ran = rt.checked(self.crate, {}, self.flags, kept)
-        self.is_proved = ran.returncode == 0
-        code.look(ran.stdout)
+        self.is_proved = is_known or self.proves()
 
-    def over_kept(self, call):
-        with tempfile.TemporaryDirectory(prefix="edits-over-") as over:
-            shutil.copytree(self.kept, over, dirs_exist_ok=True)
-            return call(over)
+    def proves(self):
+        """Whether the crate as it stands is proved."""
+        ran = rt.checked(self.crate, {}, self.flags, self.kept)
+        self.code.look(ran.stdout)
+        return ran.returncode == 0
 
     def check(self, batch):
         """Returns what a check says of the crate with these edits in it, or None where it can't be read."""
         texts, why = rt.edited("\n".join(it.text for it in batch), self.crate.folder)
         if why:
             return None
-        said = self.over_kept(lambda over: rt.checked(self.crate, texts, self.flags, over).stdout)
+        # (once the paths are known the edits' functions are looked at alone, and what they call)
+        paths = sorted(set().union(*(it.paths() for it in batch)))
+        only = [word for it in paths for word in ("--only", it)]
+        said = rt.checked(self.crate, texts, self.flags + only, self.kept).stdout
         lines = said.rstrip("\n").split("\n")
-        is_bad = rtlib.STALE.search(said) or any(rt.unread(it, texts) for it in lines)
-        return said if lines[-1].startswith("logic=") and not is_bad else None
+        if rtlib.STALE.search(said) or any(rt.unread(it, texts) for it in lines):
+            return None
+        return said if lines[-1].startswith("only=" if only else "logic=") else None
 
     def round(self, batch):
-        """Returns the state of each edit after a check of all; a batch has of each edit the functions that it is in."""
+        """Returns the state of each edit after a check of all."""
         said = self.check(batch)
         if said is None:
-            edits, half = [*batch], len(batch) // 2
-            parts = [{it: batch[it] for it in part} for part in (edits[:half], edits[half:])]
-            return {**self.round(parts[0]), **self.round(parts[1])} if half else {edits[0]: ALONE}
-        failed = failures(self.code, said)
-        is_edited = lambda path: any(self.code.is_in(path, it) for it in batch.values())
+            half = len(batch) // 2
+            return {**self.round(batch[:half]), **self.round(batch[half:])} if half else {batch[0]: ALONE}
+        if not self.code.paths:
+            self.code.look(said)
+        failed, paths = failures(self.code, said), {it: it.paths() for it in batch}
+        is_edited = lambda path: any(self.code.is_in(path, it) for it in paths.values())
         strange = [path for path, why in failed.items() if why and not is_edited(path)]
         if strange:
             say(f"{self.crate.name}: {strange[0]} failed, and no edit is in it")
             return dict.fromkeys(batch, ALONE)
-        return {it: state(self.code, paths, failed) for it, paths in batch.items()}
+        return {it: state(self.code, paths[it], failed) for it in batch}
 
     def batch_of(self, left):
-        """Returns edits that are in no function that another one is in."""
-        batch, taken = {}, set()
-        for it, paths in left.items():
-            proofs = {self.code.proof_of(path) for path in paths}
+        """Returns edits that are in no function that another one is in, functions of a cycle counting as one."""
+        batch, taken = [], set()
+        for it, functions in left.items():
+            proofs = {cycle or (module, of_type, name) for module, of_type, name, cycle in functions}
             if not proofs & taken:
-                batch[it] = paths
+                batch.append(it)
                 taken |= proofs
         return batch
 
     def tried(self, edits):
         """Returns of each edit whether it is refused, and what to say of it."""
         ended = {it: (False, f"BAD EDIT: {it.why}") for it in edits if it.why}
-        left = {it: it.paths() for it in edits if not it.why}
-        alone = [it for it, paths in left.items() if not paths]
-        left = {it: paths for it, paths in left.items() if paths}
+        left = {it: it.functions() for it in edits if not it.why}
+        alone = [it for it, functions in left.items() if not functions]
+        left = {it: functions for it, functions in left.items() if functions}
         while left:
             states = self.round(self.batch_of(left))
             # (where all wait, each for another one, no further round would tell more)
@@ -243,10 +247,10 @@ class Trial:
             alone += [it for it, why in states.items() if why == ALONE or is_stuck]
             refused = {it: why for it, why in states.items() if why and why != ALONE}
             ended.update({it: (True, refusal(why)) for it, why in refused.items()})
-            left = {it: paths for it, paths in left.items() if it not in ended and it not in alone}
+            left = {it: functions for it, functions in left.items() if it not in ended and it not in alone}
             say(f"{self.crate.name}: {len(states)} edits in a round; {len(left)} left, {len(alone)} {ALONE}")
         for it in alone:
-            well, text = self.over_kept(lambda over, it=it: rt.must_fail(self.crate, it.file, self.flags, over))
+            well, text = rt.must_fail(self.crate, it.file, self.flags, self.kept)
             ended[it] = well, text.partition(".edit: ")[2]
         return ended
 
@@ -270,13 +274,13 @@ def passes_control(trial):
     return not wrong and {*kinds.values()} == {*CONTROLLED}
 
 
-def try_crate(code, edits, has_control, is_over_kept):
+def try_crate(code, edits, has_control, options):
     """Returns how many of its edits, the control counting as one, passed and failed."""
     name, count = code.crate.name, {True: 0, False: 0}
     with tempfile.TemporaryDirectory(prefix="edits-kept-") as kept:
-        if is_over_kept and os.path.isdir(f"{code.crate.folder}/out/incremental"):
+        if "--over-kept" in options and os.path.isdir(f"{code.crate.folder}/out/incremental"):
             shutil.copytree(f"{code.crate.folder}/out/incremental", kept, dirs_exist_ok=True)
-        trial = Trial(code, kept)
+        trial = Trial(code, kept, "--beside-gate" in options)
         if not trial.is_proved:
             say(f"{name} is not proved, so none of its {len(edits)} edits is tried")
             return 0, len(edits) + has_control
@@ -345,7 +349,7 @@ def main(words):
             make_libraries(found)
             crates = sorted(found, key=lambda it: -it.count(rb"\n") - 40 * len(found[it][1]))
         for crate in crates:
-            counts[crate] = lanes.submit(try_crate, *found[crate], "--over-kept" in options)
+            counts[crate] = lanes.submit(try_crate, *found[crate], options)
     passed, failed = (sum(it.result()[i] for it in counts.values()) for i in (0, 1))
     for crate, (_, edits, _) in found.items():
         if crate not in counts:
