@@ -26,9 +26,9 @@ source_failed {R} {s} p = s.has_failed p.src.now
 abbrev pub source : {R : Type 0} {s : Ghosts R} → Pull R s → R
 source p = p.src.now
 
--- it borrows the same source still
+-- it borrows the same source still, in which what no read changes is as it was
 abbrev pub SameSource : {R : Type 0} {s : Ghosts R} → Pull R s → Pull R s → Type 0
-SameSource old new = new.src.ghost_name ≡ old.src.ghost_name
+SameSource {R} {s} old new = (new.src.ghost_name ≡ old.src.ghost_name) × (s.frame new.src.now ≡ s.frame old.src.now)
 
 -- nothing was taken, and it stands as it did
 abbrev pub Unmoved : {R : Type 0} {s : Ghosts R} → Pull R s → Pull R s → Type 0

@@ -70,7 +70,7 @@ fn from_slice(alloc: Global, octets: &[u8], room: &str, reads: &str) -> Result<S
 fn from_reader(alloc: Global, octets: &[u8], room: &str, reads: &str) -> Result<String, Refusal> {
     let room: usize = room.parse()?;
     let reads: usize = reads.parse()?;
-    let mut source = FromRead::new(octets);
+    let mut source = FromRead::telling(octets);
     let given = gather(alloc, &mut source, room, reads)?;
     with_left(alloc, given.as_str(), source.into_inner())
 }

@@ -1,13 +1,22 @@
 -- What clauses see of the sources.
-use Rattle.std.specs.Prelude.{ℕ, Bool, List}
+use Rattle.std.specs.Prelude.{ℕ, Bool, List, None, Option, false, true}
+use Rattle.std.specs.declared.io.Read.{Ghosts}
 use Rattle.tlv_core.specs.declared.source.FromRead.{FromRead}
 use Rattle.tlv_core.specs.declared.source.Pieces.{Pieces}
 
 -- the reader under the source
-abbrev pub reader_of : {R : Type 0} → FromRead R → R
+abbrev pub reader_of : {R : Type 0} {s : Ghosts R} → FromRead R s → R
 reader_of source = source.inner
 
-abbrev pub read_failed : {R : Type 0} → FromRead R → Bool
+-- it tells the octets that its reader tells
+abbrev pub is_telling : {R : Type 0} {s : Ghosts R} → FromRead R s → Bool
+is_telling source = source.telling
+
+abbrev pub told_by : Bool → Option (List ℕ) → Option (List ℕ)
+told_by true told = told
+told_by false told = None
+
+abbrev pub read_failed : {R : Type 0} {s : Ghosts R} → FromRead R s → Bool
 read_failed source = source.failed
 
 -- the octets that are still to be given

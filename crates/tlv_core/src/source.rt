@@ -1,5 +1,5 @@
 //! Readers that say what they still tell, and whether they have failed.
-ghost use Rattle.std.specs.Prelude.{◌≡◌, ◌<◌, ◌↔◌, ℕ, Bool, true, false, Option, Some, List, [], IsErr};
+ghost use Rattle.std.specs.Prelude.{◌≡◌, ◌<◌, ◌↔◌, ℕ, Bool, true, false, Option, None, Some, List, [], IsErr, IsSome};
 ghost use Rattle.std.specs.Io.{ReadsAtMost};
 ghost use Rattle.std.specs.Io.KnownBytes.{ReadConsumes};
 
@@ -17,13 +17,19 @@ pub trait Source {
     /// Whether it has failed.
     ghost has_failed: { Self → Bool };
 
+    /// What no read changes, as numbers: the names of the references that it holds, and what it tells in its life.
+    ghost frame: { Self → List ℕ };
+
     /// Puts the next octets into `room` and answers their number: 0 only where `room` or what is left is empty.
     /// `Failed` where it has failed; the octets that it told are then still told.
     fn read(&mut self, room: &mut [u8]) -> Result<usize, Failed>
         requires { has_failed self.old ≡ false }
         ensures bound { ReadsAtMost result room.new }
         ensures octets { ReadConsumes (remaining self.old) (remaining self.new) result room.new }
-        ensures failed { IsErr result ↔ (has_failed self.new ≡ true) };
+        ensures failed { IsErr result ↔ (has_failed self.new ≡ true) }
+        ensures frame { frame self.new ≡ frame self.old }
+        // One that doesn't tell its octets doesn't begin to.
+        ensures silent { remaining self.old ≡ None → remaining self.new ≡ None };
 
     /// Whether it has failed.
     fn failed(&self) -> bool
@@ -35,6 +41,8 @@ impl Source for &[u8] {
     ghost remaining = { λ octets. Some octets.now };
 
     ghost has_failed = { λ _. false };
+
+    ghost frame = { λ _. [] };
 
     fn read(&mut self, room: &mut [u8]) -> Result<usize, Failed> {
         if room.len() == 1 && !self.is_empty() {
@@ -55,21 +63,40 @@ impl Source for &[u8] {
 
 /// A source over any reader. An error of it, `Interrupted` too, makes the source failed.
 #[derive(Drop)]
-pub struct FromRead<R> {
+pub struct FromRead<R: Read> {
     inner: R,
+    /// A reader may begin to tell its octets, and a source may not: so it is settled when the source is made.
+    telling: bool,
     failed: bool,
+    ghost told: { telling ≡ true → IsSome (R.remaining inner) },
 }
 
 impl<R: Read> FromRead<R> {
-    ghost use Rattle.tlv_core.specs.Sources.{reader_of, read_failed};
+    ghost use Rattle.tlv_core.specs.Sources.{reader_of, is_telling, read_failed};
 
-    /// The source over this reader.
+    /// The source over this reader. It doesn't tell its octets, whether the reader does or not.
     pub fn new(inner: R) -> FromRead<R>
         ensures over { reader_of result ≡ inner }
+        ensures silent { is_telling result ≡ false }
         ensures fresh { read_failed result ≡ false }
     {
         FromRead {
             inner,
+            telling: false,
+            failed: false,
+        }
+    }
+
+    /// The source over a reader that tells its octets. It tells the same.
+    pub fn telling(inner: R) -> FromRead<R>
+        requires { IsSome (R.remaining inner) }
+        ensures over { reader_of result ≡ inner }
+        ensures tells { is_telling result ≡ true }
+        ensures fresh { read_failed result ≡ false }
+    {
+        FromRead {
+            inner,
+            telling: true,
             failed: false,
         }
     }
@@ -83,11 +110,13 @@ impl<R: Read> FromRead<R> {
 }
 
 impl<R: Read> Source for FromRead<R> {
-    ghost use Rattle.tlv_core.specs.Sources.{reader_of, read_failed};
+    ghost use Rattle.tlv_core.specs.Sources.{reader_of, is_telling, read_failed, told_by};
 
-    ghost remaining = { λ source. R.remaining (reader_of source) };
+    ghost remaining = { λ source. told_by (is_telling source) (R.remaining (reader_of source)) };
 
     ghost has_failed = { λ source. read_failed source };
+
+    ghost frame = { λ _. [] };
 
     fn read(&mut self, room: &mut [u8]) -> Result<usize, Failed> {
         match self.inner.read(room) {
@@ -141,6 +170,8 @@ impl Source for Pieces<'_> {
     ghost remaining = { λ source. Some (octets_left source) };
 
     ghost has_failed = { λ source. pieces_failed source };
+
+    ghost frame = { λ _. [] };
 
     fn read(&mut self, room: &mut [u8]) -> Result<usize, Failed> {
         if self.left.is_empty() && self.fails {

@@ -3,11 +3,12 @@ use Rattle.std.proofs.Common.{◌≡◌, ◌-◌, ◌^◌, ◌<◌, ◌≤◌, �
 use Rattle.x690.specs.ReadHeaders.{read_big_endian}
 use Rattle.ber_pull.specs.Lengths.{IsClipped}
 use Rattle.ber_pull.specs.Standing.{enclosing, moved}
+use Rattle.ber_pull.specs.View.{SameSource}
 use Rattle.ber_pull.proofs.pull.Pull.big_endian.Given as goal
 
 abbrev pub invariant-loop : goal.invariant-loop
 invariant-loop g l = record {
-  same_source : l.self.src.ghost_name ≡ l.initial.self.src.ghost_name;
+  same_source : SameSource l.initial.self l.self;
   fine : l.self.state.error ≡ None;
   moves : l.self.state ≡ moved l.self.state.taken l.initial.self.state;
   forward : l.initial.self.state.taken ≤ l.self.state.taken;

@@ -3,11 +3,12 @@ use Rattle.ber_pull.specs.Calls.{read_segments}
 use Rattle.ber_pull.specs.Segments.{GoesOn, segment_number}
 use Rattle.ber_pull.specs.Standing.{among}
 use Rattle.ber_pull.specs.declared.state.Given.{Given}
+use Rattle.ber_pull.specs.View.{SameSource}
 use Rattle.ber_pull.proofs.pull.Pull.joined.Given as goal
 
 abbrev pub invariant-loop-alloc : goal.invariant-loop-alloc
 invariant-loop-alloc g l = record {
-  same_source : l.self.src.ghost_name ≡ l.fn.self.src.ghost_name;
+  same_source : SameSource l.fn.self l.self;
   fine : l.self.state.error ≡ None;
   stands : l.self.state ≡ among l.self.state l.fn.self.state;
   forward : l.fn.self.state.taken ≤ l.self.state.taken;
