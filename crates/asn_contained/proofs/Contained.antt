@@ -1,22 +1,19 @@
 -- What is answered of what an OCTET STRING contains.
-use Rattle.std.proofs.Common.{◌≡◌, ◌∙◌, Bool, Err, List, Option, Result, Some, [], ◌∷◌, ℕ, ap, arith, false, length, refl, subst, sym, true}
-use Rattle.std.proofs.lemmas.Bool.{eqb-true}
-use Rattle.std.specs.Prelude.{◌==◌}
-use Rattle.std.specs.Result.{MatchResult}
+use Rattle.std.proofs.Common.{◌≡◌, Bool, List, Option, Some, [], ℕ, ap, false, refl, subst, sym, true}
 use Rattle.tlv_core.specs.Identifier.{Tag}
 use Rattle.tlv_core.specs.Limits.{Limits}
 use Rattle.tlv_core.specs.declared.fault.Fault.{Fault}
 use Rattle.tlv_core.specs.declared.fault.ReadError.{ReadError}
 use Rattle.tlv_core.specs.declared.fault.ReadError.TheVariants as errors
-use Rattle.tlv_core.specs.declared.reason.Reason.TheVariants.{Inner, Trailing, WrongTag}
+use Rattle.tlv_core.specs.declared.reason.Reason.TheVariants.{Inner, WrongTag}
 use Rattle.x690.specs.Contents.{OctetString}
 use Rattle.x690.specs.DerTexts.{der}
 use Rattle.x690.specs.Layouts.{same_tag}
 use Rattle.x690.specs.Points.{Enclosing, fault, outermost}
 use Rattle.x690.specs.ReadContents.{read_leaf}
-use Rattle.x690.specs.ReadTypes.{IsClosed, apply_rule, due_element, from_inside, read_element, read_type}
-use Rattle.x690.specs.Reading.{Done, Fail, Halted, Outcome, Reading, Took, require, run, ◌>>=◌}
-use Rattle.x690.specs.Reads.{Heard, Reads, Refused, Said}
+use Rattle.x690.specs.ReadTypes.{IsClosed, apply_rule, due_element, from_inside, read_type}
+use Rattle.x690.specs.Reading.{Done, Reading, require, run, ◌>>=◌}
+use Rattle.x690.specs.Reads.{Heard, Refused, Said}
 use Rattle.x690.specs.TypeTerms.{ContainingType, Rule, TypeTerm}
 use Rattle.x690.specs.Values.{Leaf, Same, Value, leaf_contents}
 use Rattle.x690.proofs.Runs.{bind_assoc}
@@ -25,49 +22,8 @@ use Rattle.x690_laws.proofs.Texts.{same_der}
 use Rattle.ber_pull.specs.Hears.{Hears, heard_error}
 use Rattle.ber_pull.proofs.Hearing.{hears_as, hears_done, hears_error, hears_fail, hears_on, hears_same, hears_then}
 use Rattle.asn_contained.specs.ClosedTypes.{reader_closed}
-use Rattle.asn_contained.specs.Contained.{HaltsInside, IsFailedRead, read_contained, read_inside}
-
--- By the outcome of reading its octets as a document of their own.
-
-contained_value : (p : ℕ) (o : Outcome Value) (v : Value) (n : ℕ) → o ≡ Took v n [] → from_inside p o ≡ Done v
-unfolding from_inside
-contained_value p o v n e = ap (from_inside p) e
-
-contained_fault : (p : ℕ) (o : Outcome Value) (f : Fault) → o ≡ Halted f → from_inside p o ≡ Fail (record { at = p; why = Inner; inside = Some (f.at, f.why) })
-unfolding from_inside
-contained_fault p o f e = ap (from_inside p) e
-
-contained_more : (p : ℕ) (o : Outcome Value) (v : Value) (n : ℕ) (r : List ℕ) → (r ≡ [] → ⊥) → o ≡ Took v n r → from_inside p o ≡ Fail (record { at = p; why = Inner; inside = Some (n, Trailing) })
-unfolding from_inside
-contained_more p o v n [] some e = absurd (some refl)
-contained_more p o v n (x ∷ r) some e = ap (from_inside p) e
-
--- By what was heard of them, when a slice told them.
-
-pub inside_value : (l : Limits) (T : TypeTerm) (octets rest : List ℕ) (v : Value) (k : ℕ) → rest ≡ [] → Hears (read_element l T [] outermost) 0 (Some octets) (Said v) k (Some rest) → (place : ℕ) → read_inside l T [] place octets ≡ Done v
-unfolding Hears Reads
-inside_value l T octets rest v k empty x place = contained_value place _ v k (x.1 ∙ ap (Took v k) empty)
-
-pub inside_more : (l : Limits) (T : TypeTerm) (octets rest : List ℕ) (v : Value) (k : ℕ) → (rest ≡ [] → ⊥) → Hears (read_element l T [] outermost) 0 (Some octets) (Said v) k (Some rest) → HaltsInside l T octets (errors.Fault (fault k Trailing))
-unfolding Hears Reads
-inside_more l T octets rest v k some x place = contained_more place _ v k rest some x.1
-
-pub inside_stops : (l : Limits) (T : TypeTerm) (octets rest : List ℕ) (e : ReadError) (k : ℕ) → IsFailedRead false e → Hears (read_element l T [] outermost) 0 (Some octets) (heard_error e) k (Some rest) → HaltsInside l T octets e
-unfolding Hears Reads
-inside_stops l T octets rest (errors.Fault f) k told x = λ place. contained_fault place _ f x.1
-inside_stops l T octets rest (errors.Read at) k told x = let turned : false ≡ true = told in cc
-inside_stops l T octets rest errors.Memory k told x = tt
-
-pub halts_err : {A : Type 0} (Holds : A → Type 0) (l : Limits) (T : TypeTerm) (octets : List ℕ) (result : Result A ReadError) (e : ReadError) → result ≡ Err e → HaltsInside l T octets e → MatchResult result Holds (HaltsInside l T octets)
-halts_err {A} Holds l T octets result e is h = subst (λ r. MatchResult {T = A} r Holds (HaltsInside l T octets)) (sym is) h
-
--- a slice with nothing left, or something
-pub none_left : (xs : List ℕ) → true ≡ (length xs == 0) → xs ≡ []
-none_left [] e = refl
-none_left (x ∷ xs) e = let none : length (x ∷ xs) ≡ 0 = eqb-true (length (x ∷ xs)) 0 (sym e) in absurd (omega arith)
-
-pub some_left : (xs : List ℕ) → false ≡ (length xs == 0) → xs ≡ [] → ⊥
-some_left xs e empty = let turned : false ≡ true = e ∙ ap (λ o. length o == 0) empty in cc
+use Rattle.asn_elements.specs.Whole.{HaltsInside, read_inside}
+use Rattle.asn_contained.specs.Contained.{read_contained}
 
 -- under the same limits, of the same octets
 pub inside_still : (Holds : Limits → List ℕ → Type 0) (l l' : Limits) (o o' : List ℕ) → l' ≡ l → o' ≡ o → Holds l' o' → Holds l o

@@ -1,3 +1,2 @@
 pub mod Contained
 pub mod Dependents
-pub mod Firsts

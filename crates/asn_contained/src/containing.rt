@@ -8,15 +8,14 @@ ghost use Rattle.x690.specs.TypeTerms.{ContainingType};
 ghost use Rattle.x690.specs.Values.{Leaf, Same};
 ghost use Rattle.ber_pull.specs.View.{standing, SameSource, Repeats, Keeps, ReadsFail, Onward, Uses};
 ghost use Rattle.asn_contained.specs.ClosedTypes.{containing_closed};
-ghost use Rattle.pkix_types.specs.FurtherTypes.{no_rule};
-ghost use Rattle.asn_contained.specs.Contained.{AnswersContained};
+ghost use Rattle.asn_contained.specs.Contained.{AnswersContained, no_rule};
 
-use crate::whole::read_whole;
 use asn_elements::der_text::{DerText, same_text};
 use asn_elements::element::Element;
 use asn_elements::framing::{Stands, element_size, find_octet, put_header};
 use asn_elements::leaf_reading::{Kind, expect_tag, read_leaf};
 use asn_elements::tags::{is_same_tag, universal_tag};
+use asn_elements::whole::read_whole;
 use ber_pull::pull::Pull;
 use std::alloc::Global;
 use tlv_core::fault::ReadError;

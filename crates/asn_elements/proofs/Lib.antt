@@ -3,7 +3,9 @@ pub mod ArrangedTexts
 pub mod Ascending
 pub mod ContainerTexts
 pub mod CutTexts
+pub mod Firsts
 pub mod HeaderOctets
+pub mod Insides
 pub mod LeafReadings
 pub mod MappedMembers
 pub mod MemberReadings

@@ -181,7 +181,7 @@ module _ (one : Enclosing → ℕ → Tag → Bool → Reading Value) where
           still = i.still;
           none_given = ap (λ z. z.given) uses;
           fine = fine;
-          same_source = same' ∙ (same ∙ i.same_source);
+          same_source = (same'.0 ∙ (same.0 ∙ i.same_source.0), same'.1 ∙ (same.1 ∙ i.same_source.1));
           limits = ap (λ z. z.limits) uses ∙ (ap (λ z. z.limits) stands ∙ i.limits);
           forward = omega (arith, i.forward);
           fuel = f;

@@ -3,3 +3,4 @@ pub mod Implicits
 pub mod Leaves
 pub mod Members
 pub mod Reading
+pub mod Whole

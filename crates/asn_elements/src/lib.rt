@@ -1,5 +1,5 @@
-//! What elements of ASN.1 are, and the leaves among them (X.690 8, 10, 11): `asn_values` passes all of it on but `keep`
-//! and `texts`.
+//! What elements of ASN.1 are, and the leaves among them (X.690 8, 10, 11): `asn_values` passes all of it on but
+//! `keep`, `texts` and `whole`.
 //!
 //! `DerText` is what has a text in DER, `Element` what can be read as well, from any source and in any layout of BER.
 //! There are the leaves `Bool`, `Int`, `Null`, `Bits`, `Octets`, `Text` and `tlv_core`'s `Oid`. `ImplicitText` and
@@ -11,8 +11,9 @@
 //! first fault; a failed read only where that octet was needed; want of memory says nothing. The same under each
 //! implicit tag: the text is the value's under that tag, an element is read as the type under it, and exactly elements
 //! of that tag are of it. `from_content` and `from_slice` refuse exactly what they name. `same` is proved to be the
-//! same value. The lemmas on texts and readings of members stand here too, since lists, sets and open values share
-//! them.
+//! same value. `whole` reads one element from the start of any source, and octets that are one element and nothing
+//! else, as the plain reading says. The lemmas on texts and readings of members stand here too, since lists, sets and
+//! open values share them.
 #![tactic(auto)]
 
 pub mod bits;
@@ -32,3 +33,4 @@ pub mod octets;
 pub mod tags;
 pub mod text;
 pub mod texts;
+pub mod whole;

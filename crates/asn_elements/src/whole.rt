@@ -1,9 +1,9 @@
 //! Elements by themselves, in no container: at the start of a source, and octets that are one element and nothing else.
 ghost use Rattle.std.specs.Prelude.{◌≡◌, ◌<◌, ◌^◌, MatchResult, IfOk, false, length};
 ghost use Rattle.x690.specs.DerTexts.{der};
-ghost use Rattle.asn_contained.specs.Contained.{HaltsInside, IsFailedRead, IsValueInside, ReadsElement};
+ghost use Rattle.asn_elements.specs.Whole.{HaltsInside, IsFailedRead, IsValueInside, ReadsElement};
 
-use asn_elements::element::Element;
+use crate::element::Element;
 use ber_pull::pull::Pull;
 use std::alloc::Global;
 use tlv_core::fault::{Fault, ReadError};
@@ -27,6 +27,7 @@ pub fn read_element<R: Source, T: Element>(
     // A failed read is answered where the source failed, and nowhere else.
     ensures read { MatchResult result (λ _. R.has_failed src.new ≡ false)
         (IsFailedRead (R.has_failed src.new)) }
+    ensures frame { R.frame src.new ≡ R.frame src.old }
 {
     let mut pull = Pull::new(src, limits);
     let Some(_) = pull.next_tag()? else {

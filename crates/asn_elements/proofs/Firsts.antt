@@ -22,7 +22,7 @@ use Rattle.ber_pull.specs.declared.pull.Pull.{Pull}
 use Rattle.ber_pull.proofs.Hearing.{hears_as, hears_error, hears_given, hears_said, hears_then}
 use Rattle.asn_elements.specs.Reading.{read_given}
 use Rattle.asn_elements.proofs.ShortElements.{due_is, element_short}
-use Rattle.asn_contained.specs.Contained.{ReadsElement}
+use Rattle.asn_elements.specs.Whole.{ReadsElement}
 
 start_is : (l : Limits) → read_next (started l) ≡ next_tag l outermost
 unfolding read_next choose

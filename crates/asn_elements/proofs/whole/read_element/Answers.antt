@@ -4,8 +4,8 @@ use Rattle.ber_pull.specs.Hears.{next_at}
 use Rattle.ber_pull.specs.Standing.{IsGiven, place}
 use Rattle.ber_pull.specs.declared.state.Given.{Given}
 use Rattle.ber_pull.proofs.Hearing.{hears_as, hears_said}
-use Rattle.asn_contained.proofs.Firsts.{element_answers, element_next, element_err, first_next, element_said, text_short, given_next, never_ends, next_stops, read_as}
-use Rattle.asn_contained.proofs.whole.read_element.Goals as goal
+use Rattle.asn_elements.proofs.Firsts.{element_answers, element_next, element_err, first_next, element_said, text_short, given_next, never_ends, next_stops, read_as}
+use Rattle.asn_elements.proofs.whole.read_element.Goals as goal
 
 pub returns-in_err-next_tag-clause-reads : goal.returns-in_err-next_tag-clause-reads
 returns-in_err-next_tag-clause-reads g c =
