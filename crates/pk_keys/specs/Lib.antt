@@ -1,1 +1,2 @@
 pub mod EcKeys
+pub mod RsaKeys

@@ -1,4 +1,4 @@
-// The curves whose private keys have a length of their own, by the contents of their identifiers.
+//! The curves whose private keys have a length of their own, by the contents of their identifiers.
 ghost use Rattle.std.specs.Prelude.{◌≡◌};
 ghost use Rattle.pkix_types.specs.Identifiers.{curve_lengths, length_under};
 

@@ -11,16 +11,15 @@ ghost use Rattle.pkix_types.proofs.ClosedTypes.{ec_key_closed};
 ghost use Rattle.pk_keys.specs.EcKeys.{honest_ec, named_length};
 
 use crate::curves::private_key_length;
+use crate::ec_fields::EcFields;
 use asn_fields::record::{Form, Record};
 use asn_fields::ruled::{Ruled, Rules};
 use asn_values::bits::Bits;
 use asn_values::der_text::DerText;
 use asn_values::element::Element;
 use asn_values::octets::Octets;
-use asn_values::sequence::{Due, Optional};
 use asn_values::tagged::Tagged;
 use ber_pull::pull::Pull;
-use pkix_values::version::Version;
 use std::alloc::Global;
 use tlv_core::fault::ReadError;
 use tlv_core::oid::Oid;
@@ -35,10 +34,7 @@ use tlv_core::target::Target;
 pub struct EcKeyForm;
 
 impl Form for EcKeyForm {
-    type Fields = (
-        (Due<Version<1, 1>>, Due<Octets>),
-        (Optional<Tagged<0, Oid>>, Optional<Tagged<1, Bits>>),
-    );
+    type Fields = EcFields;
 
     ghost parted = { refl };
 
@@ -55,8 +51,8 @@ impl Rules<Record<EcKeyForm>> for EcKeyForm {
     ghost alone = { λ earlier. refl };
 
     fn judge(value: &Record<EcKeyForm>) -> Option<Reason> {
-        let ((_, Due(key)), (Optional(curve), _)) = value.fields();
-        if has_length_of(curve, key) {
+        let fields = value.fields();
+        if has_length_of(fields.curve(), fields.key()) {
             None
         } else {
             Some(Reason::KeyLength)
@@ -87,20 +83,20 @@ impl EcPrivateKey {
     /// The private key. On secp224r1, secp256r1, secp256k1, secp384r1 and secp521r1 it has as many octets as the order
     /// of the base point.
     pub fn key(&self) -> &Octets
-        ensures value { result.now ≡ self.now.0.value.fields.0.1.0 }
+        ensures value { result.now ≡ self.now.0.value.fields.0.0.1.0 }
         ensures fits { has_length (named_length
-            (option_map (λ c. c.inner) self.now.0.value.fields.1.0.0))
+            (option_map (λ c. c.inner) self.now.0.value.fields.0.1.0.0))
             (length (octets_of result.now)) ≡ true }
     {
-        &self.0.value().fields().0.1.0
+        self.0.value().fields().key()
     }
 
     /// The curve that it names.
     pub fn curve(&self) -> Option<&Oid>
         ensures { option_map (λ r. r.now) result
-            ≡ option_map (λ c. c.inner) self.now.0.value.fields.1.0.0 }
+            ≡ option_map (λ c. c.inner) self.now.0.value.fields.0.1.0.0 }
     {
-        match &self.0.value().fields().1.0.0 {
+        match self.0.value().fields().curve() {
             Some(curve) => Some(curve.value()),
             None => None,
         }
@@ -109,9 +105,9 @@ impl EcPrivateKey {
     /// The public key.
     pub fn public_key(&self) -> Option<&Bits>
         ensures { option_map (λ r. r.now) result
-            ≡ option_map (λ k. k.inner) self.now.0.value.fields.1.1.0 }
+            ≡ option_map (λ k. k.inner) self.now.0.value.fields.0.1.1.0 }
     {
-        match &self.0.value().fields().1.1.0 {
+        match self.0.value().fields().public_key() {
             Some(key) => Some(key.value()),
             None => None,
         }

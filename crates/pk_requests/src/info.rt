@@ -7,17 +7,15 @@ ghost use Rattle.x690.specs.Values.{Same};
 ghost use Rattle.asn_elements.specs.Implicits.{value_under};
 ghost use Rattle.pkix_types.proofs.ClosedTypes.{info_closed};
 
+use crate::info_fields::InfoFields;
 use asn_fields::record::{Form, Record};
 use asn_values::der_text::DerText;
 use asn_values::element::Element;
-use asn_values::implicit::Implicit;
-use asn_values::sequence::{Due, Optional};
 use asn_values::set_of::SetOf;
 use ber_pull::pull::Pull;
 use pkix_values::name::Name;
 use pkix_values::public_key::SubjectPublicKeyInfo;
 use pkix_values::request_attribute::RequestAttribute;
-use pkix_values::version::Version;
 use std::alloc::Global;
 use tlv_core::fault::ReadError;
 use tlv_core::sink::{Sink, WriteError};
@@ -25,18 +23,12 @@ use tlv_core::source::Source;
 use tlv_core::tag::Tag;
 use tlv_core::target::Target;
 
-/// The attributes of a request, under the implicit tag [0].
-type Attributes = Implicit<0, SetOf<RequestAttribute>>;
-
 /// version, subject, subjectPKInfo, attributes.
 #[derive(Drop)]
 pub struct InfoForm;
 
 impl Form for InfoForm {
-    type Fields = (
-        (Due<Version<0, 0>>, Due<Name>),
-        (Due<SubjectPublicKeyInfo>, Optional<Attributes>),
-    );
+    type Fields = InfoFields;
 
     ghost parted = { refl };
 
@@ -50,23 +42,23 @@ pub struct CertificationRequestInfo(Record<InfoForm>);
 impl CertificationRequestInfo {
     /// Who asks.
     pub fn subject(&self) -> &Name
-        ensures { result.now ≡ self.now.0.fields.0.1.0 }
+        ensures { result.now ≡ self.now.0.fields.0.0.1.0 }
     {
-        &self.0.fields().0.1.0
+        self.0.fields().subject()
     }
 
     /// The public key that is to be certified.
     pub fn key_info(&self) -> &SubjectPublicKeyInfo
-        ensures { result.now ≡ self.now.0.fields.1.0.0 }
+        ensures { result.now ≡ self.now.0.fields.0.1.0.0 }
     {
-        &self.0.fields().1.0.0
+        self.0.fields().key_info()
     }
 
     /// What else is asked for, in the order of the texts. Attributes that are absent aren't the same as none of them.
     pub fn attributes(&self) -> Option<&SetOf<RequestAttribute>>
-        ensures { option_map (λ r. r.now) result ≡ option_map value_under self.now.0.fields.1.1.0 }
+        ensures { option_map (λ r. r.now) result ≡ option_map value_under self.now.0.fields.0.1.1.0 }
     {
-        match &self.0.fields().1.1.0 {
+        match self.0.fields().attributes() {
             Some(attributes) => Some(attributes.value()),
             None => None,
         }

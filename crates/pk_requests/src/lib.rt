@@ -6,4 +6,5 @@
 #![tactic(auto)]
 
 pub mod info;
+mod info_fields;
 pub mod request;

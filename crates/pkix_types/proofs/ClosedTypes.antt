@@ -4,8 +4,8 @@ use Rattle.x690.specs.Contents.{Integer}
 use Rattle.x690.specs.Layouts.{universal}
 use Rattle.x690.specs.ReadTypes.{IsClosed}
 use Rattle.x690_laws.proofs.ClosedTypes.{leaf_closed, ruled_closed, sequence_closed, sequence_of_closed}
-use Rattle.pkix_types.specs.DocumentTypes.{AlgorithmIdentifier, Attribute, CertificationRequest, CertificationRequestInfo, ECPrivateKey, Extension, Name, NameItem, RequestAttribute, SubjectPublicKeyInfo, version}
-use Rattle.pkix_types.specs.Rules.{ec_rule, parameters_rule, version_rule}
+use Rattle.pkix_types.specs.DocumentTypes.{AlgorithmIdentifier, AsymmetricKeyPackage, Attribute, CertificationRequest, CertificationRequestInfo, ECPrivateKey, EncryptedPrivateKeyInfo, Extension, Name, NameItem, OneAsymmetricKey, OtherPrimeInfo, RSAPrivateKey, RequestAttribute, SubjectPublicKeyInfo, version}
+use Rattle.pkix_types.specs.Rules.{ec_rule, key_version_rule, parameters_rule, rsa_version_rule, version_rule}
 
 pub version_closed : (allowed : List (List ℕ)) → IsClosed (version allowed)
 version_closed allowed = ruled_closed (version_rule allowed) _ (leaf_closed (universal 2) Integer) (λ earlier. refl)
@@ -45,6 +45,26 @@ request_closed = sequence_closed _ _
 pub ec_key_closed : IsClosed ECPrivateKey
 unfolding ECPrivateKey
 ec_key_closed = ruled_closed ec_rule _ (sequence_closed _ _) (λ earlier. refl)
+
+pub other_prime_closed : IsClosed OtherPrimeInfo
+unfolding OtherPrimeInfo
+other_prime_closed = sequence_closed _ _
+
+pub rsa_key_closed : IsClosed RSAPrivateKey
+unfolding RSAPrivateKey
+rsa_key_closed = ruled_closed rsa_version_rule _ (sequence_closed _ _) (λ earlier. refl)
+
+pub asymmetric_key_closed : IsClosed OneAsymmetricKey
+unfolding OneAsymmetricKey
+asymmetric_key_closed = ruled_closed key_version_rule _ (sequence_closed _ _) (λ earlier. refl)
+
+pub key_package_closed : IsClosed AsymmetricKeyPackage
+unfolding AsymmetricKeyPackage
+key_package_closed = sequence_of_closed _ _ _
+
+pub encrypted_key_closed : IsClosed EncryptedPrivateKeyInfo
+unfolding EncryptedPrivateKeyInfo
+encrypted_key_closed = sequence_closed _ _
 
 pub attribute_closed : IsClosed Attribute
 unfolding Attribute

@@ -10,7 +10,7 @@ use Rattle.x690.specs.Values.{Leaf, Same, Sequence, SetOf, Value, leaf_at, seque
 use Rattle.x690_laws.proofs.Complete.{each_length}
 use Rattle.x690_laws.proofs.OneValue.{leaf_at_same, members_same, octets_same}
 use Rattle.pkix_types.specs.Identifiers.{curve_lengths, ec_public_key, length_under, rfc8410_algorithms, rfc8410_lengths}
-use Rattle.pkix_types.specs.Rules.{ec_length, ec_parameters_rule, ec_rule, else_refused, has_length, inner_curve_rule, inner_ec_rule, key_bits_rule, key_version_rule, no_unused, nth_tag, own_curve, parameters_rule, rsa_version_rule, version_rule, with_tag}
+use Rattle.pkix_types.specs.Rules.{container_curve, ec_length, ec_parameters_rule, ec_rule, else_refused, has_length, inner_curve_rule, inner_ec_rule, is_identifier, key_bits_rule, key_version_rule, no_unused, nth_is_identifier, own_curve, parameters_rule, rsa_version_rule, version_rule, with_tag}
 
 tag_same : (v w : Value) → Same v w → value_tag v ≡ value_tag w
 unfolding Same
@@ -24,12 +24,24 @@ tag_same (SetOf t vs) (Leaf u p) h = absurd h
 tag_same (SetOf t vs) (Sequence u ws) h = absurd h
 tag_same (SetOf t vs) (SetOf u ws) h = h.0
 
-nth_tag_same : (n : ℕ) (vs ws : List Value) → Each Same vs ws → nth_tag n vs ≡ nth_tag n ws
-nth_tag_same n [] [] h = refl
-nth_tag_same n [] (w ∷ ws) h = absurd h
-nth_tag_same n (v ∷ vs) [] h = absurd h
-nth_tag_same zero (v ∷ vs) (w ∷ ws) h = tag_same v w h.0
-nth_tag_same (suc n) (v ∷ vs) (w ∷ ws) h = nth_tag_same n vs ws h.1
+is_identifier_same : (v w : Value) → Same v w → is_identifier v ≡ is_identifier w
+unfolding Same
+is_identifier_same (Leaf t o) (Leaf u p) h = ap (same_tag (universal 6)) h.0
+is_identifier_same (Leaf t o) (Sequence u ws) h = absurd h
+is_identifier_same (Leaf t o) (SetOf u ws) h = absurd h
+is_identifier_same (Sequence t vs) (Leaf u p) h = absurd h
+is_identifier_same (Sequence t vs) (Sequence u ws) h = refl
+is_identifier_same (Sequence t vs) (SetOf u ws) h = absurd h
+is_identifier_same (SetOf t vs) (Leaf u p) h = absurd h
+is_identifier_same (SetOf t vs) (Sequence u ws) h = absurd h
+is_identifier_same (SetOf t vs) (SetOf u ws) h = refl
+
+nth_is_identifier_same : (n : ℕ) (vs ws : List Value) → Each Same vs ws → nth_is_identifier n vs ≡ nth_is_identifier n ws
+nth_is_identifier_same n [] [] h = refl
+nth_is_identifier_same n [] (w ∷ ws) h = absurd h
+nth_is_identifier_same n (v ∷ vs) [] h = absurd h
+nth_is_identifier_same zero (v ∷ vs) (w ∷ ws) h = is_identifier_same v w h.0
+nth_is_identifier_same (suc n) (v ∷ vs) (w ∷ ws) h = nth_is_identifier_same n vs ws h.1
 
 with_tag_same : (t : Tag) (vs ws : List Value) → Each Same vs ws → Each Same (with_tag t vs) (with_tag t ws)
 with_tag_same t [] [] h = tt
@@ -54,7 +66,7 @@ fair_parameters earlier earlier' v w es s =
 pub fair_ec_parameters : FairRule ec_parameters_rule
 fair_ec_parameters earlier earlier' v w es s =
     let r = members_same v w s in
-    ap₂ (λ (o : List ℕ) (t : Tag). else_refused (not (one_of o (ec_public_key ∷ [])) || same_tag t (universal 6)) Parameters) (leaf_at_same (0 ∷ []) (sequence_members v) (sequence_members w) r) (nth_tag_same 1 (sequence_members v) (sequence_members w) r)
+    ap₂ (λ (o : List ℕ) (b : Bool). else_refused (not (one_of o (ec_public_key ∷ [])) || b) Parameters) (leaf_at_same (0 ∷ []) (sequence_members v) (sequence_members w) r) (nth_is_identifier_same 1 (sequence_members v) (sequence_members w) r)
 
 pub fair_key_bits : (path : List ℕ) → FairRule (key_bits_rule path)
 fair_key_bits path earlier earlier' v w es s =
@@ -77,14 +89,18 @@ pub fair_inner_curve : FairRule inner_curve_rule
 fair_inner_curve earlier earlier' v w es s =
     ap₂ (λ (p : List ℕ) (o : List ℕ). else_refused (has_length (length_under rfc8410_lengths p) (length o)) KeyLength) (leaf_at_same (1 ∷ 0 ∷ []) earlier earlier' es) (octets_same v w s)
 
+container_curve_same : (vs ws : List Value) → Each Same vs ws → container_curve vs ≡ container_curve ws
+container_curve_same vs ws s =
+    ap₂ (λ (a : List ℕ) (c : List ℕ). elim (one_of a (ec_public_key ∷ [])) [ true ↦ c | false ↦ [] ]) (leaf_at_same (1 ∷ 0 ∷ []) vs ws s) (leaf_at_same (1 ∷ 1 ∷ []) vs ws s)
+
 pub fair_inner_ec : FairRule inner_ec_rule
 fair_inner_ec earlier earlier' v w es s =
-    let c = leaf_at_same (1 ∷ 1 ∷ []) earlier earlier' es in
+    let c = container_curve_same earlier earlier' es in
     let o = own_curve_same v w s in
     ap₂ (λ (a : List ℕ) (b : Option Reason × Option Reason). elim (length a == 0) [ false ↦ b.0 | true ↦ b.1 ]) o
     (ap₂ (λ a b. (a, b))
     (ap₂ (λ a b. else_refused (same_octets a b) Curve) o c)
-    (ap (λ b. else_refused b KeyLength) (ec_length_same (leaf_at (1 ∷ 1 ∷ []) earlier) (leaf_at (1 ∷ 1 ∷ []) earlier') v w c s)))
+    (ap (λ b. else_refused b KeyLength) (ec_length_same (container_curve earlier) (container_curve earlier') v w c s)))
 
 pub fair_key_version : FairRule key_version_rule
 fair_key_version earlier earlier' v w es s =

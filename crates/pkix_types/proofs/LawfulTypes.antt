@@ -7,14 +7,11 @@ use Rattle.tlv_core.specs.declared.reason.Reason.{Reason}
 use Rattle.x690.specs.Layouts.{context_specific, same_tag, universal}
 use Rattle.x690.specs.Lists.{same_octets}
 use Rattle.x690.specs.Premises.{Fair, Honest, HonestReason, HonestRule, Lawful}
-use Rattle.x690.specs.TypeTerms.{ContainingType, DefinedByType, Distinct, TypeTerm, fields_fit_tag, fits_tag}
-use Rattle.x690.specs.UniversalTypes.{octet_string}
+use Rattle.x690.specs.TypeTerms.{Distinct, fields_fit_tag, fits_tag}
 use Rattle.x690.specs.Values.{leaf_at}
-use Rattle.pkix_types.specs.DocumentLaws.{DocumentsAreLawful, FurtherAreLawful}
-use Rattle.pkix_types.specs.DocumentTypes.{AlgorithmIdentifier, Attribute, CertificationRequest, CertificationRequestInfo, ECPrivateKey, Extension, Name, NameItem, OneAsymmetricKey, RequestAttribute, SubjectPublicKeyInfo, asymmetric_key}
-use Rattle.pkix_types.specs.FurtherTypes.{AsymmetricKeyPackage, EncryptedPrivateKeyInfo, OneAsymmetricKeyWithRsa, OtherPrimeInfo, RSAPrivateKey, no_rule}
-use Rattle.pkix_types.specs.Identifiers.{rsa_encryption}
-use Rattle.pkix_types.specs.Rules.{ec_length, ec_parameters_rule, ec_rule, else_refused, inner_curve_rule, inner_ec_rule, key_bits_rule, key_version_rule, own_curve, parameters_rule, rsa_version_rule, version_rule}
+use Rattle.pkix_types.specs.DocumentLaws.{DocumentsAreLawful}
+use Rattle.pkix_types.specs.DocumentTypes.{AlgorithmIdentifier, AsymmetricKeyPackage, Attribute, CertificationRequest, CertificationRequestInfo, ECPrivateKey, EncryptedPrivateKeyInfo, Extension, Name, NameItem, OneAsymmetricKey, OtherPrimeInfo, RSAPrivateKey, RequestAttribute, SubjectPublicKeyInfo, private_key}
+use Rattle.pkix_types.specs.Rules.{container_curve, ec_length, ec_parameters_rule, ec_rule, else_refused, inner_curve_rule, inner_ec_rule, key_bits_rule, key_version_rule, own_curve, parameters_rule, rsa_version_rule, version_rule}
 use Rattle.pkix_types.proofs.Fairs.{fair_ec, fair_ec_parameters, fair_inner_curve, fair_inner_ec, fair_key_bits, fair_key_version, fair_parameters, fair_rsa_version, fair_version}
 
 -- a test that gives one reason is honest where the reason is
@@ -31,41 +28,41 @@ parameters_honest = (λ z. cc, λ z. cc)
 length_honest : HonestReason KeyLength
 length_honest = (λ z. cc, λ z. cc)
 
-rule_honest : HonestReason VersionRule
+pub rule_honest : HonestReason VersionRule
 rule_honest = (λ z. cc, λ z. cc)
 
 curve_honest : HonestReason Curve
 curve_honest = (λ z. cc, λ z. cc)
 
-honest_version : (allowed : List (List ℕ)) → HonestRule (version_rule allowed)
+pub honest_version : (allowed : List (List ℕ)) → HonestRule (version_rule allowed)
 honest_version allowed earlier v why e = tested _ Version why version_honest e
 
-honest_parameters : HonestRule parameters_rule
+pub honest_parameters : HonestRule parameters_rule
 honest_parameters earlier v why e = tested _ Parameters why parameters_honest e
 
-honest_ec_parameters : HonestRule ec_parameters_rule
+pub honest_ec_parameters : HonestRule ec_parameters_rule
 honest_ec_parameters earlier v why e = tested _ Parameters why parameters_honest e
 
-honest_key_bits : (path : List ℕ) → HonestRule (key_bits_rule path)
+pub honest_key_bits : (path : List ℕ) → HonestRule (key_bits_rule path)
 honest_key_bits path earlier v why e = tested _ KeyLength why length_honest e
 
-honest_ec : HonestRule ec_rule
+pub honest_ec : HonestRule ec_rule
 honest_ec earlier v why e = tested _ KeyLength why length_honest e
 
-honest_inner_curve : HonestRule inner_curve_rule
+pub honest_inner_curve : HonestRule inner_curve_rule
 honest_inner_curve earlier v why e = tested _ KeyLength why length_honest e
 
-honest_inner_ec : HonestRule inner_ec_rule
+pub honest_inner_ec : HonestRule inner_ec_rule
 honest_inner_ec earlier v why e = go (length (own_curve v) == 0) e
   where
-    go : (b : Bool) → elim b [ false ↦ else_refused (same_octets (own_curve v) (leaf_at (1 ∷ 1 ∷ []) earlier)) Curve | true ↦ else_refused (ec_length (leaf_at (1 ∷ 1 ∷ []) earlier) v) KeyLength ] ≡ Some why → HonestReason why
+    go : (b : Bool) → elim b [ false ↦ else_refused (same_octets (own_curve v) (container_curve earlier)) Curve | true ↦ else_refused (ec_length (container_curve earlier) v) KeyLength ] ≡ Some why → HonestReason why
     go false x = tested _ Curve why curve_honest x
     go true x = tested _ KeyLength why length_honest x
 
-honest_key_version : HonestRule key_version_rule
+pub honest_key_version : HonestRule key_version_rule
 honest_key_version earlier v why e = tested _ VersionRule why rule_honest e
 
-honest_rsa_version : HonestRule rsa_version_rule
+pub honest_rsa_version : HonestRule rsa_version_rule
 honest_rsa_version earlier v why e = tested _ VersionRule why rule_honest e
 
 -- two tags that differ
@@ -127,10 +124,30 @@ ec_key = record {
     public_key_apart : (u : Tag) → same_tag (context_specific 0) u ≡ true → (same_tag (context_specific 1) u || false) ≡ false
     public_key_apart u h = neither _ _ (apart (context_specific 0) (context_specific 1) u refl h) refl
 
--- Whatever privateKey is under other algorithms.
-asymmetric : (others : TypeTerm) → Lawful others → Lawful (asymmetric_key others)
-unfolding Fair Honest Distinct fits_tag fields_fit_tag
-asymmetric others l = record {
+pub other_prime_info : Lawful OtherPrimeInfo
+unfolding Fair Honest Distinct OtherPrimeInfo
+other_prime_info = record { fair = (tt, (tt, (tt, tt))); honest = (tt, (tt, (tt, tt))); distinct = (tt, (tt, (tt, tt))) }
+
+pub rsa : Lawful RSAPrivateKey
+unfolding Fair Honest Distinct RSAPrivateKey fits_tag fields_fit_tag
+rsa = record {
+  fair = (fair_rsa_version, ((fair_version ((0 ∷ []) ∷ (1 ∷ []) ∷ []), tt), (tt, (tt, (tt, (tt, (tt, (tt, (tt, (tt, ((tt, other_prime_info.fair), tt)))))))))));
+  honest = (honest_rsa_version, ((honest_version ((0 ∷ []) ∷ (1 ∷ []) ∷ []), tt), (tt, (tt, (tt, (tt, (tt, (tt, (tt, (tt, ((rule_honest, other_prime_info.honest), tt)))))))))));
+  distinct = (tt, (tt, (tt, (tt, (tt, (tt, (tt, (tt, (tt, ((tt, other_prime_info.distinct), tt, λ u h. refl))))))))));
+}
+
+-- what privateKey contains, by the algorithm
+private_keys : Lawful private_key
+unfolding Fair Honest Distinct
+private_keys = record {
+  fair = ((fair_inner_ec, ec_key.fair), ((fair_inner_curve, tt), ((λ earlier earlier' v w es s. refl, rsa.fair), tt)));
+  honest = ((honest_inner_ec, ec_key.honest), ((honest_inner_curve, tt), ((λ earlier v why e. cc, rsa.honest), tt)));
+  distinct = (ec_key.distinct, (tt, (rsa.distinct, tt)));
+}
+
+pub key : Lawful OneAsymmetricKey
+unfolding Fair Honest Distinct OneAsymmetricKey fits_tag fields_fit_tag
+key = record {
   fair = (
     fair_key_version,
     (
@@ -138,7 +155,7 @@ asymmetric others l = record {
       (
         (fair_ec_parameters, algorithm.fair),
         (
-          ((fair_inner_ec, ec_key.fair), ((fair_inner_curve, tt), l.fair)),
+          private_keys.fair,
           (attribute.fair, ((tt, (fair_key_bits (1 ∷ 0 ∷ []), tt)), tt)),
         ),
       ),
@@ -151,7 +168,7 @@ asymmetric others l = record {
       (
         (honest_ec_parameters, algorithm.honest),
         (
-          ((honest_inner_ec, ec_key.honest), ((honest_inner_curve, tt), l.honest)),
+          private_keys.honest,
           (attribute.honest, ((rule_honest, (honest_key_bits (1 ∷ 0 ∷ []), tt)), tt)),
         ),
       ),
@@ -162,7 +179,7 @@ asymmetric others l = record {
     (
       algorithm.distinct,
       (
-        (ec_key.distinct, (tt, l.distinct)),
+        private_keys.distinct,
         (attribute.distinct, ((tt, tt), tt, λ u h. refl), λ u h. attributes_apart u h),
       ),
     ),
@@ -172,13 +189,13 @@ asymmetric others l = record {
     attributes_apart : (u : Tag) → same_tag (context_specific 0) u ≡ true → ((same_tag (context_specific 1) u || same_tag (context_specific 1) u) || false) ≡ false
     attributes_apart u h = let z = apart (context_specific 0) (context_specific 1) u refl h in neither _ _ (neither _ _ z z) refl
 
-octet_string_lawful : Lawful octet_string
-unfolding Fair Honest Distinct
-octet_string_lawful = record { fair = tt; honest = tt; distinct = tt }
+pub key_package : Lawful AsymmetricKeyPackage
+unfolding Fair Honest Distinct AsymmetricKeyPackage
+key_package = record { fair = key.fair; honest = key.honest; distinct = key.distinct }
 
-pub key : Lawful OneAsymmetricKey
-unfolding OneAsymmetricKey
-key = asymmetric octet_string octet_string_lawful
+pub encrypted_key : Lawful EncryptedPrivateKeyInfo
+unfolding Fair Honest Distinct EncryptedPrivateKeyInfo
+encrypted_key = record { fair = (algorithm.fair, (tt, tt)); honest = (algorithm.honest, (tt, tt)); distinct = (algorithm.distinct, (tt, tt)) }
 
 pub request_info : Lawful CertificationRequestInfo
 unfolding Fair Honest Distinct CertificationRequestInfo fits_tag fields_fit_tag
@@ -196,42 +213,14 @@ request = record {
   distinct = (request_info.distinct, (algorithm.distinct, (tt, tt)));
 }
 
-other_prime_info : Lawful OtherPrimeInfo
-unfolding Fair Honest Distinct OtherPrimeInfo
-other_prime_info = record { fair = (tt, (tt, (tt, tt))); honest = (tt, (tt, (tt, tt))); distinct = (tt, (tt, (tt, tt))) }
-
-pub rsa : Lawful RSAPrivateKey
-unfolding Fair Honest Distinct RSAPrivateKey fits_tag fields_fit_tag
-rsa = record {
-  fair = (fair_rsa_version, ((fair_version ((0 ∷ []) ∷ (1 ∷ []) ∷ []), tt), (tt, (tt, (tt, (tt, (tt, (tt, (tt, (tt, ((tt, other_prime_info.fair), tt)))))))))));
-  honest = (honest_rsa_version, ((honest_version ((0 ∷ []) ∷ (1 ∷ []) ∷ []), tt), (tt, (tt, (tt, (tt, (tt, (tt, (tt, (tt, ((rule_honest, other_prime_info.honest), tt)))))))))));
-  distinct = (tt, (tt, (tt, (tt, (tt, (tt, (tt, (tt, (tt, ((tt, other_prime_info.distinct), tt, λ u h. refl))))))))));
-}
-
-rsa_or_octets : Lawful (DefinedByType (1 ∷ 0 ∷ []) (rsa_encryption ∷ []) (ContainingType (universal 4) no_rule RSAPrivateKey) octet_string)
-unfolding Fair Honest Distinct
-rsa_or_octets = record {
-  fair = ((λ earlier earlier' v w es s. refl, rsa.fair), tt);
-  honest = ((λ earlier v why e. cc, rsa.honest), tt);
-  distinct = (rsa.distinct, tt);
-}
-
-pub key_with_rsa : Lawful OneAsymmetricKeyWithRsa
-unfolding OneAsymmetricKeyWithRsa
-key_with_rsa = asymmetric _ rsa_or_octets
-
-pub encrypted : Lawful EncryptedPrivateKeyInfo
-unfolding Fair Honest Distinct EncryptedPrivateKeyInfo
-encrypted = record { fair = (algorithm.fair, (tt, tt)); honest = (algorithm.honest, (tt, tt)); distinct = (algorithm.distinct, (tt, tt)) }
-
-pub key_package : Lawful AsymmetricKeyPackage
-unfolding Fair Honest Distinct AsymmetricKeyPackage
-key_package = record { fair = key_with_rsa.fair; honest = key_with_rsa.honest; distinct = key_with_rsa.distinct }
-
 pub documents_are_lawful : DocumentsAreLawful
 documents_are_lawful = record {
   key = key;
   ec = ec_key;
+  rsa = rsa;
+  other_prime_info = other_prime_info;
+  encrypted_key = encrypted_key;
+  key_package = key_package;
   public_key_info = public_key_info;
   request = request;
   request_info = request_info;
@@ -242,6 +231,3 @@ documents_are_lawful = record {
   request_attribute = request_attribute;
   extension = extension;
 }
-
-pub further_are_lawful : FurtherAreLawful
-further_are_lawful = record { rsa = rsa; key_with_rsa = key_with_rsa; encrypted = encrypted; key_package = key_package }

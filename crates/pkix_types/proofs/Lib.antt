@@ -3,9 +3,10 @@ pub mod Computed
 pub mod Fairs
 pub mod LawfulTypes
 pub mod RowsFaults
-pub mod RowsFurtherTypes
 pub mod RowsKeys
 pub mod RowsOrder
+pub mod RowsPackages
 pub mod RowsRequests
+pub mod RowsRsaKeys
 pub mod RowsTools
 pub mod RuleLaws

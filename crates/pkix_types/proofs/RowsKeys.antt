@@ -102,10 +102,6 @@ an_inner_key_of_indefinite_length_is_normalised : answer usual OneAsymmetricKey 
 unfolding computed
 an_inner_key_of_indefinite_length_is_normalised = refl
 
-an_rsa_key_that_is_carried : IsDer usual OneAsymmetricKey (hex (codes "3016020100300d06092a864886f70d010101050004023080"))
-unfolding computed
-an_rsa_key_that_is_carried = refl
-
 a_pss_key_is_carried : IsDer usual OneAsymmetricKey (hex (codes "3014020100300b06092a864886f70d01010a04023080"))
 unfolding computed
 a_pss_key_is_carried = refl

@@ -1,5 +1,5 @@
 -- Rules that test one thing and refuse for one reason.
-use Rattle.std.proofs.Common.{◌≡◌, ap₂, Bool, List, Option, Some, false, subst, true, ℕ}
+use Rattle.std.proofs.Common.{◌≡◌, ap₂, Bool, List, Some, false, subst, true, ℕ}
 use Rattle.tlv_core.specs.declared.reason.Reason.{Reason}
 use Rattle.x690.specs.Premises.{FairRule, HonestReason, HonestRule}
 use Rattle.pkix_types.specs.Rules.{else_refused}

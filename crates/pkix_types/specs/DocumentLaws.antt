@@ -1,11 +1,14 @@
 -- What the law on the types of documents says.
 use Rattle.x690.specs.Premises.{Lawful}
-use Rattle.pkix_types.specs.DocumentTypes.{AlgorithmIdentifier, Attribute, CertificationRequest, CertificationRequestInfo, ECPrivateKey, Extension, Name, NameItem, OneAsymmetricKey, RequestAttribute, SubjectPublicKeyInfo}
-use Rattle.pkix_types.specs.FurtherTypes.{AsymmetricKeyPackage, EncryptedPrivateKeyInfo, OneAsymmetricKeyWithRsa, RSAPrivateKey}
+use Rattle.pkix_types.specs.DocumentTypes.{AlgorithmIdentifier, AsymmetricKeyPackage, Attribute, CertificationRequest, CertificationRequestInfo, ECPrivateKey, EncryptedPrivateKeyInfo, Extension, Name, NameItem, OneAsymmetricKey, OtherPrimeInfo, RSAPrivateKey, RequestAttribute, SubjectPublicKeyInfo}
 
 pub record DocumentsAreLawful : Type 0 where
   pub key : Lawful OneAsymmetricKey
   pub ec : Lawful ECPrivateKey
+  pub rsa : Lawful RSAPrivateKey
+  pub other_prime_info : Lawful OtherPrimeInfo
+  pub encrypted_key : Lawful EncryptedPrivateKeyInfo
+  pub key_package : Lawful AsymmetricKeyPackage
   pub public_key_info : Lawful SubjectPublicKeyInfo
   pub request : Lawful CertificationRequest
   pub request_info : Lawful CertificationRequestInfo
@@ -15,9 +18,3 @@ pub record DocumentsAreLawful : Type 0 where
   pub attribute : Lawful Attribute
   pub request_attribute : Lawful RequestAttribute
   pub extension : Lawful Extension
-
-pub record FurtherAreLawful : Type 0 where
-  pub rsa : Lawful RSAPrivateKey
-  pub key_with_rsa : Lawful OneAsymmetricKeyWithRsa
-  pub encrypted : Lawful EncryptedPrivateKeyInfo
-  pub key_package : Lawful AsymmetricKeyPackage

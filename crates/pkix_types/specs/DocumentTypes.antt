@@ -1,12 +1,12 @@
--- The types of private keys and certification requests, and of their parts, each in the order of its ASN.1.
+-- The types of private keys, alone, encrypted and in packages, of certification requests, and of their parts, each in the order of its ASN.1.
 use Rattle.std.specs.Prelude.{List, [], ℕ, ◌∷◌}
 use Rattle.tlv_core.specs.declared.reason.Reason.TheVariants.{VersionRule}
 use Rattle.x690.specs.Contents.{BitString, Boolean}
 use Rattle.x690.specs.Layouts.{context_specific, universal}
-use Rattle.x690.specs.TypeTerms.{ContainingType, Default, DefinedByType, EndOfFields, LeafType, OpenType, Optional, RefusedType, Required, RuledType, SetOfType, TypeTerm}
+use Rattle.x690.specs.TypeTerms.{ContainingType, Default, DefinedByType, EndOfFields, LeafType, OpenType, Optional, RefusedType, Required, RuledType, SequenceOfType, SetOfType, TypeTerm}
 use Rattle.x690.specs.UniversalTypes.{bit_string, explicit, integer, object_identifier, octet_string, sequence, sequence_of, set_of_some, ◌⨾◌}
-use Rattle.pkix_types.specs.Identifiers.{ec_public_key, extension_request, rfc8410_algorithms}
-use Rattle.pkix_types.specs.Rules.{ec_parameters_rule, ec_rule, inner_curve_rule, inner_ec_rule, key_bits_rule, key_version_rule, parameters_rule, version_rule}
+use Rattle.pkix_types.specs.Identifiers.{ec_public_key, extension_request, rfc8410_algorithms, rsa_encryption}
+use Rattle.pkix_types.specs.Rules.{ec_parameters_rule, ec_rule, inner_curve_rule, inner_ec_rule, key_bits_rule, key_version_rule, no_rule, parameters_rule, rsa_version_rule, version_rule}
 
 -- an INTEGER that is one of these numbers, each below 128
 abbrev pub version : List (List ℕ) → TypeTerm
@@ -53,11 +53,30 @@ ECPrivateKey =
     ⨾ Optional (explicit 1 bit_string)
     ⨾ EndOfFields))
 
--- privateKey of a OneAsymmetricKey: what its octets contain goes by the algorithm, which stands second in the container (RFC 5915 section 3, RFC 8410 section 7).
-abbrev pub private_key : TypeTerm → TypeTerm
-private_key others =
+-- RFC 8017 A.1.2: prime, exponent, coefficient.
+unfoldable pub OtherPrimeInfo : TypeTerm
+OtherPrimeInfo = sequence (Required integer ⨾ Required integer ⨾ Required integer ⨾ EndOfFields)
+
+-- otherPrimeInfos of an RSAPrivateKey: at least one, and none under version 0 (RFC 8017 A.1.2).
+abbrev pub other_prime_infos : TypeTerm
+other_prime_infos = DefinedByType (0 ∷ []) ((0 ∷ []) ∷ []) (RefusedType (universal 16) VersionRule) (SequenceOfType (universal 16) 1 OtherPrimeInfo)
+
+-- RFC 8017 A.1.2: version, modulus, both exponents, both primes, both exponents of these, coefficient, otherPrimeInfos.
+unfoldable pub RSAPrivateKey : TypeTerm
+RSAPrivateKey =
+    RuledType rsa_version_rule
+    (sequence (Required (version ((0 ∷ []) ∷ (1 ∷ []) ∷ []))
+    ⨾ Required integer ⨾ Required integer ⨾ Required integer ⨾ Required integer
+    ⨾ Required integer ⨾ Required integer ⨾ Required integer ⨾ Required integer
+    ⨾ Optional other_prime_infos
+    ⨾ EndOfFields))
+
+-- privateKey of a OneAsymmetricKey: what its octets contain goes by the algorithm, which stands second in the container (RFC 5915 section 3, RFC 8410 section 7, RFC 8017 A.1). Under all other algorithms the octets are carried.
+abbrev pub private_key : TypeTerm
+private_key =
     DefinedByType (1 ∷ 0 ∷ []) (ec_public_key ∷ []) (ContainingType (universal 4) inner_ec_rule ECPrivateKey)
-    (DefinedByType (1 ∷ 0 ∷ []) rfc8410_algorithms (ContainingType (universal 4) inner_curve_rule octet_string) others)
+    (DefinedByType (1 ∷ 0 ∷ []) rfc8410_algorithms (ContainingType (universal 4) inner_curve_rule octet_string)
+    (DefinedByType (1 ∷ 0 ∷ []) (rsa_encryption ∷ []) (ContainingType (universal 4) no_rule RSAPrivateKey) octet_string))
 
 -- publicKey of a OneAsymmetricKey: [1] may not stand in one of version 0 (RFC 5958 section 2).
 abbrev pub public_key : TypeTerm
@@ -65,20 +84,24 @@ public_key =
     DefinedByType (0 ∷ []) ((0 ∷ []) ∷ []) (RefusedType (context_specific 1) VersionRule)
     (RuledType (key_bits_rule (1 ∷ 0 ∷ [])) (LeafType (context_specific 1) BitString))
 
--- RFC 5958 section 2, closed (profile); `others` is privateKey under algorithms that have no rule of their own.
-abbrev pub asymmetric_key : TypeTerm → TypeTerm
-asymmetric_key others =
+-- RFC 5958 section 2, closed (profile).
+unfoldable pub OneAsymmetricKey : TypeTerm
+OneAsymmetricKey =
     RuledType key_version_rule
     (sequence (Required (version ((0 ∷ []) ∷ (1 ∷ []) ∷ []))
     ⨾ Required (RuledType ec_parameters_rule AlgorithmIdentifier)
-    ⨾ Required (private_key others)
+    ⨾ Required private_key
     ⨾ Optional (SetOfType (context_specific 0) 0 Attribute)
     ⨾ Optional public_key
     ⨾ EndOfFields))
 
--- Under all other algorithms the octets of privateKey are carried.
-unfoldable pub OneAsymmetricKey : TypeTerm
-OneAsymmetricKey = asymmetric_key octet_string
+-- RFC 5958 section 2: at least one key.
+unfoldable pub AsymmetricKeyPackage : TypeTerm
+AsymmetricKeyPackage = SequenceOfType (universal 16) 1 OneAsymmetricKey
+
+-- RFC 5958 section 3; the octets are carried.
+unfoldable pub EncryptedPrivateKeyInfo : TypeTerm
+EncryptedPrivateKeyInfo = sequence (Required AlgorithmIdentifier ⨾ Required octet_string ⨾ EndOfFields)
 
 -- RFC 2986 section 4.1. The attributes may be absent (profile).
 unfoldable pub CertificationRequestInfo : TypeTerm

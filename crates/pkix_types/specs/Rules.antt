@@ -5,7 +5,7 @@ use Rattle.tlv_core.specs.declared.reason.Reason.TheVariants.{Curve, KeyLength, 
 use Rattle.tlv_core.specs.declared.reason.Reason.{Reason}
 use Rattle.x690.specs.Layouts.{context_specific, same_tag, universal}
 use Rattle.x690.specs.Lists.{one_of, same_octets}
-use Rattle.x690.specs.Values.{Value, leaf_at, leaf_contents, sequence_members, value_tag}
+use Rattle.x690.specs.Values.{Leaf, Sequence, SetOf, Value, leaf_at, leaf_contents, sequence_members, value_tag}
 use Rattle.pkix_types.specs.Identifiers.{curve_lengths, ec_public_key, length_under, rfc8410_algorithms, rfc8410_lengths}
 
 -- a length that a table gives, if it gives one
@@ -25,11 +25,21 @@ abbrev pub with_tag : Tag → List Value → List Value
 with_tag tag [] = []
 with_tag tag (value ∷ values) = elim (same_tag tag (value_tag value)) [ true ↦ value ∷ with_tag tag values | false ↦ with_tag tag values ]
 
--- the tag of the value at a place, counted from 0; universal 0, which no value has, where there is none
-abbrev pub nth_tag : ℕ → List Value → Tag
-nth_tag number [] = universal 0
-nth_tag zero (value ∷ values) = value_tag value
-nth_tag (suc number) (value ∷ values) = nth_tag number values
+-- whether it is an OBJECT IDENTIFIER
+abbrev pub is_identifier : Value → Bool
+is_identifier (Leaf tag contents) = same_tag (universal 6) tag
+is_identifier (Sequence tag values) = false
+is_identifier (SetOf tag values) = false
+
+-- whether the value at a place, counted from 0, is there and is an OBJECT IDENTIFIER
+abbrev pub nth_is_identifier : ℕ → List Value → Bool
+nth_is_identifier number [] = false
+nth_is_identifier zero (value ∷ values) = is_identifier value
+nth_is_identifier (suc number) (value ∷ values) = nth_is_identifier number values
+
+-- nothing is refused
+abbrev pub no_rule : List Value → Value → Option Reason
+no_rule earlier value = None
 
 -- A version is one of those that its type has.
 abbrev pub version_rule : List (List ℕ) → List Value → Value → Option Reason
@@ -43,7 +53,7 @@ parameters_rule earlier value =
 -- In a OneAsymmetricKey, id-ecPublicKey has parameters, and they are an OBJECT IDENTIFIER: the curve (profile).
 abbrev pub ec_parameters_rule : List Value → Value → Option Reason
 ec_parameters_rule earlier value =
-    else_refused (not (leaf_is_one_of (0 ∷ []) (ec_public_key ∷ []) (sequence_members value)) || same_tag (nth_tag 1 (sequence_members value)) (universal 6)) Parameters
+    else_refused (not (leaf_is_one_of (0 ∷ []) (ec_public_key ∷ []) (sequence_members value)) || nth_is_identifier 1 (sequence_members value)) Parameters
 
 -- the contents of a BIT STRING, without unused bits
 abbrev pub no_unused : List ℕ → Bool
@@ -72,12 +82,16 @@ ec_length curve value = has_length (length_under curve_lengths curve) (length (l
 abbrev pub ec_rule : List Value → Value → Option Reason
 ec_rule earlier value = else_refused (ec_length (own_curve value) value) KeyLength
 
+-- the curve that a container names: under id-ecPublicKey its parameters, no octets under another algorithm
+abbrev pub container_curve : List Value → List ℕ
+container_curve earlier = elim (leaf_is_one_of (1 ∷ 0 ∷ []) (ec_public_key ∷ []) earlier) [ true ↦ leaf_at (1 ∷ 1 ∷ []) earlier | false ↦ [] ]
+
 -- An ECPrivateKey in a container names the container's curve, or none, and then has the length of the container's.
 abbrev pub inner_ec_rule : List Value → Value → Option Reason
 inner_ec_rule earlier value =
     elim (length (own_curve value) == 0) [
-      | false ↦ else_refused (same_octets (own_curve value) (leaf_at (1 ∷ 1 ∷ []) earlier)) Curve
-      | true ↦ else_refused (ec_length (leaf_at (1 ∷ 1 ∷ []) earlier) value) KeyLength
+      | false ↦ else_refused (same_octets (own_curve value) (container_curve earlier)) Curve
+      | true ↦ else_refused (ec_length (container_curve earlier) value) KeyLength
     ]
 
 -- A OneAsymmetricKey of version 1 has a public key.

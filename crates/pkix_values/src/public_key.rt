@@ -59,7 +59,7 @@ impl<T: NamesAlgorithm> FieldRules<Due<T>, Bits> for PublicKeyForm {
 
 /// Whether the key is as RFC 8410 has it, where the algorithm is one of its four: of the length that goes with it,
 /// without unused bits.
-fn is_key_of(algorithm: &Oid, key: &Bits) -> bool
+pub fn is_key_of(algorithm: &Oid, key: &Bits) -> bool
     ensures { result ≡ key_fits algorithm.now (bit_string_of key.now) }
 {
     match public_key_length(algorithm) {
