@@ -1,0 +1,5 @@
+pub mod CheckValues
+pub mod Comparing
+pub mod Normalising
+pub mod ReadValues
+pub mod WholeInputs

@@ -1,0 +1,80 @@
+-- What was read from a source, by the answer to its octets.
+use Rattle.std.proofs.Common.{◌≡◌, ◌∙◌, ◌+◌, ◌++◌, ◌<◌, ◌≤◌, List, None, Option, Some, [], ℕ, ap, append-nil, arith, length, subst, sym}
+use Rattle.std.specs.Io.KnownBytes.{Consumes}
+use Rattle.tlv_core.specs.Limits.{Limits}
+use Rattle.tlv_core.specs.declared.fault.ReadError.{ReadError}
+use Rattle.tlv_core.specs.declared.fault.ReadError.TheVariants as errors
+use Rattle.tlv_core.specs.declared.reason.Reason.TheVariants.{TextTooLong, Truncated}
+use Rattle.x690.specs.Answers.{Spelled}
+use Rattle.x690.specs.DerTexts.{der}
+use Rattle.x690.specs.Fitting.{Spells}
+use Rattle.x690.specs.Layouts.{LaidOut}
+use Rattle.x690.specs.Points.{fault, outermost}
+use Rattle.x690.specs.ReadTypes.{read_element}
+use Rattle.x690.specs.Reading.{Halted, Took, run}
+use Rattle.x690.specs.Reads.{Reads, Said}
+use Rattle.x690.specs.TypeTerms.{TypeTerm}
+use Rattle.x690.specs.Values.{Same, Value}
+use Rattle.x690.proofs.Runs.{taken}
+use Rattle.x690_laws.proofs.Answering.{answered, fits_text, halted_is, long_text}
+use Rattle.x690_laws.proofs.Judging.{sound}
+use Rattle.x690_laws.proofs.Texts.{same_der}
+use Rattle.ber_pull.specs.Hears.{Hears, heard_error}
+use Rattle.asn_documents.specs.ReadValues.{ReadsValue, StopsReading}
+
+pub stopped : (l : Limits) (T : TypeTerm) (e : ReadError) (k : ℕ) (s u : Option (List ℕ)) → Hears (read_element l T [] outermost) 0 s (heard_error e) k u → StopsReading l T e s u
+unfolding Hears Reads
+stopped l T e k None u x = tt
+stopped l T e k (Some s) None x = absurd x
+stopped l T (errors.Fault f) k (Some s) (Some u) x = (x.0.0, x.0.1, answered l T s (Halted f) x.1 ∙ halted_is l f)
+stopped l T (errors.Read at) k (Some s) (Some u) x =
+    let y = x.1 in
+    let e : at ≡ 0 + length y.0 = y.2 in
+    (y.0, y.1, (omega arith, answered l T y.0 (Halted (fault at Truncated)) y.3 ∙ halted_is l (fault at Truncated)))
+stopped l T errors.Memory k (Some s) (Some u) x = (x.0.0, x.0.1, tt)
+
+-- octets that the reading takes whole spell the value
+spells_all : (l : Limits) (T : TypeTerm) (v : Value) (octets : List ℕ) (k : ℕ) → run (read_element l T [] outermost) 0 octets ≡ Took v k [] → length (der v) ≤ l.octets → Spells l T v octets
+spells_all l T v octets k h le =
+    let s = sound l T [] outermost 0 octets v k [] h in
+    let t = s.2 in
+    let all : octets ≡ t.octets = t.is ∙ append-nil t.octets in
+    let c : length t.octets ≡ s.0 = t.count in
+    let n : length octets ≡ length t.octets = ap length all in
+    let i : 0 + s.0 ≤ l.octets = t.in_limit in
+    let d = t.depth_fits in
+    record { tree = t.tree; depth_fits = omega arith; laid_out = subst (LaidOut t.tree) (sym all) t.laid_out; fits = t.fits; octets_fit = omega arith; text_fits = le }
+
+whole : (l : Limits) (T : TypeTerm) (v w : Value) (s u : Option (List ℕ)) (octets : List ℕ) (k : ℕ) → Same v w → length (der w) ≤ l.octets → Consumes s u octets → k ≡ 0 + length octets
+    → ((more : List ℕ) → run (read_element l T [] outermost) 0 (octets ++ more) ≡ Took v k more) → ReadsValue l T w s u k
+whole l T v w s u octets k same le takes count any =
+    let text : der v ≡ der w = same_der v w same in
+    let le' : length (der v) ≤ l.octets = subst (λ z. length z ≤ l.octets) (sym text) le in
+    record {
+      octets = octets;
+      takes = takes;
+      taken_are = omega (arith, count);
+      spelled = v;
+      spells = spells_all l T v octets k (ap (run (read_element l T [] outermost) 0) (sym (append-nil octets)) ∙ any []) le';
+      same = same;
+      answers = λ more. answered l T (octets ++ more) (Took v k more) (any more) ∙ fits_text l v k more le' ∙ ap (λ z. Spelled z k) text;
+    }
+
+pub said : (l : Limits) (T : TypeTerm) (v w : Value) (k : ℕ) (s u : Option (List ℕ)) → Same v w → length (der w) ≤ l.octets → Hears (read_element l T [] outermost) 0 s (Said v) k u → ReadsValue l T w s u k
+unfolding Hears Reads
+said l T v w k None u same le x =
+    let t = taken (read_element l T [] outermost) 0 x.0 v k [] x.2 in
+    whole l T v w None u t.octets k same le tt t.place t.any_rest
+said l T v w k (Some s) None same le x = absurd x
+said l T v w k (Some s) (Some u) same le x =
+    let t = taken (read_element l T [] outermost) 0 s v k u x.1 in
+    whole l T v w (Some s) (Some u) t.octets k same le t.is t.place t.any_rest
+
+-- its text is too long
+pub too_long : (l : Limits) (T : TypeTerm) (v w : Value) (k : ℕ) (s u : Option (List ℕ)) → Same v w → l.octets < length (der w) → Hears (read_element l T [] outermost) 0 s (Said v) k u → StopsReading l T (errors.Fault (fault 0 TextTooLong)) s u
+unfolding Hears Reads
+too_long l T v w k None u same lt x = tt
+too_long l T v w k (Some s) None same lt x = absurd x
+too_long l T v w k (Some s) (Some u) same lt x =
+    let text : der w ≡ der v = sym (same_der v w same) in
+    (x.0.0, x.0.1, answered l T s (Took v k u) x.1 ∙ long_text l v k u (subst (λ z. l.octets < length z) text lt))

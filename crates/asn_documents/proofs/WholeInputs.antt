@@ -1,0 +1,47 @@
+-- What stands behind a value that was read.
+use Rattle.std.proofs.Common.{◌⊎◌, List, None, Option, Some, [], ℕ, append-nil, inl, inr, subst, sym}
+use Rattle.std.specs.Io.KnownBytes.{Consumes, Keeps}
+use Rattle.std.proofs.KnownBytes.{Consumes-trans}
+use Rattle.tlv_core.specs.Limits.{Limits}
+use Rattle.tlv_core.specs.declared.fault.ReadError.{ReadError}
+use Rattle.x690.specs.Premises.{Lawful}
+use Rattle.x690.specs.TypeTerms.{TypeTerm}
+use Rattle.x690.specs.Values.{Value}
+use Rattle.asn_documents.specs.Normalised.{Unread}
+use Rattle.asn_documents.specs.ReadValues.{ReadsValue, StopsReading}
+use Rattle.asn_documents.specs.WholeInputs.{EndsBadly, Followed, StopsWhole}
+use Rattle.asn_documents.proofs.Normalising.{unread_as}
+
+-- nothing was taken by a read that failed
+pub kept_none : (before after : Option (List ℕ)) → Keeps before after → Consumes before after []
+kept_none None after kept = tt
+kept_none (Some xs) None kept = absurd kept
+kept_none (Some xs) (Some ys) kept = sym kept
+
+-- an octet stands behind it, or the source failed there
+pub followed : (l : Limits) (T : TypeTerm) (e : ReadError) (w : Value) (before mid after : Option (List ℕ)) (taken : ℕ) → ReadsValue l T w before mid taken → (behind : List ℕ) × Consumes mid after behind × EndsBadly e behind taken
+    → StopsWhole l T e before after
+followed l T e w before mid after taken r more = inr (record {
+  value = r.spelled;
+  octets = r.octets;
+  behind = more.0;
+  takes = Consumes-trans before mid after r.octets more.0 r.takes more.1;
+  spells = r.spells;
+  ends_badly = subst (EndsBadly e more.0) r.taken_are more.2;
+})
+
+-- the source told no more, and reading nothing changes nothing
+pub ended : (l : Limits) (T : TypeTerm) (w : Value) (before mid after : Option (List ℕ)) (taken : ℕ) → ReadsValue l T w before mid taken → Consumes mid after [] → ReadsValue l T w before after taken
+ended l T w before mid after taken r none = record {
+  octets = r.octets;
+  takes = subst (Consumes before after) (append-nil r.octets) (Consumes-trans before mid after r.octets [] r.takes none);
+  taken_are = r.taken_are;
+  spelled = r.spelled;
+  spells = r.spells;
+  same = r.same;
+  answers = r.answers;
+}
+
+pub unread_whole : (l : Limits) (T : TypeTerm) (e : ReadError) (before after : Option (List ℕ)) → Lawful T → StopsWhole l T e before after → (StopsReading l T e before after × Unread l T e before) ⊎ Followed l T e before after
+unread_whole l T e before after lawful (inl s) = inl (s, unread_as l T e before after lawful s)
+unread_whole l T e before after lawful (inr f) = inr f

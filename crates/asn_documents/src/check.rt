@@ -1,0 +1,71 @@
+//! Whether the octets of a value are its DER text.
+ghost use Rattle.std.specs.Prelude.{◌≡◌, MatchResult, false};
+ghost use Rattle.x690.specs.Premises.{Lawful};
+ghost use Rattle.x690.specs.Values.{Value};
+ghost use Rattle.asn_elements.specs.Whole.{IsFailedRead};
+ghost use Rattle.asn_documents.specs.Checked.{CheckedAs, Unchecked};
+ghost use Rattle.asn_documents.specs.Keepings.{failed, kept, reference, source, whole};
+ghost use Rattle.asn_documents.specs.ReadValues.{ReadsValue, StopsReading};
+
+use crate::difference::first_difference;
+use crate::document::read_value;
+use crate::keeping::Keeping;
+use asn_elements::element::Element;
+use std::alloc::Global;
+use tlv_core::fault::ReadError;
+use tlv_core::limits::Limits;
+use tlv_core::source::Source;
+
+/// Reads one value of a type, and answers the number of octets taken and the first place where they differ from its DER
+/// text: `None` where they are in DER. The octets are kept as they come; not one octet past the value is taken.
+pub fn check_value<R: Source, T: Element>(
+    alloc: Global,
+    src: &mut R,
+    limits: Limits,
+) -> Result<(u64, Option<u64>), ReadError>
+    requires lawful { Lawful T.type_term }
+    requires readable { R.has_failed src.old ≡ false }
+    ensures checked { MatchResult result (λ counts. (value : Value)
+        × CheckedAs limits T.type_term value (R.remaining src.old) (R.remaining src.new)
+        counts.0 counts.1)
+        (λ error. Unchecked limits T.type_term error (R.remaining src.old)
+        (R.remaining src.new)) }
+    // A failed read is answered where the source failed, and nowhere else.
+    ensures read { MatchResult result (λ _. R.has_failed src.new ≡ false)
+        (IsFailedRead (R.has_failed src.new)) }
+    ensures frame { R.frame src.new ≡ R.frame src.old }
+{
+    let mut octets = Vec::new(alloc);
+    let mut keeping = Keeping::new(src, &mut octets);
+    let answer = read_keeping::<R, T>(alloc, &mut keeping, limits);
+    match answer {
+        Ok((value, taken)) => Ok((taken, first_difference(&value, keeping.kept))),
+        Err(error) => {
+            if keeping.refused {
+                return Err(ReadError::Memory);
+            }
+            Err(error)
+        }
+    }
+}
+
+/// `read_value` from a source that keeps, with what that says of the octets kept.
+fn read_keeping<R: Source, T: Element>(
+    alloc: Global,
+    keeping: &mut Keeping<'_, R>,
+    limits: Limits,
+) -> Result<(T, u64), ReadError>
+    requires { failed keeping.old ≡ false }
+    ensures same_source { reference keeping.new ≡ reference keeping.old }
+    ensures whole { whole (kept keeping.new) (R.remaining (source keeping.new))
+        ≡ whole (kept keeping.old) (R.remaining (source keeping.old)) }
+    ensures reads { MatchResult result (λ read. ReadsValue limits T.type_term (T.value read.0)
+        (R.remaining (source keeping.old)) (R.remaining (source keeping.new)) read.1)
+        (λ error. StopsReading limits T.type_term error (R.remaining (source keeping.old))
+        (R.remaining (source keeping.new))) }
+    ensures read { MatchResult result (λ _. failed keeping.new ≡ false)
+        (IsFailedRead (failed keeping.new)) }
+    ensures frame { R.frame (source keeping.new) ≡ R.frame (source keeping.old) }
+{
+    read_value::<Keeping<'_, R>, T>(alloc, keeping, limits)
+}
