@@ -6,7 +6,7 @@ A row is a line of cells between tabs; cells left out are empty, and a line that
   words     the arguments; under --line the first line of standard input, for programs that test libraries
   input     standard input
   status    the exit status, 0 if left out
-  output    standard output; = for the input, "TEXT" for a line of text, * for any that isn't empty
+  output    standard output; = for the input, "TEXT" for lines of text, \\n between them, * for any that isn't empty
   error     the line on standard error, * for any that isn't empty
   device    'reading fails': standard input fails behind its octets; 'room N': the output takes N octets and fails
 Octets are in hex with spaces as one likes, 00*3000 is 3,000 of them, and @FILE those of a file in the table's folder.
@@ -90,7 +90,8 @@ class Row:
         self.rule, self.words, given, status, self.due, self.error, self.device = cells + [""] * (CELLS - len(cells))
         self.input, self.status = octets_of(given, folder), int(status or "0")
         quoted = re.fullmatch(r'"(.*)"', self.due)
-        self.output = self.input if self.due == "=" else f"{quoted[1]}\n".encode() if quoted else None
+        text = quoted and quoted[1].replace("\\n", "\n") + "\n"
+        self.output = self.input if self.due == "=" else text.encode() if quoted else None
         if self.output is None and self.due != "*":
             self.output = octets_of(self.due, folder)
 

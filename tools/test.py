@@ -13,12 +13,17 @@ import time
 from concurrent.futures import ThreadPoolExecutor
 
 PROGRAM = "crates/pkder/out/pkder"
-LIBRARIES = "crates/library_rows/out/library_rows"
 ROWS = ["python3", "tools/rows.py"]
+GROWTHS = ["python3", "tools/refused_growths.py"]
 ALLOCATIONS = ["sh", "tools/refuse_each_allocation.sh", PROGRAM]
 # every crate from nothing, a few edits by the toolchain's own means, each program's stored run
 PROOFS = ["rt", "ci"]
 EDITS = ["nice", "-n", "19", "python3", "tools/edits.py", "--beside-gate"]
+
+
+def built(name):
+    """The program of this name."""
+    return f"crates/{name}/out/{name}"
 
 
 def builds(program):
@@ -35,7 +40,7 @@ def rows_of(name):
     """Hands the program's tables to both builds of it."""
     if name == "pkder":
         return [*ROWS, *tables(name), "examples/answers.tsv", *builds(PROGRAM)]
-    return [*ROWS, "--line", *tables(name), *builds(f"crates/{name}/out/{name}")]
+    return [*ROWS, "--line", *tables(name), *builds(built(name))]
 
 
 def parts():
@@ -47,7 +52,7 @@ def parts():
             [*ALLOCATIONS, "examples/public-indefinite.der", "normalise", "--kind", "public"],
             [*ALLOCATIONS, "examples/request-indefinite.der", "normalise", "--kind", "request"],
         ],
-        "growths": [["python3", "tools/refused_growths.py", LIBRARIES, *tables("library_rows")]],
+        "growths": [[*GROWTHS, built(it), *tables(it)] for it in ("library_rows", "sequence_rows")],
     }
 
 

@@ -1,16 +1,14 @@
-//! Documents of one value: read, normalised and written.
+//! Documents of one value: read and written.
 ghost use Rattle.std.specs.Prelude.{◌<◌};
 
 use crate::answer::Answer;
 use crate::fields::value_of;
 use crate::reading::{Reading, Told};
 use crate::texts::{checked_text, text_of};
+use asn_documents::document::{read_value, write_value};
 use asn_values::element::Element;
-use pk_documents::document::{read_value, write_value};
-use pk_documents::normalise::{NormaliseError, normalise_value};
 use pk_documents::signed_part::write_signed_part;
 use pk_requests::request::CertificationRequest;
-use pkix_values::extension::Extension;
 use std::alloc::Global;
 use std::marker::PhantomData;
 use tlv_core::fault::ReadError;
@@ -37,66 +35,18 @@ impl<T: Element> Reading for DocumentOf<T> {
     }
 }
 
-/// The text of a document that is read once. `followed` goes on behind the octets, and what is behind stays.
-pub fn document_once<T: Element>(
-    alloc: Global,
-    octets: &[u8],
-    followed: &[u8],
-    limits: Limits,
-) -> Answer {
-    let mut rest = followed;
+/// The text of a document that is read once, and is all of the octets.
+pub fn document_once<T: Element>(alloc: Global, octets: &[u8], limits: Limits) -> Answer {
+    let mut rest = octets;
     match read_value::<&[u8], T>(alloc, &mut rest, limits) {
         Ok((value, taken)) => {
-            if taken != octets.len() as u64 || followed.get(octets.len()..) != Some(rest) {
+            if taken != octets.len() as u64 || !rest.is_empty() {
                 return Answer::Wrong("other octets are taken");
             }
             text_of(alloc, &value)
         }
         Err(error) => Answer::Stopped(error),
     }
-}
-
-/// The text of an extension by `normalise_value`, behind an octet 07. The text is its own text; a fault leaves all as
-/// it was.
-#[tactic(auto, using(pkix_types::proofs::LawfulTypes::extension))]
-pub fn normalised(alloc: Global, octets: &[u8], limits: Limits) -> Answer {
-    let mut src = octets;
-    let mut dst = match Vec::from_slice(alloc, &[7]) {
-        Ok(dst) => dst,
-        Err(error) => return Answer::of(Err(error)),
-    };
-    let counts = normalise_value::<Extension>(alloc, &mut src, &mut dst, limits);
-    let [7, text @ ..] = dst.as_slice() else {
-        return Answer::Wrong("what the text goes behind is changed");
-    };
-    match counts {
-        Ok(counts) => {
-            if !src.is_empty() || counts != (octets.len() as u64, text.len() as u64) {
-                return Answer::Wrong("other octets are counted or taken");
-            }
-            again(alloc, text, limits)
-        }
-        Err(NormaliseError::Read(error)) => {
-            if src != octets || !text.is_empty() {
-                return Answer::Wrong("a fault leaves something changed");
-            }
-            Answer::Stopped(error)
-        }
-        Err(NormaliseError::Write(error)) => Answer::of(Err(error)),
-    }
-}
-
-/// The text, which is normalised to itself.
-#[tactic(auto, using(pkix_types::proofs::LawfulTypes::extension))]
-fn again(alloc: Global, text: &[u8], limits: Limits) -> Answer {
-    let mut src = text;
-    let mut dst = Vec::new(alloc);
-    let size = text.len() as u64;
-    let counts = normalise_value::<Extension>(alloc, &mut src, &mut dst, limits);
-    if counts != Ok((size, size)) || dst.as_slice() != text || !src.is_empty() {
-        return Answer::Wrong("a text is normalised to another one");
-    }
-    Answer::Written(dst)
 }
 
 /// A target of the room that the words name.
@@ -134,7 +84,7 @@ pub fn request_written(
 }
 
 /// What went out to a target.
-fn went_out(alloc: Global, written: &Result<u64, WriteError>, octets: &[u8]) -> Answer {
+pub fn went_out(alloc: Global, written: &Result<u64, WriteError>, octets: &[u8]) -> Answer {
     let out = match Vec::from_slice(alloc, octets) {
         Ok(out) => out,
         Err(error) => return Answer::of(Err(error)),

@@ -7,7 +7,6 @@ use asn_values::implicit::Implicit;
 use asn_values::integer::Int;
 use asn_values::set_of::SetOf;
 use asn_values::text::Text;
-use pk_keys::ec_private_key::EcPrivateKey;
 use pk_requests::info::CertificationRequestInfo;
 use pk_requests::request::CertificationRequest;
 use pkix_values::algorithm::AlgorithmIdentifier;
@@ -134,7 +133,7 @@ impl Described for Name {
     }
 }
 
-fn describe_bits(line: &mut Line, bits: &Bits) -> Result<(), AllocError> {
+pub fn describe_bits(line: &mut Line, bits: &Bits) -> Result<(), AllocError> {
     line.number("unused bits", usize::from(bits.unused()))?;
     line.octets("of", bits.octets())
 }
@@ -239,26 +238,5 @@ impl Described for CertificationRequest {
         line.part("signature")?;
         self.signature_algorithm().describe(line)?;
         describe_bits(line, self.signature())
-    }
-}
-
-impl Described for EcPrivateKey {
-    fn is_same(&self, other: &EcPrivateKey) -> bool {
-        self.same(other)
-    }
-
-    fn describe(&self, line: &mut Line) -> Result<(), AllocError> {
-        line.octets("key", self.key().octets())?;
-        match self.curve() {
-            Some(curve) => line.octets("curve", curve.content())?,
-            None => line.part("no curve")?,
-        }
-        match self.public_key() {
-            Some(key) => {
-                line.part("public key")?;
-                describe_bits(line, key)
-            }
-            None => line.part("no public key"),
-        }
     }
 }

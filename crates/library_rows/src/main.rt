@@ -1,16 +1,21 @@
-//! A program that tests libraries on rows of tables: it does one task on octets with `asn_values`, `pkix_values`,
-//! `pk_keys`, `pk_requests` or `pk_documents`, and answers as pkder does. `tools/rows.py` hands it the rows of
-//! `tests/`, and `tools/refused_growths.py` refuses each growth of memory in turn meanwhile. Not part of pkder.
+//! A program that tests libraries on rows of tables: it does one task on octets with `asn_values`, `asn_documents`,
+//! `pkix_values`, `pk_keys`, `pk_requests` or `pk_documents`, and answers as pkder does. `tools/rows.py` hands it the
+//! rows of `tests/`, and `tools/refused_growths.py` refuses each growth of memory in turn meanwhile. Not part of pkder.
 //!
 //! Standard input is a line of words, below, and the octets behind it.
-//!   read TYPE a value, in pieces, cut at each octet and with octets behind it: its text, or the fault document TYPE
-//!   the same by `read_value` normalise extension the same by `normalise_value`, once same TYPE two values one after
-//!   another: whether they are the same fields TYPE what each field reader answers signed request what the signature
-//!   covers, written to a target of `room` octets, `piece` of them at once written request the whole, to the same make
-//!   TYPE a value made of the octets compare integer-set two values made of two parts, each behind its length in two
-//!   octets
-//! Behind them may stand `depth N`, `limit N`, `room N` and `piece N`. Before read, document and make `once` does the
-//! task once, so that no memory is asked for but by the libraries, and tells of a reader that wanted memory how many
+//!
+//! - `read TYPE`: a value, in pieces, cut at each octet and with octets behind it: its text, or the fault
+//! - `document TYPE`, `normalise TYPE`, `check TYPE`: the same by `read_value`, by `normalise_value`, by `check_value`
+//! - `whole TYPE`, `normalise-whole TYPE`: a value that has to be all of the input, in pieces and cut at each octet
+//! - `normalise-into TYPE`: the text goes to a target of `room` octets, `piece` of them at once
+//! - `same TYPE`: two values one after another: whether they are the same
+//! - `fields TYPE`: what each field reader answers
+//! - `signed request`: what the signature covers, to a target of `room` octets; `written request`: the whole, to it
+//! - `make TYPE`: a value made of the octets
+//! - `compare integer-set`: two values made of two parts, each behind its length in two octets
+//!
+//! Behind them may stand `depth N`, `limit N`, `room N` and `piece N`. Before a task that reads or makes `once` does it
+//! once, so that no memory is asked for but by the libraries, and `read` tells of a reader that wanted memory how many
 //! octets it took; `again` asks that reader further, too.
 //!
 //! Status 0 goes with the text or the line on standard output, 2 with a fault or octets that make no value, 3 with a
@@ -20,13 +25,17 @@
 mod answer;
 mod documents;
 mod fields;
+mod fields_of_keys;
 mod fields_of_types;
 mod making;
+mod normalising;
 mod printing;
 mod reading;
+mod samples;
 mod sequences;
 mod tasks;
 mod texts;
+mod whole;
 mod words;
 
 use answer::Answer;

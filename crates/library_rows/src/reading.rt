@@ -146,7 +146,7 @@ fn is_told_in_pieces<K: Reading>(
 }
 
 /// Whether octets that are too few are answered so, where the source ends behind them and where it fails there.
-fn is_cut_short<K: Reading>(alloc: Global, octets: &[u8], limits: Limits) -> bool {
+pub fn is_cut_short<K: Reading>(alloc: Global, octets: &[u8], limits: Limits) -> bool {
     let at = octets.len() as u64;
     let mut ends = Pieces::new(octets, 7, false);
     let ended = K::told(alloc, &mut ends, limits);

@@ -1,8 +1,2 @@
-pub mod Documents
-pub mod Elements
-pub mod GeneralKeys
-pub mod Keys
-pub mod PlainKeys
-pub mod ReadValues
-pub mod TypedDocuments
-pub mod WholeKeys
+pub mod DocumentValues
+pub mod LawfulKinds

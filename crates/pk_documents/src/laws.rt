@@ -1,8 +1,7 @@
-//! Laws on what is read today.
-ghost use Rattle.pk_documents.specs.PlainKeyLaw.{PlainKeysAreKeys};
+//! Laws on the kinds.
+ghost use Rattle.pk_documents.specs.Kinds.{KindsAreLawful};
 
-/// Plain keys are OneAsymmetricKeys by the general definitions: the octets, the value and the DER text are theirs. So
-/// the cut leaves keys out, and takes none that isn't one.
-pub fn plain_keys_are_keys()
-    ensures { PlainKeysAreKeys }
+/// The type of each kind is as the laws ask: what is said of normalising and of checking a document holds of every one.
+pub fn kinds_are_lawful()
+    ensures { KindsAreLawful }
 {}

@@ -1,21 +1,20 @@
-//! Documents of keys, read, checked and written in their one DER text (X.690, RFC 5280, RFC 5958, RFC 8410).
+//! Documents of keys and certification requests, read, checked and written in their one DER text (X.690, RFC 5280, RFC
+//! 5915, RFC 2986, RFC 5958), from any source and to any target.
 //!
-//! `document::read_value` reads one value of any type (`Element`) from any source, `write_value` writes its text to any
-//! target, `normalise::normalise_value` does both. `signed_part` writes what the signature of a certification request
-//! covers. `normalise` does it for each kind of document; plain keys are read by a reader of their own so far:
-//! OneAsymmetricKey of version 0 under the four algorithms of RFC 8410, in definite lengths of every form.
+//! `kind` has the kinds, `document` a document of any of them with its reader and writer. `normalise` reads one and
+//! writes its text, `check` tells whether it is in DER, `signed_part` writes what the signature of a certification
+//! request covers. Each is what `asn_documents` does with a value of the kind's type, so that a further kind is a line
+//! in each.
 //!
-//! Proved of normalising, for every input: it takes exactly the octets that spell one value and writes that value's DER
-//! text, which reads back as it; or it refuses, writes nothing, and nothing that the input begins with spells a value.
-//! Normalising twice is once, and two inputs get equal texts exactly where their values are the same. Plain keys are
-//! OneAsymmetricKeys by the general definitions of `pkix_types` (`laws`). A fault of a value of a type is the one that
-//! the definitions give. Only tested: which fault comes for plain keys, and where.
+//! Proved, of each kind and for every input: exactly the octets that spell one document are taken, the answer is the
+//! one that the definitions give, the first fault included, and a fault says that nothing which the input begins with
+//! spells a document of the kind. Normalising twice is once, and two inputs get equal texts exactly where their values
+//! are the same. The types of all kinds are as the laws ask (`laws`).
 #![tactic(auto)]
 
-mod cursor;
+pub mod check;
 pub mod document;
-mod key_text;
+pub mod kind;
 pub mod laws;
 pub mod normalise;
-mod plain_key;
 pub mod signed_part;

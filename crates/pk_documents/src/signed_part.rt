@@ -1,9 +1,9 @@
 //! What a signature covers.
 ghost use Rattle.std.specs.Prelude.{◌≡◌, false};
 ghost use Rattle.x690.specs.DerTexts.{der};
-ghost use Rattle.pk_documents.specs.WrittenValues.{WritesText};
+ghost use Rattle.asn_documents.specs.WrittenValues.{WritesText};
 
-use crate::document::write_value;
+use asn_documents::document::write_value;
 use asn_values::der_text::DerText;
 use pk_requests::info::CertificationRequestInfo;
 use pk_requests::request::CertificationRequest;

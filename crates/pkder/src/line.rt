@@ -1,7 +1,7 @@
 //! The command line.
 use clap::error::ErrorKind;
 use clap::{Arg, ArgMatches, Command, Error};
-use pk_documents::normalise::Kind;
+use pk_documents::kind::Kind;
 use std::alloc::{AllocError, Global};
 use tlv_core::limits::Limits;
 
@@ -37,7 +37,7 @@ impl From<AllocError> for LineFault {
     }
 }
 
-static KINDS: [&str; 4] = ["key", "ec", "request", "public"];
+static KINDS: [&str; 6] = ["key", "ec", "request", "public", "encrypted", "package"];
 
 fn with_limits<'a>(alloc: Global, command: Command<'a>) -> Result<Command<'a>, AllocError> {
     let depth = Arg::new(alloc, "depth")
@@ -87,8 +87,10 @@ fn kind_of(name: &str) -> Option<Kind> {
     match name {
         "key" => Some(Kind::Key),
         "ec" => Some(Kind::Ec),
-        "public" => Some(Kind::Public),
         "request" => Some(Kind::Request),
+        "public" => Some(Kind::Public),
+        "encrypted" => Some(Kind::Encrypted),
+        "package" => Some(Kind::Package),
         _ => None,
     }
 }

@@ -4,7 +4,6 @@
 //! error of each outcome. Only tested, by the tables of `tests/`: which command lines are accepted, and `main`.
 #![tactic(auto)]
 
-mod input;
 mod line;
 mod outcome;
 mod run;
@@ -12,8 +11,10 @@ mod run;
 use line::{LineFault, Task};
 use outcome::Outcome;
 use std::alloc::Global;
-use std::io::{ErrorKind, Write};
+use std::io::{BufReader, ErrorKind, Write};
 use std::process::ExitCode;
+use tlv_core::source::FromRead;
+use tlv_core::target::ToWrite;
 
 fn main(rt: HostRuntime) -> ExitCode {
     let alloc = rt.alloc();
@@ -39,18 +40,17 @@ fn main(rt: HostRuntime) -> ExitCode {
     }
 }
 
-/// Reads the input whole, runs the task on it, and writes what it made.
+/// Runs the task from standard input, as it comes, to standard output.
 fn serve(rt: &HostRuntime, alloc: Global, task: &Task) -> Outcome {
-    let most = u64::from(task.limits.octets()) + 1;
-    let given = match input::read_at_most(alloc, rt.stdin(), most) {
-        Ok(given) => given,
-        Err(outcome) => return outcome,
+    let Ok(input) = BufReader::new(alloc, rt.stdin()) else {
+        return Outcome::Memory;
     };
-    let mut made = Vec::new(alloc);
-    let outcome = run::run(alloc, &mut given.as_slice(), &mut made, task);
-    let (written, whole) = input::write_all(&mut rt.stdout(), made.as_slice());
-    if !whole || rt.stdout().flush().is_err() {
-        return Outcome::WriteFailed(written);
+    let mut src = FromRead::new(input);
+    let mut dst = ToWrite::new(rt.stdout());
+    let outcome = run::run(alloc, &mut src, &mut dst, task);
+    if outcome == Outcome::Done && dst.into_inner().flush().is_err() {
+        // how many octets were kept back isn't told
+        return Outcome::WriteFailed(0);
     }
     outcome
 }

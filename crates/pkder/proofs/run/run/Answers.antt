@@ -1,15 +1,11 @@
-use Rattle.std.proofs.Common.{refl, sym, subst, inr}
-use Rattle.pkder.specs.Replies.{Replied}
-use Rattle.pkder.proofs.Replies.{refusal_replies, follows}
+use Rattle.pkder.proofs.Replies.{refusal_fails, refusal_replies, refusal_silent}
 use Rattle.pkder.proofs.run.run.Goals as goal
 
-pub returns-in-Err : goal.returns-in-Err
-returns-in-Err c =
-    let old = c.args.dst.now.items in
-    subst (λ o. Replied c.args.task.now o c.args.src.now.now old old) (sym c.refusal.ensures)
-    (refusal_replies c.args.task.now.kind c.args.task.now.limits c.in-Err.error c.args.src.now.now _ old c.in-Err.ensures.refused)
+pub returns-in-Err-clause-replied : goal.returns-in-Err-clause-replied
+returns-in-Err-clause-replied g c = refusal_replies _ _ c.in-Err.error _ _ _ _ _ c.refusal.ensures c.in-Err.ensures.refused
 
-pub returns-then-not-is_empty : goal.returns-then-not-is_empty
-returns-then-not-is_empty c =
-    let taken = c.in-Ok.ensures.normalised in
-    (refl, (λ h. cc, λ h. cc), inr (follows _ _ _ _ _ _ _ _ _ taken.1 (sym c.if-not-is_empty.ensures)))
+pub returns-in-Err-clause-unwritten : goal.returns-in-Err-clause-unwritten
+returns-in-Err-clause-unwritten g c = λ silent. c.in-Err.ensures.unwritten (refusal_silent c.in-Err.error _ c.refusal.ensures silent)
+
+pub returns-in-Err-clause-failed : goal.returns-in-Err-clause-failed
+returns-in-Err-clause-failed g c = refusal_fails c.in-Err.error _ _ _ c.refusal.ensures c.in-Err.ensures.failed

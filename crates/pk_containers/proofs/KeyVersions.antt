@@ -1,0 +1,76 @@
+-- Which versions of a OneAsymmetricKey have a public key.
+use Rattle.std.proofs.Common.{◌≡◌, ◌∙◌, ◌++◌, ◌&&◌, ◌||◌, ◌==◌, ◌∷◌, Bool, List, None, Option, Some, [], ap, false, length, not, refl, subst, sym, true, ℕ}
+use Rattle.std.specs.Option.{is_some, option_map}
+use Rattle.tlv_core.specs.Identifier.{Tag}
+use Rattle.tlv_core.specs.declared.reason.Reason.TheVariants.{VersionRule}
+use Rattle.x690.specs.Layouts.{context_specific, same_tag, universal}
+use Rattle.x690.specs.Lists.{one_of}
+use Rattle.x690.specs.Values.{Leaf, Sequence, Value, Values, leaf_at, value_tag, values_of}
+use Rattle.x690_laws.proofs.Sound.{same_tag_is}
+use Rattle.pkix_types.specs.DocumentTypes.{private_key, public_key}
+use Rattle.pkix_types.specs.Rules.{else_refused, key_version_rule, with_tag}
+use Rattle.asn_fields.specs.Apart.{fits_one, may_begin}
+use Rattle.asn_fields.specs.FieldReadings.{with_field}
+
+both_first : (a b : Bool) → (a && b) ≡ true → a ≡ true
+both_first true b e = refl
+both_first false b e = cc
+
+both_second : (a b : Bool) → (a && b) ≡ true → b ≡ true
+both_second true b e = e
+both_second false b e = cc
+
+any_of_four : (b : Bool) → (b || (b || (b || b))) ≡ true → b ≡ true
+any_of_four true e = refl
+any_of_four false e = cc
+
+any_of_two : (b : Bool) → (b || b) ≡ true → b ≡ true
+any_of_two true e = refl
+any_of_two false e = cc
+
+-- under [1]
+abbrev one : Tag
+one = context_specific 1
+
+abbrev there : List Value → Bool
+there vs = not (length {A = Value} (with_tag one vs) == 0)
+
+passed : (v : Value) (vs : List Value) → same_tag one (value_tag v) ≡ false → there (v ∷ vs) ≡ there vs
+passed v vs e = ap (λ b. not (length {A = Value} (elim b [ true ↦ v ∷ with_tag one vs | false ↦ with_tag one vs ]) == 0)) e
+
+met : (v : Value) → same_tag one (value_tag v) ≡ true → there (v ∷ []) ≡ true
+met v e = ap (λ b. not (length {A = Value} (elim b [ true ↦ v ∷ [] | false ↦ [] ]) == 0)) e
+
+-- a private key is an OCTET STRING
+key_elsewhere : (t : Tag) → same_tag (universal 4) t ≡ true → same_tag one t ≡ false
+key_elsewhere t e = subst (λ u. same_tag one u ≡ false) (same_tag_is (universal 4) t e) refl
+
+module _ {A P : Type 0} (f : A → Value) (g : P → Value) (number : ℕ) (algorithm : Values) (k : Value) where
+  abbrev fields : Option A → Option P → List Value
+  fields a p = (((Leaf (universal 2) (number ∷ []) ∷ Sequence (universal 16) algorithm ∷ []) ++ (k ∷ [])) ++ with_field (option_map f a) []) ++ with_field (option_map g p) []
+
+  abbrev is_0 : Bool
+  is_0 = one_of (number ∷ []) ((0 ∷ []) ∷ [])
+
+  there_is : ((x : A) → same_tag one (value_tag (f x)) ≡ false) → same_tag one (value_tag k) ≡ false → (a : Option A) (p : Option P) → fits_one public_key (option_map g p) ≡ true → there (k ∷ (with_field (option_map f a) [] ++ with_field (option_map g p) [])) ≡ is_some p
+  there_is off e None None h = passed k [] e
+  there_is off e None (Some y) h = passed k (g y ∷ []) e ∙ met (g y) (any_of_two _ h)
+  there_is off e (Some x) None h = passed k (f x ∷ []) e ∙ passed (f x) [] (off x)
+  there_is off e (Some x) (Some y) h = passed k (f x ∷ g y ∷ []) e ∙ passed (f x) (g y ∷ []) (off x) ∙ met (g y) (any_of_two _ h)
+
+  rule_is : (a : Option A) (p : Option P) → key_version_rule [] (Sequence (universal 16) (values_of (fields a p))) ≡ else_refused (is_0 || there (k ∷ (with_field (option_map f a) [] ++ with_field (option_map g p) []))) VersionRule
+  unfolding leaf_at
+  rule_is None None = refl
+  rule_is None (Some y) = refl
+  rule_is (Some x) None = refl
+  rule_is (Some x) (Some y) = refl
+
+  pub version_judged : ((x : A) → same_tag one (value_tag (f x)) ≡ false) → (head others : Bool) (a : Option A) (p : Option P) (b c : Bool)
+      → (((head && may_begin private_key (value_tag k)) && others) && fits_one public_key (option_map g p)) ≡ true
+      → one_of (number ∷ []) ((0 ∷ []) ∷ []) ≡ b → is_some p ≡ c → key_version_rule [] (Sequence (universal 16) (values_of (fields a p))) ≡ else_refused (b || c) VersionRule
+  version_judged off head others a p b c known e h =
+      let first : ((head && may_begin private_key (value_tag k)) && others) ≡ true = both_first _ _ known in
+      let begins : may_begin private_key (value_tag k) ≡ true = both_second head _ (both_first _ _ first) in
+      let elsewhere = key_elsewhere (value_tag k) (any_of_four _ begins) in
+      rule_is a p ∙ ap (λ z. else_refused (is_0 || z) VersionRule) (there_is off elsewhere a p (both_second ((head && may_begin private_key (value_tag k)) && others) _ known))
+      ∙ ap (λ z. else_refused (z || is_some p) VersionRule) e ∙ ap (λ z. else_refused (b || z) VersionRule) h

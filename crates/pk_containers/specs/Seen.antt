@@ -1,0 +1,48 @@
+-- The keys in a OneAsymmetricKey, as its readers show them.
+use Rattle.std.specs.Prelude.{None, Option, Some}
+use Rattle.asn_elements.specs.Implicits.{value_under}
+use Rattle.asn_elements.specs.declared.bits.Bits.{Bits}
+use Rattle.asn_elements.specs.declared.octets.Octets.{Octets}
+use Rattle.asn_fields.specs.declared.either.Either.TheVariants.{First, Second}
+use Rattle.asn_fields.specs.declared.either.Either.{Either}
+use Rattle.pk_containers.specs.declared.private_key.ContainedKey.{ContainedKey}
+use Rattle.pk_containers.specs.declared.private_key.PrivateKey.{PrivateKey}
+use Rattle.pk_containers.specs.declared.private_key.PrivateKey.TheVariants.{Carried, Curve, Ec, Rsa}
+use Rattle.pk_containers.specs.declared.public_key.PublicKey.{PublicKey}
+use Rattle.pk_keys.specs.declared.curve_key.CurveKey.{CurveKey}
+use Rattle.pk_keys.specs.declared.ec_private_key.EcPrivateKey.{EcPrivateKey}
+use Rattle.pk_keys.specs.declared.rsa_private_key.RsaPrivateKey.{RsaPrivateKey}
+
+-- one of the four
+abbrev pub AnyKey : Type 0
+AnyKey = Either EcPrivateKey (Either CurveKey (Either RsaPrivateKey Octets))
+
+-- what is shown
+abbrev pub key_seen : PrivateKey → AnyKey
+key_seen (Ec key) = First key.now
+key_seen (Curve key) = Second (First key.now)
+key_seen (Rsa key) = Second (Second (First key.now))
+key_seen (Carried octets) = Second (Second (Second octets.now))
+
+-- what is there
+abbrev pub key_in : ContainedKey → AnyKey
+key_in contained =
+    elim contained.0.value [
+      | First ec ↦ First ec.string.inner
+      | Second others ↦ elim others.value [
+        | First curve ↦ Second (First curve.string.inner)
+        | Second rest ↦ elim rest.value [
+          | First rsa ↦ Second (Second (First rsa.0.inner))
+          | Second octets ↦ Second (Second (Second octets.0))
+        ]
+      ]
+    ]
+
+-- the bits of a public key, none of what is refused
+abbrev pub bits_in : PublicKey → Option Bits
+bits_in key = elim key.0.value [ First refused ↦ None | Second ruled ↦ Some (value_under ruled.value) ]
+
+-- where there may be one
+abbrev pub bits_of : Option PublicKey → Option Bits
+bits_of None = None
+bits_of (Some key) = bits_in key

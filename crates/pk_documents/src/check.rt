@@ -1,0 +1,49 @@
+//! Whether a document is in DER.
+ghost use Rattle.std.specs.Prelude.{◌≡◌, MatchResult, false};
+ghost use Rattle.x690.specs.Values.{Value};
+ghost use Rattle.asn_elements.specs.Whole.{IsFailedRead};
+ghost use Rattle.asn_documents.specs.Checked.{CheckedAs, Unchecked};
+ghost use Rattle.pk_documents.specs.Kinds.{type_of};
+
+use crate::kind::Kind;
+use asn_documents::check::check_value;
+use pk_containers::key_package::KeyPackage;
+use pk_containers::one_asymmetric_key::OneAsymmetricKey;
+use pk_keys::ec_private_key::EcPrivateKey;
+use pk_keys::encrypted_key::EncryptedKey;
+use pk_requests::request::CertificationRequest;
+use pkix_values::public_key::SubjectPublicKeyInfo;
+use std::alloc::Global;
+use tlv_core::fault::ReadError;
+use tlv_core::limits::Limits;
+use tlv_core::source::Source;
+
+/// Reads one document, and answers the number of octets taken and the first place where they differ from its DER text:
+/// `None` where they are in DER. The octets are kept as they come; not one octet past the document is taken.
+#[tactic(auto, using(crate::proofs::LawfulKinds::lawful_types))]
+pub fn check<R: Source>(
+    alloc: Global,
+    src: &mut R,
+    kind: Kind,
+    limits: Limits,
+) -> Result<(u64, Option<u64>), ReadError>
+    requires { R.has_failed src.old ≡ false }
+    ensures checked { MatchResult result (λ counts. (value : Value)
+        × CheckedAs limits (type_of kind) value (R.remaining src.old) (R.remaining src.new)
+        counts.0 counts.1)
+        (λ error. Unchecked limits (type_of kind) error (R.remaining src.old)
+        (R.remaining src.new)) }
+    // A failed read is answered where the source failed, and nowhere else.
+    ensures read { MatchResult result (λ _. R.has_failed src.new ≡ false)
+        (IsFailedRead (R.has_failed src.new)) }
+    ensures frame { R.frame src.new ≡ R.frame src.old }
+{
+    match kind {
+        Kind::Key => check_value::<R, OneAsymmetricKey>(alloc, src, limits),
+        Kind::Ec => check_value::<R, EcPrivateKey>(alloc, src, limits),
+        Kind::Request => check_value::<R, CertificationRequest>(alloc, src, limits),
+        Kind::Public => check_value::<R, SubjectPublicKeyInfo>(alloc, src, limits),
+        Kind::Encrypted => check_value::<R, EncryptedKey>(alloc, src, limits),
+        Kind::Package => check_value::<R, KeyPackage>(alloc, src, limits),
+    }
+}
