@@ -1,5 +1,6 @@
 #!/usr/bin/env python3
-"""edits.py [--beside-gate | --over-kept] [NAME | NAME/EDIT ..]: bugs planted in the code, which the proofs must refuse.
+"""edits.py [--beside-gate | --over-kept] [--all-counts] [NAME | NAME/EDIT ..]: bugs planted in the code, which the
+proofs must refuse.
 
 The edits stand in crates/NAME/edits, written as those of must-fail/ are. Without names all are tried, and the control.
 
@@ -11,6 +12,10 @@ function:
   waits      the function calls one that has no proof in this round, so the edit comes again in the next one
 What this doesn't tell is tried alone, as `rt ci` tries the edits of must-fail/: an edit outside of functions, one whose
 function is proved with it, those of a round that can't be read, or in which a function failed that none of them is in.
+
+Searches get half of their counts (--margin): most of an edit's time is a search that finds nothing. So that it is the
+edit which is refused and not a long proof, the crate as it stands has to be proved with half of them, too; where it
+isn't, and under --all-counts, its edits are tried with all of them.
 
 --beside-gate is for use beside `rt ci`: standard input names each crate once it is proved, and the libraries are those
 that `rt ci` left. Else the crate is proved first, with --over-kept over what `rt check` kept. The script reads the
@@ -35,6 +40,7 @@ FUNCTION = re.compile(r"( *)(?:pub(?:\([^)]*\))? )?(?:const )?(?:unsafe )?(?:ext
 CYCLE = re.compile(r" *#\[cycle\((\w+)\)\]")
 IMPL = re.compile(r"impl\b(?:<[^{]*?>)? (?:[^{]*\bfor )?&?(?:'\w+ )?(?:mut )?(?:\w+::)*(\w+)")
 ALONE = "to be tried alone"
+HALF = "--margin"
 # How a proof fails that names what an edit took away, which says little of the contract.
 BY_NAME = re.compile(r"proofs/.*(has no field|is not in scope|has no `)")
 
@@ -184,9 +190,19 @@ def refusal(why):
 class Trial:
     """The edits of one crate, tried over what the rounds before proved."""
 
-    def __init__(self, code, kept, is_known):
-        self.code, self.crate, self.kept, self.flags = code, code.crate, kept, ["--jobs", "1"]
-        self.is_proved = is_known or self.proves()
+    def __init__(self, code, kept, options):
+        self.code, self.crate, self.kept = code, code.crate, kept
+        self.flags = ["--jobs", "1"] + [HALF] * ("--all-counts" not in options)
+        self.is_settled = "--beside-gate" not in options and self.settles()
+
+    def settles(self):
+        """Whether the crate as it stands is proved, with half of the searches' counts or else with all of them."""
+        is_proved = self.proves()
+        if is_proved or HALF not in self.flags:
+            return is_proved
+        say(f"{self.crate.name}: its edits are tried with all of the searches' counts")
+        self.flags.remove(HALF)
+        return self.proves()
 
     def proves(self):
         """Whether the crate as it stands is proved."""
@@ -241,7 +257,16 @@ class Trial:
         alone = [it for it, functions in left.items() if not functions]
         left = {it: functions for it, functions in left.items() if functions}
         while left:
+            counts = [*self.flags]
             states = self.round(self.batch_of(left))
+            if not self.is_settled:
+                # (over the first round, which proved what no edit is in, this takes little)
+                self.is_settled = self.settles()
+                if not self.is_settled:
+                    say(f"{self.crate.name} is not proved, so its edits aren't tried")
+                    return ended
+                if self.flags != counts:
+                    continue
             # (where all wait, each for another one, no further round would tell more)
             is_stuck = not any(states.values())
             alone += [it for it, why in states.items() if why == ALONE or is_stuck]
@@ -280,8 +305,8 @@ def try_crate(code, edits, has_control, options):
     with tempfile.TemporaryDirectory(prefix="edits-kept-") as kept:
         if "--over-kept" in options and os.path.isdir(f"{code.crate.folder}/out/incremental"):
             shutil.copytree(f"{code.crate.folder}/out/incremental", kept, dirs_exist_ok=True)
-        trial = Trial(code, kept, "--beside-gate" in options)
-        if not trial.is_proved:
+        trial = Trial(code, kept, options)
+        if not trial.is_settled and "--beside-gate" not in options:
             say(f"{name} is not proved, so none of its {len(edits)} edits is tried")
             return 0, len(edits) + has_control
         ended = trial.tried(edits)
@@ -336,7 +361,7 @@ def chosen(names):
 
 def main(words):
     options = {it for it in words if it.startswith("--")}
-    if options - {"--over-kept", "--beside-gate"}:
+    if options - {"--over-kept", "--beside-gate", "--all-counts"}:
         rtlib.stop(__doc__)
     os.chdir(os.path.dirname(TOOLS))
     # (its first call sets a signal's handler, which only the main thread may)
