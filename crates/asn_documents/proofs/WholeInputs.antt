@@ -7,7 +7,8 @@ use Rattle.tlv_core.specs.declared.fault.ReadError.{ReadError}
 use Rattle.x690.specs.Premises.{Lawful}
 use Rattle.x690.specs.TypeTerms.{TypeTerm}
 use Rattle.x690.specs.Values.{Value}
-use Rattle.asn_documents.specs.Normalised.{Unread}
+use Rattle.asn_documents.specs.Checked.{CheckedAs}
+use Rattle.asn_documents.specs.Normalised.{Took, Unread}
 use Rattle.asn_documents.specs.ReadValues.{ReadsValue, StopsReading}
 use Rattle.asn_documents.specs.WholeInputs.{EndsBadly, Followed, StopsWhole}
 use Rattle.asn_documents.proofs.Normalising.{unread_as}
@@ -45,3 +46,36 @@ ended l T w before mid after taken r none = record {
 pub unread_whole : (l : Limits) (T : TypeTerm) (e : ReadError) (before after : Option (List ℕ)) → Lawful T → StopsWhole l T e before after → (StopsReading l T e before after × Unread l T e before) ⊎ Followed l T e before after
 unread_whole l T e before after lawful (inl s) = inl (s, unread_as l T e before after lawful s)
 unread_whole l T e before after lawful (inr f) = inr f
+
+unfoldable took_ended : (l : Limits) (T : TypeTerm) (v : Value) (before mid after : Option (List ℕ)) (taken : ℕ) → Took l T v before mid taken → Consumes mid after [] → Took l T v before after taken
+took_ended l T v before mid after taken t none = record {
+  octets = t.octets;
+  takes = subst (Consumes before after) (append-nil t.octets) (Consumes-trans before mid after t.octets [] t.takes none);
+  taken_are = t.taken_are;
+  spells = t.spells;
+  one = t.one;
+}
+
+-- the same of a value that was checked
+
+pub checked_ended : (l : Limits) (T : TypeTerm) (before mid after : Option (List ℕ)) (taken : ℕ) (place : Option ℕ) → (value : Value) × CheckedAs l T value before mid taken place → Consumes mid after [] → (value : Value) × CheckedAs l T value before after taken place
+unfolding took_ended
+checked_ended l T before mid after taken place c none = (
+  c.0,
+  record {
+    took = took_ended l T c.0 before mid after taken c.1.took none;
+    differs = c.1.differs;
+    in_both = c.1.in_both;
+  },
+)
+
+pub checked_followed : (l : Limits) (T : TypeTerm) (e : ReadError) (before mid after : Option (List ℕ)) (taken : ℕ) (place : Option ℕ) → (value : Value) × CheckedAs l T value before mid taken place → (behind : List ℕ) × Consumes mid after behind × EndsBadly e behind taken
+    → Followed l T e before after
+checked_followed l T e before mid after taken place c more = record {
+  value = c.0;
+  octets = c.1.took.octets;
+  behind = more.0;
+  takes = Consumes-trans before mid after c.1.took.octets more.0 c.1.took.takes more.1;
+  spells = c.1.took.spells;
+  ends_badly = subst (EndsBadly e more.0) c.1.took.taken_are more.2;
+}

@@ -61,3 +61,16 @@ pub fn write_value<T: DerText, W: Target>(value: &T, dst: &mut W) -> Result<u64,
     value.put(&mut sink)?;
     Ok(size)
 }
+
+/// Writes octets as they are, and answers their number. No memory is taken.
+///
+/// Where the writer fails, the first of them are out, as many as the error tells.
+pub fn write_octets<W: Target>(octets: &[u8], dst: &mut W) -> Result<u64, WriteError>
+    requires { W.has_failed dst.old ≡ false }
+    ensures { WritesText octets.now (W.contents dst.old) (W.contents dst.new)
+        (W.has_failed dst.new) result }
+{
+    let mut sink = Sink::new(dst);
+    sink.put(octets)?;
+    Ok(octets.len() as u64)
+}

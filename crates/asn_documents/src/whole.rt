@@ -1,13 +1,15 @@
 //! A value that has to be all of the input.
-ghost use Rattle.std.specs.Prelude.{◌≡◌, IfErr, IfOk, MatchResult, false};
+ghost use Rattle.std.specs.Prelude.{◌≡◌, ◌⊎◌, IfErr, IfOk, MatchResult, false};
 ghost use Rattle.std.specs.Io.KnownBytes.{IsAtEnd};
 ghost use Rattle.x690.specs.Premises.{Lawful};
 ghost use Rattle.x690.specs.Values.{Value};
 ghost use Rattle.asn_elements.specs.Whole.{IsFailedRead};
+ghost use Rattle.asn_documents.specs.Checked.{CheckedAs, Unchecked};
 ghost use Rattle.asn_documents.specs.Normalised.{Failures, IsRead, NormalisedAs};
 ghost use Rattle.asn_documents.specs.ReadValues.{ReadsValue};
-ghost use Rattle.asn_documents.specs.WholeInputs.{EndsAfter, RefusedWhole, StopsWhole};
+ghost use Rattle.asn_documents.specs.WholeInputs.{EndsAfter, Followed, RefusedWhole, StopsWhole};
 
+use crate::check::check_value;
 use crate::document::{read_value, write_value};
 use crate::normalise::NormaliseError;
 use asn_elements::element::Element;
@@ -90,4 +92,31 @@ pub fn normalise_whole<R: Source, W: Target, T: Element>(
     let (value, taken) = read_whole_input::<R, T>(alloc, src, limits)?;
     let written = write_value(&value, dst)?;
     Ok((taken, written))
+}
+
+/// Reads one value, which has to be all of the input, and answers the number of its octets and the first place where
+/// they differ from its DER text: `None` where they are in DER.
+///
+/// Faults: those of `check_value`; `Trailing` at the first octet behind the value, whether it is in DER or not.
+pub fn check_whole<R: Source, T: Element>(
+    alloc: Global,
+    src: &mut R,
+    limits: Limits,
+) -> Result<(u64, Option<u64>), ReadError>
+    requires lawful { Lawful T.type_term }
+    requires readable { R.has_failed src.old ≡ false }
+    ensures checked { MatchResult result (λ counts. (value : Value)
+        × CheckedAs limits T.type_term value (R.remaining src.old) (R.remaining src.new)
+        counts.0 counts.1)
+        (λ error. Unchecked limits T.type_term error (R.remaining src.old) (R.remaining src.new)
+        ⊎ Followed limits T.type_term error (R.remaining src.old) (R.remaining src.new)) }
+    ensures ends { IfOk result (λ _. IsAtEnd (R.remaining src.new)) }
+    // A failed read is answered where the source failed, and nowhere else.
+    ensures read { MatchResult result (λ _. R.has_failed src.new ≡ false)
+        (IsFailedRead (R.has_failed src.new)) }
+    ensures frame { R.frame src.new ≡ R.frame src.old }
+{
+    let (count, place) = check_value::<R, T>(alloc, src, limits)?;
+    expect_end(src, count)?;
+    Ok((count, place))
 }

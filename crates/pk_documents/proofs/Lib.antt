@@ -1,2 +1,3 @@
 pub mod DocumentValues
 pub mod LawfulKinds
+pub mod RequestParts

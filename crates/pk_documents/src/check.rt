@@ -1,12 +1,15 @@
 //! Whether a document is in DER.
-ghost use Rattle.std.specs.Prelude.{◌≡◌, MatchResult, false};
+ghost use Rattle.std.specs.Prelude.{◌≡◌, ◌⊎◌, IfOk, MatchResult, false};
+ghost use Rattle.std.specs.Io.KnownBytes.{IsAtEnd};
 ghost use Rattle.x690.specs.Values.{Value};
 ghost use Rattle.asn_elements.specs.Whole.{IsFailedRead};
 ghost use Rattle.asn_documents.specs.Checked.{CheckedAs, Unchecked};
+ghost use Rattle.asn_documents.specs.WholeInputs.{Followed};
 ghost use Rattle.pk_documents.specs.Kinds.{type_of};
 
 use crate::kind::Kind;
 use asn_documents::check::check_value;
+use asn_documents::whole::check_whole;
 use pk_containers::key_package::KeyPackage;
 use pk_containers::one_asymmetric_key::OneAsymmetricKey;
 use pk_keys::ec_private_key::EcPrivateKey;
@@ -45,5 +48,37 @@ pub fn check<R: Source>(
         Kind::Public => check_value::<R, SubjectPublicKeyInfo>(alloc, src, limits),
         Kind::Encrypted => check_value::<R, EncryptedKey>(alloc, src, limits),
         Kind::Package => check_value::<R, KeyPackage>(alloc, src, limits),
+    }
+}
+
+/// `check` where the document has to be all of the input: one octet more is asked for.
+///
+/// Faults: those of `check`; `Trailing` at the first octet behind the document, whether it is in DER or not.
+#[tactic(auto, using(crate::proofs::LawfulKinds::lawful_types))]
+pub fn check_whole_document<R: Source>(
+    alloc: Global,
+    src: &mut R,
+    kind: Kind,
+    limits: Limits,
+) -> Result<(u64, Option<u64>), ReadError>
+    requires { R.has_failed src.old ≡ false }
+    ensures checked { MatchResult result (λ counts. (value : Value)
+        × CheckedAs limits (type_of kind) value (R.remaining src.old) (R.remaining src.new)
+        counts.0 counts.1)
+        (λ error. Unchecked limits (type_of kind) error (R.remaining src.old) (R.remaining src.new)
+        ⊎ Followed limits (type_of kind) error (R.remaining src.old) (R.remaining src.new)) }
+    ensures ends { IfOk result (λ _. IsAtEnd (R.remaining src.new)) }
+    // A failed read is answered where the source failed, and nowhere else.
+    ensures read { MatchResult result (λ _. R.has_failed src.new ≡ false)
+        (IsFailedRead (R.has_failed src.new)) }
+    ensures frame { R.frame src.new ≡ R.frame src.old }
+{
+    match kind {
+        Kind::Key => check_whole::<R, OneAsymmetricKey>(alloc, src, limits),
+        Kind::Ec => check_whole::<R, EcPrivateKey>(alloc, src, limits),
+        Kind::Request => check_whole::<R, CertificationRequest>(alloc, src, limits),
+        Kind::Public => check_whole::<R, SubjectPublicKeyInfo>(alloc, src, limits),
+        Kind::Encrypted => check_whole::<R, EncryptedKey>(alloc, src, limits),
+        Kind::Package => check_whole::<R, KeyPackage>(alloc, src, limits),
     }
 }

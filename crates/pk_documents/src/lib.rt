@@ -2,9 +2,9 @@
 //! 5915, RFC 2986, RFC 5958), from any source and to any target.
 //!
 //! `kind` has the kinds, `document` a document of any of them with its reader and writer. `normalise` reads one and
-//! writes its text, `check` tells whether it is in DER, `signed_part` writes what the signature of a certification
-//! request covers. Each is what `asn_documents` does with a value of the kind's type, so that a further kind is a line
-//! in each.
+//! writes its text, `check` tells whether it is in DER. Each is what `asn_documents` does with a value of the kind's
+//! type, so that a further kind is a line in each. `signed_part` writes what the signature of a certification request
+//! covers, `request_part` any part of a request.
 //!
 //! Proved, of each kind and for every input: exactly the octets that spell one document are taken, the answer is the
 //! one that the definitions give, the first fault included, and a fault says that nothing which the input begins with
@@ -17,4 +17,5 @@ pub mod document;
 pub mod kind;
 pub mod laws;
 pub mod normalise;
+pub mod request_part;
 pub mod signed_part;
