@@ -1,0 +1,4 @@
+pub mod Arcs
+pub mod Behind
+pub mod Members
+pub mod RequestValues

@@ -1,0 +1,54 @@
+//! Numbers, octets, bits and object identifiers in text.
+ghost use Rattle.std.specs.Prelude.{◌≡◌, ◌++◌, OnOk, decimal, string_bytes};
+ghost use Rattle.asn_elements.specs.Leaves.{bit_string_of};
+ghost use Rattle.pk_show.specs.Texts.{bits_text, hex_text, oid_text};
+
+use asn_values::bits::Bits;
+use itoa::Buffer;
+use std::alloc::{AllocError, Global};
+use tlv_core::oid::Oid;
+
+/// A number in decimal digits.
+pub(crate) fn push_number(text: &mut String, number: u128) -> Result<(), AllocError>
+    ensures { OnOk result (string_bytes text.new ≡ string_bytes text.old ++ decimal number) }
+{
+    let mut buffer = Buffer::new();
+    text.push_str(buffer.format(number))
+}
+
+/// Octets in hexadecimal digits, lower case; a hyphen where there are none.
+pub(crate) fn push_hex(alloc: Global, text: &mut String, octets: &[u8]) -> Result<(), AllocError>
+    ensures { OnOk result (string_bytes text.new ≡ string_bytes text.old ++ hex_text octets.now) }
+{
+    match octets {
+        [] => text.push_str("-"),
+        [_, ..] => {
+            let digits = hex::encode(alloc, octets)?;
+            text.push_str(digits.as_str())
+        }
+    }
+}
+
+/// The arcs of an object identifier, a full stop between each two.
+pub(crate) fn push_oid(text: &mut String, id: &Oid) -> Result<(), AllocError>
+    ensures { OnOk result (string_bytes text.new ≡ string_bytes text.old ++ oid_text id.now) }
+{
+    push_number(text, id.arc(0).unwrap_or(0))?;
+    for i in 1..id.arc_count() {
+        text.push_str(".")?;
+        push_number(text, id.arc(i).unwrap_or(0))?;
+    }
+    Ok(())
+}
+
+/// The octets of a bit string, and how many bits of the last one are unused.
+#[tactic(auto, unfolding(crate::specs::Texts::bits_text))]
+pub(crate) fn push_bits(alloc: Global, text: &mut String, bits: &Bits) -> Result<(), AllocError>
+    ensures { OnOk result (string_bytes text.new ≡ string_bytes text.old
+        ++ bits_text (bit_string_of bits.now)) }
+{
+    push_hex(alloc, text, bits.octets())?;
+    text.push_str(" (")?;
+    push_number(text, u128::from(bits.unused()))?;
+    text.push_str(" unused)")
+}
