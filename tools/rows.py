@@ -3,12 +3,15 @@
 
 A row is a line of cells between tabs; cells left out are empty, and a line that begins with # is a title:
   rule      what the row shows
-  words     the arguments; under --line the first line of standard input, for programs that test libraries
+  words     the arguments, \\xNN being the octet NN; under --line the first line of standard input, for programs that test
+            libraries
   input     standard input
   status    the exit status, 0 if left out
   output    standard output; = for the input, "TEXT" for lines of text, \\n between them, * for any that isn't empty
-  error     the line on standard error, * for any that isn't empty
-  device    'reading fails': standard input fails behind its octets; 'room N': the output takes N octets and fails
+  error     the line on standard error, "TEXT" and * as for the output
+  device    'reading fails': standard input fails behind its octets; 'pieces N': each read gives N octets of it, and
+            what it has no room for is lost, so that N is 1 where a program may ask for one octet;
+            'room N': the output takes N octets and fails
 Octets are in hex with spaces as one likes, 00*3000 is 3,000 of them, and @FILE those of a file in the table's folder.
 Each table has a line, and the last line is 'rows: N passed, M failed', a row counting once for all programs."""
 import os
@@ -16,13 +19,28 @@ import re
 import resource
 import shlex
 import signal
+import socket
 import subprocess
 import sys
 import tempfile
 import tty
+from contextlib import suppress
+from threading import Thread
 
 SECONDS = 60
 CELLS = 7
+
+
+def words_of(text):
+    """The arguments that are written so; one of an octet that isn't ASCII is handed on as that octet."""
+    octet = lambda it: chr(int(it[1], 16) + (0xDC00 if int(it[1], 16) > 127 else 0))
+    return [re.sub(r"\x00([0-9a-f]{2})", octet, it) for it in shlex.split(text.replace("\\x", "\x00"))]
+
+
+def lines_of(cell):
+    """The lines that a quoted cell says, or None where it isn't quoted."""
+    quoted = re.fullmatch(r'"(.*)"', cell)
+    return quoted and quoted[1].replace("\\n", "\n") + "\n"
 
 
 def octets_of(text, folder):
@@ -48,6 +66,20 @@ def reader_that_fails(octets):
     return reader
 
 
+def reader_of_pieces(octets, size):
+    """Returns a socket's end that gives pieces of this size, one a read, each a packet."""
+    reader, writer = socket.socketpair(socket.AF_UNIX, socket.SOCK_SEQPACKET)
+
+    def give():
+        # (a program that ends before it has read all of them resets the connection)
+        with writer, suppress(ConnectionError):
+            for place in range(0, len(octets), size):
+                writer.send(octets[place : place + size])
+
+    Thread(target=give, daemon=True).start()
+    return reader.detach()
+
+
 def limit_files(room):
     """Has the process's files take so many octets, a write past them failing."""
     signal.signal(signal.SIGXFSZ, signal.SIG_IGN)
@@ -57,22 +89,25 @@ def limit_files(room):
 def answer(words, given, device):
     """Returns the status, standard output and standard error of a run."""
     kind, _, number = device.partition(" ")
+    is_given = kind in ("reading", "pieces")
     with tempfile.TemporaryFile() as taken:
         how = {"stdin": subprocess.PIPE, "stdout": subprocess.PIPE, "stderr": subprocess.PIPE}
         if kind == "reading":
             how["stdin"] = reader_that_fails(given)
+        elif kind == "pieces":
+            how["stdin"] = reader_of_pieces(given, int(number))
         elif kind == "room":
             how |= {"stdout": taken, "preexec_fn": lambda: limit_files(int(number))}
         elif kind:
             raise ValueError(f"there is no device {device}")
         started = subprocess.Popen(words, **how)
         try:
-            output, error = started.communicate(None if kind == "reading" else given, timeout=SECONDS)
+            output, error = started.communicate(None if is_given else given, timeout=SECONDS)
         except subprocess.TimeoutExpired:
             started.kill()
             output, error = started.communicate()
             error += f"not ended after {SECONDS} seconds\n".encode()
-        if kind == "reading":
+        if is_given:
             os.close(how["stdin"])
         if kind == "room":
             taken.seek(0)
@@ -89,20 +124,20 @@ class Row:
             raise ValueError(f"a row has at most {CELLS} cells")
         self.rule, self.words, given, status, self.due, self.error, self.device = cells + [""] * (CELLS - len(cells))
         self.input, self.status = octets_of(given, folder), int(status or "0")
-        quoted = re.fullmatch(r'"(.*)"', self.due)
-        text = quoted and quoted[1].replace("\\n", "\n") + "\n"
-        self.output = self.input if self.due == "=" else text.encode() if quoted else None
+        text = lines_of(self.due)
+        self.output = self.input if self.due == "=" else text.encode() if text else None
         if self.output is None and self.due != "*":
             self.output = octets_of(self.due, folder)
 
     def wrong(self, program, takes_line):
         """Returns what is wrong with the program's answer, if anything is."""
-        words, given = shlex.split(self.words), self.input
+        words, given = words_of(self.words), self.input
         if takes_line:
             words, given = [], f"{self.words}\n".encode() + given
         status, output, error = answer([program, *words], given, self.device)
         is_output = bool(output) if self.output is None else output == self.output
-        is_error = bool(error) if self.error == "*" else error == (f"{self.error}\n" if self.error else "")
+        line = f"{self.error}\n" if self.error else ""
+        is_error = bool(error) if self.error == "*" else error == (lines_of(self.error) or line)
         if status == self.status and is_output and is_error:
             return None
         return f"status {status}, {output[:200].hex()!r}, {error.strip()[:200]!r}"

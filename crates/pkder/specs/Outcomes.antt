@@ -32,3 +32,8 @@ line_of (Fault fault) = codes "fault at " ++ place_text fault.at fault.why ++ in
 line_of (ReadFailed at) = codes "read failed at " ++ decimal at ++ line_feed
 line_of (WriteFailed after) = codes "write failed after " ++ decimal after ++ line_feed
 line_of Memory = codes "out of memory" ++ line_feed
+
+-- what checking a document says of it, by the place where it isn't in DER
+abbrev pub verdict_of : Option ℕ → List ℕ
+verdict_of None = codes "DER" ++ line_feed
+verdict_of (Some at) = codes "not DER at " ++ decimal at ++ line_feed

@@ -1,21 +1,36 @@
-//! The command line.
+//! What a command line asks for.
+ghost use Rattle.std.specs.Prelude.{◌≡◌, ◌≤◌, ℕ, IfOk, MatchOption, MatchResult, codes, map, string_bytes};
+ghost use Rattle.std.specs.List.{list_any};
+ghost use Rattle.clap.specs.Words.{found_of, kind_of, rows_of, subcommand_rows_of};
+ghost use Rattle.pkder.specs.CommandLines.{Asks, AsksNothing, IsFaultOf, IsNumber, Means, MeansBy, MeansNothing, ReadsLimits, has_control, kind_name, part_name, value_of};
+ghost use Rattle.pkder.specs.declared.line.LineFault.TheVariants.{Memory};
+
+use crate::command::command;
 use clap::error::ErrorKind;
-use clap::{Arg, ArgMatches, Command, Error};
+use clap::{ArgMatches, Error};
 use pk_documents::kind::Kind;
+use pk_documents::request_part::Part;
 use std::alloc::{AllocError, Global};
 use tlv_core::limits::Limits;
 
 /// What to do with the document.
 #[derive(Clone, Copy, Debug, PartialEq, Eq)]
 pub enum Action {
+    /// Write what it is, in lines.
+    Show,
+    /// Write whether it is in DER.
+    Check,
     /// Write its DER text.
     Normalise,
+    /// Write a part of a certification request.
+    Signed(Part),
 }
 
 /// What a line asks for.
 #[derive(Clone, Copy, Debug, PartialEq, Eq)]
 pub struct Task {
     pub action: Action,
+    /// What the document is: a request under `Signed`.
     pub kind: Kind,
     pub limits: Limits,
 }
@@ -23,105 +38,270 @@ pub struct Task {
 /// Why a line asks for nothing that can be done.
 #[derive(Debug, Drop)]
 pub enum LineFault {
-    /// The line is refused, with clap's text.
+    /// The line is refused, with a text that says why.
     Line(String),
-    /// Help was asked for: clap's text.
+    /// Help or the version was asked for: clap's text.
     Help(String),
     /// A growth of memory was refused.
     Memory,
 }
 
 impl From<AllocError> for LineFault {
+    ghost from_gives = { λ _ fault. fault ≡ Memory };
+
     fn from(_error: AllocError) -> LineFault {
         LineFault::Memory
     }
 }
 
-static KINDS: [&str; 6] = ["key", "ec", "request", "public", "encrypted", "package"];
-
-fn with_limits<'a>(alloc: Global, command: Command<'a>) -> Result<Command<'a>, AllocError> {
-    let depth = Arg::new(alloc, "depth")
-        .long("depth")
-        .value_name("N")
-        .help("the greatest depth of nesting, 1 to 64")
-        .value_parser(clap::value_parser!(u8).range(1..65))
-        .default_value("32");
-    let octets = Arg::new(alloc, "octets")
-        .long("octets")
-        .value_name("N")
-        .help("the greatest number of octets of the document and of its DER text, 1 to 2147483647")
-        .value_parser(clap::value_parser!(u32).range(1..2147483648))
-        .default_value("1048576");
-    command.arg(depth)?.arg(octets)
+/// A value that its option doesn't have.
+#[derive(Clone, Copy)]
+struct BadValue<'a> {
+    option: &'a str,
+    value: &'a str,
+    /// What the option has for values.
+    wanted: &'a str,
 }
 
-fn with_kind<'a>(alloc: Global, command: Command<'a>) -> Result<Command<'a>, AllocError> {
-    let kind = Arg::new(alloc, "kind")
-        .long("kind")
-        .value_name("KIND")
-        .help("what the document is")
-        .value_parser(KINDS.as_slice())
-        .required(true);
-    with_limits(alloc, command.arg(kind)?)
-}
-
-fn command<'a>(alloc: Global) -> Result<Command<'a>, AllocError> {
-    let normalise = Command::new(alloc, "normalise").about("write the document's DER text");
-    Command::new(alloc, "pkder")
-        .about(
-            "reads one private or public key, or certification request, in BER or DER from standard input",
+impl BadValue<'_> {
+    fn text(self, alloc: Global) -> Result<String, AllocError> {
+        let BadValue {
+            option,
+            value,
+            wanted,
+        } = self;
+        format!(in alloc;
+            "error: invalid value '{value}' for '{option}': {wanted} is wanted\n\nFor more information, try '--help'.\n"
         )
-        .subcommand_required(true)
-        .disable_help_subcommand(true)
-        .subcommand(with_kind(alloc, normalise)?)
-}
-
-fn action_of(name: &str) -> Option<Action> {
-    match name {
-        "normalise" => Some(Action::Normalise),
-        _ => None,
-    }
-}
-
-fn kind_of(name: &str) -> Option<Kind> {
-    match name {
-        "key" => Some(Kind::Key),
-        "ec" => Some(Kind::Ec),
-        "request" => Some(Kind::Request),
-        "public" => Some(Kind::Public),
-        "encrypted" => Some(Kind::Encrypted),
-        "package" => Some(Kind::Package),
-        _ => None,
-    }
-}
-
-fn read_task(matches: &ArgMatches<'_>) -> Option<Task> {
-    let (name, options) = matches.subcommand()?;
-    let depth = options.get_one::<u8>("depth")?;
-    let octets = options.get_one::<u32>("octets")?;
-    Some(Task {
-        action: action_of(name)?,
-        kind: kind_of(options.get_str("kind")?)?,
-        limits: Limits::new(depth, octets)?,
-    })
-}
-
-fn fault_of(alloc: Global, error: &Error) -> Result<LineFault, AllocError> {
-    match error.kind() {
-        ErrorKind::OutOfMemory => Ok(LineFault::Memory),
-        ErrorKind::DisplayHelp => Ok(LineFault::Help(error.to_string(alloc)?)),
-        _ => Ok(LineFault::Line(error.to_string(alloc)?)),
     }
 }
 
 /// What the line means, the program's name being the first word.
-pub fn task_of(alloc: Global, words: &[String]) -> Result<Task, LineFault> {
+pub fn task_of(alloc: Global, words: &[String]) -> Result<Task, LineFault>
+    ensures { MatchResult result (Asks (map string_bytes words.now))
+        (AsksNothing (map string_bytes words.now)) }
+{
+    if have_controls(words) {
+        return Err(LineFault::Line(controls_text(alloc, words)?));
+    }
     let command = command(alloc)?;
     match command.try_get_matches_from(words) {
-        Ok(matches) => match read_task(&matches) {
-            Some(task) => Ok(task),
-            None => Err(LineFault::Line("no such task\n".to_string(alloc)?)),
-        },
+        Ok(matches) => matched_task(alloc, &matches),
         Err(error) => Err(fault_of(alloc, &error)?),
+    }
+}
+
+/// Whether one of the words has a control character.
+fn have_controls(words: &[String]) -> bool
+    ensures { result ≡ list_any (λ word. has_control (string_bytes word)) words.now }
+{
+    words.iter().any(|word| is_controlling(word.as_str()))
+}
+
+/// Whether a word has a control character.
+fn is_controlling(word: &str) -> bool
+    ensures { result ≡ has_control word.now }
+{
+    word.chars().any(|c| c.is_control())
+}
+
+/// Says which word has control characters, without writing them as they are.
+fn controls_text(alloc: Global, words: &[String]) -> Result<String, AllocError> {
+    for word in words {
+        if is_controlling(word.as_str()) {
+            return format!(in alloc; "error: a word has control characters: {word:?}\n");
+        }
+    }
+    Ok(String::new(alloc))
+}
+
+/// What a line that clap doesn't take asks for.
+fn fault_of(alloc: Global, error: &Error) -> Result<LineFault, AllocError>
+    ensures { IfOk result (IsFaultOf (kind_of error.now)) }
+{
+    match error.kind() {
+        ErrorKind::OutOfMemory => Ok(LineFault::Memory),
+        ErrorKind::DisplayHelp | ErrorKind::DisplayVersion => {
+            Ok(LineFault::Help(error.to_string(alloc)?))
+        }
+        _ => Ok(LineFault::Line(error.to_string(alloc)?)),
+    }
+}
+
+/// What a line that clap takes asks for.
+fn matched_task(alloc: Global, matches: &ArgMatches<'_>) -> Result<Task, LineFault>
+    ensures { MatchResult result (MeansBy (subcommand_rows_of matches.now))
+        (MeansNothing (subcommand_rows_of matches.now)) }
+{
+    let Some((name, options)) = matches.subcommand() else {
+        return Err(LineFault::Line("error: a command is wanted\n".to_string(alloc)?));
+    };
+    match read_task(name, options) {
+        Ok(task) => Ok(task),
+        Err(bad) => Err(LineFault::Line(bad.text(alloc)?)),
+    }
+}
+
+/// The task of a command by the values of its options.
+fn read_task<'a>(name: &'a str, options: &ArgMatches<'a>) -> Result<Task, BadValue<'a>>
+    ensures { MatchResult result (Means name.entry.now (rows_of (found_of options.now)))
+        (λ _. (task : _) → Means name.entry.now (rows_of (found_of options.now)) task → ⊥) }
+{
+    let limits = read_limits(options)?;
+    if name == "signed" {
+        let part = read_part(options)?;
+        return Ok(Task {
+            action: Action::Signed(part),
+            kind: Kind::Request,
+            limits,
+        });
+    }
+    let kind = read_kind(options)?;
+    if name == "show" {
+        return Ok(Task {
+            action: Action::Show,
+            kind,
+            limits,
+        });
+    }
+    if name == "check" {
+        return Ok(Task {
+            action: Action::Check,
+            kind,
+            limits,
+        });
+    }
+    if name == "normalise" {
+        return Ok(Task {
+            action: Action::Normalise,
+            kind,
+            limits,
+        });
+    }
+    Err(BadValue {
+        option: "COMMAND",
+        value: name,
+        wanted: "show, check, normalise or signed",
+    })
+}
+
+/// The limits that the options set.
+fn read_limits<'a>(options: &ArgMatches<'a>) -> Result<Limits, BadValue<'a>>
+    ensures { MatchResult result (ReadsLimits (rows_of (found_of options.now)))
+        (λ _. (limits : _) → ReadsLimits (rows_of (found_of options.now)) limits → ⊥) }
+{
+    let depth_text = value(options, "depth");
+    let Some(depth) = number_up_to(depth_text, 64) else {
+        return Err(BadValue {
+            option: "--depth <N>",
+            value: depth_text,
+            wanted: "a number from 1 to 64",
+        });
+    };
+    let octets_text = value(options, "octets");
+    let Some(octets) = number_up_to(octets_text, 2_147_483_647) else {
+        return Err(BadValue {
+            option: "--octets <N>",
+            value: octets_text,
+            wanted: "a number from 1 to 2147483647",
+        });
+    };
+    match Limits::new(depth as u8, octets) {
+        Some(limits) => Ok(limits),
+        None => unreachable!(),
+    }
+}
+
+/// The kind that is named.
+fn read_kind<'a>(options: &ArgMatches<'a>) -> Result<Kind, BadValue<'a>>
+    ensures { MatchResult result
+        (λ kind. value_of (codes "kind") (rows_of (found_of options.now)) ≡ kind_name kind)
+        (λ _. (kind : _) → value_of (codes "kind") (rows_of (found_of options.now))
+        ≡ kind_name kind → ⊥) }
+{
+    let text = value(options, "kind");
+    kind_named(text).ok_or(BadValue {
+        option: "--kind <KIND>",
+        value: text,
+        wanted: "key, ec, request, public, encrypted or package",
+    })
+}
+
+/// The part that is named.
+fn read_part<'a>(options: &ArgMatches<'a>) -> Result<Part, BadValue<'a>>
+    ensures { MatchResult result
+        (λ part. value_of (codes "part") (rows_of (found_of options.now)) ≡ part_name part)
+        (λ _. (part : _) → value_of (codes "part") (rows_of (found_of options.now))
+        ≡ part_name part → ⊥) }
+{
+    let text = value(options, "part");
+    part_named(text).ok_or(BadValue {
+        option: "--part <PART>",
+        value: text,
+        wanted: "info, algorithm, key or signature",
+    })
+}
+
+/// The value of an option, given or standing for it; no text where there is none.
+fn value<'a>(options: &ArgMatches<'a>, id: &str) -> &'a str
+    ensures { result.now ≡ value_of id.now (rows_of (found_of options.now)) }
+{
+    options.get_str(id).unwrap_or("")
+}
+
+/// The kind of this name.
+fn kind_named(name: &str) -> Option<Kind>
+    ensures { MatchOption result ((kind : _) → name.now ≡ kind_name kind → ⊥)
+        (λ kind. name.now ≡ kind_name kind) }
+{
+    if name == "key" {
+        Some(Kind::Key)
+    } else if name == "ec" {
+        Some(Kind::Ec)
+    } else if name == "request" {
+        Some(Kind::Request)
+    } else if name == "public" {
+        Some(Kind::Public)
+    } else if name == "encrypted" {
+        Some(Kind::Encrypted)
+    } else if name == "package" {
+        Some(Kind::Package)
+    } else {
+        None
+    }
+}
+
+/// The part of this name.
+fn part_named(name: &str) -> Option<Part>
+    ensures { MatchOption result ((part : _) → name.now ≡ part_name part → ⊥)
+        (λ part. name.now ≡ part_name part) }
+{
+    if name == "info" {
+        Some(Part::Info)
+    } else if name == "algorithm" {
+        Some(Part::Algorithm)
+    } else if name == "key" {
+        Some(Part::Key)
+    } else if name == "signature" {
+        Some(Part::Signature)
+    } else {
+        None
+    }
+}
+
+/// The number from 1 to `most` that a text says.
+fn number_up_to(text: &str, most: u32) -> Option<u32>
+    ensures { MatchOption result ((n : ℕ) → IsNumber text.now n → 1 ≤ n → n ≤ most → ⊥)
+        (λ n. IsNumber text.now n × (1 ≤ n) × (n ≤ most)) }
+{
+    match text.parse::<u32>() {
+        Ok(number) => {
+            if number >= 1 && number <= most {
+                Some(number)
+            } else {
+                None
+            }
+        }
+        Err(_) => None,
     }
 }

@@ -1,13 +1,17 @@
-//! `pkder` reads one document in BER or DER from standard input and writes its one DER text to standard output.
+//! `pkder` reads one document in BER or DER from standard input and writes what its command says to standard output:
+//! what it is, whether it is in DER, its one DER text, a part of it.
 //!
-//! Proved here: what `run` answers and writes for every input, memory apart; the exit status and the line on standard
-//! error of each outcome. Only tested, by the tables of `tests/`: which command lines are accepted, and `main`.
+//! Proved here: what `run` answers and writes for every input, memory apart; which words ask for which task, and that
+//! others are refused; the exit status and the line on standard error of each outcome. Only tested, by the tables of
+//! `tests/`: the texts of help and of refused lines, and `main`.
 #![tactic(auto)]
 
+mod command;
 mod line;
 mod outcome;
 mod run;
 
+use asn_documents::document::write_octets;
 use line::{LineFault, Task};
 use outcome::Outcome;
 use std::alloc::Global;
@@ -23,7 +27,7 @@ fn main(rt: HostRuntime) -> ExitCode {
         Err(error) if error.kind() == ErrorKind::OutOfMemory => {
             return complain(&rt, "out of memory\n", 3);
         }
-        Err(_) => return complain(&rt, "the line is not UTF-8\n", 4),
+        Err(_) => return complain(&rt, "error: the line is not UTF-8\n", 4),
     };
     let words: Vec<String> = match arguments.collect(alloc) {
         Ok(words) => words,
@@ -32,10 +36,7 @@ fn main(rt: HostRuntime) -> ExitCode {
     match line::task_of(alloc, words.as_slice()) {
         Ok(task) => finish(&rt, &serve(&rt, alloc, &task)),
         Err(LineFault::Line(text)) => complain(&rt, text.as_str(), 4),
-        Err(LineFault::Help(text)) => match rt.print(text.as_str()) {
-            Ok(()) => ExitCode::from(0),
-            Err(_) => ExitCode::from(3),
-        },
+        Err(LineFault::Help(text)) => finish(&rt, &tell(&rt, text.as_str())),
         Err(LineFault::Memory) => complain(&rt, "out of memory\n", 3),
     }
 }
@@ -48,11 +49,28 @@ fn serve(rt: &HostRuntime, alloc: Global, task: &Task) -> Outcome {
     let mut src = FromRead::new(input);
     let mut dst = ToWrite::new(rt.stdout());
     let outcome = run::run(alloc, &mut src, &mut dst, task);
-    if outcome == Outcome::Done && dst.into_inner().flush().is_err() {
-        // how many octets were kept back isn't told
-        return Outcome::WriteFailed(0);
+    let is_written = matches!(outcome, Outcome::Done | Outcome::NotDer(_));
+    if is_written && dst.into_inner().flush().is_err() {
+        return unflushed();
     }
     outcome
+}
+
+/// Writes a text to standard output.
+fn tell(rt: &HostRuntime, text: &str) -> Outcome {
+    let mut dst = ToWrite::new(rt.stdout());
+    if let Err(error) = write_octets(text.as_bytes(), &mut dst) {
+        return Outcome::WriteFailed(error.written);
+    }
+    if dst.into_inner().flush().is_err() {
+        return unflushed();
+    }
+    Outcome::Done
+}
+
+/// The outcome where standard output isn't flushed: how many octets were kept back isn't told.
+fn unflushed() -> Outcome {
+    Outcome::WriteFailed(0)
 }
 
 /// Prints the line of the outcome, and answers its status.

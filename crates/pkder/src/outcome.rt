@@ -1,6 +1,6 @@
 //! How a run ends.
 ghost use Rattle.std.specs.Prelude.{◌≡◌, ◌++◌, codes, decimal, IfOk, OnOk, string_bytes};
-ghost use Rattle.pkder.specs.Outcomes.{status_of, line_of, line_feed, place_text, inside_text};
+ghost use Rattle.pkder.specs.Outcomes.{status_of, line_of, line_feed, place_text, inside_text, verdict_of};
 
 use itoa::Buffer;
 use std::alloc::{AllocError, Global};
@@ -45,6 +45,16 @@ pub fn outcome_text(alloc: Global, outcome: &Outcome) -> Result<String, AllocErr
         Outcome::ReadFailed(at) => number_line(alloc, "read failed at ", *at),
         Outcome::WriteFailed(after) => number_line(alloc, "write failed after ", *after),
         Outcome::Memory => String::from_str(alloc, "out of memory\n"),
+    }
+}
+
+/// What `check` writes: that the document is in DER, or the first place where it isn't; ended by a line feed.
+pub fn verdict_text(alloc: Global, place: Option<u64>) -> Result<String, AllocError>
+    ensures { IfOk result (λ text. string_bytes text ≡ verdict_of place) }
+{
+    match place {
+        None => String::from_str(alloc, "DER\n"),
+        Some(at) => number_line(alloc, "not DER at ", at),
     }
 }
 

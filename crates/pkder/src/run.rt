@@ -1,12 +1,25 @@
 //! One task over one input.
-ghost use Rattle.std.specs.Prelude.{◌≡◌, false};
-ghost use Rattle.pkder.specs.Replies.{FailedBy, IsSilent, Replied, refusal_of};
+ghost use Rattle.std.specs.Prelude.{◌≡◌, false, string_bytes};
+ghost use Rattle.pk_documents.specs.Kinds.{type_of};
+ghost use Rattle.pk_documents.specs.RequestParts.{part_of};
+ghost use Rattle.pk_documents.specs.declared.kind.Kind.TheVariants as kinds;
+ghost use Rattle.pkder.specs.Replies.{DueOfCheck, DueOfShow, DueOfValue, FailedBy, IsSilent, Replied, RepliedTo, RepliedWith, WroteText, checked_outcome, refusal_of, unread_outcome, written_outcome};
 
 use crate::line::{Action, Task};
-use crate::outcome::Outcome;
+use crate::outcome::{Outcome, verdict_text};
+use asn_documents::document::write_octets;
+use asn_documents::whole::read_whole_input;
+use pk_documents::check::check_whole_document;
+use pk_documents::document::{Document, Valued, read_whole_document};
+use pk_documents::kind::Kind;
 use pk_documents::normalise::{NormaliseError, normalise_whole_document};
-use std::alloc::Global;
+use pk_documents::request_part::{Part, write_part};
+use pk_requests::request::CertificationRequest;
+use pk_show::show_text;
+use std::alloc::{AllocError, Global};
 use tlv_core::fault::ReadError;
+use tlv_core::limits::Limits;
+use tlv_core::sink::WriteError;
 use tlv_core::source::Source;
 use tlv_core::target::Target;
 
@@ -14,19 +27,149 @@ use tlv_core::target::Target;
 pub fn run<R: Source, W: Target>(alloc: Global, src: &mut R, dst: &mut W, task: &Task) -> Outcome
     requires readable { R.has_failed src.old ≡ false }
     requires writable { W.has_failed dst.old ≡ false }
-    ensures replied { Replied task.now result (R.remaining src.old) (R.remaining src.new)
-        (W.contents dst.old) (W.contents dst.new) }
+    ensures replied { Replied ⟦<Document as Valued>⟧.value task.now result (R.remaining src.old)
+        (R.remaining src.new) (W.contents dst.old) (W.contents dst.new) }
     // Nothing is written of what isn't all of the input.
     ensures unwritten { IsSilent result → dst.new ≡ dst.old }
     // A failed read or write is answered where the source or the target failed, and nowhere else.
     ensures failed { FailedBy result (R.has_failed src.new) (W.has_failed dst.new) }
 {
-    let answer = match task.action {
-        Action::Normalise => { normalise_whole_document(alloc, src, dst, task.kind, task.limits) }
-    };
-    match answer {
+    match task.action {
+        Action::Show => show(alloc, src, dst, task.kind, task.limits),
+        Action::Check => check(alloc, src, dst, task.kind, task.limits),
+        Action::Normalise => normalise(alloc, src, dst, task.kind, task.limits),
+        Action::Signed(part) => extract(alloc, src, dst, part, task.limits),
+    }
+}
+
+/// Writes what the document is, in lines.
+fn show<R: Source, W: Target>(
+    alloc: Global,
+    src: &mut R,
+    dst: &mut W,
+    kind: Kind,
+    limits: Limits,
+) -> Outcome
+    requires readable { R.has_failed src.old ≡ false }
+    requires writable { W.has_failed dst.old ≡ false }
+    ensures replied { RepliedWith limits (type_of kind) (DueOfShow ⟦<Document as Valued>⟧.value
+        limits kind (R.remaining src.old) (R.remaining src.new)) result
+        (R.remaining src.old) (R.remaining src.new) (W.contents dst.old) (W.contents dst.new) }
+    ensures unwritten { IsSilent result → dst.new ≡ dst.old }
+    ensures failed { FailedBy result (R.has_failed src.new) (W.has_failed dst.new) }
+{
+    match read_whole_document(alloc, src, kind, limits) {
+        Ok((document, _taken)) => { write_text(show_text(alloc, &document), dst, Outcome::Done) }
+        Err(error) => unread(&error),
+    }
+}
+
+/// Writes whether the document is in DER, or where it first isn't.
+fn check<R: Source, W: Target>(
+    alloc: Global,
+    src: &mut R,
+    dst: &mut W,
+    kind: Kind,
+    limits: Limits,
+) -> Outcome
+    requires readable { R.has_failed src.old ≡ false }
+    requires writable { W.has_failed dst.old ≡ false }
+    ensures replied { RepliedWith limits (type_of kind)
+        (DueOfCheck limits (type_of kind) (R.remaining src.old) (R.remaining src.new)) result
+        (R.remaining src.old) (R.remaining src.new) (W.contents dst.old) (W.contents dst.new) }
+    ensures unwritten { IsSilent result → dst.new ≡ dst.old }
+    ensures failed { FailedBy result (R.has_failed src.new) (W.has_failed dst.new) }
+{
+    match check_whole_document(alloc, src, kind, limits) {
+        Ok((_taken, place)) => write_text(verdict_text(alloc, place), dst, checked(place)),
+        Err(error) => unread(&error),
+    }
+}
+
+/// Writes the document's DER text.
+fn normalise<R: Source, W: Target>(
+    alloc: Global,
+    src: &mut R,
+    dst: &mut W,
+    kind: Kind,
+    limits: Limits,
+) -> Outcome
+    requires readable { R.has_failed src.old ≡ false }
+    requires writable { W.has_failed dst.old ≡ false }
+    ensures replied { RepliedTo limits (type_of kind) result (R.remaining src.old)
+        (R.remaining src.new) (W.contents dst.old) (W.contents dst.new) }
+    ensures unwritten { IsSilent result → dst.new ≡ dst.old }
+    ensures failed { FailedBy result (R.has_failed src.new) (W.has_failed dst.new) }
+{
+    match normalise_whole_document(alloc, src, dst, kind, limits) {
         Ok(_) => Outcome::Done,
         Err(error) => refusal(&error),
+    }
+}
+
+/// Writes a part of a request.
+fn extract<R: Source, W: Target>(
+    alloc: Global,
+    src: &mut R,
+    dst: &mut W,
+    part: Part,
+    limits: Limits,
+) -> Outcome
+    requires readable { R.has_failed src.old ≡ false }
+    requires writable { W.has_failed dst.old ≡ false }
+    ensures replied { RepliedWith limits (type_of kinds.Request)
+        (DueOfValue limits (type_of kinds.Request) (part_of part) (R.remaining src.old)
+        (R.remaining src.new)) result
+        (R.remaining src.old) (R.remaining src.new) (W.contents dst.old) (W.contents dst.new) }
+    ensures unwritten { IsSilent result → dst.new ≡ dst.old }
+    ensures failed { FailedBy result (R.has_failed src.new) (W.has_failed dst.new) }
+{
+    match read_whole_input::<R, CertificationRequest>(alloc, src, limits) {
+        Ok((request, _taken)) => written(write_part(&request, part, dst), Outcome::Done),
+        Err(error) => unread(&error),
+    }
+}
+
+/// Writes a text that there was memory for, and ends as `whole` where all of it is out.
+fn write_text<W: Target>(text: Result<String, AllocError>, dst: &mut W, whole: Outcome) -> Outcome
+    requires { W.has_failed dst.old ≡ false }
+    ensures { WroteText (λ text. string_bytes text) text whole result (W.contents dst.old)
+        (W.contents dst.new) (W.has_failed dst.new) (dst.new ≡ dst.old) }
+{
+    match text {
+        Ok(text) => written(write_octets(text.as_bytes(), dst), whole),
+        Err(_) => Outcome::Memory,
+    }
+}
+
+/// How a run ends that writes what is due: as `whole` where all of it is out.
+fn written(count: Result<u64, WriteError>, whole: Outcome) -> Outcome
+    ensures { result ≡ written_outcome count whole }
+{
+    match count {
+        Ok(_) => whole,
+        Err(error) => Outcome::WriteFailed(error.written),
+    }
+}
+
+/// How a check ends, by the place where the document isn't in DER.
+fn checked(place: Option<u64>) -> Outcome
+    ensures { result ≡ checked_outcome place }
+{
+    match place {
+        None => Outcome::Done,
+        Some(at) => Outcome::NotDer(at),
+    }
+}
+
+/// The outcome of a document that was not read.
+fn unread(error: &ReadError) -> Outcome
+    ensures { result ≡ unread_outcome error.now }
+{
+    match error {
+        ReadError::Fault(fault) => Outcome::Fault(*fault),
+        ReadError::Read { at } => Outcome::ReadFailed(*at),
+        ReadError::Memory => Outcome::Memory,
     }
 }
 
@@ -35,9 +178,7 @@ fn refusal(error: &NormaliseError) -> Outcome
     ensures { result ≡ refusal_of error.now }
 {
     match error {
-        NormaliseError::Read(ReadError::Fault(fault)) => Outcome::Fault(*fault),
-        NormaliseError::Read(ReadError::Read { at }) => Outcome::ReadFailed(*at),
-        NormaliseError::Read(ReadError::Memory) => Outcome::Memory,
+        NormaliseError::Read(error) => unread(error),
         NormaliseError::Write(error) => Outcome::WriteFailed(error.written),
     }
 }

@@ -1,5 +1,5 @@
 use Rattle.pkder.proofs.Replies.{refusal_fails, refusal_replies, refusal_silent}
-use Rattle.pkder.proofs.run.run.Goals as goal
+use Rattle.pkder.proofs.run.normalise.Goals as goal
 
 pub returns-in-Err-clause-replied : goal.returns-in-Err-clause-replied
 returns-in-Err-clause-replied g c = refusal_replies _ _ c.in-Err.error _ _ _ _ _ c.refusal.ensures c.in-Err.ensures.refused
