@@ -1,5 +1,7 @@
-//! Calls for the benchmark in `bench/`: values read from octets in memory, and their texts written. Not part of pkder.
+//! Calls for the benchmarks in `bench/`: values read from octets in memory, and their texts written. Not part of pkder.
 #![tactic(auto)]
+
+mod keys;
 
 use asn_values::any::Any;
 use asn_values::element::Element;
@@ -13,10 +15,15 @@ use tlv_core::limits::Limits;
 use tlv_core::sink::Sink;
 use tlv_core::target::ToWrite;
 
+/// Depth 64 and as many octets as there may be.
+fn widest() -> Option<Limits> {
+    Limits::new(64, 2_147_483_647)
+}
+
 /// Reads the value that `src` begins with and writes its text where `dst` begins: the length of the text, 0 where it
 /// doesn't fit.
 fn copy_text<T: Element>(alloc: Global, src: &[u8], dst: &mut [u8]) -> Result<u64, ReadError> {
-    let Some(limits) = Limits::new(64, 2_147_483_647) else {
+    let Some(limits) = widest() else {
         return Ok(0);
     };
     let mut octets = src;
@@ -38,24 +45,24 @@ fn copy_text<T: Element>(alloc: Global, src: &[u8], dst: &mut [u8]) -> Result<u6
 
 /// An open value.
 #[unsafe(no_mangle)]
-pub extern "C" fn asn_values_bench_any(alloc: Global, src: &[u8], dst: &mut [u8]) -> u64 {
+pub extern "C" fn values_bench_any(alloc: Global, src: &[u8], dst: &mut [u8]) -> u64 {
     copy_text::<Any>(alloc, src, dst).unwrap_or(0)
 }
 
 /// SET OF OCTET STRING.
 #[unsafe(no_mangle)]
-pub extern "C" fn asn_values_bench_set(alloc: Global, src: &[u8], dst: &mut [u8]) -> u64 {
+pub extern "C" fn values_bench_set(alloc: Global, src: &[u8], dst: &mut [u8]) -> u64 {
     copy_text::<SetOf<Octets>>(alloc, src, dst).unwrap_or(0)
 }
 
 /// SEQUENCE OF OCTET STRING.
 #[unsafe(no_mangle)]
-pub extern "C" fn asn_values_bench_list(alloc: Global, src: &[u8], dst: &mut [u8]) -> u64 {
+pub extern "C" fn values_bench_list(alloc: Global, src: &[u8], dst: &mut [u8]) -> u64 {
     copy_text::<List<Octets>>(alloc, src, dst).unwrap_or(0)
 }
 
 /// SET OF open values.
 #[unsafe(no_mangle)]
-pub extern "C" fn asn_values_bench_open_set(alloc: Global, src: &[u8], dst: &mut [u8]) -> u64 {
+pub extern "C" fn values_bench_open_set(alloc: Global, src: &[u8], dst: &mut [u8]) -> u64 {
     copy_text::<SetOf<Any>>(alloc, src, dst).unwrap_or(0)
 }

@@ -1,7 +1,8 @@
-// What the benchmark of asn_values needs of C: a SET OF read and written by OpenSSL, which sorts it, a SEQUENCE of any elements likewise, the octets of memory that are taken,
-// and the processor's time.
+// What the benchmark of values needs of C: a SET OF read and written by OpenSSL, which sorts it, a SEQUENCE of any
+// elements and a private key likewise, the octets of memory that are taken, and the processor's time.
 #include <malloc.h>
 #include <openssl/asn1t.h>
+#include <openssl/x509.h>
 #include <stdint.h>
 #include <stdlib.h>
 #include <time.h>
@@ -21,8 +22,8 @@ uint64_t openssl_set(const unsigned char *src, size_t length, unsigned char *tex
     return written < 0 ? 0 : (uint64_t)written;
 }
 
-// The SEQUENCE of elements of any type that `src` holds, read and written likewise. What is inside an element that is a container itself is copied
-// as it is.
+// The SEQUENCE of elements of any type that `src` holds, read and written likewise. What is inside an element that is a
+// container itself is copied as it is.
 uint64_t openssl_sequence(const unsigned char *src, size_t length, unsigned char *text) {
     ASN1_SEQUENCE_ANY *elements = d2i_ASN1_SEQUENCE_ANY(NULL, &src, (long)length);
     if (elements == NULL) {
@@ -33,7 +34,28 @@ uint64_t openssl_sequence(const unsigned char *src, size_t length, unsigned char
     return written < 0 ? 0 : (uint64_t)written;
 }
 
-// Octets of memory taken while they are counted, and the most at once. A chunk has 8 octets before those that are usable.
+// The private key (PKCS #8) that `src` holds, read and written likewise. What is inside its OCTET STRING is copied as it
+// is.
+uint64_t openssl_key(const unsigned char *src, size_t length, unsigned char *text) {
+    PKCS8_PRIV_KEY_INFO *key = d2i_PKCS8_PRIV_KEY_INFO(NULL, &src, (long)length);
+    if (key == NULL) {
+        return 0;
+    }
+    int written = i2d_PKCS8_PRIV_KEY_INFO(key, &text);
+    PKCS8_PRIV_KEY_INFO_free(key);
+    return written < 0 ? 0 : (uint64_t)written;
+}
+
+#ifdef PLAIN_MALLOC
+// the C library's malloc as it is
+void count_memory(void) {}
+
+size_t most_memory(void) {
+    return 0;
+}
+#else
+// Octets of memory taken while they are counted, and the most at once. A chunk has 8 octets before those that are
+// usable.
 static int counts;
 static size_t taken, most;
 
@@ -92,6 +114,7 @@ size_t most_memory(void) {
     counts = 0;
     return most;
 }
+#endif
 
 double processor_seconds(void) {
     struct timespec now;
