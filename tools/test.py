@@ -15,6 +15,7 @@ from concurrent.futures import ThreadPoolExecutor
 PROGRAM = "crates/pkder/out/pkder"
 ROWS = ["python3", "tools/rows.py"]
 GROWTHS = ["python3", "tools/refused_growths.py"]
+TRANSCRIPTS = ["python3", "tools/transcripts.py", "README.md", "docs/manual.md"]
 ALLOCATIONS = ["sh", "tools/refuse_each_allocation.sh", PROGRAM]
 # every crate from nothing, a few edits by the toolchain's own means, each program's stored run
 PROOFS = ["rt", "ci"]
@@ -43,14 +44,28 @@ def rows_of(name):
     return [*ROWS, "--line", *tables(name), *builds(built(name))]
 
 
+def allocating():
+    """A file and the words that read it, for each command and kind."""
+    kinds = ("key p256", "ec k256-sec1-indefinite", "request request-indefinite", "public public-indefinite",
+             "encrypted encrypted-indefinite", "package package-indefinite")
+    for kind, name in map(str.split, kinds):
+        for command in ("show", "check", "normalise"):
+            yield f"examples/{name}.der", command, "--kind", kind
+    for part in ("info", "algorithm", "key", "signature"):
+        yield "examples/request-indefinite.der", "signed", "--part", part
+
+
 def parts():
     """The parts behind the proofs and edits by their names, each of several commands."""
     return {
         "rows": [rows_of(it) for it in sorted(os.listdir("tests"))],
-        "allocations": [
-            [*ALLOCATIONS, "examples/long-lengths.der", "normalise", "--kind", "key"],
-            [*ALLOCATIONS, "examples/public-indefinite.der", "normalise", "--kind", "public"],
-            [*ALLOCATIONS, "examples/request-indefinite.der", "normalise", "--kind", "request"],
+        "transcripts": [[*TRANSCRIPTS, *builds(PROGRAM)]],
+        "allocations": [[*ALLOCATIONS, *words] for words in allocating()],
+        "version": [["sh", "tools/proved_by.sh", PROGRAM]],
+        "reader": [
+            ["python3", "tools/try_reader.py", *tables("pkder"), "examples/answers.tsv"],
+            ["python3", "tools/random_documents.py", *builds(PROGRAM)],
+            ["python3", "tools/hostile_families.py", *builds(PROGRAM)],
         ],
         "growths": [[*GROWTHS, built(it), *tables(it)] for it in ("library_rows", "sequence_rows")],
     }
