@@ -113,6 +113,9 @@ pub fn in_order<T: DerText>(alloc: Global, items: Vec<T>) -> Result<Vec<T>, Allo
     let mut exact = items;
     // A vector that grew may have room for twice as many.
     exact.shrink_to_fit();
+    if exact.len() < 2 {
+        return Ok(exact);
+    }
     let octets = texts(alloc, &exact)?;
     // In DER they stand so already.
     if is_in_order(alloc, &exact, &octets)? {

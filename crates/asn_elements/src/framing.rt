@@ -4,7 +4,7 @@ ghost use Rattle.tlv_core.specs.Header.{der_header};
 ghost use Rattle.tlv_core.specs.Sinks.{count, Puts};
 ghost use Rattle.asn_elements.specs.Framing.{StandsAt};
 
-use tlv_core::der::header;
+use tlv_core::der::{header, short_header};
 use tlv_core::sink::{Sink, WriteError};
 use tlv_core::tag::Tag;
 use tlv_core::target::Target;
@@ -47,5 +47,8 @@ pub fn put_header<W: Target>(
     requires { count sink.old + length (der_header tag constructed content) < 2 ^ 64 }
     ensures { Puts (der_header tag constructed content) sink.old sink.new result }
 {
-    sink.put(header(tag, constructed, content).octets())
+    match short_header(tag, constructed, content) {
+        Some(octets) => sink.put(&octets),
+        None => sink.put(header(tag, constructed, content).octets()),
+    }
 }

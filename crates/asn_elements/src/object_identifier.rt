@@ -21,7 +21,7 @@ use crate::tags::{is_same_tag, universal_tag};
 use ber_pull::pull::Pull;
 use std::alloc::Global;
 use tlv_core::fault::ReadError;
-use tlv_core::oid::{Oid, OidError, is_object_identifier};
+use tlv_core::oid::{Oid, is_object_identifier};
 use tlv_core::reason::Reason;
 use tlv_core::sink::{Sink, WriteError};
 use tlv_core::source::Source;
@@ -62,11 +62,7 @@ pub fn read_identifier<R: Source>(alloc: Global, pull: &mut Pull<'_, R>) -> Resu
 {
     let mut contents = Vec::new(alloc);
     read_identifier_into(pull, &mut contents)?;
-    match Oid::from_content(alloc, &contents) {
-        Ok(oid) => Ok(oid),
-        Err(OidError::Bad) => unreachable!(),
-        Err(OidError::Memory) => Err(pull.no_memory()),
-    }
+    Ok(Oid::from_checked(contents))
 }
 
 /// The contents of the object identifier that is given, whatever its tag, in place of what the vector holds.

@@ -1,6 +1,5 @@
 -- The arcs that subidentifiers tell are those of the object identifier.
-use Rattle.std.proofs.Common.{◌≡◌, ℕ, zero, suc, ◌+◌, ◌-◌, ◌*◌, ◌/◌, ◌%◌, ◌<◌, ◌≤◌, Bool, true, false, cond, nat_lt, List, [], ◌∷◌, ◌++◌, refl, sym, ◌∙◌, ap, ap₂, subst, add-one, append_assoc, append-nil, arith, min, take, drop, length, flat_map, get_or, codes, decimal}
-use Rattle.std.proofs.lemmas.List.{flat_map_more, take_more}
+use Rattle.std.proofs.Common.{◌≡◌, ℕ, zero, suc, ◌+◌, ◌-◌, ◌*◌, ◌/◌, ◌%◌, ◌<◌, ◌≤◌, Bool, true, false, cond, nat_lt, List, [], ◌∷◌, ◌++◌, refl, sym, ◌∙◌, ap, ap₂, subst, append_assoc, arith, min, drop, flat_map, slice_get, Some, None, codes, decimal}
 use Rattle.std.proofs.lemmas.Bool.Decides.{nat_tests}
 use Rattle.tlv_core.specs.Identifier.{base128}
 use Rattle.tlv_core.specs.ObjectIdentifier.{IsObjectIdentifier, ObjectIdentifierOctets}
@@ -48,25 +47,26 @@ arcs_told (x ∷ y ∷ more) octets h =
 pub arcs_fit : (octets : List ℕ) → IsObjectIdentifier octets → ObjectIdentifierOctets (arcs_of octets) octets
 arcs_fit octets (arcs, h) = subst (λ xs. ObjectIdentifierOctets xs octets) (sym (arcs_told arcs octets h)) h
 
-pub some_arcs : (arcs octets : List ℕ) → ObjectIdentifierOctets arcs octets → 0 < length arcs
-some_arcs [] octets h = absurd h
-some_arcs (x ∷ arcs) octets h = omega arith
+-- the text of arcs that stand behind another one
+abbrev pub behind_stops : List ℕ → List ℕ
+behind_stops arcs = flat_map (λ next. codes "." ++ decimal next) arcs
 
 -- the text so far, and the next arc behind it
-pub first_arc_text : (old arcs : List ℕ) → 0 < length arcs → old ++ decimal (get_or arcs 0 0) ≡ old ++ dotted (take 1 arcs)
-first_arc_text old [] h = absurd (omega arith)
-first_arc_text old (x ∷ arcs) h = ap (λ s. old ++ s) (sym (append-nil (decimal x)))
+pub next_arc_text : (old arcs : List ℕ) (n : ℕ) → (old ++ (codes "." ++ decimal n)) ++ behind_stops arcs ≡ old ++ behind_stops (n ∷ arcs)
+next_arc_text old arcs n = append_assoc old (codes "." ++ decimal n) (behind_stops arcs)
 
-pub next_arc_text : (old arcs : List ℕ) (i : ℕ) → 0 < i → i < length arcs
-    → ((old ++ dotted (take i arcs)) ++ codes ".") ++ decimal (get_or arcs i 0) ≡ old ++ dotted (take (i + 1) arcs)
-next_arc_text old [] i z h = absurd (omega arith)
-next_arc_text old (x ∷ arcs) zero z h = absurd (omega arith)
-next_arc_text old (x ∷ arcs) (suc i) z h =
-    let next = λ (n : ℕ). codes "." ++ decimal n in
-    let arc = get_or arcs i 0 in
-    append_assoc (old ++ dotted (x ∷ take i arcs)) (codes ".") (decimal arc)
-    ∙ append_assoc old (dotted (x ∷ take i arcs)) (next arc)
-    ∙ ap (λ s. old ++ s) (flat_map_more next (decimal x) (take i arcs) arc
-    ∙ ap (λ s. decimal x ++ flat_map next s) (sym (take_more arcs i 0 (omega arith)))
-    ∙ ap (λ n. decimal x ++ flat_map next (take n arcs)) (add-one i)
-    ∙ ap (λ n. dotted (take n (x ∷ arcs))) (sym (add-one (suc i))))
+-- the first two arcs and those behind them
+pub first_arcs_text : (old arcs : List ℕ) (x y : ℕ) → ((old ++ decimal x) ++ (codes "." ++ decimal y)) ++ behind_stops arcs ≡ old ++ dotted (x ∷ y ∷ arcs)
+first_arcs_text old arcs x y = next_arc_text (old ++ decimal x) arcs y ∙ append_assoc old (decimal x) (behind_stops (y ∷ arcs))
+
+not_some : (n : ℕ) → None ≡ Some n → ⊥
+not_some n h = cc
+
+-- the arc that stands first, or none does
+pub is_first : (arcs : List ℕ) (n : ℕ) → Some n ≡ slice_get arcs 0 → arcs ≡ n ∷ drop 1 arcs
+is_first [] n h = absurd (not_some n (sym h))
+is_first (x ∷ arcs) n h = let e : n ≡ x = cc in ap (λ (m : ℕ). m ∷ arcs) (sym e)
+
+pub none_first : (arcs : List ℕ) → None ≡ slice_get arcs 0 → arcs ≡ []
+none_first [] h = refl
+none_first (x ∷ arcs) h = absurd (not_some x h)

@@ -1,5 +1,5 @@
 //! Numbers, octets, bits and object identifiers in text.
-ghost use Rattle.std.specs.Prelude.{◌≡◌, ◌++◌, OnOk, decimal, string_bytes};
+ghost use Rattle.std.specs.Prelude.{◌≡◌, ◌++◌, OnOk, codes, decimal, string_bytes};
 ghost use Rattle.asn_elements.specs.Leaves.{bit_string_of};
 ghost use Rattle.pk_show.specs.Texts.{bits_text, hex_text, oid_text};
 
@@ -33,12 +33,22 @@ pub(crate) fn push_hex(alloc: Global, text: &mut String, octets: &[u8]) -> Resul
 pub(crate) fn push_oid(text: &mut String, id: &Oid) -> Result<(), AllocError>
     ensures { OnOk result (string_bytes text.new ≡ string_bytes text.old ++ oid_text id.now) }
 {
-    push_number(text, id.arc(0).unwrap_or(0))?;
-    for i in 1..id.arc_count() {
-        text.push_str(".")?;
-        push_number(text, id.arc(i).unwrap_or(0))?;
+    let (first, second, mut later) = id.arcs();
+    push_number(text, first)?;
+    push_arc(text, second)?;
+    while let Some(arc) = later.next() {
+        push_arc(text, arc)?;
     }
     Ok(())
+}
+
+/// A full stop and an arc.
+fn push_arc(text: &mut String, arc: u128) -> Result<(), AllocError>
+    ensures { OnOk result (string_bytes text.new ≡ string_bytes text.old
+        ++ (codes "." ++ decimal arc)) }
+{
+    text.push_str(".")?;
+    push_number(text, arc)
 }
 
 /// The octets of a bit string, and how many bits of the last one are unused.

@@ -55,18 +55,24 @@ fn arcs_of(alloc: Global, words: &[&str]) -> Result<Vec<u128>, Refusal> {
     Ok(arcs)
 }
 
-/// The object identifier has these arcs, and no arc behind them.
+/// The object identifier has these arcs, one by one and in one walk, and no arc behind them.
 fn check_arcs(oid: &Oid, arcs: &[u128]) -> Result<(), Refusal> {
     let count = oid.arc_count();
     if count != arcs.len() {
         return Err(Refusal::Differs(Difference::ArcCount(count)));
     }
+    let (first, second, mut later) = oid.arcs();
     for (i, arc) in arcs.iter().enumerate() {
-        if oid.arc(i) != Some(*arc) {
+        let walked = match i {
+            0 => Some(first),
+            1 => Some(second),
+            _ => later.next(),
+        };
+        if walked != Some(*arc) || oid.arc(i) != Some(*arc) {
             return Err(Refusal::Differs(Difference::Arc(i)));
         }
     }
-    if oid.arc(count).is_some() {
+    if later.next().is_some() || oid.arc(count).is_some() {
         return Err(Refusal::Differs(Difference::Arc(count)));
     }
     Ok(())

@@ -1,11 +1,11 @@
 -- Arcs and the octets of their subidentifiers.
-use Rattle.std.proofs.Common.{◌≡◌, ◌≢◌, ℕ, zero, suc, ◌+◌, ◌-◌, ◌*◌, ◌/◌, ◌%◌, ◌^◌, ◌<◌, ◌≤◌, ◌==◌, false, min, List, [], ◌∷◌, ◌++◌, refl, sym, ◌∙◌, ap, ap₂, subst, append_assoc, append-nil, arith, take, drop, length, flat_map, get_or, Option, Some, None, IfSome}
+use Rattle.std.proofs.Common.{◌≡◌, ◌≢◌, ℕ, zero, suc, ◌+◌, ◌-◌, ◌*◌, ◌/◌, ◌%◌, ◌^◌, ◌<◌, ◌≤◌, ◌==◌, false, min, List, [], ◌∷◌, ◌++◌, refl, sym, ◌∙◌, ap, ap₂, subst, add-one, append_assoc, append-nil, arith, take, drop, length, flat_map, get_or, slice_get, Option, Some, None, IfSome}
 use Rattle.std.specs.Option.{SomeIff}
 use Rattle.std.proofs.lemmas.Grind.{flat_map-append}
 use Rattle.std.proofs.lemmas.List.{take-append-drop, take_more, take_all, length-drop}
 use Rattle.std.proofs.lemmas.Bool.Decides.{nat_tests}
 use Rattle.tlv_core.specs.Identifier.{leading_base128, base128}
-use Rattle.tlv_core.specs.ObjectIdentifier.{AllBelow, ObjectIdentifierOctets, IsObjectIdentifier}
+use Rattle.tlv_core.specs.ObjectIdentifier.{AllBelow, ObjectIdentifierOctets, IsObjectIdentifier, LaterOctets}
 use Rattle.tlv_core.proofs.Digits.{leading_none}
 use Rattle.tlv_core.proofs.Base128.{IsRun, run_value, run_beyond, run_value_more, leading_open, leading_value, base128_run, base128_value, base128_alone, base128_first, leading_next, base128_next}
 
@@ -31,16 +31,6 @@ numbers_beyond (n ∷ ns) (m ∷ ms) rest e =
     let t : ms ≡ ns ++ i.0 = i.1 in
     (i.0, cc, i.2)
 
-pub numbers_alone : (ns ms : List ℕ) → flat_map base128 ns ≡ flat_map base128 ms → ns ≡ ms
-numbers_alone [] [] e = refl
-numbers_alone [] (m ∷ ms) e = absurd (base128_some m (flat_map base128 ms) (sym e))
-numbers_alone (n ∷ ns) [] e = absurd (base128_some n (flat_map base128 ns) e)
-numbers_alone (n ∷ ns) (m ∷ ms) e =
-    let both = base128_alone n m (flat_map base128 ns) (flat_map base128 ms) e in
-    let q : n ≡ m = both.0 in
-    let t : ns ≡ ms = numbers_alone ns ms both.1 in
-    cc
-
 below_more : (b : ℕ) (ns : List ℕ) (n : ℕ) → AllBelow b ns → n < b → AllBelow b (ns ++ n ∷ [])
 below_more b [] n h g = (g, tt)
 below_more b (m ∷ ns) n h g = (h.0, below_more b ns n h.1 g)
@@ -55,20 +45,6 @@ first_arc zero y h g = let s : y < 40 = g (omega arith) in omega arith
 first_arc (suc zero) y h g = let s : y < 40 = g (omega arith) in omega arith
 first_arc (suc (suc zero)) y h g = omega arith
 first_arc (suc (suc (suc x))) y h g = absurd (omega arith)
-
--- Octets are those of one object identifier at most.
-pub arcs_alone : (xs ys octets : List ℕ) → ObjectIdentifierOctets xs octets → ObjectIdentifierOctets ys octets → xs ≡ ys
-arcs_alone [] ys o h g = absurd h
-arcs_alone (x ∷ []) ys o h g = absurd h
-arcs_alone (x ∷ x' ∷ xs) [] o h g = absurd g
-arcs_alone (x ∷ x' ∷ xs) (y ∷ []) o h g = absurd g
-arcs_alone (x ∷ x' ∷ xs) (y ∷ y' ∷ ys) o h g =
-    let e = numbers_alone ((40 * x + x') ∷ xs) ((40 * y + y') ∷ ys) (sym h.3 ∙ g.3) in
-    let n : 40 * x + x' ≡ 40 * y + y' = cc in
-    let t : xs ≡ ys = cc in
-    let p : x ≡ y = sym (first_arc x x' h.0 h.1) ∙ ap (λ k. min (k / 40) 2) n ∙ first_arc y y' g.0 g.1 in
-    let q : x' ≡ y' = omega arith in
-    cc
 
 -- the arcs of one subidentifier
 pub two_arcs : (n : ℕ) → n < 2 ^ 128 → ObjectIdentifierOctets (min (n / 40) 2 ∷ (n - 40 * min (n / 40) 2) ∷ []) (base128 n)
@@ -155,10 +131,6 @@ pub digit_last : (octets : List ℕ) (i v x m : ℕ) → i < length octets → t
 digit_last octets i v x m l h g a e =
     take_more octets i 0 l ∙ ap₂ (λ s (y : ℕ). s ++ y ∷ []) h (sym g) ∙ sym (base128_next v x a) ∙ ap base128 (sym e)
 
--- the arcs of the same octets
-pub arcs_are : (xs ys o octets : List ℕ) → ObjectIdentifierOctets xs o → o ≡ octets → ObjectIdentifierOctets ys octets → xs ≡ ys
-arcs_are xs ys o octets h e g = arcs_alone xs ys octets (subst (λ s. ObjectIdentifierOctets xs s) e h) g
-
 pub all_below : (bound : ℕ) (xs : List ℕ) → ((i : ℕ) → get_or xs i 0 < bound) → AllBelow bound xs
 all_below bound [] h = tt
 all_below bound (x ∷ xs) h = (h 0, all_below bound xs (λ i. h (suc i)))
@@ -193,8 +165,79 @@ first_read octets n used h e = record { read = base128 n; are = two_arcs n h; wh
 pub next_read : (arcs octets rest : List ℕ) (n used : ℕ) → ArcsBefore arcs octets rest → n < 2 ^ 128 → take used rest ≡ base128 n → ArcsBefore (arcs ++ n ∷ []) octets (take (length rest - used) (drop used rest))
 next_read arcs octets rest n used b h e = record { read = b.read ++ base128 n; are = more_arcs arcs b.read n b.are h; whole = rest_next octets b.read rest (base128 n) used b.whole e }
 
-pub same_read : (arcs same octets rest : List ℕ) → same ≡ arcs → ArcsBefore arcs octets rest → ArcsBefore same octets rest
-same_read arcs same octets rest e b = subst (λ s. ArcsBefore s octets rest) (sym e) b
-
 pub none_read : (arcs octets rest : List ℕ) → ArcsBefore arcs octets rest → false ≡ (length rest == 0) → NoNumber rest → IsObjectIdentifier octets → ⊥
 none_read arcs octets rest b some none is = no_more_arcs arcs b.read rest octets b.are b.whole some none is
+
+pub rest_length : (octets : List ℕ) (used : ℕ) → length (take (length octets - used) (drop used octets)) ≡ length octets - used
+rest_length octets used = ap length (take_all (length octets - used) (drop used octets) (omega (arith, length-drop used octets))) ∙ length-drop used octets
+
+-- The first subidentifier tells the first two arcs, and behind it stand those of the later ones.
+pub leading_are : (arcs octets : List ℕ) (n used lead : ℕ) → ObjectIdentifierOctets arcs octets → take used octets ≡ base128 n → lead ≡ min (n / 40) 2
+    → (arcs ≡ lead ∷ (n - 40 * lead) ∷ drop 2 arcs) × LaterOctets (drop 2 arcs) (take (length octets - used) (drop used octets))
+leading_are [] octets n used lead h t e = absurd h
+leading_are (x ∷ []) octets n used lead h t e = absurd h
+leading_are (x ∷ y ∷ arcs) octets n used lead h t e =
+    let both = base128_alone n (40 * x + y) (take (length octets - used) (drop used octets)) (flat_map base128 arcs) (sym (rest_is octets (base128 n) used t) ∙ h.3) in
+    let m : n ≡ 40 * x + y = both.0 in
+    let p : lead ≡ x = e ∙ ap (λ k. min (k / 40) 2) m ∙ first_arc x y h.0 h.1 in
+    let q : n - 40 * lead ≡ y = omega arith in
+    (ap₂ (λ (a : ℕ) (b : ℕ). a ∷ b ∷ arcs) (sym p) (sym q), (h.2.1, both.1))
+
+-- the number that later arcs begin with is the first of them
+pub arc_given : (arcs rest : List ℕ) (n used : ℕ) → LaterOctets arcs rest → take used rest ≡ base128 n
+    → (Some n ≡ slice_get arcs 0) × LaterOctets (drop 1 arcs) (take (length rest - used) (drop used rest))
+arc_given [] rest n used h e = absurd (base128_some n (take (length rest - used) (drop used rest)) (sym (rest_is rest (base128 n) used e) ∙ h.1))
+arc_given (m ∷ ms) rest n used h e =
+    let both = base128_alone n m (take (length rest - used) (drop used rest)) (flat_map base128 ms) (sym (rest_is rest (base128 n) used e) ∙ h.1) in
+    (ap Some both.0, (h.0.1, both.1))
+
+-- where no number follows there is no arc
+pub no_arc_given : (arcs rest : List ℕ) → LaterOctets arcs rest → NoNumber rest → (None ≡ slice_get arcs 0) × LaterOctets (drop 1 arcs) rest
+no_arc_given [] rest h none = (refl, h)
+no_arc_given (n ∷ ns) rest h none = absurd (none n (flat_map base128 ns) h.0.0 h.1)
+
+passed_on : (arcs : List ℕ) (k : ℕ) (rest : List ℕ) (n used : ℕ) → k ≤ length arcs → LaterOctets (drop k arcs) rest → take used rest ≡ base128 n
+    → (suc k ≤ length arcs) × LaterOctets (drop (suc k) arcs) (take (length rest - used) (drop used rest))
+passed_on [] zero rest n used l h e = absurd (base128_some n (take (length rest - used) (drop used rest)) (sym (rest_is rest (base128 n) used e) ∙ h.1))
+passed_on [] (suc k) rest n used l h e = absurd (omega arith)
+passed_on (m ∷ ms) zero rest n used l h e = (omega arith, (arc_given (m ∷ ms) rest n used h e).1)
+passed_on (m ∷ ms) (suc k) rest n used l h e =
+    let i = passed_on ms k rest n used (omega arith) h e in
+    (omega (arith, i.0), i.1)
+
+-- one arc more is passed
+pub one_passed : (arcs : List ℕ) (k : ℕ) (rest : List ℕ) (n used : ℕ) → k ≤ length arcs → LaterOctets (drop k arcs) rest → take used rest ≡ base128 n
+    → (k + 1 ≤ length arcs) × LaterOctets (drop (k + 1) arcs) (take (length rest - used) (drop used rest))
+one_passed arcs k rest n used l h e =
+    subst (λ m. (m ≤ length arcs) × LaterOctets (drop m arcs) (take (length rest - used) (drop used rest))) (sym (add-one k)) (passed_on arcs k rest n used l h e)
+
+-- where no number follows all arcs are passed
+pub all_passed : (arcs : List ℕ) (k : ℕ) (rest : List ℕ) → LaterOctets (drop k arcs) rest → NoNumber rest → length arcs ≤ k
+all_passed [] k rest h none = omega arith
+all_passed (m ∷ ms) zero rest h none = absurd (none m (flat_map base128 ms) h.0.0 h.1)
+all_passed (m ∷ ms) (suc k) rest h none = let i : length ms ≤ k = all_passed ms k rest h none in omega arith
+
+-- the arc behind those that are passed
+passed_get : (arcs : List ℕ) (i k : ℕ) → k ≡ min i (length arcs) → slice_get (drop k arcs) 0 ≡ slice_get arcs i
+passed_get [] i zero e = refl
+passed_get [] i (suc k) e = absurd (omega arith)
+passed_get (m ∷ ms) zero zero e = refl
+passed_get (m ∷ ms) zero (suc k) e = absurd (omega arith)
+passed_get (m ∷ ms) (suc i) zero e = absurd (omega arith)
+passed_get (m ∷ ms) (suc i) (suc k) e = passed_get ms i k (omega arith)
+
+pub first_told : (arcs : List ℕ) (x y i : ℕ) → arcs ≡ x ∷ y ∷ drop 2 arcs → i ≡ 0 → Some x ≡ slice_get arcs i
+first_told arcs x y i e z = sym (ap (λ s. slice_get s i) e ∙ ap (λ n. slice_get (x ∷ y ∷ drop 2 arcs) n) z)
+
+pub second_told : (arcs : List ℕ) (x y i : ℕ) → arcs ≡ x ∷ y ∷ drop 2 arcs → i ≡ 1 → Some y ≡ slice_get arcs i
+second_told arcs x y i e z = sym (ap (λ s. slice_get s i) e ∙ ap (λ n. slice_get (x ∷ y ∷ drop 2 arcs) n) z)
+
+pub later_told : (arcs : List ℕ) (x y i k : ℕ) → arcs ≡ x ∷ y ∷ drop 2 arcs → 2 ≤ i → k ≡ min (i - 2) (length (drop 2 arcs)) → slice_get (drop k (drop 2 arcs)) 0 ≡ slice_get arcs i
+later_told arcs x y zero k e l p = absurd (omega arith)
+later_told arcs x y (suc zero) k e l p = absurd (omega arith)
+later_told arcs x y (suc (suc i)) k e l p = passed_get (drop 2 arcs) i k (omega arith) ∙ sym (ap (λ s. slice_get s (suc (suc i))) e)
+
+pub all_counted : (arcs : List ℕ) (x y passed most : ℕ) → arcs ≡ x ∷ y ∷ drop 2 arcs → passed ≡ min most (length (drop 2 arcs)) → passed < most → 2 + passed ≡ length arcs
+all_counted arcs x y passed most e p l =
+    let n : length arcs ≡ suc (suc (length (drop 2 arcs))) = ap length e in
+    omega arith

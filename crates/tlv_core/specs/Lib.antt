@@ -2,6 +2,7 @@ pub mod Classes
 pub mod Faults
 pub mod Header
 pub mod Identifier
+pub mod LaterArcs
 pub mod Length
 pub mod Limits
 pub mod ObjectIdentifier

@@ -1,7 +1,7 @@
 //! Object identifiers (X.690 8.19).
-ghost use Rattle.std.specs.Prelude.{◌≡◌, ◌↔◌, ◌<◌, ◌^◌, ℕ, List, IfOk, IfSome, IsNone, IsTrue, ◌∷◌, drop, flat_map, length, slice_get};
+ghost use Rattle.std.specs.Prelude.{◌≡◌, ◌↔◌, ◌<◌, ◌≤◌, ◌^◌, ℕ, List, IfOk, IfSome, IsNone, IsTrue, ◌∷◌, drop, flat_map, length, min, slice_get};
 ghost use Rattle.tlv_core.specs.Identifier.{base128};
-ghost use Rattle.tlv_core.specs.ObjectIdentifier.{ObjectIdentifierOctets, IsObjectIdentifier};
+ghost use Rattle.tlv_core.specs.ObjectIdentifier.{ObjectIdentifierOctets, IsObjectIdentifier, LaterOctets};
 ghost use Rattle.tlv_core.specs.declared.oid.OidError.TheVariants.{Bad, Memory};
 
 use crate::subidentifier::{first_subidentifier, push_subidentifier};
@@ -36,25 +36,50 @@ impl<T: Drop> From<AllocFailed<T>> for OidError {
     }
 }
 
-/// An object identifier: its arcs, and the octets of its contents.
+/// An object identifier: the octets of its contents. Its arcs are told from them by a walk.
 #[derive(Drop)]
 pub struct Oid {
     content: Vec<u8>,
-    arcs: Vec<u128>,
 }
 
 impl Model for Oid {
     ghost use Rattle.std.specs.Prelude.{List, ℕ};
-    ghost use Rattle.tlv_core.specs.ObjectIdentifier.{ObjectIdentifierOctets};
+    ghost use Rattle.tlv_core.specs.ObjectIdentifier.{IsObjectIdentifier};
 
     ghost Value = { List ℕ };
 
     ghost view = { λ oid. oid.content.items };
 
-    ghost invariant = { λ oid. ObjectIdentifierOctets oid.arcs.items oid.content.items };
+    ghost invariant = { λ oid. IsObjectIdentifier oid.content.items };
+}
+
+/// The arcs of an object identifier behind the first two: a place to go on from, so that all are told in one walk.
+#[derive(Drop)]
+pub struct LaterArcs<'a> {
+    rest: &'a [u8],
+}
+
+impl LaterArcs<'_> {
+    ghost use Rattle.tlv_core.specs.LaterArcs.{StillToCome, octets_left};
+
+    /// The next arc, which the place is then behind; `None` where there is no other one, now or later.
+    pub fn next(&mut self) -> Option<u128>
+        ensures arc { (arcs : List ℕ) → StillToCome arcs self.old
+            → (result ≡ slice_get arcs 0) × StillToCome (drop 1 arcs) self.new }
+        ensures shorter { IfSome result (λ _. length (octets_left self.new)
+            < length (octets_left self.old)) }
+    {
+        let Some((arc, used)) = first_subidentifier(self.rest) else {
+            return None;
+        };
+        self.rest = &self.rest[used..];
+        Some(arc)
+    }
 }
 
 impl Oid {
+    ghost use Rattle.tlv_core.specs.LaterArcs.{StillToCome};
+
     /// The object identifier with these arcs. `Bad` where there is none.
     pub fn from_arcs(alloc: Global, arcs: &[u128]) -> Result<Oid, OidError>
         ensures made { IfOk result (λ oid. ObjectIdentifierOctets arcs.now oid) }
@@ -69,8 +94,7 @@ impl Oid {
         for arc in &arcs[2..] {
             push_subidentifier(&mut content, *arc)?;
         }
-        let arcs = arcs.to_vec(alloc)?;
-        Ok(Oid { content, arcs })
+        Ok(Oid { content })
     }
 
     /// The object identifier with these contents. `Bad` where there is none.
@@ -82,8 +106,15 @@ impl Oid {
             return Err(OidError::Bad);
         }
         let content = octets.to_vec(alloc)?;
-        let arcs = read_arcs(alloc, octets)?;
-        Ok(Oid { content, arcs })
+        Ok(Oid { content })
+    }
+
+    /// The object identifier with these contents, which were judged before: no memory is taken.
+    pub fn from_checked(content: Vec<u8>) -> Oid
+        requires { IsObjectIdentifier content.items }
+        ensures { result ≡ content.items }
+    {
+        Oid { content }
     }
 
     /// The octets of the contents.
@@ -95,26 +126,44 @@ impl Oid {
         &self.content
     }
 
-    /// The number of arcs, 2 or more.
+    /// The first two arcs, which one subidentifier tells, and the place of the later ones. To walk all arcs takes time
+    /// for each octet of the contents once.
+    pub fn arcs(&self) -> (u128, u128, LaterArcs<'_>)
+        ensures all { (arcs : List ℕ) → ObjectIdentifierOctets arcs self.now
+            → (arcs ≡ result.0 ∷ result.1 ∷ drop 2 arcs) × StillToCome (drop 2 arcs) result.2 }
+        ensures is { IsObjectIdentifier self.now }
+    {
+        let (first, second, rest) = leading_arcs(self.content());
+        (first, second, LaterArcs { rest })
+    }
+
+    /// The number of arcs, 2 or more. They are counted at each call.
     pub fn arc_count(&self) -> usize
         ensures count { (arcs : List ℕ) → ObjectIdentifierOctets arcs self.now
             → result ≡ length arcs }
         ensures is { IsObjectIdentifier self.now }
     {
-        self.arcs.len()
+        let (_, _, rest) = leading_arcs(self.content());
+        let (passed, _) = pass_arcs(rest, usize::MAX);
+        2 + passed
     }
 
-    /// The arc at this place, counted from 0.
+    /// The arc at this place, counted from 0. Each call walks to it from the first one: `arcs` tells all in one walk.
     pub fn arc(&self, i: usize) -> Option<u128>
         ensures value { (arcs : List ℕ) → ObjectIdentifierOctets arcs self.now
             → result ≡ slice_get arcs i }
         ensures is { IsObjectIdentifier self.now }
     {
-        if i < self.arcs.len() {
-            Some(self.arcs[i])
-        } else {
-            None
+        let (first, second, later) = leading_arcs(self.content());
+        if i == 0 {
+            return Some(first);
         }
+        if i == 1 {
+            return Some(second);
+        }
+        let (_, rest) = pass_arcs(later, i - 2);
+        let mut place = LaterArcs { rest };
+        place.next()
     }
 
     /// Whether the two have the same arcs, and so the same contents.
@@ -158,25 +207,34 @@ pub fn is_object_identifier(octets: &[u8]) -> bool
     true
 }
 
-/// The arcs of the object identifier with these contents.
-fn read_arcs(alloc: Global, octets: &[u8]) -> Result<Vec<u128>, AllocError>
+/// The first two arcs of the object identifier with these contents, and the octets of the later ones.
+fn leading_arcs(octets: &[u8]) -> (u128, u128, &[u8])
     requires { IsObjectIdentifier octets.now }
-    ensures { IfOk result (λ arcs. ObjectIdentifierOctets arcs.items octets.now) }
+    ensures all { (arcs : List ℕ) → ObjectIdentifierOctets arcs octets.now
+        → (arcs ≡ result.0 ∷ result.1 ∷ drop 2 arcs) × LaterOctets (drop 2 arcs) result.2.now }
+    ensures within { length result.2.now ≤ length octets.now }
 {
     let Some((first, used)) = first_subidentifier(octets) else {
         unreachable!()
     };
     let lead = (first / 40).min(2);
-    let mut arcs = Vec::new(alloc);
-    arcs.push(lead)?;
-    arcs.push(first - 40 * lead)?;
-    let mut rest = &octets[used..];
-    while !rest.is_empty() {
-        let Some((arc, used)) = first_subidentifier(rest) else {
-            unreachable!()
+    (lead, first - 40 * lead, &octets[used..])
+}
+
+/// Passes as many of the later arcs as are asked for, or all: their number, and the octets behind them.
+fn pass_arcs(octets: &[u8], most: usize) -> (usize, &[u8])
+    ensures arcs { (arcs : List ℕ) → LaterOctets arcs octets.now
+        → (result.0 ≡ min most (length arcs)) × LaterOctets (drop result.0 arcs) result.1.now }
+    ensures within { result.0 ≤ length octets.now }
+{
+    let mut rest = octets;
+    let mut passed = 0;
+    while passed < most {
+        let Some((_, used)) = first_subidentifier(rest) else {
+            return (passed, rest);
         };
-        arcs.push(arc)?;
         rest = &rest[used..];
+        passed += 1;
     }
-    Ok(arcs)
+    (passed, rest)
 }

@@ -1,10 +1,20 @@
-use Rattle.std.proofs.Common.{◌∙◌, ap, map, subst, sym, IsPermutation}
+use Rattle.std.proofs.Common.{arith, ◌∙◌, ◌∷◌, ◌≡◌, ◌<◌, [], List, ap, length, map, refl, subst, sym, true, IsPermutation}
 use Rattle.std.proofs.lemmas.List.Sorted.{IsPermutation-map}
 use Rattle.x690.specs.DerTexts.{der}
 use Rattle.asn_elements.specs.Members.{ascends}
 use Rattle.asn_elements.proofs.ArrangedTexts.{sorted_ascend, sorted_texts_ascend}
 use Rattle.asn_elements.proofs.MappedMembers.{map_thrice}
+use Rattle.x690.specs.Values.{Value}
 use Rattle.asn_containers.proofs.order.in_order.Goals as goal
+
+-- less than two texts ascend
+few_ascend : {A : Type 0} (f : A → Value) (items : List A) → length items < 2 → ascends (map der (map f items)) ≡ true
+few_ascend f [] h = refl
+few_ascend f (item ∷ []) h = refl
+few_ascend f (item ∷ next ∷ items) h = absurd (omega arith)
+
+pub returns-then-len-lt2-clause-in_order : goal.returns-then-len-lt2-clause-in_order
+returns-then-len-lt2-clause-in_order g c = few_ascend g.T.DerText.value c.shrink_to_fit.new.self.items (omega (arith, c.if-len-lt2.true, c.len.ensures, c.shrink_to_fit.new.self.ok))
 
 pub returns-clause-same : goal.returns-clause-same
 returns-clause-same g c =

@@ -1,17 +1,12 @@
 use Rattle.std.proofs.Common.{rules, ap}
 use Rattle.x690.specs.Values.{Leaf}
-use Rattle.ber_pull.proofs.Hearing.{hears_err, hears_said, hears_then_memory}
+use Rattle.ber_pull.proofs.Hearing.{hears_err, hears_said}
 use Rattle.asn_elements.proofs.object_identifier.read_identifier.Goals as goal
 
 pub returns-in_err-read_identifier_into-clause-reads : goal.returns-in_err-read_identifier_into-clause-reads
 returns-in_err-read_identifier_into-clause-reads g c = λ own given fine is.
     hears_err _ _ c.from_residual.result c.in_err-read_identifier_into.field-0.0 _ _ _ _ (search rules) (c.in_err-read_identifier_into.ensures.reads own given fine is)
 
-pub returns-in-Ok-clause-reads : goal.returns-in-Ok-clause-reads
-returns-in-Ok-clause-reads g c = λ own given fine is.
-    hears_said _ _ _ _ _ _ _ (ap (Leaf own) (search rules)) (c.in_ok-read_identifier_into.ensures.reads own given fine is)
-
 pub returns-clause-reads : goal.returns-clause-reads
 returns-clause-reads g c = λ own given fine is.
-    let first = c.no_memory.ensures.first (search rules) in
-    hears_then_memory _ _ _ _ _ _ _ _ _ _ first.0 (ap (λ z. z.taken) first.1) (ap g.R.Source.remaining c.no_memory.ensures.same) (c.in_ok-read_identifier_into.ensures.reads own given fine is)
+    hears_said _ _ _ _ _ _ _ (ap (Leaf own) (search rules)) (c.in_ok-read_identifier_into.ensures.reads own given fine is)

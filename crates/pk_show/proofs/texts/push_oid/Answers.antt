@@ -1,35 +1,37 @@
-use Rattle.std.proofs.Common.{List, Option, ℕ, ◌∙◌, ◌++◌, ap, ap₂, arith, codes, decimal, string_bytes, sym, take, unwrap_or}
-use Rattle.std.proofs.lemmas.List.{take_all}
-use Rattle.std.proofs.lemmas.Option.{unwrap_or-slice_get}
+use Rattle.std.proofs.Common.{◌∙◌, ◌++◌, ap, append-nil, codes, decimal, drop, string_bytes, sym}
 use Rattle.pk_show.specs.Texts.{arcs_of, dotted, oid_text}
-use Rattle.pk_show.proofs.Arcs.{arcs_fit, first_arc_text, next_arc_text, some_arcs}
+use Rattle.pk_show.proofs.Arcs.{arcs_fit, behind_stops, first_arcs_text, is_first, next_arc_text, none_first}
 use Rattle.pk_show.proofs.texts.push_oid.Goals as goal
 
-pub loop-i-init : goal.loop-i-init
-loop-i-init c =
+pub loop-arc-init : goal.loop-arc-init
+loop-arc-init c =
+    let old = string_bytes c.args.text.now in
     let arcs = arcs_of c.args.id.now in
-    let fit = arcs_fit c.args.id.now c.arc.ensures.is in
-    let arc = c.unwrap_or.ensures ∙ ap (λ (o : Option ℕ). unwrap_or o 0) (c.arc.ensures.value arcs fit) ∙ unwrap_or-slice_get arcs 0 0 in
-    c.in_ok-push_number.ensures ∙ ap (λ n. string_bytes c.args.text.now ++ decimal n) arc
-    ∙ first_arc_text (string_bytes c.args.text.now) arcs (some_arcs arcs c.args.id.now fit)
+    let all = c.arcs-first.ensures.all arcs (arcs_fit c.args.id.now c.arcs-first.ensures.is) in
+    let first = c.arcs-first.result.0 in
+    let second = c.arcs-first.result.1 in
+    let text = c.in_ok-push_arc.ensures ∙ ap (λ s. s ++ (codes "." ++ decimal second)) c.in_ok-push_number.ensures in
+    (drop 2 arcs, all.1, ap (λ s. s ++ behind_stops (drop 2 arcs)) text ∙ first_arcs_text old (drop 2 arcs) first second ∙ ap (λ s. old ++ dotted s) (sym all.0))
 
-pub loop-i-preserved : goal.loop-i-preserved
-loop-i-preserved c =
-    let arcs = arcs_of c.args.id.now in
-    let fit = arcs_fit c.args.id.now c.arc.ensures.is in
-    let i = c.loop-i.i in
-    let arc = c.unwrap_or-in-loop-i.ensures ∙ ap (λ (o : Option ℕ). unwrap_or o 0) (c.arc-in-loop-i.ensures.value arcs fit) ∙ unwrap_or-slice_get arcs i 0 in
-    let count = c.arc_count-i-end.ensures.count arcs fit in
-    let low = c.loop-i.auto.i in
-    let test = c.loop-i-test.true in
-    c.in_ok-push_number-2.ensures
-    ∙ ap₂ (λ (s : List ℕ) (n : ℕ). s ++ decimal n) (c.in_ok-push_str.ensures.bytes ∙ ap (λ s. s ++ codes ".") c.loop-i.invariant) arc
-    ∙ next_arc_text (string_bytes c.args.text.now) arcs i (omega arith) (omega arith)
+pub loop-arc-preserved : goal.loop-arc-preserved
+loop-arc-preserved c =
+    let before = c.loop-arc.invariant in
+    let arcs = before.0 in
+    let arc = c.in-Some.arc in
+    let given = c.in-Some.ensures.arc arcs before.1 in
+    let first = is_first arcs arc given.0 in (
+      drop 1 arcs,
+      given.1,
+      ap (λ s. s ++ behind_stops (drop 1 arcs)) c.in_ok-push_arc-2.ensures
+          ∙ next_arc_text (string_bytes c.loop-arc.text) (drop 1 arcs) arc
+          ∙ ap (λ s. string_bytes c.loop-arc.text ++ behind_stops s) (sym first)
+          ∙ before.2,
+    )
 
 pub returns : goal.returns
 unfolding oid_text
 returns c =
-    let arcs = arcs_of c.args.id.now in
-    let count = c.arc_count-i-end.ensures.count arcs (arcs_fit c.args.id.now c.arc.ensures.is) in
-    let test = c.loop-i-test.false in
-    c.loop-i.invariant ∙ ap (λ s. string_bytes c.args.text.now ++ dotted s) (take_all c.loop-i.i arcs (omega arith))
+    let before = c.loop-arc.invariant in
+    let text = string_bytes c.loop-arc.text in
+    let none = none_first before.0 (c.in_default.ensures.arc before.0 before.1).0 in
+    sym (append-nil text) ∙ ap (λ s. text ++ behind_stops s) (sym none) ∙ before.2

@@ -1,6 +1,13 @@
-use Rattle.std.proofs.Common.{◌≡◌, ◌++◌, string_bytes, take}
+use Rattle.std.proofs.Common.{List, ℕ, ◌≡◌, ◌++◌, length, string_bytes}
+use Rattle.tlv_core.specs.LaterArcs.{StillToCome, octets_left}
 use Rattle.pk_show.specs.Texts.{arcs_of, dotted}
+use Rattle.pk_show.proofs.Arcs.{behind_stops}
 use Rattle.pk_show.proofs.texts.push_oid.Given as goal
 
-abbrev pub invariant-loop-i : goal.invariant-loop-i
-invariant-loop-i l = string_bytes l.text ≡ string_bytes l.fn.text ++ dotted (take l.i (arcs_of l.id))
+abbrev pub invariant-loop-arc : goal.invariant-loop-arc
+invariant-loop-arc l =
+    (arcs : List ℕ) × StillToCome arcs l.later
+    × (string_bytes l.text ++ behind_stops arcs ≡ string_bytes l.fn.text ++ dotted (arcs_of l.id))
+
+abbrev pub decreases-loop-arc : goal.decreases-loop-arc
+decreases-loop-arc l = length (octets_left l.later)

@@ -35,4 +35,4 @@ returns c =
     (ap (algorithm_lines (codes "algorithm: ") (codes "parameters: ")) c.algorithm.ensures))
     (ap private_key_lines c.private_key.ensures))
     (ap (λ set. attributes_lines attribute_lines (option_map (λ set. set_items set) set)) c.attributes.ensures))
-    (ap (λ bits. line (codes "public key: ") (optional bits_said bits)) c.public_key.ensures))
+    (ap (λ bits. line (codes "public key: ") (optional bits_said bits)) c.public_key.ensures.value))
