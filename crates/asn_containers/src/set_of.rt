@@ -15,7 +15,7 @@ ghost use Rattle.x690.specs.Values.{Same, SetOf as SetValue, values_of};
 ghost use Rattle.asn_elements.specs.Members.{ascends};
 ghost use Rattle.asn_elements.proofs.Ascending.{ascends_is};
 ghost use Rattle.x690_laws.proofs.OwnTags.{set_of_fits};
-ghost use Rattle.asn_elements.specs.declared.build.BuildError.TheVariants.{TooBig};
+ghost use Rattle.asn_elements.specs.declared.build.BuildError.TheVariants.{Bad, TooBig};
 
 use crate::members::{read_members, row_of};
 use crate::order::in_order;
@@ -65,6 +65,7 @@ impl<T: DerText> SetOf<T> {
         ensures too_big { (result ≡ Err TooBig)
             ↔ (2 ^ 40 < length (der
             (SetValue (universal 17) (values_of (map T.value items.items))))) }
+        ensures never_bad { result ≡ Err Bad → ⊥ }
     {
         if is_long(&items) {
             return Err(BuildError::TooBig);

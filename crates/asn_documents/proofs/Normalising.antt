@@ -83,6 +83,6 @@ in_part l T w before after old new taken written lawful fine r le out =
 pub unread_as : (l : Limits) (T : TypeTerm) (e : ReadError) (before after : Option (List ℕ)) → Lawful T → StopsReading l T e before after → Unread l T e before
 unread_as l T (errors.Fault f) None after lawful s = tt
 unread_as l T (errors.Fault f) (Some before) None lawful s = absurd s
-unread_as l T (errors.Fault f) (Some before) (Some after) lawful s = (inside_of_answers l T before f lawful.honest s.2, refused_is_spelled_by_none l T before f lawful.fair s.2)
+unread_as l T (errors.Fault f) (Some before) (Some after) lawful s = (inside_of_answers l T before f lawful.honest s.2.answers, refused_is_spelled_by_none l T before f lawful.fair s.2.answers)
 unread_as l T (errors.Read at) before after lawful s = tt
 unread_as l T errors.Memory before after lawful s = tt

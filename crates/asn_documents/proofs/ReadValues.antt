@@ -2,10 +2,11 @@
 use Rattle.std.proofs.Common.{◌≡◌, ◌∙◌, ◌+◌, ◌++◌, ◌<◌, ◌≤◌, List, None, Option, Some, [], ℕ, ap, append-nil, arith, length, subst, sym}
 use Rattle.std.specs.Io.KnownBytes.{Consumes}
 use Rattle.tlv_core.specs.Limits.{Limits}
+use Rattle.tlv_core.specs.declared.fault.Fault.{Fault}
 use Rattle.tlv_core.specs.declared.fault.ReadError.{ReadError}
 use Rattle.tlv_core.specs.declared.fault.ReadError.TheVariants as errors
 use Rattle.tlv_core.specs.declared.reason.Reason.TheVariants.{TextTooLong, Truncated}
-use Rattle.x690.specs.Answers.{Spelled}
+use Rattle.x690.specs.Answers.{Answer, IsAnswer, Refused, Spelled, answer}
 use Rattle.x690.specs.DerTexts.{der}
 use Rattle.x690.specs.Fitting.{Spells}
 use Rattle.x690.specs.Layouts.{LaidOut}
@@ -16,21 +17,28 @@ use Rattle.x690.specs.Reads.{Reads, Said}
 use Rattle.x690.specs.TypeTerms.{TypeTerm}
 use Rattle.x690.specs.Values.{Same, Value}
 use Rattle.x690.proofs.Runs.{taken}
-use Rattle.x690_laws.proofs.Answering.{answered, fits_text, halted_is, long_text}
+use Rattle.x690_laws.proofs.Answering.{answered, fits_text, halted_is, long_text, one_answer}
 use Rattle.x690_laws.proofs.Judging.{sound}
 use Rattle.x690_laws.proofs.Texts.{same_der}
 use Rattle.ber_pull.specs.Hears.{Hears, heard_error}
-use Rattle.asn_documents.specs.ReadValues.{ReadsValue, StopsReading}
+use Rattle.asn_documents.specs.ReadValues.{AnswersFault, ReadsValue, StopsReading}
+
+-- what the plain reading answers is the answer by the definitions
+is_answer : (l : Limits) (T : TypeTerm) (octets : List ℕ) (a : Answer) → answer l T octets ≡ a → IsAnswer l T octets a
+is_answer l T octets a e = subst (IsAnswer l T octets) e (one_answer.is_answer l T octets)
+
+answers_fault : (l : Limits) (T : TypeTerm) (octets : List ℕ) (f : Fault) → answer l T octets ≡ Refused f → AnswersFault l T octets f
+answers_fault l T octets f e = record { is_answer = is_answer l T octets (Refused f) e; answers = e }
 
 pub stopped : (l : Limits) (T : TypeTerm) (e : ReadError) (k : ℕ) (s u : Option (List ℕ)) → Hears (read_element l T [] outermost) 0 s (heard_error e) k u → StopsReading l T e s u
 unfolding Hears Reads
 stopped l T e k None u x = tt
 stopped l T e k (Some s) None x = absurd x
-stopped l T (errors.Fault f) k (Some s) (Some u) x = (x.0.0, x.0.1, answered l T s (Halted f) x.1 ∙ halted_is l f)
+stopped l T (errors.Fault f) k (Some s) (Some u) x = (x.0.0, x.0.1, answers_fault l T s f (answered l T s (Halted f) x.1 ∙ halted_is l f))
 stopped l T (errors.Read at) k (Some s) (Some u) x =
     let y = x.1 in
     let e : at ≡ 0 + length y.0 = y.2 in
-    (y.0, y.1, (omega arith, answered l T y.0 (Halted (fault at Truncated)) y.3 ∙ halted_is l (fault at Truncated)))
+    (y.0, y.1, (omega arith, answers_fault l T y.0 (fault at Truncated) (answered l T y.0 (Halted (fault at Truncated)) y.3 ∙ halted_is l (fault at Truncated))))
 stopped l T errors.Memory k (Some s) (Some u) x = (x.0.0, x.0.1, tt)
 
 -- octets that the reading takes whole spell the value
@@ -50,6 +58,8 @@ whole : (l : Limits) (T : TypeTerm) (v w : Value) (s u : Option (List ℕ)) (oct
 whole l T v w s u octets k same le takes count any =
     let text : der v ≡ der w = same_der v w same in
     let le' : length (der v) ≤ l.octets = subst (λ z. length z ≤ l.octets) (sym text) le in
+    let all : (more : List ℕ) → answer l T (octets ++ more) ≡ Spelled (der w) k =
+    λ more. answered l T (octets ++ more) (Took v k more) (any more) ∙ fits_text l v k more le' ∙ ap (λ z. Spelled z k) text in
     record {
       octets = octets;
       takes = takes;
@@ -57,7 +67,8 @@ whole l T v w s u octets k same le takes count any =
       spelled = v;
       spells = spells_all l T v octets k (ap (run (read_element l T [] outermost) 0) (sym (append-nil octets)) ∙ any []) le';
       same = same;
-      answers = λ more. answered l T (octets ++ more) (Took v k more) (any more) ∙ fits_text l v k more le' ∙ ap (λ z. Spelled z k) text;
+      is_answer = λ more. is_answer l T (octets ++ more) (Spelled (der w) k) (all more);
+      answers = all;
     }
 
 pub said : (l : Limits) (T : TypeTerm) (v w : Value) (k : ℕ) (s u : Option (List ℕ)) → Same v w → length (der w) ≤ l.octets → Hears (read_element l T [] outermost) 0 s (Said v) k u → ReadsValue l T w s u k
@@ -77,4 +88,4 @@ too_long l T v w k None u same lt x = tt
 too_long l T v w k (Some s) None same lt x = absurd x
 too_long l T v w k (Some s) (Some u) same lt x =
     let text : der w ≡ der v = sym (same_der v w same) in
-    (x.0.0, x.0.1, answered l T s (Took v k u) x.1 ∙ long_text l v k u (subst (λ z. l.octets < length z) text lt))
+    (x.0.0, x.0.1, answers_fault l T s (fault 0 TextTooLong) (answered l T s (Took v k u) x.1 ∙ long_text l v k u (subst (λ z. l.octets < length z) text lt)))

@@ -40,6 +40,7 @@ ended l T w before mid after taken r none = record {
   spelled = r.spelled;
   spells = r.spells;
   same = r.same;
+  is_answer = r.is_answer;
   answers = r.answers;
 }
 

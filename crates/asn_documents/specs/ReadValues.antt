@@ -2,10 +2,11 @@
 use Rattle.std.specs.Prelude.{List, None, Option, Some, length, ℕ, ◌++◌, ◌≡◌}
 use Rattle.std.specs.Io.KnownBytes.{Consumes}
 use Rattle.tlv_core.specs.Limits.{Limits}
+use Rattle.tlv_core.specs.declared.fault.Fault.{Fault as Found}
 use Rattle.tlv_core.specs.declared.fault.ReadError.{ReadError}
 use Rattle.tlv_core.specs.declared.fault.ReadError.TheVariants.{Fault, Memory, Read}
 use Rattle.tlv_core.specs.declared.reason.Reason.TheVariants.{Truncated}
-use Rattle.x690.specs.Answers.{Refused, Spelled, answer}
+use Rattle.x690.specs.Answers.{IsAnswer, Refused, Spelled, answer}
 use Rattle.x690.specs.DerTexts.{der}
 use Rattle.x690.specs.Fitting.{Spells}
 use Rattle.x690.specs.Points.{fault}
@@ -22,14 +23,21 @@ pub record ReadsValue (limits : Limits) (type : TypeTerm) (value : Value) (befor
   pub spelled : Value
   pub spells : Spells limits type spelled octets
   pub same : Same spelled value
-  -- and this is the answer, whatever stands behind them
+  -- and this is the answer by the definitions, whatever stands behind them,
+  pub is_answer : (more : List ℕ) → IsAnswer limits type (octets ++ more) (Spelled (der value) taken)
+  -- and what the plain reading answers
   pub answers : (more : List ℕ) → answer limits type (octets ++ more) ≡ Spelled (der value) taken
+
+-- The answer to the octets is this fault: by the definitions, it stops the document, or the text of its value is too long; and so the plain reading answers.
+pub record AnswersFault (limits : Limits) (type : TypeTerm) (octets : List ℕ) (found : Found) : Type 0 where
+  pub is_answer : IsAnswer limits type octets (Refused found)
+  pub answers : answer limits type octets ≡ Refused found
 
 -- Why there is no value, these octets being taken of those that were told: a fault is the answer to all of them; where a read failed,
 -- the octets taken are too few for any other answer; want of memory says nothing.
 abbrev pub Halts : Limits → TypeTerm → ReadError → List ℕ → List ℕ → Type 0
-Halts limits type (Fault found) octets before = answer limits type before ≡ Refused found
-Halts limits type (Read at) octets before = (at ≡ length octets) × (answer limits type octets ≡ Refused (fault at Truncated))
+Halts limits type (Fault found) octets before = AnswersFault limits type before found
+Halts limits type (Read at) octets before = (at ≡ length octets) × AnswersFault limits type octets (fault at Truncated)
 Halts limits type Memory octets before = Unit {0}
 
 -- No value was read. Of a source that doesn't tell its octets nothing is said.

@@ -1,6 +1,8 @@
 pub mod Answering
 pub mod ArrangedTexts
 pub mod Ascending
+pub mod BitReadings
+pub mod CallSteps
 pub mod ContainerTexts
 pub mod CutTexts
 pub mod Firsts

@@ -1,3 +1,5 @@
+pub mod BitStrings
+pub mod CallLaws
 pub mod Framing
 pub mod Implicits
 pub mod Leaves

@@ -19,6 +19,7 @@ use Rattle.ber_pull.specs.Standing.{Standing, enclosing}
 use Rattle.ber_pull.specs.View.{Answers}
 use Rattle.ber_pull.specs.declared.pull.Pull.{Pull}
 use Rattle.ber_pull.specs.declared.state.Given.{Given}
+use Rattle.asn_elements.specs.BitStrings.{IsDerBits}
 use Rattle.asn_elements.specs.declared.leaf_reading.Kind.{Kind}
 use Rattle.asn_elements.specs.declared.leaf_reading.Kind.TheVariants as coded
 
@@ -48,7 +49,7 @@ abbrev pub HasContents : Kind → List ℕ → Type 0
 HasContents coded.Boolean contents = (contents ≡ 0 ∷ []) ⊎ (contents ≡ 255 ∷ [])
 HasContents coded.Integer contents = is_integer_contents contents ≡ true
 HasContents coded.Null contents = contents ≡ []
-HasContents coded.BitString contents = 0 < length contents
+HasContents coded.BitString contents = (0 < length contents) × IsDerBits contents
 HasContents coded.OctetString contents = Unit {0}
 HasContents coded.Utf8String contents = is_utf8 contents ≡ true
 

@@ -1,12 +1,13 @@
 //! BIT STRING (X.690 8.6, 11.2).
 ghost use Rattle.x690_laws.proofs.OneTexts.{leaf_one_text};
-ghost use Rattle.std.specs.Prelude.{◌≡◌, ◌↔◌, ◌<◌, ◌∷◌, IsTrue, drop, get_or, length};
+ghost use Rattle.std.specs.Prelude.{◌≡◌, ◌↔◌, ◌<◌, ◌≤◌, ◌∷◌, IsTrue, drop, get_or, length};
 ghost use Rattle.x690_laws.proofs.ClosedTypes.{leaf_closed};
 ghost use Rattle.x690_laws.proofs.OwnTags.{leaf_fits};
 ghost use Rattle.x690.specs.Layouts.{universal};
 ghost use Rattle.x690.specs.Contents.{BitString};
 ghost use Rattle.x690.specs.TypeTerms.{LeafType};
 ghost use Rattle.x690.specs.Values.{Leaf};
+ghost use Rattle.asn_elements.specs.BitStrings.{IsDerBits};
 
 use crate::der_text::DerText;
 use crate::element::Element;
@@ -28,14 +29,18 @@ pub struct Bits {
     /// The number of unused bits, and behind it the octets, in which these bits are 0.
     content: Vec<u8>,
     ghost some: { 0 < length content.items },
+    ghost whole: { IsDerBits content.items },
 }
 
 impl Bits {
     ghost use Rattle.asn_elements.specs.Leaves.{bit_string_of};
 
-    /// The number of unused bits in the last octet (X.690 8.6.2.2).
+    /// The number of unused bits in the last octet (X.690 8.6.2.2), 0 where there is none: the bits are 8 times as many
+    /// as the octets, but for these.
     pub fn unused(&self) -> u8
-        ensures { result ≡ get_or (bit_string_of self.now) 0 0 }
+        ensures value { result ≡ get_or (bit_string_of self.now) 0 0 }
+        ensures few { result ≤ 7 }
+        ensures whole { IsDerBits (bit_string_of self.now) }
     {
         self.content[0]
     }
@@ -44,6 +49,7 @@ impl Bits {
     pub fn octets(&self) -> &[u8]
         ensures octets { result.now ≡ drop 1 (bit_string_of self.now) }
         ensures contents { bit_string_of self.now ≡ get_or (bit_string_of self.now) 0 0 ∷ result.now }
+        ensures whole { IsDerBits (bit_string_of self.now) }
     {
         &self.content[1..]
     }

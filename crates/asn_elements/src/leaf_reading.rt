@@ -12,6 +12,7 @@ ghost use Rattle.x690.specs.Values.{Leaf, Value};
 ghost use Rattle.ber_pull.specs.Hears.{heard, heard_error};
 ghost use Rattle.ber_pull.specs.View.{standing, AsksNoMemory, SameSource, Repeats, Keeps, ReadsFail, Onward, Answers, Uses, Unmoved};
 ghost use Rattle.ber_pull.specs.declared.state.Given.{Given};
+ghost use Rattle.asn_elements.specs.BitStrings.{IsDerBits};
 ghost use Rattle.asn_elements.specs.Reading.{AnswersValue, HasContents, kind_of, read_given, read_given_leaf, string_kind};
 
 use crate::integer::is_integer;
@@ -148,6 +149,7 @@ fn read_bits_leaf<R: Source>(alloc: Global, pull: &mut Pull<'_, R>) -> Result<Ve
         → Answers pull.old pull.new (read_given_leaf BitString own (standing pull.old) g)
         (heard (λ v. Leaf own v.items) result) }
     ensures some { IfOk result (λ v. 0 < length v.items) }
+    ensures bits { IfOk result (λ v. IsDerBits v.items) }
     ensures stands { OnOk result (Uses pull.old pull.new) }
     ensures keeps { Keeps pull.new result }
     ensures read { ReadsFail pull.old pull.new result }

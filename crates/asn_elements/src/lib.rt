@@ -19,6 +19,7 @@
 pub mod bits;
 pub mod boolean;
 pub mod build;
+pub mod calls;
 pub mod der_text;
 pub mod element;
 pub mod framing;

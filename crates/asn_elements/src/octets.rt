@@ -1,7 +1,7 @@
 //! OCTET STRING (X.690 8.7).
 ghost use Rattle.x690_laws.proofs.OneTexts.{leaf_one_text};
 ghost use Rattle.std.specs.Prelude.{◌≡◌, ◌↔◌, ◌<◌, ◌^◌, Err, IfOk, IsTrue, length};
-ghost use Rattle.asn_elements.specs.declared.build.BuildError.TheVariants.{TooBig};
+ghost use Rattle.asn_elements.specs.declared.build.BuildError.TheVariants.{Bad, TooBig};
 ghost use Rattle.x690_laws.proofs.ClosedTypes.{leaf_closed};
 ghost use Rattle.x690.specs.DerTexts.{der};
 ghost use Rattle.x690.specs.Layouts.{universal};
@@ -39,6 +39,7 @@ impl Octets {
         ensures made { IfOk result (λ o. octets_of o ≡ octets.now) }
         ensures too_big { (result ≡ Err TooBig)
             ↔ (2 ^ 40 < length (der (Leaf (universal 4) octets.now))) }
+        ensures never_bad { result ≡ Err Bad → ⊥ }
     {
         if is_long_leaf(universal_tag(4), octets) {
             return Err(BuildError::TooBig);

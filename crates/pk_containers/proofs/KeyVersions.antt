@@ -1,5 +1,6 @@
 -- Which versions of a OneAsymmetricKey have a public key.
-use Rattle.std.proofs.Common.{◌≡◌, ◌∙◌, ◌++◌, ◌&&◌, ◌||◌, ◌==◌, ◌∷◌, Bool, List, None, Option, Some, [], ap, false, length, not, refl, subst, sym, true, ℕ}
+use Rattle.std.proofs.Common.{◌≡◌, ◌∙◌, ◌++◌, ◌&&◌, ◌||◌, ◌==◌, ◌∷◌, Bool, List, None, Option, Some, [], ap, arith, false, length, not, refl, subst, sym, true, ℕ}
+use Rattle.std.proofs.lemmas.Bool.Decides.{nat_tests}
 use Rattle.std.specs.Option.{is_some, option_map}
 use Rattle.tlv_core.specs.Identifier.{Tag}
 use Rattle.tlv_core.specs.declared.reason.Reason.TheVariants.{VersionRule}
@@ -11,6 +12,12 @@ use Rattle.pkix_types.specs.DocumentTypes.{private_key, public_key}
 use Rattle.pkix_types.specs.Rules.{else_refused, key_version_rule, with_tag}
 use Rattle.asn_fields.specs.Apart.{fits_one, may_begin}
 use Rattle.asn_fields.specs.FieldReadings.{with_field}
+use Rattle.asn_fields.specs.declared.either.Either.{Either}
+use Rattle.asn_fields.specs.declared.either.Either.TheVariants.{First, Second}
+use Rattle.asn_contained.specs.Dependents.{suits_as, suits_where_there}
+use Rattle.asn_elements.specs.declared.bits.Bits.{Bits}
+use Rattle.pk_containers.specs.Seen.{bits_in, bits_of}
+use Rattle.pk_containers.specs.declared.public_key.PublicKey.{PublicKey}
 
 both_first : (a b : Bool) → (a && b) ≡ true → a ≡ true
 both_first true b e = refl
@@ -27,6 +34,10 @@ any_of_four false e = cc
 any_of_two : (b : Bool) → (b || b) ≡ true → b ≡ true
 any_of_two true e = refl
 any_of_two false e = cc
+
+pub passes_where : (b : Bool) → else_refused b VersionRule ≡ None → b ≡ true
+passes_where true e = refl
+passes_where false e = cc
 
 -- under [1]
 abbrev one : Tag
@@ -74,3 +85,36 @@ module _ {A P : Type 0} (f : A → Value) (g : P → Value) (number : ℕ) (algo
       let elsewhere = key_elsewhere (value_tag k) (any_of_four _ begins) in
       rule_is a p ∙ ap (λ z. else_refused (is_0 || z) VersionRule) (there_is off elsewhere a p (both_second ((head && may_begin private_key (value_tag k)) && others) _ known))
       ∙ ap (λ z. else_refused (z || is_some p) VersionRule) e ∙ ap (λ z. else_refused (b || z) VersionRule) h
+
+  pub version_passes : ((x : A) → same_tag one (value_tag (f x)) ≡ false) → (head others : Bool) (a : Option A) (p : Option P)
+      → (((head && may_begin private_key (value_tag k)) && others) && fits_one public_key (option_map g p)) ≡ true
+      → key_version_rule [] (Sequence (universal 16) (values_of (fields a p))) ≡ None → (is_0 || is_some p) ≡ true
+  version_passes off head others a p known judged = passes_where _ (sym (version_judged off head others a p is_0 (is_some p) known refl refl) ∙ judged)
+
+-- a number that is 0 or 1, by whether it is 0
+pub is_1 : (number : ℕ) → one_of (number ∷ []) ((0 ∷ []) ∷ (1 ∷ []) ∷ []) ≡ true → not (one_of (number ∷ []) ((0 ∷ []) ∷ [])) ≡ (number == 1)
+is_1 number e = grind (arith, nat_tests)
+
+absent : (b : Bool) → (b || false) ≡ true → false ≡ not b
+absent true e = refl
+absent false e = cc
+
+pub shown_where_there : {A B : Type 0} (f : A → B) (o : Option A) → is_some o ≡ is_some (option_map f o)
+shown_where_there f None = refl
+shown_where_there f (Some x) = refl
+
+-- What stands in place of a public key and suits the version is one exactly where the version isn't 0.
+module _ {X Y : Type 0} (first : X → Bool) (second : Y → Bool) (bits : Y → Bits) where
+  abbrev pub seen : Either X Y → Option Bits
+  seen e = elim e [ First x ↦ None | Second y ↦ Some (bits y) ]
+
+  pub seen_by_version : (is_0 : Bool) (e : Either X Y) → suits_as is_0 first second e ≡ true → is_some (seen e) ≡ not is_0
+  seen_by_version true (First x) h = refl
+  seen_by_version false (First x) h = cc
+  seen_by_version true (Second y) h = cc
+  seen_by_version false (Second y) h = refl
+
+pub stands_by : (is_0 : Bool) (suits : PublicKey → Bool) (field : Option PublicKey) → suits_where_there suits field ≡ true → ((key : PublicKey) → suits key ≡ true → is_some (bits_in key) ≡ not is_0) → (is_0 || is_some field) ≡ true
+    → is_some (bits_of field) ≡ not is_0
+stands_by first suits None h tells passes = absent first passes
+stands_by first suits (Some key) h tells passes = tells key h

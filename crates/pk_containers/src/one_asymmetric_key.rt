@@ -1,7 +1,7 @@
 //! OneAsymmetricKey of RFC 5958 section 2, PrivateKeyInfo of RFC 5208.
 ghost use Rattle.std.proofs.lemmas.Bool.{ltb-true};
-ghost use Rattle.std.specs.Option.{option_map};
-ghost use Rattle.std.specs.Prelude.{◌≡◌, ◌↔◌, ◌∷◌, [], IsTrue, refl};
+ghost use Rattle.std.specs.Option.{is_some, option_map};
+ghost use Rattle.std.specs.Prelude.{◌≡◌, ◌↔◌, ◌==◌, ◌∷◌, [], IsTrue, refl};
 ghost use Rattle.asn_elements.specs.Implicits.{value_under};
 ghost use Rattle.pkix_types.proofs.ClosedTypes.{asymmetric_key_closed};
 ghost use Rattle.pkix_types.proofs.Fairs.{fair_key_version};
@@ -118,9 +118,11 @@ impl OneAsymmetricKey {
         }
     }
 
-    /// The public key.
+    /// The public key, which stands under version 1, and under version 1 alone (RFC 5958 section 2).
     pub fn public_key(&self) -> Option<&Bits>
-        ensures { option_map (λ r. r.now) result ≡ bits_of self.now.0.value.fields.0.field }
+        ensures value { option_map (λ r. r.now) result ≡ bits_of self.now.0.value.fields.0.field }
+        ensures stands { is_some result
+            ≡ (self.now.0.value.fields.0.earlier.0.0.earlier.0.0.0.number == 1) }
     {
         match self.0.value().fields().0.field() {
             Some(key) => key.bits(),

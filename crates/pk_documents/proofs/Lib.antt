@@ -1,3 +1,4 @@
 pub mod DocumentValues
 pub mod LawfulKinds
+pub mod PartsStand
 pub mod RequestParts

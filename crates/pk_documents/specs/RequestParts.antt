@@ -1,5 +1,5 @@
 -- The parts of a certification request.
-use Rattle.std.specs.Prelude.{ℕ, List, [], ◌∷◌, drop, slice_get}
+use Rattle.std.specs.Prelude.{ℕ, List, [], ◌++◌, ◌∷◌, ◌≡◌, drop, slice_get}
 use Rattle.std.specs.Option.{option_map_or}
 use Rattle.x690.specs.DerTexts.{der}
 use Rattle.x690.specs.Values.{Value, leaf_at, sequence_members}
@@ -17,3 +17,11 @@ part_of Info request = text_at (0 ∷ []) request
 part_of Algorithm request = text_at (1 ∷ []) request
 part_of Key request = text_at (0 ∷ 2 ∷ []) request
 part_of Signature request = drop 1 (leaf_at (2 ∷ []) (sequence_members request))
+
+-- These octets stand in the text, one behind another.
+abbrev pub StandsIn : List ℕ → List ℕ → Type 0
+StandsIn part text = (before : List ℕ) × (after : List ℕ) × (text ≡ before ++ (part ++ after))
+
+-- Each part of a request is a part of the request's own DER text.
+abbrev pub PartsStandInTheText : Type 0
+PartsStandInTheText = (part : Part) (request : Value) → StandsIn (part_of part request) (der request)

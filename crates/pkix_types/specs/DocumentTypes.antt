@@ -6,6 +6,7 @@ use Rattle.x690.specs.Layouts.{context_specific, universal}
 use Rattle.x690.specs.TypeTerms.{ContainingType, Default, DefinedByType, EndOfFields, LeafType, OpenType, Optional, RefusedType, Required, RuledType, SequenceOfType, SetOfType, TypeTerm}
 use Rattle.x690.specs.UniversalTypes.{bit_string, explicit, integer, object_identifier, octet_string, sequence, sequence_of, set_of_some, ◌⨾◌}
 use Rattle.pkix_types.specs.Identifiers.{ec_public_key, extension_request, rfc8410_algorithms, rsa_encryption}
+use Rattle.pkix_types.specs.Paths.{algorithm_of_key, algorithm_of_public_key, first_field, version_0, version_1}
 use Rattle.pkix_types.specs.Rules.{ec_parameters_rule, ec_rule, inner_curve_rule, inner_ec_rule, key_bits_rule, key_version_rule, no_rule, parameters_rule, rsa_version_rule, version_rule}
 
 -- an INTEGER that is one of these numbers, each below 128
@@ -26,7 +27,7 @@ Name = sequence_of (set_of_some NameItem)
 
 -- RFC 5280 section 4.1.2.7; under the algorithms of RFC 8410 the key has the length that goes with it.
 unfoldable pub SubjectPublicKeyInfo : TypeTerm
-SubjectPublicKeyInfo = sequence (Required AlgorithmIdentifier ⨾ Required (RuledType (key_bits_rule (0 ∷ 0 ∷ [])) bit_string) ⨾ EndOfFields)
+SubjectPublicKeyInfo = sequence (Required AlgorithmIdentifier ⨾ Required (RuledType (key_bits_rule algorithm_of_public_key) bit_string) ⨾ EndOfFields)
 
 -- RFC 2986 section 4.1; at least one value (in keys: profile).
 unfoldable pub Attribute : TypeTerm
@@ -36,18 +37,18 @@ Attribute = sequence (Required object_identifier ⨾ Required (set_of_some OpenT
 unfoldable pub Extension : TypeTerm
 Extension = sequence (Required object_identifier ⨾ Default (universal 1) (0 ∷ []) (LeafType (universal 1) Boolean) ⨾ Required octet_string ⨾ EndOfFields)
 
--- An attribute of a request: extensionRequest has lists of extensions (RFC 2985 section 5.4.2), any other one open values.
+-- An attribute of a request: extensionRequest has lists of extensions (RFC 2985 section 5.4.2, which has one list of at least one; several of them and empty ones: profile), any other one open values.
 unfoldable pub RequestAttribute : TypeTerm
 RequestAttribute =
     sequence (Required object_identifier
-    ⨾ Required (DefinedByType (0 ∷ []) (extension_request ∷ []) (set_of_some (sequence_of Extension)) (set_of_some OpenType))
+    ⨾ Required (DefinedByType first_field (extension_request ∷ []) (set_of_some (sequence_of Extension)) (set_of_some OpenType))
     ⨾ EndOfFields)
 
 -- RFC 5915 section 3. The parameters may be absent (profile), and are a named curve.
 unfoldable pub ECPrivateKey : TypeTerm
 ECPrivateKey =
     RuledType ec_rule
-    (sequence (Required (version ((1 ∷ []) ∷ []))
+    (sequence (Required (version (version_1 ∷ []))
     ⨾ Required octet_string
     ⨾ Optional (explicit 0 object_identifier)
     ⨾ Optional (explicit 1 bit_string)
@@ -59,13 +60,13 @@ OtherPrimeInfo = sequence (Required integer ⨾ Required integer ⨾ Required in
 
 -- otherPrimeInfos of an RSAPrivateKey: at least one, and none under version 0 (RFC 8017 A.1.2).
 abbrev pub other_prime_infos : TypeTerm
-other_prime_infos = DefinedByType (0 ∷ []) ((0 ∷ []) ∷ []) (RefusedType (universal 16) VersionRule) (SequenceOfType (universal 16) 1 OtherPrimeInfo)
+other_prime_infos = DefinedByType first_field (version_0 ∷ []) (RefusedType (universal 16) VersionRule) (SequenceOfType (universal 16) 1 OtherPrimeInfo)
 
 -- RFC 8017 A.1.2: version, modulus, both exponents, both primes, both exponents of these, coefficient, otherPrimeInfos.
 unfoldable pub RSAPrivateKey : TypeTerm
 RSAPrivateKey =
     RuledType rsa_version_rule
-    (sequence (Required (version ((0 ∷ []) ∷ (1 ∷ []) ∷ []))
+    (sequence (Required (version (version_0 ∷ version_1 ∷ []))
     ⨾ Required integer ⨾ Required integer ⨾ Required integer ⨾ Required integer
     ⨾ Required integer ⨾ Required integer ⨾ Required integer ⨾ Required integer
     ⨾ Optional other_prime_infos
@@ -74,21 +75,21 @@ RSAPrivateKey =
 -- privateKey of a OneAsymmetricKey: what its octets contain goes by the algorithm, which stands second in the container (RFC 5915 section 3, RFC 8410 section 7, RFC 8017 A.1). Under all other algorithms the octets are carried.
 abbrev pub private_key : TypeTerm
 private_key =
-    DefinedByType (1 ∷ 0 ∷ []) (ec_public_key ∷ []) (ContainingType (universal 4) inner_ec_rule ECPrivateKey)
-    (DefinedByType (1 ∷ 0 ∷ []) rfc8410_algorithms (ContainingType (universal 4) inner_curve_rule octet_string)
-    (DefinedByType (1 ∷ 0 ∷ []) (rsa_encryption ∷ []) (ContainingType (universal 4) no_rule RSAPrivateKey) octet_string))
+    DefinedByType algorithm_of_key (ec_public_key ∷ []) (ContainingType (universal 4) inner_ec_rule ECPrivateKey)
+    (DefinedByType algorithm_of_key rfc8410_algorithms (ContainingType (universal 4) inner_curve_rule octet_string)
+    (DefinedByType algorithm_of_key (rsa_encryption ∷ []) (ContainingType (universal 4) no_rule RSAPrivateKey) octet_string))
 
 -- publicKey of a OneAsymmetricKey: [1] may not stand in one of version 0 (RFC 5958 section 2).
 abbrev pub public_key : TypeTerm
 public_key =
-    DefinedByType (0 ∷ []) ((0 ∷ []) ∷ []) (RefusedType (context_specific 1) VersionRule)
-    (RuledType (key_bits_rule (1 ∷ 0 ∷ [])) (LeafType (context_specific 1) BitString))
+    DefinedByType first_field (version_0 ∷ []) (RefusedType (context_specific 1) VersionRule)
+    (RuledType (key_bits_rule algorithm_of_key) (LeafType (context_specific 1) BitString))
 
 -- RFC 5958 section 2, closed (profile).
 unfoldable pub OneAsymmetricKey : TypeTerm
 OneAsymmetricKey =
     RuledType key_version_rule
-    (sequence (Required (version ((0 ∷ []) ∷ (1 ∷ []) ∷ []))
+    (sequence (Required (version (version_0 ∷ version_1 ∷ []))
     ⨾ Required (RuledType ec_parameters_rule AlgorithmIdentifier)
     ⨾ Required private_key
     ⨾ Optional (SetOfType (context_specific 0) 0 Attribute)
@@ -106,7 +107,7 @@ EncryptedPrivateKeyInfo = sequence (Required AlgorithmIdentifier ⨾ Required oc
 -- RFC 2986 section 4.1. The attributes may be absent (profile).
 unfoldable pub CertificationRequestInfo : TypeTerm
 CertificationRequestInfo =
-    sequence (Required (version ((0 ∷ []) ∷ []))
+    sequence (Required (version (version_0 ∷ []))
     ⨾ Required Name
     ⨾ Required SubjectPublicKeyInfo
     ⨾ Optional (SetOfType (context_specific 0) 0 RequestAttribute)

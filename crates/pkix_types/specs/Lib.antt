@@ -1,4 +1,5 @@
 pub mod DocumentLaws
 pub mod DocumentTypes
 pub mod Identifiers
+pub mod Paths
 pub mod Rules

@@ -7,6 +7,7 @@ use Rattle.x690.specs.Layouts.{context_specific, same_tag, universal}
 use Rattle.x690.specs.Lists.{one_of, same_octets}
 use Rattle.x690.specs.Values.{Leaf, Sequence, SetOf, Value, leaf_at, leaf_contents, sequence_members, value_tag}
 use Rattle.pkix_types.specs.Identifiers.{curve_lengths, ec_public_key, length_under, rfc8410_algorithms, rfc8410_lengths}
+use Rattle.pkix_types.specs.Paths.{algorithm_of_key, curve_of_key, first_field, second_field, under_tag, version_0}
 
 -- a length that a table gives, if it gives one
 abbrev pub has_length : Option ℕ → ℕ → Bool
@@ -48,12 +49,12 @@ version_rule allowed earlier value = else_refused (one_of (leaf_contents value) 
 -- An AlgorithmIdentifier with an algorithm of RFC 8410 has no parameters.
 abbrev pub parameters_rule : List Value → Value → Option Reason
 parameters_rule earlier value =
-    else_refused (not (leaf_is_one_of (0 ∷ []) rfc8410_algorithms (sequence_members value)) || (length (sequence_members value) == 1)) Parameters
+    else_refused (not (leaf_is_one_of first_field rfc8410_algorithms (sequence_members value)) || (length (sequence_members value) == 1)) Parameters
 
 -- In a OneAsymmetricKey, id-ecPublicKey has parameters, and they are an OBJECT IDENTIFIER: the curve (profile).
 abbrev pub ec_parameters_rule : List Value → Value → Option Reason
 ec_parameters_rule earlier value =
-    else_refused (not (leaf_is_one_of (0 ∷ []) (ec_public_key ∷ []) (sequence_members value)) || nth_is_identifier 1 (sequence_members value)) Parameters
+    else_refused (not (leaf_is_one_of first_field (ec_public_key ∷ []) (sequence_members value)) || nth_is_identifier 1 (sequence_members value)) Parameters
 
 -- the contents of a BIT STRING, without unused bits
 abbrev pub no_unused : List ℕ → Bool
@@ -68,15 +69,15 @@ key_bits_rule path earlier value =
 
 -- Under an algorithm of RFC 8410, a private key has the table's length.
 abbrev pub inner_curve_rule : List Value → Value → Option Reason
-inner_curve_rule earlier value = else_refused (has_length (length_under rfc8410_lengths (leaf_at (1 ∷ 0 ∷ []) earlier)) (length (leaf_contents value))) KeyLength
+inner_curve_rule earlier value = else_refused (has_length (length_under rfc8410_lengths (leaf_at algorithm_of_key earlier)) (length (leaf_contents value))) KeyLength
 
 -- the curve that an ECPrivateKey names, no octets where it names none
 abbrev pub own_curve : Value → List ℕ
-own_curve value = leaf_at (0 ∷ 0 ∷ []) (with_tag (context_specific 0) (sequence_members value))
+own_curve value = leaf_at under_tag (with_tag (context_specific 0) (sequence_members value))
 
 -- On a curve of the table the private key has its length.
 abbrev pub ec_length : List ℕ → Value → Bool
-ec_length curve value = has_length (length_under curve_lengths curve) (length (leaf_at (1 ∷ []) (sequence_members value)))
+ec_length curve value = has_length (length_under curve_lengths curve) (length (leaf_at second_field (sequence_members value)))
 
 -- An ECPrivateKey has the length of the curve that it names.
 abbrev pub ec_rule : List Value → Value → Option Reason
@@ -84,9 +85,9 @@ ec_rule earlier value = else_refused (ec_length (own_curve value) value) KeyLeng
 
 -- the curve that a container names: under id-ecPublicKey its parameters, no octets under another algorithm
 abbrev pub container_curve : List Value → List ℕ
-container_curve earlier = elim (leaf_is_one_of (1 ∷ 0 ∷ []) (ec_public_key ∷ []) earlier) [ true ↦ leaf_at (1 ∷ 1 ∷ []) earlier | false ↦ [] ]
+container_curve earlier = elim (leaf_is_one_of algorithm_of_key (ec_public_key ∷ []) earlier) [ true ↦ leaf_at curve_of_key earlier | false ↦ [] ]
 
--- An ECPrivateKey in a container names the container's curve, or none, and then has the length of the container's.
+-- An ECPrivateKey in a container names the container's curve (profile), or none, and then has the length of the container's.
 abbrev pub inner_ec_rule : List Value → Value → Option Reason
 inner_ec_rule earlier value =
     elim (length (own_curve value) == 0) [
@@ -97,9 +98,9 @@ inner_ec_rule earlier value =
 -- A OneAsymmetricKey of version 1 has a public key.
 abbrev pub key_version_rule : List Value → Value → Option Reason
 key_version_rule earlier value =
-    else_refused (leaf_is_one_of (0 ∷ []) ((0 ∷ []) ∷ []) (sequence_members value) || not (length (with_tag (context_specific 1) (sequence_members value)) == 0)) VersionRule
+    else_refused (leaf_is_one_of first_field (version_0 ∷ []) (sequence_members value) || not (length (with_tag (context_specific 1) (sequence_members value)) == 0)) VersionRule
 
 -- An RSAPrivateKey of version 1 has otherPrimeInfos, the tenth of its fields.
 abbrev pub rsa_version_rule : List Value → Value → Option Reason
 rsa_version_rule earlier value =
-    else_refused (leaf_is_one_of (0 ∷ []) ((0 ∷ []) ∷ []) (sequence_members value) || length (sequence_members value) == 10) VersionRule
+    else_refused (leaf_is_one_of first_field (version_0 ∷ []) (sequence_members value) || length (sequence_members value) == 10) VersionRule

@@ -1,6 +1,7 @@
 //! Attribute of RFC 2986 section 4.1.
 ghost use Rattle.std.proofs.lemmas.Bool.{ltb-true};
-ghost use Rattle.std.specs.Prelude.{◌≡◌, ◌↔◌, IsTrue, refl};
+ghost use Rattle.asn_containers.specs.Containers.{set_items};
+ghost use Rattle.std.specs.Prelude.{◌≡◌, ◌↔◌, ◌<◌, IsTrue, length, refl};
 ghost use Rattle.pkix_types.specs.DocumentTypes.{Attribute as AttributeType};
 ghost use Rattle.x690.specs.Values.{Same};
 ghost use Rattle.pkix_types.proofs.ClosedTypes.{attribute_closed};
@@ -47,7 +48,8 @@ impl Attribute {
 
     /// Its values, in the order of their texts.
     pub fn values(&self) -> &SetOf<Any>
-        ensures { result.now ≡ self.now.0.fields.1.0.items }
+        ensures value { result.now ≡ self.now.0.fields.1.0.items }
+        ensures some { 0 < length (set_items result.now) }
     {
         self.0.fields().1.0.items()
     }

@@ -30,9 +30,10 @@ use Rattle.x690_laws.proofs.HeaderSound.{Within, octets_took}
 use Rattle.x690_laws.proofs.Judging.{not_ended}
 use Rattle.x690_laws.proofs.LeafSound.{contents_fit}
 use Rattle.x690_laws.proofs.Members.{GivesOne, TakesOne, container_halts, container_takes, form_halts, members_end, members_ended, members_halt, members_stop, opened_on}
-use Rattle.x690.proofs.Runs.{halt_bind, halted_bind, halted_done, halted_fail, halted_require, run_bind, took_bind, took_done}
+use Rattle.x690.proofs.Runs.{halt_bind, halted_bind, halted_done, halted_fail, halted_require, run_bind, took_bind, took_done, took_require}
 use Rattle.x690_laws.proofs.Sound.{Fine, Laid, Segs, next_fine, same_tag_is, segment_took}
 use Rattle.x690_laws.proofs.Soundness.{equal_tag, open_took}
+use Rattle.x690_laws.specs.StepLaws.{BadSegment, read_all_segments, read_only_segment}
 
 -- primitive elements
 
@@ -387,6 +388,57 @@ leaf_halts l c kind p t true k s f z (inr (inr (w, n, e, h))) = go (segment_tag 
         let e' : n ≡ n' = cc in
         subst (λ v. run (in_container l c p true (λ c'. each_member (read_segment l.depth l v c') l.octets l c' []) >>= λ e. require (is_joined_contents kind e.all) (fault p BadText) (Done (Leaf t (joined_contents kind e.all)))) k s ≡ Halted f) e'
         (from_end i j u op m y g a)
+
+-- a primitive element by itself
+
+pub primitive_stands : (l : Limits) (c : Enclosing) (p k : ℕ) (s o : List ℕ) (q : ℕ) (r : List ℕ) → run (primitive_contents l c p) k s ≡ Took o q r → (j : ℕ) × (q ≡ j + length o) × LengthStands l c.nearest_end k s (length o) j (o ++ r)
+unfolding primitive_contents
+primitive_stands l c p k s o q r h =
+    let b = took_bind _ _ _ _ _ _ _ h in
+    let d = definite_stands l c.nearest_end p k s b.value b.place b.rest b.first in
+    let x = octets_took b.value b.place b.rest o q r b.next_tag in (
+      b.place,
+      x.2 ∙ ap (λ n. b.place + n) (sym x.1),
+      subst (λ w. LengthStands l c.nearest_end k s w b.place (o ++ r)) (sym x.1) (subst (λ w. LengthStands l c.nearest_end k s b.value b.place w) x.0 d),
+    )
+
+pub primitive_run : (l : Limits) (c : Enclosing) (p k : ℕ) (s o : List ℕ) (j : ℕ) (r : List ℕ) → LengthStands l c.nearest_end k s (length o) j (o ++ r) → run (primitive_contents l c p) k s ≡ Took o (j + length o) r
+unfolding primitive_contents
+primitive_run l c p k s o j r d = run_bind _ _ k s (length o) j (o ++ r) (definite_run l c.nearest_end p k s (length o) j (o ++ r) d) ∙ octets_on o r j
+
+-- a string by itself
+
+pub one_stands : (n : ℕ) (l : Limits) (c : Enclosing) (p k : ℕ) (s : List ℕ) (all : List (List ℕ)) (q : ℕ) (r : List ℕ) → run (read_only_segment n l c p) k s ≡ Took all q r
+    → (o : List ℕ) × (j : ℕ) × (all ≡ o ∷ []) × (n ≡ 3 → AreBitSegments (o ∷ [])) × (q ≡ j + length o) × LengthStands l c.nearest_end k s (length o) j (o ++ r)
+one_stands n l c p k s all q r h =
+    let b = took_bind _ _ _ _ _ _ _ h in
+    let g = took_require _ _ _ _ _ _ _ _ b.next_tag in
+    let d = took_done _ _ _ _ _ _ g.1 in
+    let t = primitive_stands l c p k s b.value b.place b.rest b.first in
+    (b.value, t.0, sym d.0, next_fine n [] b.value g.0 (no_segments n), sym d.1 ∙ t.1, subst (λ w. LengthStands l c.nearest_end k s (length b.value) t.0 (b.value ++ w)) d.2 t.2)
+
+pub one_stops : (n : ℕ) (l : Limits) (c : Enclosing) (p k : ℕ) (s : List ℕ) (f : Fault) → run (read_only_segment n l c p) k s ≡ Halted f → PrimitiveStops l c p k s (BadSegment n p f) f
+one_stops n l c p k s f h =
+    primitive_stop l c p k s f _ (BadSegment n p f)
+    (λ o q r g. ⊎_elim (λ b. let y = next_bad n [] o b.0 in (y.0, y.1, b.1)) (λ b. absurd (halted_done _ q r f b.1)) (halted_require _ _ _ q r f g)) h
+
+pub one_halts : (n : ℕ) (l : Limits) (c : Enclosing) (p k : ℕ) (s : List ℕ) (f : Fault) → PrimitiveStops l c p k s (BadSegment n p f) f → run (read_only_segment n l c p) k s ≡ Halted f
+one_halts n l c p k s f h = primitive_halt l c p k s f _ (BadSegment n p f) (λ o q r b. require_off _ _ _ q r f (bad_next n [] o b.0 (no_segments n) b.1) b.2) h
+
+pub all_stand : (n : ℕ) (l : Limits) (c : Enclosing) (p k : ℕ) (s : List ℕ) (e : Ended (List (List ℕ))) (q : ℕ) (r : List ℕ) → run (read_all_segments n l c p) k s ≡ Took e q r
+    → (n ≡ 3 → AreBitSegments e.all)
+    × OpensThen l c true k s (λ inside start contents. (many : ℕ) × After (SegmentStands l inside n) (λ all place' octets'. EndsHere l inside place' octets' × (all ≡ e.all)) many [] start contents)
+all_stand n l c p k s e q r h =
+    let x = container_takes l c p true (λ c'. each_member (read_segment l.depth l n c') l.octets l c' []) k s e q r h in
+    let m = members_end (read_segment l.depth l n x.0) (λ s. s) (SegmentStands l x.0 n) (λ m s. Fine n s) (λ all k' s'. EndsHere l x.0 k' s' × (all ≡ e.all)) l x.0 e
+    (segment_takes l.depth l n x.0) (λ k' s' g w. (w, refl)) l.octets 0 [] x.1 x.2 q r (no_segments n) x.5 in
+    (m.1, (x.0, x.1, x.2, x.3, (m.0, m.2)))
+
+pub all_stop : (n : ℕ) (l : Limits) (c : Enclosing) (p k : ℕ) (s : List ℕ) (f : Fault) → 0 < k → run (read_all_segments n l c p) k s ≡ Halted f → SegmentsStop (λ inside before. SegmentStops l.depth l n inside before) l n c [] p k s f
+all_stop n l c p k s f z h = string_stops l.depth l n c [] p k s f (segment_stops l.depth l n f) (omega arith) (no_segments n) z h
+
+pub all_halt : (n : ℕ) (l : Limits) (c : Enclosing) (p k : ℕ) (s : List ℕ) (f : Fault) → 0 < k → SegmentsStop (λ inside before. SegmentStops l.depth l n inside before) l n c [] p k s f → run (read_all_segments n l c p) k s ≡ Halted f
+all_halt n l c p k s f z h = string_halts l.depth l n c [] p k s f (segment_halts l.depth l n f) (omega arith) (no_segments n) z h
 
 -- open values
 

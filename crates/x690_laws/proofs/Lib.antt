@@ -38,10 +38,11 @@ pub mod GrowthBounds
 pub mod ShortTexts
 -- 7. The plain reading halts as the fault grammar says: in headers, among members, in contents, in elements of a type.
 -- The fault that stops an element is the one that it finds, and there is one (`faults`); what every fault looks like
--- (`reading`).
+-- (`reading`). With groups 4 and 5 each single step is as the definitions have it (`steps`).
 pub mod HeaderFaulting
 pub mod Members
 pub mod ContentsFaulting
+pub mod SingleSteps
 pub mod Stopping
 pub mod Exactly
 pub mod Honesty

@@ -2,6 +2,7 @@
 use Rattle.std.proofs.Common.{◌≡◌, ℕ, ◌⊎◌, Bool, true, false, inl, inr, ⊎_elim, List, [], ◌∷◌, ◌++◌, refl, arith}
 use Rattle.std.proofs.lemmas.Bool.Decides.{nat_tests}
 use Rattle.x690.specs.DerTexts.{padded_less}
+use Rattle.x690_laws.specs.ValueLaws.{EqualityByOrder}
 
 pub bool_cases : (b : Bool) → (b ≡ true) ⊎ (b ≡ false)
 bool_cases true = inl refl
@@ -38,6 +39,13 @@ ge_trans (a ∷ x) (b ∷ y) (c ∷ z) h k = let ih = ge_trans x y z in grind (a
 
 pub lt_asym : (x y : List ℕ) → padded_less x y ≡ true → padded_less y x ≡ false
 lt_asym x y h = ⊎_elim (λ k. let l = lt_trans x y x h k in let m = lt_irrefl x in cc) (λ k. k) (bool_cases (padded_less y x))
+
+pub equality_by_order : EqualityByOrder
+equality_by_order = record {
+  equal_refl = λ x. (lt_irrefl x, lt_irrefl x);
+  equal_sym = λ x y e. (e.1, e.0);
+  equal_trans = λ x y z e f. (ge_trans x y z e.0 f.0, ge_trans z y x f.1 e.1);
+}
 
 -- lists that are equal by the padded order: one begins the other
 pub ties : (x y : List ℕ) → padded_less x y ≡ false → padded_less y x ≡ false → ((z : List ℕ) × (y ≡ x ++ z)) ⊎ ((z : List ℕ) × (x ≡ y ++ z))

@@ -4,5 +4,6 @@ pub mod FaultLaws
 pub mod GrowthLaws
 pub mod LayoutLaws
 pub mod ReadingLaws
+pub mod StepLaws
 pub mod TypeLaws
 pub mod ValueLaws

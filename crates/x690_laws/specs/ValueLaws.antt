@@ -25,5 +25,15 @@ pub record Arrangement : Type 0 where
   pub plain_order : (v w : Value) → padded_less (der v) (der w) ≡ plain_less (der v) (der w)
   pub one_arrangement : (values : Values) (texts : List (List ℕ)) → Ascends texts → Paired (λ x y. x ≡ y) texts (der_texts values) → texts ≡ arrange (der_texts values)
 
+-- Neither of the texts is less than the other: they are equal by the order of SET OF.
+abbrev pub EqualByOrder : List ℕ → List ℕ → Type 0
+EqualByOrder x y = (padded_less x y ≡ false) × (padded_less y x ≡ false)
+
+-- To be equal by the order of SET OF is an equivalence, on all lists of octets.
+pub record EqualityByOrder : Type 0 where
+  pub equal_refl : (x : List ℕ) → EqualByOrder x x
+  pub equal_sym : (x y : List ℕ) → EqualByOrder x y → EqualByOrder y x
+  pub equal_trans : (x y z : List ℕ) → EqualByOrder x y → EqualByOrder y z → EqualByOrder x z
+
 abbrev pub SameHaveOneText : Type 0
 SameHaveOneText = (v w : Value) → Same v w → der v ≡ der w

@@ -11,5 +11,6 @@ pub mod faults;
 pub mod growth;
 pub mod layouts;
 pub mod reading;
+pub mod steps;
 pub mod types;
 pub mod values;

@@ -1,7 +1,10 @@
-use Rattle.std.proofs.Common.{rules, ◌≡◌, ◌∷◌, ap, sym}
+use Rattle.std.proofs.Common.{rules, ◌≡◌, ◌∷◌, None, ap, subst, sym}
 use Rattle.x690.specs.Values.{Leaf}
 use Rattle.ber_pull.specs.Calls.{read_bits}
 use Rattle.ber_pull.proofs.Hearing.{hears_done, hears_err, hears_error, hears_said, hears_same, hears_then, hears_then_memory}
+use Rattle.asn_elements.specs.BitStrings.{IsDerBits}
+use Rattle.asn_elements.proofs.Answering.{none_by, some_given}
+use Rattle.asn_elements.proofs.BitReadings.{bits_heard}
 use Rattle.asn_elements.proofs.LeafReadings.{bits_leaf, bits_leaf_is}
 use Rattle.asn_elements.proofs.leaf_reading.read_bits_leaf.Goals as goal
 
@@ -22,3 +25,11 @@ pub returns-in-Err-clause-reads : goal.returns-in-Err-clause-reads
 returns-in-Err-clause-reads g c = λ own given fine is.
     let first = c.no_memory.ensures.first (search rules) in
     hears_then_memory _ _ _ _ _ _ _ _ _ _ first.0 (ap (λ z. z.taken) first.1) (ap g.R.Source.remaining c.no_memory.ensures.same) (c.in_ok-unused.ensures.reads given fine is)
+
+pub returns-in-Ok-clause-bits : goal.returns-in-Ok-clause-bits
+returns-in-Ok-clause-bits g c =
+    let s = c.args.pull.now.state in
+    let fine : s.error ≡ None = none_by s.error (λ e h. let r = (c.in_ok-unused.ensures.repeats e h).0 in cc) in
+    let given = some_given s.given (c.requires fine) in
+    let whole : c.insert.new.self.items ≡ c.in_ok-unused.unused ∷ c.in_ok-unused.octets.items = search rules in
+    subst IsDerBits (sym whole) (bits_heard s given.0 _ _ _ _ _ _ (c.in_ok-unused.ensures.reads given.0 fine given.1))
