@@ -1,12 +1,13 @@
 #!/usr/bin/env python3
-"""random_documents.py [--seed N] [--count N] [--first N] [--action A].. [PROGRAM..]: random documents, handed to
-tools/independent_reader.py and to each program: whether output, line and status agree.
+"""random_documents.py [--seed N] [--count N] [--first N] [--whole] [--action A].. [PROGRAM..]: random documents, handed
+to tools/independent_reader.py and to each program: whether output, line and status agree.
 
 The documents are those of tools/made_documents.py: of all kinds, in random layouts, some with mistakes, some cut,
 changed or followed by further octets, under random limits, some with a standard input that fails behind them or comes
-in pieces. A document is made from the seed and its number alone: --first N --count 1 makes that one. Without a program
-the reader alone is asked. The action is normalise, or one of those that are named. What differs is shown as a row, as
-tools/rows.py reads it, with what the program says.
+in pieces; under --whole no input fails, for programs that read it to its end before they judge. A document is made from
+the seed and its number alone: --first N --count 1 makes that one. Without a program the reader alone is asked. The
+action is any of the four, or one of those that are named. What differs is shown as a row, as tools/rows.py reads it,
+with what the program says.
 
 At the end stands how many documents were accepted and refused, and why. Each reason has to come where a thousand
 documents or more are made; the last line is 'documents: N passed, M failed'."""
@@ -75,6 +76,7 @@ def command_line(words):
     parser.add_argument("--seed", default="1")
     parser.add_argument("--count", type=int, default=4000)
     parser.add_argument("--first", type=int, default=0)
+    parser.add_argument("--whole", action="store_true", help="no input fails behind the document")
     parser.add_argument("--action", choices=ACTIONS, action="append")
     parser.add_argument("programs", nargs="*", metavar="PROGRAM")
     return parser.parse_args(words)
@@ -85,7 +87,9 @@ def main(words):
     programs = [os.path.abspath(it) for it in asked.programs]
     outcomes, agreed = Counter(), Counter()
     for number in range(asked.first, asked.first + asked.count):
-        question = made(asked.seed, number, asked.action or ["normalise"])
+        question = made(asked.seed, number, asked.action or [*ACTIONS])
+        if asked.whole and question.device == FAILING:
+            question.device = ""
         due = question.due()
         outcomes[outcome(due)] += 1
         agreed[question.is_answered(due, programs)] += 1
