@@ -68,6 +68,7 @@ def parts():
             ["python3", "tools/hostile_families.py", *builds(PROGRAM)],
         ],
         "growths": [[*GROWTHS, built(it), *tables(it)] for it in ("library_rows", "sequence_rows")],
+        "interface": [["sh", "interface/test.sh"]],
     }
 
 

@@ -4,14 +4,17 @@
 A block whose first line begins with '$ ' is a transcript. Its lines that begin so are commands, a backslash at their
 end taking the next line with them, and the lines behind a command are what it prints, on both outputs; a line of three
 dots stands for any lines, and three dots in a line for any text. A block marked sh or bash is a recipe: functions that
-transcripts behind it call. It ends with status 0 and prints nothing. Other blocks are left alone.
+transcripts behind it call. It ends with status 0 and prints nothing. A block marked with a language and a name is a
+file of that name. Other blocks are left alone.
 
 The blocks of a section run in one shell, bash where one is marked so, in a folder of their own with the program as
-pkder, the files of examples/, and examples/, crates/, docs/ and tools/ themselves. From where a tool is named that
-isn't installed a section is left out, which is told. Each text has a line for each program, and the last line is
-'transcripts: N passed, M failed', a command and a recipe counting once for each program."""
+pkder, the files of examples/, and examples/, crates/, docs/ and tools/ themselves, interface/ as a copy. From where a
+tool is named that isn't installed a section is left out, which is told. Each text has a line for each program, and the
+last line is 'transcripts: N passed, M failed', a command, a recipe and a file counting once for each program."""
+import importlib.util
 import os
 import re
+import shlex
 import shutil
 import subprocess
 import sys
@@ -19,8 +22,9 @@ import tempfile
 
 TOP = os.path.dirname(os.path.dirname(os.path.realpath(__file__)))
 SECONDS = 120
-# what a POSIX system may lack
-TOOLS = ("openssl", "xxd", "jq", "mandoc")
+# what a POSIX system may lack, and what pip builds with
+TOOLS = ("openssl", "xxd", "jq", "mandoc", "cc", "pkg-config", "cargo", "go", "pip")
+BUILT_WITH = {"pip": ("setuptools", "wheel")}
 MARK = "-- step"
 
 
@@ -32,13 +36,20 @@ class Step:
 
     def lacks(self):
         """The first tool that it names and that isn't installed."""
-        return next((it for it in TOOLS if re.search(rf"\b{it}\b", self.text) and not shutil.which(it)), None)
+        return next((it for it in TOOLS if re.search(rf"\b{it}\b", self.text) and not is_installed(it)), None)
+
+
+def is_installed(tool):
+    return shutil.which(tool) and all(map(importlib.util.find_spec, BUILT_WITH.get(tool, ())))
 
 
 def steps_of(number, language, lines):
     """The steps of a block that begins behind the line of this number."""
     if language in ("sh", "bash"):
         return [Step(number + 1, "\n".join(lines), language)]
+    if " " in language:
+        name = shlex.quote(language.split()[1])
+        return [Step(number + 1, "\n".join([f"cat > {name} << '{MARK}'", *lines, MARK]))]
     steps, goes_on = [], False
     if not lines or not lines[0].startswith("$ "):
         return steps
@@ -79,6 +90,8 @@ def folder_with(folder, program):
     shutil.copytree(f"{TOP}/examples", place)
     for name in ("examples", "crates", "docs", "tools"):
         os.symlink(f"{TOP}/{name}", f"{place}/{name}")
+    # (pip builds in it)
+    shutil.copytree(f"{TOP}/interface", f"{place}/interface", ignore=shutil.ignore_patterns("out", "build", "target"))
     os.mkdir(f"{folder}/bin")
     os.symlink(os.path.abspath(program), f"{folder}/bin/pkder")
     return place

@@ -1,0 +1,16 @@
+-- Why a call has nothing to answer, by the errors of what it calls.
+use Rattle.tlv_core.specs.declared.fault.ReadError.{ReadError}
+use Rattle.tlv_core.specs.declared.fault.ReadError.TheVariants as errors
+use Rattle.asn_documents.specs.declared.normalise.NormaliseError.{NormaliseError}
+use Rattle.asn_documents.specs.declared.normalise.NormaliseError.TheVariants.{Read, Write}
+use Rattle.pkder_c.specs.declared.refusal.Refusal.{Refusal}
+use Rattle.pkder_c.specs.declared.refusal.Refusal.TheVariants as refusals
+
+abbrev pub unread_refusal : ReadError → Refusal
+unread_refusal (errors.Fault found) = refusals.Fault found
+unread_refusal (errors.Read at) = refusals.Memory
+unread_refusal errors.Memory = refusals.Memory
+
+abbrev pub unwritten_refusal : NormaliseError → Refusal
+unwritten_refusal (Read error) = unread_refusal error
+unwritten_refusal (Write error) = refusals.Memory

@@ -1,0 +1,97 @@
+//! Documents by arguments that are numbers.
+ghost use Rattle.std.specs.Prelude.{IfErr, IfOk};
+ghost use Rattle.pkder_c.specs.Calls.{AreLines, IsPartText, IsPlace, IsText, KindRefused, PartRefused};
+
+use crate::numbers::{kind_of, limits_of, request_part_of};
+use crate::refusal::Refusal;
+use crate::whole::{whole_lines, whole_part, whole_place, whole_text};
+use pk_documents::document::{Document, Valued};
+use std::alloc::Global;
+
+/// The document's DER text.
+pub fn text_of(
+    alloc: Global,
+    kind: u32,
+    depth: u32,
+    octets: u64,
+    src: &[u8],
+) -> Result<Vec<u8>, Refusal>
+    ensures text { IfOk result (λ text. IsText kind
+        (record { depth = depth; octets = octets }) src.now text.items) }
+    ensures refused { IfErr result (KindRefused kind
+        (record { depth = depth; octets = octets }) src.now) }
+{
+    let Some(document) = kind_of(kind) else {
+        return Err(Refusal::Call);
+    };
+    let Some(limits) = limits_of(depth, octets) else {
+        return Err(Refusal::Call);
+    };
+    whole_text(alloc, document, limits, src)
+}
+
+/// The first place where the document isn't in DER.
+pub fn place_of(
+    alloc: Global,
+    kind: u32,
+    depth: u32,
+    octets: u64,
+    src: &[u8],
+) -> Result<Option<u64>, Refusal>
+    ensures place { IfOk result (λ place. IsPlace kind
+        (record { depth = depth; octets = octets }) src.now place) }
+    ensures refused { IfErr result (KindRefused kind
+        (record { depth = depth; octets = octets }) src.now) }
+{
+    let Some(document) = kind_of(kind) else {
+        return Err(Refusal::Call);
+    };
+    let Some(limits) = limits_of(depth, octets) else {
+        return Err(Refusal::Call);
+    };
+    whole_place(alloc, document, limits, src)
+}
+
+/// The document's lines.
+pub fn lines_of(
+    alloc: Global,
+    kind: u32,
+    depth: u32,
+    octets: u64,
+    src: &[u8],
+) -> Result<Vec<u8>, Refusal>
+    ensures lines { IfOk result (λ text. AreLines ⟦<Document as Valued>⟧.value kind
+        (record { depth = depth; octets = octets }) src.now text.items) }
+    ensures refused { IfErr result (KindRefused kind
+        (record { depth = depth; octets = octets }) src.now) }
+{
+    let Some(document) = kind_of(kind) else {
+        return Err(Refusal::Call);
+    };
+    let Some(limits) = limits_of(depth, octets) else {
+        return Err(Refusal::Call);
+    };
+    whole_lines(alloc, document, limits, src)
+}
+
+/// The part of the request.
+pub fn part_of(
+    alloc: Global,
+    part: u32,
+    depth: u32,
+    octets: u64,
+    src: &[u8],
+) -> Result<Vec<u8>, Refusal>
+    ensures part { IfOk result (λ text. IsPartText part
+        (record { depth = depth; octets = octets }) src.now text.items) }
+    ensures refused { IfErr result (PartRefused part
+        (record { depth = depth; octets = octets }) src.now) }
+{
+    let Some(wanted) = request_part_of(part) else {
+        return Err(Refusal::Call);
+    };
+    let Some(limits) = limits_of(depth, octets) else {
+        return Err(Refusal::Call);
+    };
+    whole_part(alloc, wanted, limits, src)
+}

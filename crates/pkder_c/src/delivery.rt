@@ -1,0 +1,35 @@
+//! What comes of a call, put where the caller sees it.
+ghost use Rattle.std.specs.Prelude.{◌≡◌, IfErr, IfOk, length};
+ghost use Rattle.pkder_c.specs.Calls.{Put};
+ghost use Rattle.pkder_c.specs.Outcomes.{checked_outcome, refused_outcome};
+
+use crate::outcome::{PkderOutcome, accepted, checked, refused, too_small};
+use crate::refusal::Refusal;
+
+/// Writes the text of the document in `src` where `dst` begins, if it fits there; nothing otherwise.
+pub fn deliver(made: Result<Vec<u8>, Refusal>, src: &[u8], dst: &mut [u8]) -> PkderOutcome
+    ensures put { IfOk made (λ text. Put text.items (length src.now) dst.old dst.new result) }
+    ensures refused { IfErr made (λ refusal. (result ≡ refused_outcome refusal)
+        × (dst.new ≡ dst.old)) }
+{
+    let text = match made {
+        Ok(text) => text,
+        Err(refusal) => return refused(&refusal),
+    };
+    if text.len() > dst.len() {
+        return too_small(src.len() as u64, text.len() as u64);
+    }
+    dst[..text.len()].copy_from_slice(&text);
+    accepted(src.len() as u64, text.len() as u64)
+}
+
+/// What was found of the document in `src`.
+pub fn tell(found: Result<Option<u64>, Refusal>, src: &[u8]) -> PkderOutcome
+    ensures checked { IfOk found (λ place. result ≡ checked_outcome (length src.now) place) }
+    ensures refused { IfErr found (λ refusal. result ≡ refused_outcome refusal) }
+{
+    match found {
+        Ok(place) => checked(src.len() as u64, place),
+        Err(refusal) => refused(&refusal),
+    }
+}

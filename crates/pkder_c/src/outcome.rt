@@ -1,0 +1,101 @@
+//! Outcomes as C sees them.
+ghost use Rattle.std.specs.Prelude.{◌≡◌};
+ghost use Rattle.pkder_c.specs.Outcomes.{accepted_outcome, checked_outcome, inside_of, refused_outcome, too_small_outcome};
+
+use crate::refusal::Refusal;
+use tlv_core::reason::Reason;
+
+/// What comes of a call. Numbers that a status doesn't use are 0.
+#[repr(C)]
+#[derive(Clone, Copy, Debug, PartialEq, Eq)]
+pub struct PkderOutcome {
+    /// 0 accepted, 1 a fault, 2 no room, 3 out of memory, 4 a bad call, 5 accepted and not in DER.
+    pub status: u32,
+    /// Of a fault: the number of its reason, 1 to 27.
+    pub reason: u32,
+    /// Of a fault in the octets of an OCTET STRING: the number of its reason there.
+    pub inside_reason: u32,
+    /// 0.
+    pub spare: u32,
+    /// Of a fault: its place, in octets from the start of the document. Not in DER: the first place that is another one
+    /// in the DER text.
+    pub at: u64,
+    /// Of a fault in the octets of an OCTET STRING: its place there.
+    pub inside_at: u64,
+    /// Accepted, no room or not in DER: the octets of the document.
+    pub taken: u64,
+    /// Accepted or no room: the octets of what is written, or would be.
+    pub size: u64,
+}
+
+/// The document is accepted.
+pub fn accepted(taken: u64, size: u64) -> PkderOutcome
+    ensures { result ≡ accepted_outcome taken size }
+{
+    PkderOutcome {
+        status: 0,
+        reason: 0,
+        inside_reason: 0,
+        spare: 0,
+        at: 0,
+        inside_at: 0,
+        taken,
+        size,
+    }
+}
+
+/// It is accepted, and there is no room for what is to be written.
+pub fn too_small(taken: u64, size: u64) -> PkderOutcome
+    ensures { result ≡ too_small_outcome taken size }
+{
+    PkderOutcome {
+        status: 2,
+        ..accepted(taken, size)
+    }
+}
+
+/// It is checked, by the place where it isn't in DER.
+pub fn checked(taken: u64, place: Option<u64>) -> PkderOutcome
+    ensures { result ≡ checked_outcome taken place }
+{
+    match place {
+        None => accepted(taken, 0),
+        Some(at) => PkderOutcome {
+            status: 5,
+            at,
+            ..accepted(taken, 0)
+        },
+    }
+}
+
+/// It is refused.
+pub fn refused(refusal: &Refusal) -> PkderOutcome
+    ensures { result ≡ refused_outcome refusal.now }
+{
+    let none = accepted(0, 0);
+    match refusal {
+        Refusal::Fault(fault) => {
+            let (inside_at, inside_reason) = inside_numbers(fault.inside);
+            PkderOutcome {
+                status: 1,
+                reason: u32::from(fault.why.number()),
+                inside_reason,
+                at: fault.at,
+                inside_at,
+                ..none
+            }
+        }
+        Refusal::Memory => PkderOutcome { status: 3, ..none },
+        Refusal::Call => PkderOutcome { status: 4, ..none },
+    }
+}
+
+/// The place and the number of the reason inside, 0 and 0 where there is none.
+fn inside_numbers(inside: Option<(u64, Reason)>) -> (u64, u32)
+    ensures { result ≡ inside_of inside }
+{
+    match inside {
+        None => (0, 0),
+        Some((at, why)) => (at, u32::from(why.number())),
+    }
+}

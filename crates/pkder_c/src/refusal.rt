@@ -1,0 +1,37 @@
+//! Why a call has nothing to answer.
+ghost use Rattle.std.specs.Prelude.{◌≡◌};
+ghost use Rattle.pkder_c.specs.Refusals.{unread_refusal, unwritten_refusal};
+
+use pk_documents::normalise::NormaliseError;
+use tlv_core::fault::{Fault, ReadError};
+
+/// Why there is nothing to answer.
+#[derive(Clone, Copy, Debug, PartialEq, Eq)]
+pub enum Refusal {
+    /// No kind or no part has the number, or the limits are none.
+    Call,
+    /// The document is refused.
+    Fault(Fault),
+    /// A growth of memory was refused.
+    Memory,
+}
+
+/// Why a document was not read. Reading octets in memory fails for want of memory alone.
+pub fn unread(error: &ReadError) -> Refusal
+    ensures { result ≡ unread_refusal error.now }
+{
+    match error {
+        ReadError::Fault(fault) => Refusal::Fault(*fault),
+        ReadError::Read { .. } | ReadError::Memory => Refusal::Memory,
+    }
+}
+
+/// Why a document was not normalised. So does writing to memory.
+pub fn unwritten(error: &NormaliseError) -> Refusal
+    ensures { result ≡ unwritten_refusal error.now }
+{
+    match error {
+        NormaliseError::Read(error) => unread(error),
+        NormaliseError::Write(_) => Refusal::Memory,
+    }
+}

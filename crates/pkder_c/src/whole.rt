@@ -1,0 +1,106 @@
+//! Octets that have to be one document, all of them.
+ghost use Rattle.std.specs.Prelude.{◌≡◌, IfErr, IfOk};
+ghost use Rattle.pk_documents.specs.Kinds.{type_of};
+ghost use Rattle.pk_documents.specs.RequestParts.{part_of};
+ghost use Rattle.pk_documents.specs.declared.kind.Kind.TheVariants.{Request as request_kind};
+ghost use Rattle.pk_show.specs.Shown.{document_lines};
+ghost use Rattle.pkder_c.specs.Wholes.{WholeChecked, WholeLines, WholePart, WholeRefused, WholeText};
+ghost use Rattle.pkder_c.specs.declared.refusal.Refusal.TheVariants.{Memory};
+
+use crate::refusal::{Refusal, unread, unwritten};
+use asn_documents::whole::read_whole_input;
+use asn_values::der_text::DerText;
+use pk_documents::check::check_whole_document;
+use pk_documents::document::{Document, Valued, read_whole_document};
+use pk_documents::kind::Kind;
+use pk_documents::normalise::normalise_whole_document;
+use pk_documents::request_part::{Part, write_part};
+use pk_requests::request::CertificationRequest;
+use pk_show::show_text;
+use std::alloc::Global;
+use tlv_core::limits::Limits;
+use tlv_core::target::ToWrite;
+
+/// The document's DER text.
+pub fn whole_text(alloc: Global, kind: Kind, limits: Limits, src: &[u8]) -> Result<Vec<u8>, Refusal>
+    ensures text { IfOk result (λ text. WholeText limits (type_of kind) src.now text.items) }
+    ensures refused { IfErr result (WholeRefused limits (type_of kind) src.now) }
+{
+    let mut rest = src;
+    let mut target = ToWrite::new(Vec::new(alloc));
+    match normalise_whole_document(alloc, &mut rest, &mut target, kind, limits) {
+        Ok(_) => Ok(target.into_inner()),
+        Err(error) => Err(unwritten(&error)),
+    }
+}
+
+/// The first place where the document isn't in DER.
+pub fn whole_place(
+    alloc: Global,
+    kind: Kind,
+    limits: Limits,
+    src: &[u8],
+) -> Result<Option<u64>, Refusal>
+    ensures place { IfOk result (WholeChecked limits (type_of kind) src.now) }
+    ensures refused { IfErr result (WholeRefused limits (type_of kind) src.now) }
+{
+    let mut rest = src;
+    match check_whole_document(alloc, &mut rest, kind, limits) {
+        Ok((_taken, place)) => Ok(place),
+        Err(error) => Err(unread(&error)),
+    }
+}
+
+/// The document's lines.
+pub fn whole_lines(
+    alloc: Global,
+    kind: Kind,
+    limits: Limits,
+    src: &[u8],
+) -> Result<Vec<u8>, Refusal>
+    ensures lines { IfOk result (λ text. WholeLines ⟦<Document as Valued>⟧.value limits kind src.now
+        text.items) }
+    ensures refused { IfErr result (WholeRefused limits (type_of kind) src.now) }
+{
+    let mut rest = src;
+    match read_whole_document(alloc, &mut rest, kind, limits) {
+        Ok((document, _taken)) => lines_text(alloc, &document),
+        Err(error) => Err(unread(&error)),
+    }
+}
+
+/// The lines of a document.
+fn lines_text(alloc: Global, document: &Document) -> Result<Vec<u8>, Refusal>
+    ensures lines { IfOk result (λ text. text.items ≡ document_lines document.now) }
+    ensures memory { IfErr result (λ refusal. refusal ≡ Memory) }
+{
+    match show_text(alloc, document) {
+        Ok(text) => Ok(text.into_bytes()),
+        Err(_) => Err(Refusal::Memory),
+    }
+}
+
+/// A part of the request.
+pub fn whole_part(alloc: Global, part: Part, limits: Limits, src: &[u8]) -> Result<Vec<u8>, Refusal>
+    ensures part { IfOk result (λ text. WholePart limits part src.now text.items) }
+    ensures refused { IfErr result (WholeRefused limits (type_of request_kind) src.now) }
+{
+    let mut rest = src;
+    match read_whole_input::<&[u8], CertificationRequest>(alloc, &mut rest, limits) {
+        Ok((request, _taken)) => part_text(alloc, &request, part),
+        Err(error) => Err(unread(&error)),
+    }
+}
+
+/// A part of a request.
+fn part_text(alloc: Global, request: &CertificationRequest, part: Part) -> Result<Vec<u8>, Refusal>
+    ensures part { IfOk result (λ text. text.items
+        ≡ part_of part (⟦<CertificationRequest as DerText>⟧.value request.now)) }
+    ensures memory { IfErr result (λ refusal. refusal ≡ Memory) }
+{
+    let mut target = ToWrite::new(Vec::new(alloc));
+    match write_part(request, part, &mut target) {
+        Ok(_) => Ok(target.into_inner()),
+        Err(_) => Err(Refusal::Memory),
+    }
+}

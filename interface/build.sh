@@ -1,0 +1,35 @@
+#!/bin/sh
+# build.sh: proves crates/pkder_c and makes libpkder.a, libpkder.so.0 and pkder.pc in interface/out.
+# HEAP=wiping puts heap_wiping.c in the place of the toolchain's heap: it wipes what it frees, and isn't proved. CPU is
+# the processor: x86-64, or x86-64-v2 or -v3 for later ones alone (nothing looks at the one that it runs on).
+set -eu
+here=$(cd "$(dirname "$0")" && pwd)
+crate=$here/../crates/pkder_c
+out=$here/out
+case ${HEAP:-} in
+    "" | wiping) ;;
+    *) echo "build.sh: HEAP is wiping or not set" >&2 && exit 1 ;;
+esac
+kit=$(dirname "$(rt doc)")
+mkdir -p "$out"
+(cd "$crate" && rt lib --cpu "${CPU:-x86-64}") > "$out/lib.log" 2>&1 || { cat "$out/lib.log" >&2 && exit 1; }
+work=$(mktemp -d)
+trap 'rm -rf "$work"' EXIT
+cd "$work"
+ar x "$crate/out/libpkder_c.a"
+if [ "${HEAP:-}" = wiping ]; then
+    cc -O2 -Wall -Wextra -fPIC -fvisibility=hidden -c -o heap.pic.o "$here/heap_wiping.c"
+else
+    ar x "$kit/c/liblibc_c.a" heap.pic.o
+fi
+# One object whose only global names are those of pkder.map, so that a program can link two libraries that are made so.
+ld -r -o whole *.o
+sed -n 's/^ *\(pkder_[a-z_]*\);$/\1/p' "$here/pkder.map" > names
+objcopy --keep-global-symbols=names --strip-unneeded whole pkder.o
+rm -f "$out/libpkder.a"
+ar rcD "$out/libpkder.a" pkder.o
+cc -shared -s -o "$out/libpkder.so.0" pkder.o -Wl,-soname,libpkder.so.0 -Wl,--version-script,"$here/pkder.map" \
+    -Wl,-z,relro,-z,now,-z,noexecstack -Wl,--no-undefined
+ln -sf libpkder.so.0 "$out/libpkder.so"
+# (for use from here; tools/install.sh writes the one that is installed)
+sed -e "s|@LIBDIR@|$out|" -e "s|@INCLUDEDIR@|$here|" "$here/pkder.pc.in" > "$out/pkder.pc"

@@ -1,0 +1,95 @@
+/* filter COMMAND [--kind KIND | --part PART] [--depth N] [--octets N]: the program pkder again, over the library, from
+ * standard input to standard output. It passes the tables of the program's tests. */
+#include "common.h"
+
+/* The number that a word says; one that is out of range for all limits where it says none. */
+static uint64_t limit_of(const char *word) {
+    char *end;
+    unsigned long long number = strtoull(word, &end, 10);
+    return *end == 0 && *word != '-' ? number : UINT64_MAX;
+}
+
+/* Takes the words; 0 where they are none. */
+static int read_words(struct task *task, int count, char **words) {
+    if (count < 2 || count % 2 != 0) {
+        return 0;
+    }
+    const char *what = NULL, *option = strcmp(words[1], "signed") == 0 ? "--part" : "--kind";
+    uint64_t depth = PKDER_DEPTH, octets = PKDER_OCTETS;
+    for (int i = 2; i < count; i += 2) {
+        if (strcmp(words[i], option) == 0) {
+            what = words[i + 1];
+        } else if (strcmp(words[i], "--depth") == 0) {
+            depth = limit_of(words[i + 1]);
+        } else if (strcmp(words[i], "--octets") == 0) {
+            octets = limit_of(words[i + 1]);
+        } else {
+            return 0;
+        }
+    }
+    if (!is_task(task, words[1], what) || depth > PKDER_MOST_DEPTH || octets > PKDER_MOST_OCTETS) {
+        return 0;
+    }
+    task->depth = (uint32_t)depth;
+    task->octets = octets;
+    return depth != 0 && octets != 0;
+}
+
+/* Makes the call with as much room as it asks for, and writes the text. */
+static int write_text(const struct task *task, const uint8_t *src, size_t len) {
+    size_t room = len;
+    for (;;) {
+        uint8_t *dst = malloc(room + 1);
+        if (dst == NULL) {
+            fputs("out of memory\n", stderr);
+            return FAILED;
+        }
+        pkder_outcome outcome = do_task(task, src, len, dst, room);
+        int status = DONE;
+        if (outcome.status == PKDER_ACCEPTED) {
+            if (fwrite(dst, 1, (size_t)outcome.size, stdout) != outcome.size || fflush(stdout) != 0) {
+                fputs("write failed after 0\n", stderr);
+                status = FAILED;
+            }
+        } else if (outcome.status != PKDER_NO_ROOM) {
+            status = print_outcome(stderr, &outcome);
+        }
+        free(dst);
+        if (outcome.status != PKDER_NO_ROOM) {
+            return status;
+        }
+        room = (size_t)outcome.size;
+    }
+}
+
+static int say_whether_der(const struct task *task, const uint8_t *src, size_t len) {
+    pkder_outcome outcome = do_task(task, src, len, NULL, 0);
+    if (outcome.status == PKDER_ACCEPTED) {
+        puts("DER");
+        return DONE;
+    }
+    return print_outcome(outcome.status == PKDER_NOT_DER ? stdout : stderr, &outcome);
+}
+
+int main(int count, char **words) {
+    struct task task;
+    if (!read_words(&task, count, words)) {
+        fputs("filter COMMAND [--kind KIND | --part PART] [--depth N] [--octets N]\n", stderr);
+        return BAD_LINE;
+    }
+    size_t len;
+    /* (an octet past the limit decides as well as all of them) */
+    uint8_t *src = read_file(stdin, task.octets + 1, &len);
+    if (src == NULL) {
+        fputs("out of memory\n", stderr);
+        return FAILED;
+    }
+    int status = FAILED;
+    if (ferror(stdin)) {
+        fprintf(stderr, "read failed at %zu\n", len);
+    } else {
+        status = task.call == NULL ? say_whether_der(&task, src, len) : write_text(&task, src, len);
+    }
+    free(src);
+    return status;
+}

@@ -1,0 +1,44 @@
+/* What the trials in this folder share: claims, files, and room that shows whether it was written to. */
+#ifndef TRIAL_H
+#define TRIAL_H
+#include "common.h"
+
+#define CHECK(holds) ((holds) ? (void)0 : check_failed(__FILE__, __LINE__, #holds))
+
+static inline void check_failed(const char *file, int line, const char *what) {
+    fprintf(stderr, "%s:%d: %s\n", file, line, what);
+    exit(1);
+}
+
+/* Reads a file of fewer octets than there is room for, and returns how many they are. */
+static inline size_t load(const char *name, uint8_t *octets, size_t room) {
+    FILE *file = fopen(name, "rb");
+    if (file == NULL) {
+        perror(name);
+        exit(2);
+    }
+    size_t len = fread(octets, 1, room, file);
+    CHECK(!ferror(file) && len < room);
+    fclose(file);
+    return len;
+}
+
+static inline void fill(uint8_t *octets, size_t len) {
+    memset(octets, 0xA5, len);
+}
+
+/* Whether the octets are as `fill` left them. */
+static inline int is_filled(const uint8_t *octets, size_t len) {
+    for (size_t i = 0; i < len; i++) {
+        if (octets[i] != 0xA5) {
+            return 0;
+        }
+    }
+    return 1;
+}
+
+static inline int is_same(const pkder_outcome *one, const pkder_outcome *other) {
+    return memcmp(one, other, sizeof *one) == 0;
+}
+
+#endif

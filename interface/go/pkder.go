@@ -1,0 +1,173 @@
+// Package pkder reads, checks and normalises private keys and certification requests in BER and DER, by libpkder, which
+// is proved. pkg-config has to find the library. Each call takes a whole document, and may come from any goroutine.
+package pkder
+
+/*
+#cgo pkg-config: pkder
+#include <pkder.h>
+
+typedef pkder_outcome (*text_call)(uint32_t, uint32_t, uint64_t, const uint8_t *, size_t, uint8_t *, size_t);
+
+static pkder_outcome text_of(text_call call, uint32_t what, uint32_t depth, uint64_t octets, const uint8_t *src,
+                             size_t src_len, uint8_t *dst, size_t dst_len) {
+	return call(what, depth, octets, src, src_len, dst, dst_len);
+}
+*/
+import "C"
+
+import (
+	"errors"
+	"fmt"
+	"unsafe"
+)
+
+// Kind is what a document is.
+type Kind uint32
+
+// Part is a part of a request.
+type Part uint32
+
+// The kinds of documents, and the parts of a request.
+const (
+	Key        Kind = C.PKDER_KEY         // OneAsymmetricKey, PKCS #8 (RFC 5958)
+	EC         Kind = C.PKDER_EC          // ECPrivateKey (RFC 5915)
+	Request    Kind = C.PKDER_REQUEST     // CertificationRequest, PKCS #10 (RFC 2986)
+	Public     Kind = C.PKDER_PUBLIC      // SubjectPublicKeyInfo (RFC 5280)
+	Encrypted  Kind = C.PKDER_ENCRYPTED   // EncryptedPrivateKeyInfo (RFC 5958); nothing is decrypted
+	Package    Kind = C.PKDER_PACKAGE     // AsymmetricKeyPackage (RFC 5958), a list of private keys
+	Info       Part = C.PKDER_INFO        // the DER text of what the signature covers
+	Algorithm  Part = C.PKDER_ALGORITHM   // the DER text of the signature's algorithm
+	SubjectKey Part = C.PKDER_SUBJECT_KEY // the DER text of the public key
+	Signature  Part = C.PKDER_SIGNATURE   // the octets of the signature
+)
+
+// Limits are the depth of nesting, 1 to 64, and the octets of a document and of its DER text, 1 to 2147483647.
+type Limits struct {
+	Depth  uint32
+	Octets uint64
+}
+
+// Usual are the limits that the program pkder has unless said otherwise.
+var Usual = Limits{Depth: 32, Octets: 1 << 20}
+
+// Fault is the first fault of a document that is refused. InsideReason is empty unless Reason is Inner; then it and
+// InsideAt are of what is inside privateKey.
+type Fault struct {
+	At           uint64
+	Reason       string
+	InsideAt     uint64
+	InsideReason string
+}
+
+// Error is the line that the program prints.
+func (fault *Fault) Error() string {
+	line := fmt.Sprintf("fault at %d: %s", fault.At, fault.Reason)
+	if fault.InsideReason != "" {
+		line += fmt.Sprintf(" inside at %d: %s", fault.InsideAt, fault.InsideReason)
+	}
+	return line
+}
+
+var (
+	// ErrMemory says that memory ran out, and nothing of the document.
+	ErrMemory = errors.New("out of memory")
+	// ErrCall says that there is no such kind or part, or that the limits are out of range.
+	ErrCall = errors.New("no such kind, part or limits")
+)
+
+// Form says whether a sound document is in DER; where it isn't, At is the first place that is another one in its DER
+// text.
+type Form struct {
+	DER bool
+	At  uint64
+}
+
+// String is the line that the program prints.
+func (form Form) String() string {
+	if form.DER {
+		return "DER"
+	}
+	return fmt.Sprintf("not DER at %d", form.At)
+}
+
+// Normalise answers the document's DER text: two documents say the same exactly where these are equal.
+func Normalise(kind Kind, limits Limits, document []byte) ([]byte, error) {
+	return textOf(C.text_call(C.pkder_normalise), uint32(kind), limits, document)
+}
+
+// Check answers whether the document is in DER.
+func Check(kind Kind, limits Limits, document []byte) (Form, error) {
+	outcome := C.pkder_check(C.uint32_t(kind), C.uint32_t(limits.Depth), C.uint64_t(limits.Octets),
+		start(document), C.size_t(len(document)))
+	switch outcome.status {
+	case C.PKDER_ACCEPTED:
+		return Form{DER: true}, nil
+	case C.PKDER_NOT_DER:
+		return Form{At: uint64(outcome.at)}, nil
+	}
+	return Form{}, errorOf(outcome)
+}
+
+// Signed answers a part of a request.
+func Signed(part Part, limits Limits, request []byte) ([]byte, error) {
+	return textOf(C.text_call(C.pkder_signed), uint32(part), limits, request)
+}
+
+// Show answers what the document says, a line for each part; of private keys the number of octets alone.
+func Show(kind Kind, limits Limits, document []byte) (string, error) {
+	text, err := textOf(C.text_call(C.pkder_show), uint32(kind), limits, document)
+	return string(text), err
+}
+
+// textOf answers what the call writes, with as much room as it asks for.
+func textOf(call C.text_call, what uint32, limits Limits, document []byte) ([]byte, error) {
+	size := len(document)
+	for {
+		room := make([]byte, size)
+		outcome := C.text_of(call, C.uint32_t(what), C.uint32_t(limits.Depth), C.uint64_t(limits.Octets),
+			start(document), C.size_t(len(document)), start(room), C.size_t(size))
+		switch outcome.status {
+		case C.PKDER_ACCEPTED:
+			return room[:outcome.size], nil
+		case C.PKDER_NO_ROOM:
+			size = int(outcome.size)
+		default:
+			return nil, errorOf(outcome)
+		}
+	}
+}
+
+func errorOf(outcome C.pkder_outcome) error {
+	switch outcome.status {
+	case C.PKDER_FAULT:
+		fault := &Fault{At: uint64(outcome.at), Reason: nameOf(outcome.reason), InsideAt: uint64(outcome.inside_at)}
+		if outcome.inside_reason != 0 {
+			fault.InsideReason = nameOf(outcome.inside_reason)
+		}
+		return fault
+	case C.PKDER_NO_MEMORY:
+		return ErrMemory
+	case C.PKDER_BAD_CALL:
+		return ErrCall
+	}
+	// (a later library's: whatever it means, the document isn't accepted)
+	return fmt.Errorf("libpkder answers the status %d", outcome.status)
+}
+
+func nameOf(reason C.uint32_t) string {
+	var room [16]byte
+	return string(room[:C.pkder_reason_name(reason, start(room[:]), C.size_t(len(room)))])
+}
+
+// start is where the octets begin; nil where there are none.
+func start(octets []byte) *C.uint8_t {
+	if len(octets) == 0 {
+		return nil
+	}
+	return (*C.uint8_t)(unsafe.Pointer(&octets[0]))
+}
+
+// loaded is the number of the library's interface. (Tests can't call C themselves.)
+func loaded() uint32 {
+	return uint32(C.pkder_interface())
+}

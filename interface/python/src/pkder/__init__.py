@@ -1,0 +1,170 @@
+"""Private keys and certification requests in BER and DER, by libpkder.
+
+    pkder.normalise(pkder.Kind.KEY, octets)      the DER text
+    pkder.check(pkder.Kind.KEY, octets)          None in DER, else the first place that differs
+    pkder.show(pkder.Kind.KEY, octets)           what it says, in lines
+    pkder.signed(pkder.Part.INFO, octets)        what the signature of a request covers, or another part of it
+
+Each takes a whole document, and raises Fault where that is refused. The library is libpkder.so.0, where the system's
+loader finds it, or the file that the environment names as PKDER_LIBRARY."""
+import ctypes
+import enum
+import os
+from typing import Any, Dict, List, Optional, Tuple, Union
+
+__all__ = ["DEPTH", "OCTETS", "Fault", "Kind", "Part", "check", "normalise", "show", "signed"]
+
+# The limits unless said otherwise.
+DEPTH = 32
+OCTETS = 1048576
+
+Octets = Union[bytes, bytearray, memoryview]
+
+
+class Kind(enum.IntEnum):
+    """What a document is."""
+
+    KEY = 1
+    EC = 2
+    REQUEST = 3
+    PUBLIC = 4
+    ENCRYPTED = 5
+    PACKAGE = 6
+
+
+class Part(enum.IntEnum):
+    """A part of a request; INFO is what its signature covers."""
+
+    INFO = 1
+    ALGORITHM = 2
+    SUBJECT_KEY = 3
+    SIGNATURE = 4
+
+
+class Fault(ValueError):
+    """The first fault of a document that is refused: at is its place, reason its name, and inside None, or the place
+    and the name of the reason inside privateKey."""
+
+    def __init__(self, at: int, reason: str, inside: Optional[Tuple[int, str]] = None) -> None:
+        super().__init__(at, reason, inside)
+        self.at, self.reason, self.inside = at, reason, inside
+
+    def __str__(self) -> str:
+        inside = f" inside at {self.inside[0]}: {self.inside[1]}" if self.inside else ""
+        return f"fault at {self.at}: {self.reason}{inside}"
+
+
+class _Outcome(ctypes.Structure):
+    _fields_ = [(name, ctypes.c_uint32) for name in ("status", "reason", "inside_reason", "spare")] + [
+        (name, ctypes.c_uint64) for name in ("at", "inside_at", "taken", "size")
+    ]
+
+
+_ACCEPTED, _FAULT, _NO_ROOM, _NO_MEMORY, _BAD_CALL, _NOT_DER = range(6)
+_INTERFACE = 1
+_SRC: List[Any] = [ctypes.c_uint32, ctypes.c_uint32, ctypes.c_uint64, ctypes.c_char_p, ctypes.c_size_t]
+_DST: List[Any] = [ctypes.c_char_p, ctypes.c_size_t]
+# What the functions take and give.
+_CALLS: Dict[str, Tuple[List[Any], Any]] = {
+    "pkder_interface": ([], ctypes.c_uint32),
+    "pkder_normalise": (_SRC + _DST, _Outcome),
+    "pkder_check": (_SRC, _Outcome),
+    "pkder_signed": (_SRC + _DST, _Outcome),
+    "pkder_show": (_SRC + _DST, _Outcome),
+    "pkder_reason_name": ([ctypes.c_uint32, *_DST], ctypes.c_size_t),
+}
+
+
+def _loaded() -> ctypes.CDLL:
+    name = os.environ.get("PKDER_LIBRARY", "libpkder.so.0")
+    try:
+        library = ctypes.CDLL(name)
+    except OSError as why:
+        raise ImportError(f"{name} isn't found: install libpkder, or name its file as PKDER_LIBRARY ({why})") from why
+    try:
+        for call, (takes, gives) in _CALLS.items():
+            function = getattr(library, call)
+            function.argtypes, function.restype = takes, gives
+    except AttributeError as why:
+        raise ImportError(f"{name} is no libpkder: {why}") from why
+    if library.pkder_interface() != _INTERFACE:
+        raise ImportError(f"{name} has another interface than {_INTERFACE}")
+    return library
+
+
+_library = _loaded()
+
+
+def _name(reason: int) -> str:
+    room = ctypes.create_string_buffer(16)
+    _library.pkder_reason_name(reason, room, len(room))
+    return room.value.decode("ascii")
+
+
+def _refusal(outcome: _Outcome) -> Exception:
+    """What is raised for an outcome that is no answer."""
+    if outcome.status == _FAULT:
+        inside = (outcome.inside_at, _name(outcome.inside_reason)) if outcome.inside_reason else None
+        return Fault(outcome.at, _name(outcome.reason), inside)
+    if outcome.status == _NO_MEMORY:
+        return MemoryError("libpkder ran out of memory")
+    if outcome.status == _BAD_CALL:
+        return ValueError("no such kind, part or limits")
+    # (a later library's: whatever it means, the document isn't accepted)
+    return RuntimeError(f"libpkder answers the status {outcome.status}")
+
+
+def _check_limits(depth: int, octets: int) -> None:
+    # (ctypes would cut numbers that don't fit)
+    if not 1 <= depth <= 64:
+        raise ValueError(f"a depth is 1 to 64, not {depth}")
+    if not 1 <= octets < 2**31:
+        raise ValueError(f"octets are 1 to {2**31 - 1}, not {octets}")
+
+
+def _octets(document: Octets) -> bytes:
+    # (bytes would make zeros of a number)
+    return document if isinstance(document, bytes) else memoryview(document).tobytes()
+
+
+def _text(call: str, what: int, document: Octets, depth: int, octets: int) -> bytes:
+    """What the call writes, with as much room as it asks for."""
+    _check_limits(depth, octets)
+    src = _octets(document)
+    size = len(src)
+    while True:
+        room = ctypes.create_string_buffer(max(size, 1))
+        outcome = getattr(_library, call)(what, depth, octets, src, len(src), room, size)
+        if outcome.status == _ACCEPTED:
+            return ctypes.string_at(room, outcome.size)
+        if outcome.status != _NO_ROOM:
+            raise _refusal(outcome)
+        size = outcome.size
+
+
+def normalise(kind: Kind, document: Octets, *, depth: int = DEPTH, octets: int = OCTETS) -> bytes:
+    """The document's DER text: two documents say the same exactly where these are equal."""
+    return _text("pkder_normalise", Kind(kind), document, depth, octets)
+
+
+def check(kind: Kind, document: Octets, *, depth: int = DEPTH, octets: int = OCTETS) -> Optional[int]:
+    """None where the document is in DER, else the first place that is another one in its DER text."""
+    _check_limits(depth, octets)
+    src = _octets(document)
+    outcome = _library.pkder_check(Kind(kind), depth, octets, src, len(src))
+    if outcome.status == _ACCEPTED:
+        return None
+    if outcome.status == _NOT_DER:
+        return int(outcome.at)
+    raise _refusal(outcome)
+
+
+def show(kind: Kind, document: Octets, *, depth: int = DEPTH, octets: int = OCTETS) -> str:
+    """What the document says, a line for each part; of private keys the number of octets alone."""
+    return _text("pkder_show", Kind(kind), document, depth, octets).decode("ascii")
+
+
+def signed(part: Part, document: Octets, *, depth: int = DEPTH, octets: int = OCTETS) -> bytes:
+    """A part of a request: the DER text of what its signature covers, of the signature's algorithm or of the public
+    key; or the octets of the signature."""
+    return _text("pkder_signed", Part(part), document, depth, octets)

@@ -1,0 +1,46 @@
+"""What the package makes of answers that no document brings, told by the stand-in of interface/c/stand_in.c, which
+PKDER_LIBRARY names: python3 tests/stand_in.py."""
+import os
+import subprocess
+import sys
+import unittest
+
+import pkder
+
+MEMORY, BAD_CALL, LATER = b"\3\0\0", b"\4\0\0", b"\6\0\0"
+
+
+def calls(document):
+    """Each call on the document."""
+    yield lambda: pkder.check(pkder.Kind.KEY, document)
+    yield lambda: pkder.normalise(pkder.Kind.KEY, document)
+    yield lambda: pkder.show(pkder.Kind.KEY, document)
+    yield lambda: pkder.signed(pkder.Part.INFO, document)
+
+
+class Answers(unittest.TestCase):
+    def test_refusals(self):
+        for document, error in (MEMORY, MemoryError), (BAD_CALL, ValueError), (LATER, RuntimeError):
+            for call in calls(document):
+                with self.subTest(error=error), self.assertRaises(error) as raised:
+                    call()
+                self.assertNotIsInstance(raised.exception, pkder.Fault)
+
+    def test_faults_of_a_later_library(self):
+        lines = {b"\1\x1c\0": "fault at 5: Later", b"\1\x1c\x1c": "fault at 5: Later inside at 7: Later"}
+        for document, line in lines.items():
+            for call in calls(document):
+                with self.subTest(line=line), self.assertRaises(pkder.Fault) as raised:
+                    call()
+                self.assertEqual(str(raised.exception), line)
+
+    def test_libraries_that_are_none(self):
+        for name in ("no-such-file", "libc.so.6"):
+            told = {**os.environ, "PKDER_LIBRARY": name}
+            ran = subprocess.run([sys.executable, "-c", "import pkder"], env=told, capture_output=True, text=True)
+            with self.subTest(name=name):
+                self.assertRegex(ran.stderr.splitlines()[-1], f"^ImportError: {name} ")
+
+
+if __name__ == "__main__":
+    unittest.main()

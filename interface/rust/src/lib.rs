@@ -1,0 +1,254 @@
+//! Private keys and certification requests in BER and DER: a safe wrapper of libpkder, which is proved.
+//!
+//! ```
+//! use pkder::{check, normalise, Form, Kind};
+//!
+//! // an Ed25519 public key whose outer length has two octets
+//! let mut octets = vec![0x30, 0x81, 0x2A, 0x30, 0x05, 0x06, 0x03, 0x2B, 0x65, 0x70, 0x03, 0x21, 0x00];
+//! octets.extend([7; 32]);
+//! assert_eq!(check(Kind::Public, &octets), Ok(Form::DiffersAt(1)));
+//! let text = normalise(Kind::Public, &octets)?;
+//! assert_eq!(check(Kind::Public, &text), Ok(Form::Der));
+//! assert_eq!(normalise(Kind::Public, &octets[..20]).unwrap_err().to_string(), "fault at 20: Truncated");
+//! # Ok::<(), pkder::Error>(())
+//! ```
+//!
+//! Each call takes a whole document. The library wipes nothing unless it is built so, and neither does this crate: a
+//! text that is a private key is the caller's to wipe.
+mod raw;
+
+use raw::Outcome;
+use std::fmt;
+
+/// A choice by the numbers of pkder.h, which a later one may add to.
+macro_rules! numbered {
+    ($(#[$doc:meta])* $name:ident { $($(#[$of:meta])* $variant:ident = $number:literal,)* }) => {
+        $(#[$doc])*
+        #[derive(Clone, Copy, Debug, PartialEq, Eq, Hash)]
+        #[non_exhaustive]
+        pub enum $name {
+            $($(#[$of])* $variant = $number,)*
+        }
+    };
+}
+
+numbered! {
+    /// What a document is.
+    Kind {
+        /// OneAsymmetricKey, PKCS #8 (RFC 5958).
+        Key = 1,
+        /// ECPrivateKey (RFC 5915).
+        Ec = 2,
+        /// CertificationRequest, PKCS #10 (RFC 2986).
+        Request = 3,
+        /// SubjectPublicKeyInfo (RFC 5280).
+        Public = 4,
+        /// EncryptedPrivateKeyInfo (RFC 5958); nothing is decrypted.
+        Encrypted = 5,
+        /// AsymmetricKeyPackage (RFC 5958), a list of private keys.
+        Package = 6,
+    }
+}
+
+numbered! {
+    /// A part of a request.
+    Part {
+        /// The DER text of what its signature covers.
+        Info = 1,
+        /// The DER text of the signature's algorithm.
+        Algorithm = 2,
+        /// The DER text of the public key.
+        SubjectKey = 3,
+        /// The octets of the signature.
+        Signature = 4,
+    }
+}
+
+/// Whether a sound document is in DER.
+#[derive(Clone, Copy, Debug, PartialEq, Eq)]
+pub enum Form {
+    Der,
+    /// It isn't, and this is the first place that is another one in its DER text.
+    DiffersAt(u64),
+}
+
+impl fmt::Display for Form {
+    /// The line that the program prints.
+    fn fmt(&self, f: &mut fmt::Formatter<'_>) -> fmt::Result {
+        match self {
+            Form::Der => f.write_str("DER"),
+            Form::DiffersAt(place) => write!(f, "not DER at {place}"),
+        }
+    }
+}
+
+/// Why a document is refused.
+#[derive(Clone, Copy, PartialEq, Eq, Hash)]
+pub struct Reason(u32);
+
+impl Reason {
+    /// Its number, which never changes.
+    pub fn number(self) -> u32 {
+        self.0
+    }
+}
+
+impl fmt::Display for Reason {
+    /// Its name, as `Truncated`.
+    fn fmt(&self, f: &mut fmt::Formatter<'_>) -> fmt::Result {
+        let mut name = [0; 16];
+        let len = raw::reason_name(self.0, &mut name);
+        f.write_str(std::str::from_utf8(name.get(..len).unwrap_or_default()).unwrap_or_default())
+    }
+}
+
+impl fmt::Debug for Reason {
+    fn fmt(&self, f: &mut fmt::Formatter<'_>) -> fmt::Result {
+        fmt::Display::fmt(self, f)
+    }
+}
+
+/// The first fault of a document.
+#[derive(Clone, Copy, Debug, PartialEq, Eq)]
+pub struct Fault {
+    /// Its place, in octets from the document's start.
+    pub at: u64,
+    pub reason: Reason,
+    /// Its place and reason inside `privateKey`, where the reason is Inner.
+    pub inside: Option<(u64, Reason)>,
+}
+
+impl fmt::Display for Fault {
+    fn fmt(&self, f: &mut fmt::Formatter<'_>) -> fmt::Result {
+        write!(f, "fault at {}: {}", self.at, self.reason)?;
+        match self.inside {
+            Some((at, reason)) => write!(f, " inside at {at}: {reason}"),
+            None => Ok(()),
+        }
+    }
+}
+
+/// Why a call has no answer.
+#[derive(Clone, Copy, Debug, PartialEq, Eq)]
+#[non_exhaustive]
+pub enum Error {
+    /// The document is refused.
+    Fault(Fault),
+    /// Memory ran out: nothing is known of the document.
+    Memory,
+    /// The limits are out of range.
+    Limits,
+    /// A status that this crate doesn't know, of a later library: the document isn't accepted.
+    Unknown(u32),
+}
+
+impl fmt::Display for Error {
+    /// Of faults and memory the line that the program prints.
+    fn fmt(&self, f: &mut fmt::Formatter<'_>) -> fmt::Result {
+        match self {
+            Error::Fault(fault) => fault.fmt(f),
+            Error::Memory => f.write_str("out of memory"),
+            Error::Limits => f.write_str("limits out of range"),
+            Error::Unknown(status) => write!(f, "libpkder answers the status {status}"),
+        }
+    }
+}
+
+impl std::error::Error for Error {}
+
+/// The limits of what is read. `Limits::default()` has those of the free functions.
+#[derive(Clone, Copy, Debug, PartialEq, Eq)]
+pub struct Limits {
+    /// The depth of nesting, 1 to 64; 32 unless said otherwise.
+    pub depth: u32,
+    /// The octets of a document, and of its DER text, 1 to 2147483647; 1048576 unless said otherwise.
+    pub octets: u64,
+}
+
+impl Default for Limits {
+    fn default() -> Limits {
+        Limits { depth: 32, octets: 1 << 20 }
+    }
+}
+
+impl Limits {
+    /// As the free function of the name.
+    pub fn normalise(self, kind: Kind, document: &[u8]) -> Result<Vec<u8>, Error> {
+        text_of(raw::normalise, kind as u32, self, document)
+    }
+
+    /// As the free function of the name.
+    pub fn check(self, kind: Kind, document: &[u8]) -> Result<Form, Error> {
+        let outcome = raw::check(kind as u32, self, document);
+        match outcome.status {
+            raw::ACCEPTED => Ok(Form::Der),
+            raw::NOT_DER => Ok(Form::DiffersAt(outcome.at)),
+            _ => Err(error_of(&outcome)),
+        }
+    }
+
+    /// As the free function of the name.
+    pub fn signed(self, part: Part, request: &[u8]) -> Result<Vec<u8>, Error> {
+        text_of(raw::signed, part as u32, self, request)
+    }
+
+    /// As the free function of the name.
+    pub fn show(self, kind: Kind, document: &[u8]) -> Result<String, Error> {
+        let text = text_of(raw::show, kind as u32, self, document)?;
+        Ok(String::from_utf8_lossy(&text).into_owned())
+    }
+}
+
+/// The document's DER text: two documents say the same exactly where these are equal.
+pub fn normalise(kind: Kind, document: &[u8]) -> Result<Vec<u8>, Error> {
+    Limits::default().normalise(kind, document)
+}
+
+/// Whether the document is in DER.
+pub fn check(kind: Kind, document: &[u8]) -> Result<Form, Error> {
+    Limits::default().check(kind, document)
+}
+
+/// A part of a request.
+pub fn signed(part: Part, request: &[u8]) -> Result<Vec<u8>, Error> {
+    Limits::default().signed(part, request)
+}
+
+/// What the document says, a line for each part; of private keys the number of octets alone.
+pub fn show(kind: Kind, document: &[u8]) -> Result<String, Error> {
+    Limits::default().show(kind, document)
+}
+
+/// What the call writes, with as much room as it asks for.
+fn text_of(call: raw::TextCall, what: u32, limits: Limits, document: &[u8]) -> Result<Vec<u8>, Error> {
+    let mut text = Vec::new();
+    let mut room = document.len();
+    loop {
+        text.try_reserve_exact(room).map_err(|_| Error::Memory)?;
+        text.resize(room, 0);
+        let outcome = call(what, limits, document, &mut text);
+        let size = usize::try_from(outcome.size).map_err(|_| Error::Memory)?;
+        match outcome.status {
+            raw::ACCEPTED => {
+                text.truncate(size);
+                return Ok(text);
+            }
+            // (nothing was written)
+            raw::NO_ROOM => {
+                text.clear();
+                room = size;
+            }
+            _ => return Err(error_of(&outcome)),
+        }
+    }
+}
+
+fn error_of(outcome: &Outcome) -> Error {
+    let inside = (outcome.inside_reason != 0).then_some((outcome.inside_at, Reason(outcome.inside_reason)));
+    match outcome.status {
+        raw::FAULT => Error::Fault(Fault { at: outcome.at, reason: Reason(outcome.reason), inside }),
+        raw::NO_MEMORY => Error::Memory,
+        raw::BAD_CALL => Error::Limits,
+        status => Error::Unknown(status),
+    }
+}

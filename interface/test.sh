@@ -1,0 +1,281 @@
+#!/bin/sh
+# test.sh: the library, built by build.sh, and tried from C, C++, Python, Rust and Go. What the machine has no compiler
+# or interpreter for is left out, and said. The last line is 'interface: N passed, M failed', a command counting once.
+# By hand: ROUNDS=5000 DOCUMENTS=20000 sh interface/test.sh probes for minutes (200 and 500 unless said otherwise);
+# HEAP=wiping has the wiping heap tried.
+set -u
+here=$(cd "$(dirname "$0")" && pwd)
+top=$(dirname "$here") out=$here/out
+work=$(mktemp -d)
+trap 'rm -rf "$work"' EXIT
+passed=0 failed=0
+warnings="-Wall -Wextra -Wpedantic -Wconversion -Wsign-conversion -Wshadow -Werror"
+
+# try NAME COMMAND..: counts whether the command ends with status 0, and shows what it says where it doesn't
+try() {
+    tried=$1
+    shift
+    if "$@" > "$work/said" 2>&1 < /dev/null; then
+        passed=$((passed + 1))
+        grep 'left out' "$work/said"
+        echo "$tried: $(tail -n 1 "$work/said")"
+    else
+        failed=$((failed + 1))
+        echo "$tried: failed"
+        tail -n 40 "$work/said"
+    fi
+}
+
+# has TOOL PACKAGE: whether the tool is there; Debian has it in the package
+has() {
+    command -v "$1" > /dev/null && return
+    echo "left out: no $1 (Debian: apt-get install $2)"
+    return 1
+}
+
+# compiled PROGRAM SOURCE FLAG..: a caller in C, linked to the static library
+compiled() {
+    program=$1 source=$2
+    shift 2
+    try "compiled $program" cc -std=c11 $warnings -I"$here" -o "$work/$program" "$here/c/$source.c" \
+        "$out/libpkder.a" "$@"
+}
+
+names_of() {
+    nm "$@" --extern-only --format=posix | awk '$2 ~ /^[A-Z]$/ && $2 != "A" { print $1 }' | sed 's/@.*//' | sort
+}
+
+# what a library that prints nothing, opens nothing and ends no process may call
+wanted='malloc|realloc|free|mem(cpy|move|set|cmp)|explicit_bzero|malloc_usable_size|_GLOBAL_OFFSET_TABLE_'
+
+# The library has six names, wants few of others, and has no memory of its own that lasts from call to call.
+symbols() {
+    sed -n 's/^ *\(pkder_[a-z_]*\);$/\1/p' "$here/pkder.map" | sort > "$work/due"
+    [ "$(wc -l < "$work/due")" = 6 ] || return 1
+    names_of --defined-only "$out/libpkder.a" | cmp - "$work/due" || return 1
+    names_of --defined-only -D "$out/libpkder.so.0" | cmp - "$work/due" || return 1
+    objdump -p "$out/libpkder.so.0" | grep 'SONAME *libpkder.so.0$' || return 1
+    # (the C library is all that it needs)
+    objdump -p "$out/libpkder.so.0" | grep NEEDED | grep -v 'libc\.so' && return 1
+    names_of --undefined-only "$out/libpkder.a" | grep -vxE "$wanted" && return 1
+    # (a heap has 1 or 16 octets that nothing is written to, for the place of what isn't a block)
+    objdump -h "$out/libpkder.a" | awk '$2 ~ /^\.t?(data|bss)/ && $2 !~ /^\.data\.rel\.ro/ && $3 !~ /^0*(1|10)?$/' |
+        grep . && return 1
+    objdump -p "$out/libpkder.so.0" | grep -A 1 STACK | grep 'flags rw-$' || return 1
+    echo "six names"
+}
+
+# header COMPILER STANDARD..: pkder.h, twice in one source, by the compiler in each of the standards
+header() {
+    compiler=$1
+    shift
+    for standard in "$@"; do
+        printf '#include <pkder.h>\n#include <pkder.h>\nint main(void) { return (int)PKDER_ROOM(PKDER_STACK); }\n' |
+            "$compiler" -x "${standard%:*}" -std="${standard#*:}" $warnings -I"$here" -fsyntax-only - || return 1
+    done
+    echo "$*"
+}
+
+in_cxx() {
+    try "header by $1" header "$1" c++:c++11 c++:c++17 c++:c++20
+    try "compiled by $1" "$1" -std=c++11 $warnings -I"$here" -o "$work/main_cc" "$work/main.cc" "$out/libpkder.a"
+    try "called from C++ by $1" "$work/main_cc"
+}
+
+in_c() {
+    compiled filter filter -O2
+    compiled check_files check_files -O2
+    compiled probe probe -O2 -lpthread
+    compiled stack stack -O2 -lpthread
+    compiled probe_watched probe -O1 -g -fsanitize=address,undefined -fno-sanitize-recover=all -lpthread
+    compiled filter_watched filter -O1 -g -fsanitize=address,undefined -fno-sanitize-recover=all
+    compiled refuse refuse -O2 -Wl,--wrap=malloc,--wrap=realloc,--wrap=free
+    compiled secrets secrets -O2 -Wl,--wrap=free
+    try "rows in C" python3 "$top/tools/rows.py" "$work/calls.tsv" "$work/filter" "$work/filter_watched"
+    random_documents
+    try "check_files" files
+    try "probe" env "ROUNDS=${ROUNDS:-200}" "$work/probe" "$top"/examples/*.der
+    try "probe under ASan and UBSan" env "ROUNDS=$((${ROUNDS:-200} / 10))" "$work/probe_watched" "$top"/examples/*.der
+    try "stack" "$work/stack"
+    refused
+    try "freed secrets" secrets
+}
+
+# The library's answers, under ASan and UBSan, beside those of an independent reader, and of the program if it is built.
+random_documents() {
+    set -- "$work/filter_watched"
+    if [ -f "$top/crates/pkder/out/pkder" ]; then
+        set -- "$@" "$top/crates/pkder/out/pkder"
+    else
+        echo "left out: no program beside random documents (run 'rt run -- --version' in crates/pkder)"
+    fi
+    try "random documents" python3 "$top/tools/random_documents.py" --count "${DOCUMENTS:-500}" --whole "$@"
+}
+
+files() (
+    cd "$top/examples" || exit
+    "$work/check_files" key smallest.der long-lengths.der cut-short.der > "$work/files"
+    [ $? = 1 ] || exit 1
+    printf '%s\t%s\n' smallest.der DER long-lengths.der 'not DER at 1' cut-short.der 'fault at 20: Truncated' |
+        cmp - "$work/files" || exit 1
+    "$work/check_files" key smallest.der p256.der || exit 1
+    "$work/check_files" key no-such-file smallest.der
+    [ $? = 3 ]
+)
+
+refused() {
+    while read -r kind file; do
+        for command in check normalise show; do
+            try "allocations of $command, $kind" "$work/refuse" $command "$kind" "$top/examples/$file.der"
+        done
+    done << END
+key p256
+ec k256-sec1-indefinite
+request request-indefinite
+public public-indefinite
+encrypted encrypted-indefinite
+package package-indefinite
+END
+    for part in info algorithm key signature; do
+        try "allocations of signed, $part" "$work/refuse" signed $part "$top/examples/request-indefinite.der"
+    done
+}
+
+# The usual heap frees blocks that hold octets of a key; heap_wiping.c, if the library was built with it, none.
+secrets() {
+    sum=0
+    for command in check normalise show; do
+        blocks=$("$work/secrets" $command key "$top/examples/ed25519.der" 16 32) || return 1
+        sum=$((sum + blocks))
+    done
+    if nm "$out/libpkder.a" | grep -q ' U explicit_bzero$'; then
+        [ $sum = 0 ] || return 1
+    fi
+    echo "$sum blocks with octets of the key"
+}
+
+# The library's stand-in for tests of the packages, where build.sh puts the library itself.
+stand_in() (
+    mkdir -p "$work/stand_in" && cd "$work/stand_in" || exit
+    cc -std=c11 $warnings -fPIC -I"$here" -c -o pkder.o "$here/c/stand_in.c" || exit
+    ar rc libpkder.a pkder.o || exit
+    cc -shared -o libpkder.so.0 pkder.o -Wl,-soname,libpkder.so.0 || exit
+    ln -s libpkder.so.0 libpkder.so
+    sed -e "s|@LIBDIR@|$work/stand_in|" -e "s|@INCLUDEDIR@|$here|" "$here/pkder.pc.in" > pkder.pc
+)
+
+# The first folder of the PATH whose pip can build without a network.
+folder_of_pip() (
+    IFS=:
+    for folder in $PATH; do
+        if [ -x "$folder/pip" ] && "$folder/python3" -c "import setuptools, wheel" 2> /dev/null; then
+            echo "$folder"
+            return
+        fi
+    done
+    return 1
+)
+
+in_python() {
+    cp -r "$here/python" "$work/python"
+    place=$work/python/src
+    if folder=$(folder_of_pip); then
+        PATH=$folder:$PATH
+        try "pip install" pip install --quiet --no-index --no-build-isolation --no-deps --target "$work/site" \
+            "$work/python"
+        place=$work/site
+    else
+        echo "left out: no pip with setuptools and wheel (Debian: apt-get install python3-pip)"
+    fi
+    try "rows in Python" env "PYTHONPATH=$place" "PKDER_LIBRARY=$out/libpkder.so.0" "PKDER_CALLS=$work/calls.tsv" \
+        python3 -m unittest discover -s "$work/python/tests"
+    try "stand-in in Python" env "PYTHONPATH=$place" "PKDER_LIBRARY=$work/stand_in/libpkder.so.0" \
+        python3 "$work/python/tests/stand_in.py"
+}
+
+in_rust() {
+    cp -r "$here/rust" "$work/rust"
+    set -- cargo test --offline --quiet --manifest-path "$work/rust/Cargo.toml"
+    try "rows in Rust" env "PKDER_LIB_DIR=$out" "PKDER_CALLS=$work/calls.tsv" "$@"
+    try "stand-in in Rust" env "PKDER_LIB_DIR=$work/stand_in" "$@" --test stand_in -- --ignored
+}
+
+in_go() {
+    cp -r "$here/go" "$work/go"
+    set -- env "GOCACHE=$work/gocache" "PKDER_CALLS=$work/calls.tsv" GOPROXY=off sh -c 'cd "$0" && exec go "$@"' \
+        "$work/go"
+    try "rows in Go" env "PKG_CONFIG_PATH=$out" "LD_LIBRARY_PATH=$out" "$@" test -count=1 .
+    try "stand-in in Go" env "PKG_CONFIG_PATH=$work/stand_in" "LD_LIBRARY_PATH=$work/stand_in" "$@" test -count=1 \
+        -tags stand_in -run StandIn .
+}
+
+in_valgrind() {
+    try "compiled for valgrind" cc -std=c11 -O1 -g -I"$here" -o "$work/probe_plain" "$here/c/probe.c" \
+        "$out/libpkder.a" -lpthread
+    try "probe under valgrind" env ROUNDS=1 valgrind -q --error-exitcode=9 --leak-check=full "$work/probe_plain" \
+        "$top/examples/smallest.der" "$top/examples/package-indefinite.der"
+}
+
+# Installed for a packager, the library is found by pkg-config.
+installed() {
+    # (no folder that pkg-config leaves out since compilers know it)
+    DESTDIR=$work/root PREFIX=/opt/pkder LIBDIR=/opt/pkder/lib64 sh "$top/tools/install.sh" library || return 1
+    (cd "$work/root" && find . ! -type d | sort) > "$work/files"
+    for name in include/pkder.h lib64/libpkder.a lib64/libpkder.so lib64/libpkder.so.0 lib64/pkgconfig/pkder.pc \
+        share/man/man3/pkder.3 share/man/man3/pkder_check.3; do
+        grep -qx "./opt/pkder/$name" "$work/files" || { echo "no $name" && return 1; }
+    done
+    command -v pkg-config > /dev/null || { echo "left out: no pkg-config" && return; }
+    flags=$(PKG_CONFIG_PATH=$work/root/opt/pkder/lib64/pkgconfig PKG_CONFIG_SYSROOT_DIR=$work/root \
+        pkg-config --cflags --libs pkder) || return 1
+    cc -o "$work/installed" "$here/c/filter.c" $flags || return 1
+    LD_LIBRARY_PATH=$work/root/opt/pkder/lib64 "$work/installed" normalise --kind request \
+        < "$top/examples/request-indefinite.der" | cmp - "$top/examples/request-p256.der" && echo "found"
+}
+
+# What stands in docs/library.md and in the README of the Python package, as it stands there. pip puts the package into
+# a folder of its own and asks no network; without pip it is found where it lies. (rustup looks for itself at home)
+documents() {
+    site=$work/documents
+    set -- "PKG_CONFIG_PATH=$out" "LD_LIBRARY_PATH=$out" "PYTHONPATH=$site:$here/python/src" "PIP_TARGET=$site" \
+        PIP_NO_INDEX=1 PIP_NO_BUILD_ISOLATION=0 PIP_QUIET=1 PIP_ROOT_USER_ACTION=ignore PYTHONDONTWRITEBYTECODE=1 \
+        CARGO_NET_OFFLINE=true "RUSTUP_HOME=${RUSTUP_HOME:-$HOME/.rustup}" GOPROXY=off "GOCACHE=$work/gocache"
+    env "$@" python3 "$top/tools/transcripts.py" "$top/docs/library.md" "$here/python/README.md" "$work/filter"
+}
+
+man_page() {
+    mandoc -T lint "$1" > "$work/lint" 2> /dev/null
+    cat "$work/lint"
+    [ ! -s "$work/lint" ]
+}
+
+tools() {
+    for tool in cc ar nm objdump python3; do
+        has $tool "gcc libc6-dev binutils python3" || return 1
+    done
+}
+
+try "build" sh "$here/build.sh"
+if [ "$failed" = 0 ] && tools; then
+    python3 "$here/calls.py" "$top"/tests/pkder/*.tsv "$top/examples/answers.tsv" > "$work/calls.tsv"
+    printf '#include <pkder.h>\nint main() { return pkder_interface() == PKDER_INTERFACE ? 0 : 1; }\n' > "$work/main.cc"
+    try "symbols" symbols
+    try "header by cc" header cc c:c99 c:c11 c:c17
+    if has clang clang; then try "header by clang" header clang c:c99 c:c11 c:c17; fi
+    if has g++ g++; then in_cxx g++; fi
+    if has clang++ clang; then in_cxx clang++; fi
+    in_c
+    try "installed" installed
+    try "stand-in, compiled" stand_in
+    in_python
+    if has cargo cargo; then in_rust; fi
+    if has go golang-go && has pkg-config pkg-config; then in_go; fi
+    if has valgrind valgrind; then in_valgrind; fi
+    try "documents" documents
+    if has mandoc mandoc; then try "man page" man_page "$top/docs/pkder.3"; fi
+else
+    failed=$((failed + 1))
+    echo "left out: all callers"
+fi
+echo "interface: $passed passed, $failed failed"
+[ "$failed" = 0 ]
