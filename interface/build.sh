@@ -2,6 +2,7 @@
 # build.sh: proves crates/pkder_c and makes libpkder.a, libpkder.so.0 and pkder.pc in interface/out.
 # HEAP=wiping puts heap_wiping.c in the place of the toolchain's heap: it wipes what it frees, and isn't proved. CPU is
 # the processor: x86-64, or x86-64-v2 or -v3 for later ones alone (nothing looks at the one that it runs on).
+# LIBRARIES=proved takes the libraries below as `rt ci` left them just before, where `rt lib` proves them all again.
 set -eu
 here=$(cd "$(dirname "$0")" && pwd)
 crate=$here/../crates/pkder_c
@@ -11,8 +12,35 @@ case ${HEAP:-} in
     *) echo "build.sh: HEAP is wiping or not set" >&2 && exit 1 ;;
 esac
 kit=$(dirname "$(rt doc)")
+
+# What `rt lib` runs for pkder_c alone, over the libraries that stand in crates/.
+over_proved() {
+    set --
+    for name in $(sed -n 's/^pkder_c staticlib://p' "$here/../crates.txt"); do
+        library=$here/../crates/$name/out/rlib/$name.rlib
+        [ -d "$library" ] || library=$kit/rlibs/$name.rlib
+        set -- "$@" --extern "$name=$library"
+    done
+    for folder in "$here"/../crates/*/out/rlib; do
+        set -- "$@" -L "dependency=$folder"
+    done
+    "$kit/bin/rattle" build --crate-name pkder_c src/lib.rt --crate-type staticlib --links pkder_c= --jobs "$(nproc)" \
+        --extern "std=$kit/rlibs/std.rlib" -L "dependency=$kit/rlibs" "$@" --toolchain "$kit/toolchain" \
+        --antt-project "$kit/rattle/logic/antt-project.json" --logic-built "$kit/logic_built" \
+        --backend llvm --cpu "${CPU:-x86-64}" -o out/libpkder_c.a
+}
+
+compiled() (
+    cd "$crate" && mkdir -p out || exit
+    if [ "${LIBRARIES:-}" = proved ]; then
+        over_proved && exit
+        echo "build.sh: the libraries of crates/ can't be taken as they are, so rt proves them"
+    fi
+    rt lib --cpu "${CPU:-x86-64}"
+)
+
 mkdir -p "$out"
-(cd "$crate" && rt lib --cpu "${CPU:-x86-64}") > "$out/lib.log" 2>&1 || { cat "$out/lib.log" >&2 && exit 1; }
+compiled > "$out/lib.log" 2>&1 || { cat "$out/lib.log" >&2 && exit 1; }
 work=$(mktemp -d)
 trap 'rm -rf "$work"' EXIT
 cd "$work"

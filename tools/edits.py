@@ -52,8 +52,21 @@ def toolchain():
     return made
 
 
+class Share:
+    """The processors between the crates that are tried: one each, and more for the last ones."""
+
+    def __init__(self):
+        self.trials, self.is_whole = [], False
+
+    def jobs(self):
+        """The words that give a check its share."""
+        count = sum(not it.done() for it in self.trials) if self.is_whole else rt.processors()
+        return ["--jobs", str(max(1, rt.processors() // max(1, count)))]
+
+
 rt = toolchain()
 rtlib = rt.rtlib
+share = Share()
 
 
 def say(text):
@@ -192,7 +205,7 @@ class Trial:
 
     def __init__(self, code, kept, options):
         self.code, self.crate, self.kept = code, code.crate, kept
-        self.flags = ["--jobs", "1"] + [HALF] * ("--all-counts" not in options)
+        self.flags = [HALF] * ("--all-counts" not in options)
         self.is_settled = "--beside-gate" not in options and self.settles()
 
     def settles(self):
@@ -206,7 +219,7 @@ class Trial:
 
     def proves(self):
         """Whether the crate as it stands is proved."""
-        ran = rt.checked(self.crate, {}, self.flags, self.kept)
+        ran = rt.checked(self.crate, {}, self.flags + share.jobs(), self.kept)
         self.code.look(ran.stdout)
         return ran.returncode == 0
 
@@ -218,7 +231,7 @@ class Trial:
         # (once the paths are known the edits' functions are looked at alone, and what they call)
         paths = sorted(set().union(*(it.paths() for it in batch)))
         only = [word for it in paths for word in ("--only", it)]
-        said = rt.checked(self.crate, texts, self.flags + only, self.kept).stdout
+        said = rt.checked(self.crate, texts, self.flags + share.jobs() + only, self.kept).stdout
         lines = said.rstrip("\n").split("\n")
         if rtlib.STALE.search(said) or any(rt.unread(it, texts) for it in lines):
             return None
@@ -275,7 +288,7 @@ class Trial:
             left = {it: functions for it, functions in left.items() if it not in ended and it not in alone}
             say(f"{self.crate.name}: {len(states)} edits in a round; {len(left)} left, {len(alone)} {ALONE}")
         for it in alone:
-            well, text = rt.must_fail(self.crate, it.file, self.flags, self.kept)
+            well, text = rt.must_fail(self.crate, it.file, self.flags + share.jobs(), self.kept)
             ended[it] = well, text.partition(".edit: ")[2]
         return ended
 
@@ -375,6 +388,8 @@ def main(words):
             crates = sorted(found, key=lambda it: -it.count(rb"\n") - 40 * len(found[it][1]))
         for crate in crates:
             counts[crate] = lanes.submit(try_crate, *found[crate], options)
+            share.trials.append(counts[crate])
+        share.is_whole = True
     passed, failed = (sum(it.result()[i] for it in counts.values()) for i in (0, 1))
     for crate, (_, edits, _) in found.items():
         if crate not in counts:

@@ -124,6 +124,8 @@ def main(asked):
         sys.exit(f"the parts are proofs, {', '.join(found)}")
     if not asked or "proofs" in asked:
         counts = prove_and_edit()
+        # (for interface/build.sh, so that it doesn't prove them again)
+        os.environ["LIBRARIES"] = "proved"
     for name, commands in found.items():
         # (where the proofs failed there may be no program)
         if name in asked or not asked and not counts["proofs"].failed:
