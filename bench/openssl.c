@@ -1,5 +1,5 @@
-// What the benchmark of values needs of C: a SET OF read and written by OpenSSL, which sorts it, a SEQUENCE of any
-// elements and a private key likewise, the octets of memory that are taken, and the processor's time.
+// What the benchmarks need of C: values of a type read and written by OpenSSL, the octets of memory that are taken, and
+// the processor's time.
 #include <malloc.h>
 #include <openssl/asn1t.h>
 #include <openssl/x509.h>
@@ -7,42 +7,103 @@
 #include <stdlib.h>
 #include <time.h>
 
+// SET OF OCTET STRING, which OpenSSL sorts
 typedef STACK_OF(ASN1_OCTET_STRING) STRINGS;
 ASN1_ITEM_TEMPLATE(STRINGS) = ASN1_EX_TEMPLATE_TYPE(ASN1_TFLG_SET_OF, 0, STRINGS, ASN1_OCTET_STRING)
 ASN1_ITEM_TEMPLATE_END(STRINGS)
 
-// The SET OF OCTET STRING that `src` holds, read and written: the length of its text, 0 where it is refused.
-uint64_t openssl_set(const unsigned char *src, size_t length, unsigned char *text) {
-    ASN1_VALUE *set = ASN1_item_d2i(NULL, &src, (long)length, ASN1_ITEM_rptr(STRINGS));
-    if (set == NULL) {
-        return 0;
+// AsymmetricKeyPackage (RFC 5958 section 2)
+typedef STACK_OF(PKCS8_PRIV_KEY_INFO) KEYS;
+ASN1_ITEM_TEMPLATE(KEYS) = ASN1_EX_TEMPLATE_TYPE(ASN1_TFLG_SEQUENCE_OF, 0, KEYS, PKCS8_PRIV_KEY_INFO)
+ASN1_ITEM_TEMPLATE_END(KEYS)
+
+// ECPrivateKey (RFC 5915 section 3) as it is laid out: EC_PRIVATEKEY isn't public, and d2i_ECPrivateKey makes a key.
+typedef struct {
+    ASN1_INTEGER *version;
+    ASN1_OCTET_STRING *private_key;
+    ASN1_OBJECT *curve;
+    ASN1_BIT_STRING *public_key;
+} EC_LAYOUT;
+ASN1_SEQUENCE(EC_LAYOUT) = {
+    ASN1_SIMPLE(EC_LAYOUT, version, ASN1_INTEGER),
+    ASN1_SIMPLE(EC_LAYOUT, private_key, ASN1_OCTET_STRING),
+    ASN1_EXP_OPT(EC_LAYOUT, curve, ASN1_OBJECT, 0),
+    ASN1_EXP_OPT(EC_LAYOUT, public_key, ASN1_BIT_STRING, 1),
+} ASN1_SEQUENCE_END(EC_LAYOUT)
+
+// SubjectPublicKeyInfo (RFC 5280 section 4.1.2.7) as it is laid out: X509_PUBKEY makes a key.
+typedef struct {
+    X509_ALGOR *algorithm;
+    ASN1_BIT_STRING *public_key;
+} PUBLIC_LAYOUT;
+ASN1_SEQUENCE(PUBLIC_LAYOUT) = {
+    ASN1_SIMPLE(PUBLIC_LAYOUT, algorithm, X509_ALGOR),
+    ASN1_SIMPLE(PUBLIC_LAYOUT, public_key, ASN1_BIT_STRING),
+} ASN1_SEQUENCE_END(PUBLIC_LAYOUT)
+
+// CertificationRequest (RFC 2986 section 4) as it is laid out: X509_REQ makes a key, and keeps what it read of the
+// first field to write it again.
+typedef struct {
+    ASN1_INTEGER *version;
+    X509_NAME *subject;
+    PUBLIC_LAYOUT *public_key;
+    STACK_OF(X509_ATTRIBUTE) *attributes;
+} INFO_LAYOUT;
+ASN1_SEQUENCE(INFO_LAYOUT) = {
+    ASN1_SIMPLE(INFO_LAYOUT, version, ASN1_INTEGER),
+    ASN1_SIMPLE(INFO_LAYOUT, subject, X509_NAME),
+    ASN1_SIMPLE(INFO_LAYOUT, public_key, PUBLIC_LAYOUT),
+    ASN1_IMP_SET_OF_OPT(INFO_LAYOUT, attributes, X509_ATTRIBUTE, 0),
+} ASN1_SEQUENCE_END(INFO_LAYOUT)
+
+typedef struct {
+    INFO_LAYOUT *info;
+    X509_ALGOR *algorithm;
+    ASN1_BIT_STRING *signature;
+} REQUEST_LAYOUT;
+ASN1_SEQUENCE(REQUEST_LAYOUT) = {
+    ASN1_SIMPLE(REQUEST_LAYOUT, info, INFO_LAYOUT),
+    ASN1_SIMPLE(REQUEST_LAYOUT, algorithm, X509_ALGOR),
+    ASN1_SIMPLE(REQUEST_LAYOUT, signature, ASN1_BIT_STRING),
+} ASN1_SEQUENCE_END(REQUEST_LAYOUT)
+
+// The type of a number: the kinds of documents have those of interface/pkder.h. What is inside an OCTET STRING, or a
+// container of ASN1_SEQUENCE_ANY, is copied as it is.
+static const ASN1_ITEM *type_of(uint32_t number) {
+    switch (number) {
+    case 1:
+        return ASN1_ITEM_rptr(PKCS8_PRIV_KEY_INFO);
+    case 2:
+        return ASN1_ITEM_rptr(EC_LAYOUT);
+    case 3:
+        return ASN1_ITEM_rptr(REQUEST_LAYOUT);
+    case 4:
+        return ASN1_ITEM_rptr(PUBLIC_LAYOUT);
+    case 5:
+        return ASN1_ITEM_rptr(X509_SIG);
+    case 6:
+        return ASN1_ITEM_rptr(KEYS);
+    case 7:
+        return ASN1_ITEM_rptr(STRINGS);
+    default:
+        return ASN1_ITEM_rptr(ASN1_SEQUENCE_ANY);
     }
-    int written = ASN1_item_i2d(set, &text, ASN1_ITEM_rptr(STRINGS));
-    ASN1_item_free(set, ASN1_ITEM_rptr(STRINGS));
-    return written < 0 ? 0 : (uint64_t)written;
 }
 
-// The SEQUENCE of elements of any type that `src` holds, read and written likewise. What is inside an element that is a
-// container itself is copied as it is.
-uint64_t openssl_sequence(const unsigned char *src, size_t length, unsigned char *text) {
-    ASN1_SEQUENCE_ANY *elements = d2i_ASN1_SEQUENCE_ANY(NULL, &src, (long)length);
-    if (elements == NULL) {
+// Reads the value of a type that `src` holds, and writes its text so many times: the text's length, or that of `src`
+// where none is written; 0 where it is refused.
+uint64_t openssl_copy(uint32_t type, uint32_t times, const unsigned char *src, size_t length, unsigned char *text) {
+    const ASN1_ITEM *item = type_of(type);
+    ASN1_VALUE *value = ASN1_item_d2i(NULL, &src, (long)length, item);
+    if (value == NULL) {
         return 0;
     }
-    int written = i2d_ASN1_SEQUENCE_ANY(elements, &text);
-    sk_ASN1_TYPE_pop_free(elements, ASN1_TYPE_free);
-    return written < 0 ? 0 : (uint64_t)written;
-}
-
-// The private key (PKCS #8) that `src` holds, read and written likewise. What is inside its OCTET STRING is copied as it
-// is.
-uint64_t openssl_key(const unsigned char *src, size_t length, unsigned char *text) {
-    PKCS8_PRIV_KEY_INFO *key = d2i_PKCS8_PRIV_KEY_INFO(NULL, &src, (long)length);
-    if (key == NULL) {
-        return 0;
+    long written = (long)length;
+    for (; times > 0; times--) {
+        unsigned char *to = text;
+        written = ASN1_item_i2d(value, &to, item);
     }
-    int written = i2d_PKCS8_PRIV_KEY_INFO(key, &text);
-    PKCS8_PRIV_KEY_INFO_free(key);
+    ASN1_item_free(value, item);
     return written < 0 ? 0 : (uint64_t)written;
 }
 

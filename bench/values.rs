@@ -1,22 +1,18 @@
 // Values of asn_values and private keys read from octets in memory and their texts written: how long it takes, how that
 // grows with the document, and how much memory is taken for each octet. Times are the least of many runs, in time of
 // the processor, since machines are shared.
-// `values` runs all; `values NAME` runs the rows whose name begins so, for a profiler.
-// `values repeat CALL N < KEY` does a call N times (read, normalise, check, openssl), for count_keys.py.
+// `values` runs all; `values NAME` runs the rows whose name begins so, for a profiler. What documents.rs does with other
+// words is for count_documents.py.
+mod documents;
+
 use std::hint::black_box;
-use std::io::Read;
 
 unsafe extern "C" {
     fn values_bench_any(src: *const u8, len: usize, text: *mut u8, room: usize) -> u64;
     fn values_bench_set(src: *const u8, len: usize, text: *mut u8, room: usize) -> u64;
     fn values_bench_list(src: *const u8, len: usize, text: *mut u8, room: usize) -> u64;
     fn values_bench_open_set(src: *const u8, len: usize, text: *mut u8, room: usize) -> u64;
-    fn values_bench_normalise_key(src: *const u8, len: usize, text: *mut u8, room: usize) -> u64;
-    fn values_bench_read_key(src: *const u8, len: usize) -> u64;
-    fn values_bench_check_key(src: *const u8, len: usize) -> u64;
-    fn openssl_set(src: *const u8, len: usize, text: *mut u8) -> u64;
-    fn openssl_sequence(src: *const u8, len: usize, text: *mut u8) -> u64;
-    fn openssl_key(src: *const u8, len: usize, text: *mut u8) -> u64;
+    fn openssl_copy(of: u32, times: u32, src: *const u8, len: usize, text: *mut u8) -> u64;
     fn count_memory();
     fn most_memory() -> usize;
     fn processor_seconds() -> f64;
@@ -24,24 +20,12 @@ unsafe extern "C" {
 
 type Call = unsafe extern "C" fn(*const u8, usize, *mut u8, usize) -> u64;
 
-unsafe extern "C" fn openssl(src: *const u8, len: usize, text: *mut u8, _room: usize) -> u64 {
-    unsafe { openssl_set(src, len, text) }
-}
+// Types of openssl.c, beside the kinds of documents.
+const SET_OF_STRINGS: u32 = 7;
+const SEQUENCE_OF_ANY: u32 = 8;
 
-unsafe extern "C" fn openssl_elements(src: *const u8, len: usize, text: *mut u8, _room: usize) -> u64 {
-    unsafe { openssl_sequence(src, len, text) }
-}
-
-unsafe extern "C" fn openssl_private_key(src: *const u8, len: usize, text: *mut u8, _room: usize) -> u64 {
-    unsafe { openssl_key(src, len, text) }
-}
-
-unsafe extern "C" fn read_key(src: *const u8, len: usize, _text: *mut u8, _room: usize) -> u64 {
-    unsafe { values_bench_read_key(src, len) }
-}
-
-unsafe extern "C" fn check_key(src: *const u8, len: usize, _text: *mut u8, _room: usize) -> u64 {
-    unsafe { values_bench_check_key(src, len) }
+unsafe extern "C" fn openssl<const TYPE: u32>(src: *const u8, len: usize, text: *mut u8, _room: usize) -> u64 {
+    unsafe { openssl_copy(TYPE, 1, src, len, text) }
 }
 
 const MIB: usize = 1 << 20;
@@ -147,7 +131,7 @@ fn any_of_small_elements(wanted: impl Fn(&str) -> bool) {
             // OpenSSL doesn't look into containers.
             if member[0] & 0x20 == 0 {
                 let given = filled(0x30, &member, MIB);
-                compare(name, &given, &given, &[("OpenSSL", openssl_elements), ("Any", values_bench_any)]);
+                compare(name, &given, &given, &[("OpenSSL", openssl::<SEQUENCE_OF_ANY>), ("Any", values_bench_any)]);
             }
         }
     }
@@ -229,7 +213,11 @@ fn compare_sets(name: &str, members: &[Vec<u8>]) -> Vec<f64> {
     let mut sorted = members.to_vec();
     sorted.sort();
     let (given, due) = (element(0x31, &members.concat()), element(0x31, &sorted.concat()));
-    compare(name, &given, &due, &[("OpenSSL", openssl), ("SetOf", values_bench_set), ("Any", values_bench_any)])
+    compare(name, &given, &due, &[
+        ("OpenSSL", openssl::<SET_OF_STRINGS>),
+        ("SetOf", values_bench_set),
+        ("Any", values_bench_any),
+    ])
 }
 
 fn sets(wanted: impl Fn(&str) -> bool) {
@@ -261,73 +249,17 @@ fn sets(wanted: impl Fn(&str) -> bool) {
     }
 }
 
-/// An Ed25519 key with these attributes.
-fn key_with(attributes: &[Vec<u8>]) -> Vec<u8> {
-    let algorithm = element(0x30, &element(6, &[0x2B, 0x65, 0x70]));
-    let private = element(4, &element(4, &[0x55; 32]));
-    element(0x30, &[element(2, &[0]), algorithm, private, element(0xA0, &attributes.concat())].concat())
-}
-
-fn attribute(values: &[Vec<u8>]) -> Vec<u8> {
-    element(0x30, &[element(6, &[0x2A, 3, 4]), element(0x31, &values.concat())].concat())
-}
-
-/// Keys of many attribute values, shuffled, by OpenSSL and by pk_documents.
-fn keys(wanted: impl Fn(&str) -> bool) {
-    let mut shuffled = Shuffled(0x1234_5678_9ABC_DEF1);
-    let shapes: [(&str, fn(&[Vec<u8>]) -> Vec<Vec<u8>>); 2] = [
-        ("key: one attribute", |values| vec![attribute(values)]),
-        ("key: attributes of one value", |values| values.chunks(1).map(attribute).collect()),
-    ];
-    let sorted = |mut members: Vec<Vec<u8>>| {
-        members.sort();
-        members
-    };
-    for (name, attributes) in shapes {
-        if wanted(name) {
-            let calls: [(&str, Call); 2] = [("OpenSSL", openssl_private_key), ("normalise", values_bench_normalise_key)];
-            let [times, twice] = [20_000, 40_000].map(|count| {
-                let values: Vec<Vec<u8>> = (0..count).map(|_| element(4, &shuffled.octets(43))).collect();
-                let given = key_with(&attributes(&values));
-                let due = key_with(&sorted(attributes(&sorted(values))));
-                compare(&format!("{name}, {count} values"), &given, &due, &calls)
-            });
-            println!("twice as much takes: OpenSSL {:.2}, normalise {:.2}", twice[0] / times[0], twice[1] / times[1]);
-        }
-    }
-}
-
-/// A call so many times on the key that standard input holds, which is in DER.
-fn repeat(call: &str, times: usize) {
-    let call: Call = match call {
-        "read" => read_key,
-        "normalise" => values_bench_normalise_key,
-        "check" => check_key,
-        "openssl" => openssl_private_key,
-        _ => panic!("no such call"),
-    };
-    let mut given = Vec::new();
-    std::io::stdin().read_to_end(&mut given).unwrap();
-    let mut text = vec![0u8; given.len() + 64];
-    for _ in 0..times {
-        let octets = unsafe { call(black_box(given.as_ptr()), given.len(), text.as_mut_ptr(), text.len()) };
-        assert!(octets == given.len() as u64);
-    }
-}
-
 fn main() {
-    let words: Vec<String> = std::env::args().collect();
-    if let [_, word, call, times] = &words[..]
-        && word == "repeat"
-    {
-        return repeat(call, times.parse().unwrap());
+    let words: Vec<String> = std::env::args().skip(1).collect();
+    if documents::answered(&words) {
+        return;
     }
-    let chosen = words.get(1).map_or("", String::as_str);
+    let chosen = words.first().map_or("", String::as_str);
     let wanted = |name: &str| name.starts_with(chosen);
     println!("| Document | octets | least time | rate | twice the size | memory for an octet |");
     any_of_small_elements(wanted);
     any_of_hostile_shapes(wanted);
     members(wanted);
     sets(wanted);
-    keys(wanted);
+    documents::keys(wanted);
 }

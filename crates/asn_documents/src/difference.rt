@@ -83,6 +83,10 @@ fn alike(octets: &[u8], piece: &[u8]) -> usize
         → slice_get octets.now result ≢ slice_get piece.now result }
 {
     let most = octets.len().min(piece.len());
+    // Slices are compared many octets at a time; only where they differ the place is looked for.
+    if octets[..most] == piece[..most] {
+        return most;
+    }
     for i in 0..most {
         if octets[i] != piece[i] {
             return i;

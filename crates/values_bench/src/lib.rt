@@ -1,7 +1,7 @@
 //! Calls for the benchmarks in `bench/`: values read from octets in memory, and their texts written. Not part of pkder.
 #![tactic(auto)]
 
-mod keys;
+mod documents;
 
 use asn_values::any::Any;
 use asn_values::element::Element;
