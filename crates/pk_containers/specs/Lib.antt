@@ -1,2 +1,4 @@
+pub mod AsymmetricKeys
+pub mod KeyPackages
 pub mod Keys
 pub mod Seen

@@ -23,9 +23,11 @@ use tlv_core::target::Target;
 pub struct KeyPackage(ListOfSome<OneAsymmetricKey>);
 
 impl KeyPackage {
+    ghost use Rattle.pk_containers.specs.KeyPackages.{keys_of};
+
     /// The keys, in order.
     pub fn keys(&self) -> &List<OneAsymmetricKey>
-        ensures value { result.now ≡ self.now.0.items }
+        ensures value { result.now ≡ keys_of self.now }
         ensures some { 0 < length (list_items result.now) }
     {
         self.0.items()

@@ -2,13 +2,12 @@
 ghost use Rattle.std.proofs.lemmas.Bool.{ltb-true};
 ghost use Rattle.std.specs.Option.{is_some, option_map};
 ghost use Rattle.std.specs.Prelude.{◌≡◌, ◌↔◌, ◌==◌, ◌∷◌, [], IsTrue, refl};
-ghost use Rattle.asn_elements.specs.Implicits.{value_under};
 ghost use Rattle.pkix_types.proofs.ClosedTypes.{asymmetric_key_closed};
 ghost use Rattle.pkix_types.proofs.Fairs.{fair_key_version};
 ghost use Rattle.pkix_types.proofs.LawfulTypes.{honest_key_version};
 ghost use Rattle.pkix_types.specs.DocumentTypes.{OneAsymmetricKey as OneAsymmetricKeyType};
 ghost use Rattle.pkix_types.specs.Rules.{key_version_rule};
-ghost use Rattle.pk_containers.specs.Seen.{bits_of, key_in, key_seen};
+ghost use Rattle.pk_containers.specs.Seen.{key_seen};
 ghost use Rattle.x690.specs.Lists.{one_of};
 ghost use Rattle.x690.specs.Values.{Same};
 
@@ -80,6 +79,8 @@ fn is_version_0(number: u8) -> bool
 pub struct OneAsymmetricKey(Ruled<Record<KeyForm>, KeyForm>);
 
 impl OneAsymmetricKey {
+    ghost use Rattle.pk_containers.specs.AsymmetricKeys.{key_algorithm_of, key_attributes_of, key_version_of, private_key_of, public_key_of};
+
     fn body(&self) -> &KeyBody
         ensures { result.now ≡ self.now.0.value.fields.0.earlier }
     {
@@ -88,29 +89,28 @@ impl OneAsymmetricKey {
 
     /// The version, 0 or 1.
     pub fn version(&self) -> u8
-        ensures { result ≡ self.now.0.value.fields.0.earlier.0.0.earlier.0.0.0.number }
+        ensures { result ≡ key_version_of self.now }
     {
         self.body().0.0.earlier().number()
     }
 
     /// What the key is for.
     pub fn algorithm(&self) -> &AlgorithmIdentifier
-        ensures { result.now ≡ self.now.0.value.fields.0.earlier.0.0.earlier.0.1.0.value }
+        ensures { result.now ≡ key_algorithm_of self.now }
     {
         self.body().0.0.earlier().algorithm_identifier()
     }
 
     /// The private key.
     pub fn private_key(&self) -> PrivateKey<'_>
-        ensures { key_seen result ≡ key_in self.now.0.value.fields.0.earlier.0.0.field }
+        ensures { key_seen result ≡ private_key_of self.now }
     {
         self.body().0.0.field().key()
     }
 
     /// What is said of the key, in the order of the texts. Attributes that are absent aren't the same as none of them.
     pub fn attributes(&self) -> Option<&SetOf<Attribute>>
-        ensures { option_map (λ r. r.now) result
-            ≡ option_map value_under self.now.0.value.fields.0.earlier.0.1.0 }
+        ensures { option_map (λ r. r.now) result ≡ key_attributes_of self.now }
     {
         match &self.body().0.1.0 {
             Some(attributes) => Some(attributes.value()),
@@ -120,9 +120,8 @@ impl OneAsymmetricKey {
 
     /// The public key, which stands under version 1, and under version 1 alone (RFC 5958 section 2).
     pub fn public_key(&self) -> Option<&Bits>
-        ensures value { option_map (λ r. r.now) result ≡ bits_of self.now.0.value.fields.0.field }
-        ensures stands { is_some result
-            ≡ (self.now.0.value.fields.0.earlier.0.0.earlier.0.0.0.number == 1) }
+        ensures value { option_map (λ r. r.now) result ≡ public_key_of self.now }
+        ensures stands { is_some result ≡ (key_version_of self.now == 1) }
     {
         match self.0.value().fields().0.field() {
             Some(key) => key.bits(),

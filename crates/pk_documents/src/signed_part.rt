@@ -2,6 +2,7 @@
 ghost use Rattle.std.specs.Prelude.{◌≡◌, false};
 ghost use Rattle.x690.specs.DerTexts.{der};
 ghost use Rattle.asn_documents.specs.WrittenValues.{WritesText};
+ghost use Rattle.pk_requests.specs.Requests.{request_info_of};
 
 use asn_documents::document::write_value;
 use asn_values::der_text::DerText;
@@ -20,7 +21,7 @@ pub fn write_signed_part<W: Target>(
 ) -> Result<u64, WriteError>
     requires { W.has_failed dst.old ≡ false }
     ensures { WritesText (der (⟦<CertificationRequestInfo as DerText>⟧.value
-        request.now.0.fields.0.0)) (W.contents dst.old) (W.contents dst.new)
+        (request_info_of request.now))) (W.contents dst.old) (W.contents dst.new)
         (W.has_failed dst.new) result }
 {
     write_value(request.info(), dst)

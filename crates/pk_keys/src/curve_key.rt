@@ -22,9 +22,11 @@ use tlv_core::target::Target;
 pub struct CurveKey(Octets);
 
 impl CurveKey {
+    ghost use Rattle.pk_keys.specs.CurveKeys.{curve_key_of};
+
     /// The private key.
     pub fn key(&self) -> &Octets
-        ensures { result.now ≡ self.now.0 }
+        ensures { result.now ≡ curve_key_of self.now }
     {
         &self.0
     }
@@ -39,9 +41,11 @@ impl CurveKey {
 }
 
 impl DerText for CurveKey {
-    ghost value = { λ x. ⟦<Octets as DerText>⟧.value x.0 };
+    ghost use Rattle.pk_keys.specs.CurveKeys.{curve_key_of};
 
-    ghost one_text = { λ x y. ⟦<Octets as DerText>⟧.one_text x.0 y.0 };
+    ghost value = { λ x. ⟦<Octets as DerText>⟧.value (curve_key_of x) };
+
+    ghost one_text = { λ x y. ⟦<Octets as DerText>⟧.one_text (curve_key_of x) (curve_key_of y) };
 
     fn size(&self) -> u64 {
         self.0.size()

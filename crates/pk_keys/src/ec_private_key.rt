@@ -80,12 +80,13 @@ fn has_length_of(curve: &Option<Tagged<0, Oid>>, key: &Octets) -> bool
 pub struct EcPrivateKey(Ruled<Record<EcKeyForm>, EcKeyForm>);
 
 impl EcPrivateKey {
+    ghost use Rattle.pk_keys.specs.EcParts.{ec_curve_of, ec_key_of, ec_public_key_of};
+
     /// The private key. On secp224r1, secp256r1, secp256k1, secp384r1 and secp521r1 it has as many octets as the order
     /// of the base point.
     pub fn key(&self) -> &Octets
-        ensures value { result.now ≡ self.now.0.value.fields.0.0.1.0 }
-        ensures fits { has_length (named_length
-            (option_map (λ c. c.inner) self.now.0.value.fields.0.1.0.0))
+        ensures value { result.now ≡ ec_key_of self.now }
+        ensures fits { has_length (named_length (ec_curve_of self.now))
             (length (octets_of result.now)) ≡ true }
     {
         self.0.value().fields().key()
@@ -93,8 +94,7 @@ impl EcPrivateKey {
 
     /// The curve that it names.
     pub fn curve(&self) -> Option<&Oid>
-        ensures { option_map (λ r. r.now) result
-            ≡ option_map (λ c. c.inner) self.now.0.value.fields.0.1.0.0 }
+        ensures { option_map (λ r. r.now) result ≡ ec_curve_of self.now }
     {
         match self.0.value().fields().curve() {
             Some(curve) => Some(curve.value()),
@@ -104,8 +104,7 @@ impl EcPrivateKey {
 
     /// The public key.
     pub fn public_key(&self) -> Option<&Bits>
-        ensures { option_map (λ r. r.now) result
-            ≡ option_map (λ k. k.inner) self.now.0.value.fields.0.1.1.0 }
+        ensures { option_map (λ r. r.now) result ≡ ec_public_key_of self.now }
     {
         match self.0.value().fields().public_key() {
             Some(key) => Some(key.value()),

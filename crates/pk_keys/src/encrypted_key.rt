@@ -36,16 +36,18 @@ impl Form for EncryptedKeyForm {
 pub struct EncryptedKey(Record<EncryptedKeyForm>);
 
 impl EncryptedKey {
+    ghost use Rattle.pk_keys.specs.EncryptedKeys.{encrypted_data_of, encryption_algorithm_of};
+
     /// What it is encrypted by.
     pub fn algorithm(&self) -> &AlgorithmIdentifier
-        ensures { result.now ≡ self.now.0.fields.0.0 }
+        ensures { result.now ≡ encryption_algorithm_of self.now }
     {
         &self.0.fields().0.0
     }
 
     /// The encrypted octets.
     pub fn octets(&self) -> &Octets
-        ensures { result.now ≡ self.now.0.fields.1.0 }
+        ensures { result.now ≡ encrypted_data_of self.now }
     {
         &self.0.fields().1.0
     }

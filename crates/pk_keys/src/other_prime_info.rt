@@ -37,23 +37,25 @@ impl Form for OtherPrimeForm {
 pub struct OtherPrimeInfo(Record<OtherPrimeForm>);
 
 impl OtherPrimeInfo {
+    ghost use Rattle.pk_keys.specs.OtherPrimes.{coefficient_of, exponent_of, prime_of};
+
     /// The prime.
     pub fn prime(&self) -> &Int
-        ensures { result.now ≡ self.now.0.fields.0.0 }
+        ensures { result.now ≡ prime_of self.now }
     {
         &self.0.fields().0.0
     }
 
     /// Its exponent.
     pub fn exponent(&self) -> &Int
-        ensures { result.now ≡ self.now.0.fields.1.0.0.0 }
+        ensures { result.now ≡ exponent_of self.now }
     {
         &self.0.fields().1.0.0.0
     }
 
     /// Its coefficient.
     pub fn coefficient(&self) -> &Int
-        ensures { result.now ≡ self.now.0.fields.1.0.1.0 }
+        ensures { result.now ≡ coefficient_of self.now }
     {
         &self.0.fields().1.0.1.0
     }

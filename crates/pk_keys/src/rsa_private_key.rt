@@ -8,8 +8,6 @@ ghost use Rattle.pkix_types.proofs.ClosedTypes.{rsa_key_closed};
 ghost use Rattle.pkix_types.proofs.Fairs.{fair_rsa_version};
 ghost use Rattle.x690.specs.Values.{Same};
 ghost use Rattle.pkix_types.proofs.LawfulTypes.{honest_rsa_version};
-ghost use Rattle.asn_containers.specs.Containers.{list_items};
-ghost use Rattle.pk_keys.specs.RsaKeys.{numbers_of, other_primes};
 
 use crate::rsa_fields::RsaFields;
 use asn_fields::record::{Form, Record};
@@ -58,25 +56,25 @@ impl Rules<Record<RsaKeyForm>> for RsaKeyForm {
 pub struct RsaPrivateKey(Ruled<Record<RsaKeyForm>, RsaKeyForm>);
 
 impl RsaPrivateKey {
+    ghost use Rattle.pk_keys.specs.RsaParts.{other_primes_of, rsa_numbers_of, rsa_version_of};
+
     /// Its version: 1 where it has more than two primes, else 0.
     pub fn version(&self) -> u8
-        ensures { result ≡ self.now.0.value.fields.0.earlier.0.0.number }
+        ensures { result ≡ rsa_version_of self.now }
     {
         self.0.value().fields().version()
     }
 
     /// modulus, publicExponent, privateExponent, prime1, prime2, exponent1, exponent2 and coefficient, counted from 0.
     pub fn number(&self, i: usize) -> Option<&Int>
-        ensures { option_map (λ r. r.now) result
-            ≡ slice_get (numbers_of self.now.0.value.fields.0.earlier.1) i }
+        ensures { option_map (λ r. r.now) result ≡ slice_get (rsa_numbers_of self.now) i }
     {
         self.0.value().fields().number(i)
     }
 
     /// The number of primes behind the first two.
     pub fn others(&self) -> usize
-        ensures { result ≡ length (other_primes (λ list. list_items list.0.items)
-            (option_map (λ others. others.0.value) self.now.0.value.fields.0.field)) }
+        ensures { result ≡ length (other_primes_of self.now) }
     {
         self.0.value().fields().others()
     }

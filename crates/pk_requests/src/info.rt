@@ -4,7 +4,6 @@ ghost use Rattle.std.specs.Prelude.{◌≡◌, ◌↔◌, IsTrue, refl};
 ghost use Rattle.std.specs.Option.{option_map};
 ghost use Rattle.pkix_types.specs.DocumentTypes.{CertificationRequestInfo as CertificationRequestInfoType};
 ghost use Rattle.x690.specs.Values.{Same};
-ghost use Rattle.asn_elements.specs.Implicits.{value_under};
 ghost use Rattle.pkix_types.proofs.ClosedTypes.{info_closed};
 
 use crate::info_fields::InfoFields;
@@ -40,23 +39,25 @@ impl Form for InfoForm {
 pub struct CertificationRequestInfo(Record<InfoForm>);
 
 impl CertificationRequestInfo {
+    ghost use Rattle.pk_requests.specs.Infos.{request_attributes_of, subject_key_of, subject_of};
+
     /// Who asks.
     pub fn subject(&self) -> &Name
-        ensures { result.now ≡ self.now.0.fields.0.0.1.0 }
+        ensures { result.now ≡ subject_of self.now }
     {
         self.0.fields().subject()
     }
 
     /// The public key that is to be certified.
     pub fn key_info(&self) -> &SubjectPublicKeyInfo
-        ensures { result.now ≡ self.now.0.fields.0.1.0.0 }
+        ensures { result.now ≡ subject_key_of self.now }
     {
         self.0.fields().key_info()
     }
 
     /// What else is asked for, in the order of the texts. Attributes that are absent aren't the same as none of them.
     pub fn attributes(&self) -> Option<&SetOf<RequestAttribute>>
-        ensures { option_map (λ r. r.now) result ≡ option_map value_under self.now.0.fields.0.1.1.0 }
+        ensures { option_map (λ r. r.now) result ≡ request_attributes_of self.now }
     {
         match self.0.fields().attributes() {
             Some(attributes) => Some(attributes.value()),

@@ -40,23 +40,25 @@ impl Form for RequestForm {
 pub struct CertificationRequest(Record<RequestForm>);
 
 impl CertificationRequest {
+    ghost use Rattle.pk_requests.specs.Requests.{request_info_of, signature_algorithm_of, signature_of};
+
     /// What the signature covers, as its DER text.
     pub fn info(&self) -> &CertificationRequestInfo
-        ensures { result.now ≡ self.now.0.fields.0.0 }
+        ensures { result.now ≡ request_info_of self.now }
     {
         &self.0.fields().0.0
     }
 
     /// By which algorithm it is signed.
     pub fn signature_algorithm(&self) -> &AlgorithmIdentifier
-        ensures { result.now ≡ self.now.0.fields.1.0.0 }
+        ensures { result.now ≡ signature_algorithm_of self.now }
     {
         &self.0.fields().1.0.0
     }
 
     /// The signature.
     pub fn signature(&self) -> &Bits
-        ensures { result.now ≡ self.now.0.fields.1.1.0 }
+        ensures { result.now ≡ signature_of self.now }
     {
         &self.0.fields().1.1.0
     }

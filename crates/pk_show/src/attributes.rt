@@ -3,7 +3,7 @@ ghost use Rattle.std.specs.Prelude.{◌≡◌, ◌++◌, ◌∷◌, [], OnOk, co
 ghost use Rattle.std.specs.Option.{option_map};
 ghost use Rattle.asn_containers.specs.Containers.{list_items, set_items};
 ghost use Rattle.pkix_types.specs.Identifiers.{extension_request};
-ghost use Rattle.pk_show.specs.Parts.{request_attribute_type};
+ghost use Rattle.pkix_values.specs.RequestAttributes.{request_attribute_type_of};
 ghost use Rattle.pk_show.specs.Shown.{attribute_line, attribute_lines, attributes_lines, extension_line, extensions_lines, request_attribute_lines, value_line};
 ghost use Rattle.x690.specs.Lists.{one_of};
 
@@ -88,7 +88,7 @@ fn push_plain(
     text: &mut String,
     attribute: &RequestAttribute,
 ) -> Result<(), AllocError>
-    requires { one_of (request_attribute_type attribute.now) (extension_request ∷ []) ≡ false }
+    requires { one_of (request_attribute_type_of attribute.now) (extension_request ∷ []) ≡ false }
     ensures { OnOk result (string_bytes text.new ≡ string_bytes text.old
         ++ request_attribute_lines attribute.now) }
 {

@@ -1,4 +1,12 @@
+pub mod Algorithms
+pub mod Attributes
 pub mod Eithers
+pub mod Extensions
 pub mod Forms
+pub mod Names
+pub mod PublicKeys
+pub mod RequestAttributes
+pub mod SetsOfSome
 pub mod Values
+pub mod VersionNumbers
 pub mod Versions

@@ -64,17 +64,19 @@ impl Rules<Record<AlgorithmForm>> for AlgorithmForm {
 pub struct AlgorithmIdentifier(Ruled<Record<AlgorithmForm>, AlgorithmForm>);
 
 impl AlgorithmIdentifier {
+    ghost use Rattle.pkix_values.specs.Algorithms.{algorithm_of, parameters_of};
+
     /// Which one it is.
     pub fn algorithm(&self) -> &Oid
-        ensures { result.now ≡ self.now.0.value.fields.0.0 }
+        ensures { result.now ≡ algorithm_of self.now }
     {
         &self.0.value().fields().0.0
     }
 
     /// What it depends on. The algorithms of RFC 8410 have no parameters.
     pub fn parameters(&self) -> Option<&Any>
-        ensures value { option_map (λ r. r.now) result ≡ self.now.0.value.fields.1.0 }
-        ensures bare { one_of self.now.0.value.fields.0.0 rfc8410_algorithms ≡ true → result ≡ None }
+        ensures value { option_map (λ r. r.now) result ≡ parameters_of self.now }
+        ensures bare { one_of (algorithm_of self.now) rfc8410_algorithms ≡ true → result ≡ None }
     {
         self.0.value().fields().1.0.as_ref()
     }

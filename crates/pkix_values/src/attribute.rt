@@ -39,16 +39,18 @@ impl Form for AttributeForm {
 pub struct Attribute(Record<AttributeForm>);
 
 impl Attribute {
+    ghost use Rattle.pkix_values.specs.Attributes.{attribute_type_of, attribute_values_of};
+
     /// Its type.
     pub fn id(&self) -> &Oid
-        ensures { result.now ≡ self.now.0.fields.0.0 }
+        ensures { result.now ≡ attribute_type_of self.now }
     {
         &self.0.fields().0.0
     }
 
     /// Its values, in the order of their texts.
     pub fn values(&self) -> &SetOf<Any>
-        ensures value { result.now ≡ self.now.0.fields.1.0.items }
+        ensures value { result.now ≡ attribute_values_of self.now }
         ensures some { 0 < length (set_items result.now) }
     {
         self.0.fields().1.0.items()

@@ -36,23 +36,25 @@ impl Form for ExtensionForm {
 pub struct Extension(Record<ExtensionForm>);
 
 impl Extension {
+    ghost use Rattle.pkix_values.specs.Extensions.{extension_id_of, extension_value_of, is_critical};
+
     /// What it is about.
     pub fn id(&self) -> &Oid
-        ensures { result.now ≡ self.now.0.fields.0.0 }
+        ensures { result.now ≡ extension_id_of self.now }
     {
         &self.0.fields().0.0
     }
 
     /// Whether one who doesn't know it has to refuse the certificate.
     pub fn critical(&self) -> bool
-        ensures { result ≡ self.now.0.fields.1.0.0 }
+        ensures { result ≡ is_critical self.now }
     {
         self.0.fields().1.0.0
     }
 
     /// What it says: the octets of a DER text of another type.
     pub fn value(&self) -> &Octets
-        ensures { result.now ≡ self.now.0.fields.1.1.0 }
+        ensures { result.now ≡ extension_value_of self.now }
     {
         &self.0.fields().1.1.0
     }

@@ -38,16 +38,18 @@ impl Form for NameItemForm {
 pub struct NameItem(Record<NameItemForm>);
 
 impl NameItem {
+    ghost use Rattle.pkix_values.specs.Names.{item_type_of, item_value_of};
+
     /// What it tells.
     pub fn id(&self) -> &Oid
-        ensures { result.now ≡ self.now.0.fields.0.0 }
+        ensures { result.now ≡ item_type_of self.now }
     {
         &self.0.fields().0.0
     }
 
     /// What is told.
     pub fn value(&self) -> &Any
-        ensures { result.now ≡ self.now.0.fields.1.0 }
+        ensures { result.now ≡ item_value_of self.now }
     {
         &self.0.fields().1.0
     }
@@ -104,9 +106,11 @@ pub struct Name {
 }
 
 impl Name {
+    ghost use Rattle.pkix_values.specs.Names.{rdns_of};
+
     /// Its parts, from the root on.
     pub fn rdns(&self) -> &List<Rdn>
-        ensures { result.now ≡ self.now.rdns }
+        ensures { result.now ≡ rdns_of self.now }
     {
         &self.rdns
     }
@@ -121,9 +125,12 @@ impl Name {
 }
 
 impl DerText for Name {
-    ghost value = { λ x. ⟦<List<SetOfSome<NameItem>> as DerText>⟧.value x.rdns };
+    ghost use Rattle.pkix_values.specs.Names.{rdns_of};
 
-    ghost one_text = { λ x y. ⟦<List<SetOfSome<NameItem>> as DerText>⟧.one_text x.rdns y.rdns };
+    ghost value = { λ x. ⟦<List<SetOfSome<NameItem>> as DerText>⟧.value (rdns_of x) };
+
+    ghost one_text = { λ x y. ⟦<List<SetOfSome<NameItem>> as DerText>⟧.one_text (rdns_of x)
+        (rdns_of y) };
 
     fn size(&self) -> u64 {
         self.rdns.size()

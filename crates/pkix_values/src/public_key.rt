@@ -73,17 +73,20 @@ pub fn is_key_of(algorithm: &Oid, key: &Bits) -> bool
 pub struct SubjectPublicKeyInfo(Record<PublicKeyForm>);
 
 impl SubjectPublicKeyInfo {
+    ghost use Rattle.pkix_values.specs.Algorithms.{algorithm_of};
+    ghost use Rattle.pkix_values.specs.PublicKeys.{public_key_algorithm_of, subject_public_key_of};
+
     /// What the key is for.
     pub fn algorithm(&self) -> &AlgorithmIdentifier
-        ensures { result.now ≡ self.now.0.fields.fields.0.0 }
+        ensures { result.now ≡ public_key_algorithm_of self.now }
     {
         &self.0.fields().earlier().0
     }
 
     /// The key. Under the algorithms of RFC 8410 it has the length that goes with the algorithm, and no unused bits.
     pub fn key(&self) -> &Bits
-        ensures value { result.now ≡ self.now.0.fields.fields.1.0 }
-        ensures fits { key_fits self.now.0.fields.fields.0.0.0.value.fields.0.0
+        ensures value { result.now ≡ subject_public_key_of self.now }
+        ensures fits { key_fits (algorithm_of (public_key_algorithm_of self.now))
             (bit_string_of result.now) ≡ true }
     {
         self.0.fields().field()

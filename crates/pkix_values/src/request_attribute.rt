@@ -7,7 +7,7 @@ ghost use Rattle.pkix_types.specs.Identifiers.{extension_request};
 ghost use Rattle.x690.specs.Lists.{one_of};
 ghost use Rattle.x690.specs.Values.{Same};
 ghost use Rattle.pkix_types.proofs.ClosedTypes.{request_attribute_closed};
-ghost use Rattle.pkix_values.specs.Eithers.{first_of, second_of, sets_alike};
+ghost use Rattle.pkix_values.specs.Eithers.{sets_alike};
 
 use crate::extension::Extension;
 use crate::identifiers::is_extension_request;
@@ -65,9 +65,11 @@ impl Form for RequestAttributeForm {
 pub struct RequestAttribute(Record<RequestAttributeForm>);
 
 impl RequestAttribute {
+    ghost use Rattle.pkix_values.specs.RequestAttributes.{extensions_of, plain_values_of, request_attribute_type_of};
+
     /// Its type.
     pub fn id(&self) -> &Oid
-        ensures { result.now ≡ self.now.0.fields.earlier.0 }
+        ensures { result.now ≡ request_attribute_type_of self.now }
     {
         &self.0.fields().earlier().0
     }
@@ -75,9 +77,8 @@ impl RequestAttribute {
     /// The lists of extensions of extensionRequest.
     #[tactic(auto, unfolding(x690::specs::Values::leaf_at))]
     pub fn extensions(&self) -> Option<&SetOf<List<Extension>>>
-        ensures value { option_map (λ r. r.now) result
-            ≡ option_map (λ some. some.items) (first_of self.now.0.fields.field) }
-        ensures by_type { is_some result ≡ one_of self.now.0.fields.earlier.0
+        ensures value { option_map (λ r. r.now) result ≡ extensions_of self.now }
+        ensures by_type { is_some result ≡ one_of (request_attribute_type_of self.now)
             (extension_request ∷ []) }
     {
         match self.0.fields().field() {
@@ -89,10 +90,9 @@ impl RequestAttribute {
     /// The values of an attribute of any other type.
     #[tactic(auto, unfolding(x690::specs::Values::leaf_at))]
     pub fn plain(&self) -> Option<&SetOf<Any>>
-        ensures value { option_map (λ r. r.now) result
-            ≡ option_map (λ some. some.items) (second_of self.now.0.fields.field) }
+        ensures value { option_map (λ r. r.now) result ≡ plain_values_of self.now }
         ensures by_type { is_some result ≡ not
-            (one_of self.now.0.fields.earlier.0 (extension_request ∷ [])) }
+            (one_of (request_attribute_type_of self.now) (extension_request ∷ [])) }
     {
         match self.0.fields().field() {
             Either::First(_) => None,

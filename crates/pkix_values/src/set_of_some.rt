@@ -26,9 +26,11 @@ pub struct SetOfSome<T: DerText> {
 }
 
 impl<T: DerText> SetOfSome<T> {
+    ghost use Rattle.pkix_values.specs.SetsOfSome.{some_items};
+
     /// The members.
     pub fn items(&self) -> &SetOf<T>
-        ensures value { result.now ≡ self.now.items }
+        ensures value { result.now ≡ some_items self.now }
         ensures some { 0 < length (set_items result.now) }
     {
         &self.items
@@ -37,17 +39,21 @@ impl<T: DerText> SetOfSome<T> {
     /// Whether the two are the same.
     pub fn same(&self, other: &SetOfSome<T>) -> bool
         ensures { IsTrue result ↔ Same
-            (SetValue (universal 17) (values_of (map T.value (set_items self.now.items))))
-            (SetValue (universal 17) (values_of (map T.value (set_items other.now.items)))) }
+            (SetValue (universal 17) (values_of (map T.value (set_items (some_items self.now)))))
+            (SetValue (universal 17) (values_of (map T.value (set_items (some_items other.now))))) }
     {
         self.items.same(&other.items)
     }
 }
 
 impl<T: DerText> DerText for SetOfSome<T> {
-    ghost value = { λ some. SetValue (universal 17) (values_of (map T.value (set_items some.items))) };
+    ghost use Rattle.pkix_values.specs.SetsOfSome.{some_items};
 
-    ghost one_text = { λ x y. ⟦<SetOf<T> as DerText>⟧.one_text x.items y.items };
+    ghost value = { λ some. SetValue (universal 17)
+        (values_of (map T.value (set_items (some_items some)))) };
+
+    ghost one_text = { λ x y. ⟦<SetOf<T> as DerText>⟧.one_text (some_items x)
+        (some_items y) };
 
     fn size(&self) -> u64 {
         self.items.size()

@@ -32,9 +32,11 @@ pub struct Version<const LEAST: u8, const MOST: u8> {
 }
 
 impl<const LEAST: u8, const MOST: u8> Version<LEAST, MOST> {
+    ghost use Rattle.pkix_values.specs.VersionNumbers.{version_number};
+
     /// Its number, which is the one octet of the INTEGER's contents.
     pub fn number(&self) -> u8
-        ensures value { result ≡ self.now.number }
+        ensures value { result ≡ version_number self.now }
         ensures least { LEAST ≤ result }
         ensures most { result ≤ MOST }
         ensures octet { result < 128 }
@@ -45,13 +47,13 @@ impl<const LEAST: u8, const MOST: u8> Version<LEAST, MOST> {
 
     /// Whether the two are the same.
     pub fn same(&self, other: &Version<LEAST, MOST>) -> bool
-        ensures { IsTrue result ↔ (self.now.number ≡ other.now.number) }
+        ensures { IsTrue result ↔ (version_number self.now ≡ version_number other.now) }
     {
         self.number == other.number
     }
 
     fn text(&self) -> [u8; 3]
-        ensures { result ≡ der (Leaf (universal 2) (self.now.number ∷ [])) }
+        ensures { result ≡ der (Leaf (universal 2) (version_number self.now ∷ [])) }
     {
         [0x02, 0x01, self.number]
     }
@@ -79,10 +81,12 @@ fn number_of<const LEAST: u8, const MOST: u8>(contents: &[u8]) -> Option<u8>
 }
 
 impl<const LEAST: u8, const MOST: u8> DerText for Version<LEAST, MOST> {
-    ghost value = { λ v. Leaf (universal 2) (v.number ∷ []) };
+    ghost use Rattle.pkix_values.specs.VersionNumbers.{version_number};
 
-    ghost one_text = { λ x y. leaf_one_text (universal 2) (universal 2) (x.number ∷ [])
-        (y.number ∷ []) };
+    ghost value = { λ v. Leaf (universal 2) (version_number v ∷ []) };
+
+    ghost one_text = { λ x y. leaf_one_text (universal 2) (universal 2)
+        (version_number x ∷ []) (version_number y ∷ []) };
 
     fn size(&self) -> u64 {
         3

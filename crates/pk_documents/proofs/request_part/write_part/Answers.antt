@@ -3,8 +3,8 @@ use Rattle.x690.specs.DerTexts.{der}
 use Rattle.x690.specs.Values.{leaf_at}
 use Rattle.asn_documents.specs.WrittenValues.{WritesText}
 use Rattle.asn_elements.specs.Leaves.{bit_string_of}
+use Rattle.pk_requests.specs.Infos.{subject_key_of}
 use Rattle.pk_requests.specs.contracts.request.CertificationRequestDerText.TheImpl as request_text
-use Rattle.pk_requests.specs.declared.info.CertificationRequestInfo.{CertificationRequestInfo}
 use Rattle.pkix_values.specs.contracts.public_key.SubjectPublicKeyInfoDerText.TheImpl as public_text
 use Rattle.pk_documents.specs.RequestParts.{part_of}
 use Rattle.pk_documents.proofs.request_part.write_part.Goals as goal
@@ -15,7 +15,7 @@ returns-in-Info g c =
 
 pub returns-in-Key : goal.returns-in-Key
 returns-in-Key g c =
-    let key = c.key_info.ensures ∙ ap (λ (info : CertificationRequestInfo). info.0.fields.0.1.0.0) c.info.ensures in
+    let key = c.key_info.ensures ∙ ap subject_key_of c.info.ensures in
     let text = ap (λ it. der (public_text.value-value.it it)) key ∙ ap (λ part. part_of part (request_text.value-value.it c.args.request.now)) (sym c.in-Key.is) in
     subst (λ octets. WritesText octets (g.W.Target.contents c.args.dst.now) (g.W.Target.contents c.write_value-in-Key.new.dst) (g.W.Target.has_failed c.write_value-in-Key.new.dst) c.write_value-in-Key.result) text c.write_value-in-Key.ensures
 

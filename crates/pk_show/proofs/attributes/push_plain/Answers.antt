@@ -2,7 +2,7 @@ use Rattle.std.proofs.Common.{◌∙◌, ◌++◌, [], ◌∷◌, ap, flat_map, 
 use Rattle.x690.specs.Lists.{one_of}
 use Rattle.pkix_types.specs.Identifiers.{extension_request}
 use Rattle.asn_containers.specs.Containers.{set_items}
-use Rattle.pk_show.specs.Parts.{request_attribute_type}
+use Rattle.pkix_values.specs.RequestAttributes.{request_attribute_type_of, request_attribute_values_of}
 use Rattle.pk_show.specs.Shown.{attribute_line, request_attribute_lines, value_line}
 use Rattle.pk_show.proofs.Behind.{in_words}
 use Rattle.pk_show.proofs.RequestValues.{neither, plain_shown}
@@ -10,7 +10,7 @@ use Rattle.pk_show.proofs.attributes.push_plain.Goals as goal
 
 pub unreachable-requires : goal.unreachable-requires
 unreachable-requires c =
-    neither (one_of (request_attribute_type c.args.attribute.now) (extension_request ∷ [])) (sym c.requires) c.in_default.ensures.by_type
+    neither (one_of (request_attribute_type_of c.args.attribute.now) (extension_request ∷ [])) (sym c.requires) c.in_default.ensures.by_type
 
 pub returns : goal.returns
 unfolding request_attribute_lines
@@ -20,4 +20,4 @@ returns c =
     let lines = flat_map value_line (set_items values) in
     in_words c.push_values.result (string_bytes c.push_values.new.text) (string_bytes c.args.text.now) (attribute_line c.id.result.now (length (set_items values)) ++ lines) (request_attribute_lines it) c.push_values.ensures
     (ap (λ id. attribute_line id (length (set_items values)) ++ lines) c.id.ensures
-    ∙ plain_shown (request_attribute_type it) it.0.fields.field values c.in-Some.ensures.value)
+    ∙ plain_shown (request_attribute_type_of it) (request_attribute_values_of it) values c.in-Some.ensures.value)

@@ -1,6 +1,6 @@
 use Rattle.std.proofs.Common.{◌∙◌, ◌++◌, ap, flat_map, length, map, string_bytes, sym}
 use Rattle.asn_containers.specs.Containers.{list_items, set_items}
-use Rattle.pk_show.specs.Parts.{request_attribute_type}
+use Rattle.pkix_values.specs.RequestAttributes.{request_attribute_type_of, request_attribute_values_of}
 use Rattle.pk_show.specs.Shown.{attribute_line, extensions_lines, request_attribute_lines}
 use Rattle.pk_show.proofs.Behind.{in_words}
 use Rattle.pk_show.proofs.RequestValues.{lists_shown}
@@ -14,7 +14,7 @@ returns-in-Some c =
     let lines = flat_map extensions_lines (map list_items (set_items lists)) in
     in_words c.push_lists.result (string_bytes c.push_lists.new.text) (string_bytes c.args.text.now) (attribute_line c.id.result.now (length (set_items lists)) ++ lines) (request_attribute_lines it) c.push_lists.ensures
     (ap (λ id. attribute_line id (length (set_items lists)) ++ lines) c.id.ensures
-    ∙ lists_shown (request_attribute_type it) it.0.fields.field lists c.in-Some.ensures.value)
+    ∙ lists_shown (request_attribute_type_of it) (request_attribute_values_of it) lists c.in-Some.ensures.value)
 
 pub push_plain-requires : goal.push_plain-requires
 push_plain-requires c = sym c.in-None.ensures.by_type
