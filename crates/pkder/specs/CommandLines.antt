@@ -1,6 +1,7 @@
 -- The commands and options of the program, and what a command line asks for. What clap makes of the words of a command is `subcommand_of`.
-use Rattle.std.specs.Prelude.{◌≡◌, ◌⊎◌, ℕ, Bool, List, [], ◌∷◌, None, Option, Some, codes, false, true, unwrap_or}
+use Rattle.std.specs.Prelude.{All, ◌≡◌, ◌≤◌, ◌⊎◌, ◌++◌, ℕ, Bool, List, [], ◌∷◌, None, Option, Some, codes, false, string_bytes, true, unwrap_or}
 use Rattle.std.specs.Char.{is_control}
+use Rattle.std.specs.Int.{IsInRange}
 use Rattle.std.specs.List.{list_any}
 use Rattle.std.specs.Str.{chars}
 use Rattle.std.specs.Str.Parse.{IsNumeral, digits_value, without_leading_plus}
@@ -13,8 +14,10 @@ use Rattle.pk_documents.specs.declared.kind.Kind.{Kind}
 use Rattle.pk_documents.specs.declared.kind.Kind.TheVariants as kinds
 use Rattle.pk_documents.specs.declared.request_part.Part.{Part}
 use Rattle.pk_documents.specs.declared.request_part.Part.TheVariants as parts
+use Rattle.pkder.specs.Outcomes.{line_feed}
 use Rattle.pkder.specs.declared.line.Action.{Action}
 use Rattle.pkder.specs.declared.line.Action.TheVariants.{Check, Normalise, Show, Signed}
+use Rattle.pkder.specs.declared.line.BadValue.{BadValue}
 use Rattle.pkder.specs.declared.line.LineFault.{LineFault}
 use Rattle.pkder.specs.declared.line.LineFault.TheVariants as faults
 use Rattle.pkder.specs.declared.line.Task.{Task}
@@ -99,14 +102,65 @@ abbrev pub MeansBy : Option (Text × List Row) → Task → Type 0
 MeansBy None task = ⊥
 MeansBy (Some met) task = Means met.0 met.1 task
 
--- No task is meant, or memory ran out.
+-- ---- what is told of a value that its option doesn't have
+
+abbrev pub Names : BadValue → Text → Text → Text → Type 0
+Names bad option value wanted = (bad.option.now ≡ option) × (bad.value.now ≡ value) × (bad.wanted.now ≡ wanted)
+
+abbrev pub IsNoNumber : Text → ℕ → Type 0
+IsNoNumber text most = (n : ℕ) → IsNumber text n → 1 ≤ n → n ≤ most → ⊥
+
+abbrev pub BadDepth : List Row → BadValue → Type 0
+BadDepth rows bad = Names bad (codes "--depth <N>") (value_of (codes "depth") rows) (codes "a number from 1 to 64") × IsNoNumber (value_of (codes "depth") rows) 64
+
+abbrev pub BadOctets : List Row → BadValue → Type 0
+BadOctets rows bad = Names bad (codes "--octets <N>") (value_of (codes "octets") rows) (codes "a number from 1 to 2147483647") × IsNoNumber (value_of (codes "octets") rows) 2147483647
+
+abbrev pub BadLimit : List Row → BadValue → Type 0
+BadLimit rows bad = BadDepth rows bad ⊎ BadOctets rows bad
+
+abbrev pub BadKind : List Row → BadValue → Type 0
+BadKind rows bad = Names bad (codes "--kind <KIND>") (value_of (codes "kind") rows) (codes "key, ec, request, public, encrypted or package") × ((kind : Kind) → value_of (codes "kind") rows ≡ kind_name kind → ⊥)
+
+abbrev pub BadPart : List Row → BadValue → Type 0
+BadPart rows bad = Names bad (codes "--part <PART>") (value_of (codes "part") rows) (codes "info, algorithm, key or signature") × ((part : Part) → value_of (codes "part") rows ≡ part_name part → ⊥)
+
+abbrev pub BadCommand : Text → BadValue → Type 0
+BadCommand name bad = Names bad (codes "COMMAND") name (codes "show, check, normalise or signed") × ((action : Action) → name ≡ command_name action → ⊥)
+
+-- Why the command of this name has no task with these values of its options. Only `signed` has a part, and no kind.
+abbrev pub BadTask : Text → List Row → BadValue → Type 0
+BadTask name rows bad = BadLimit rows bad ⊎ (((name ≡ codes "signed") × BadPart rows bad) ⊎ ((name ≡ codes "signed" → ⊥) × (BadKind rows bad ⊎ BadCommand name bad)))
+
+abbrev pub bad_value_line : BadValue → Text
+bad_value_line bad = codes "error: invalid value '" ++ bad.value.now ++ codes "' for '" ++ bad.option.now ++ codes "': " ++ bad.wanted.now ++ (codes " is wanted" ++ line_feed ++ line_feed ++ codes "For more information, try '--help'." ++ line_feed)
+
+-- why the subcommand that was met means no task
+abbrev pub TellsWhy : Option (Text × List Row) → Text → Type 0
+TellsWhy None line = line ≡ codes "error: a command is wanted" ++ line_feed
+TellsWhy (Some met) line = (bad : BadValue) × BadTask met.0 met.1 bad × (line ≡ bad_value_line bad)
+
+-- ---- what a line asks for
+
+-- No task is meant, and the text tells why; or memory ran out.
 abbrev pub MeansNothing : Option (Text × List Row) → LineFault → Type 0
-MeansNothing met (faults.Line text) = (task : Task) → MeansBy met task → ⊥
+MeansNothing met (faults.Line text) = ((task : Task) → MeansBy met task → ⊥) × TellsWhy met (string_bytes text)
 MeansNothing met (faults.Help text) = ⊥
 MeansNothing met faults.Memory = Unit {0}
 
 abbrev pub has_control : Text → Bool
 has_control word = list_any is_control (chars word)
+
+-- printable ASCII
+abbrev pub IsPlain : Text → Type 0
+IsPlain text = All (IsInRange 32 126) text
+
+abbrev pub AppendsPlain : Text → Text → Type 0
+AppendsPlain old new = (more : Text) × (new ≡ old ++ more) × IsPlain more
+
+-- one line of it
+abbrev pub IsPlainLine : Text → Type 0
+IsPlainLine text = (line : Text) × (text ≡ line ++ line_feed) × IsPlain line
 
 -- The words ask for the task: none has a control character, clap takes them, and the subcommand that they name means it.
 abbrev pub Asks : List Text → Task → Type 0
@@ -120,9 +174,13 @@ IsRefusal kind = (kind ≡ errors.OutOfMemory → ⊥) × (kind ≡ errors.Displ
 abbrev pub IsRefused : List Text → Type 0
 IsRefused words = (kind : ErrorKind) × IsAmong kind (fault_of program words) × IsRefusal kind
 
--- Why words ask for nothing that can be done: they ask for no task, where one has a control character, or clap refuses them, or takes them; or they ask for help or the version.
+-- Why words are refused: one has a control character, and none is told; or clap refuses them; or it takes them, and a value isn't one of its option.
+abbrev pub TellsFault : List Text → Text → Type 0
+TellsFault words line = ((list_any has_control words ≡ true) × IsPlainLine line) ⊎ (IsRefused words ⊎ ((fault_of program words ≡ []) × TellsWhy (subcommand_of program words) line))
+
+-- Why words ask for nothing that can be done: they ask for no task and are refused, or they ask for help or the version.
 abbrev pub AsksNothing : List Text → LineFault → Type 0
-AsksNothing words (faults.Line text) = ((task : Task) → Asks words task → ⊥) × ((list_any has_control words ≡ true) ⊎ (IsRefused words ⊎ (fault_of program words ≡ [])))
+AsksNothing words (faults.Line text) = ((task : Task) → Asks words task → ⊥) × TellsFault words (string_bytes text)
 AsksNothing words (faults.Help text) = (list_any has_control words ≡ false) × (IsAmong errors.DisplayHelp (fault_of program words) ⊎ IsAmong errors.DisplayVersion (fault_of program words))
 AsksNothing words faults.Memory = Unit {0}
 

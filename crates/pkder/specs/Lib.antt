@@ -1,3 +1,4 @@
+pub mod BlockTargets
 pub mod CommandLines
 pub mod Outcomes
 pub mod Replies

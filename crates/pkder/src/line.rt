@@ -1,8 +1,8 @@
 //! What a command line asks for.
-ghost use Rattle.std.specs.Prelude.{◌≡◌, ◌≤◌, ℕ, IfOk, MatchOption, MatchResult, codes, map, string_bytes};
+ghost use Rattle.std.specs.Prelude.{◌≡◌, ◌≤◌, ℕ, IfErr, IfOk, MatchOption, MatchResult, OnOk, codes, map, string_bytes};
 ghost use Rattle.std.specs.List.{list_any};
 ghost use Rattle.clap.specs.Words.{found_of, kind_of, rows_of, subcommand_rows_of};
-ghost use Rattle.pkder.specs.CommandLines.{Asks, AsksNothing, IsFaultOf, IsNumber, Means, MeansBy, MeansNothing, ReadsLimits, has_control, kind_name, part_name, value_of};
+ghost use Rattle.pkder.specs.CommandLines.{AppendsPlain, Asks, AsksNothing, BadKind, BadLimit, BadPart, BadTask, IsFaultOf, IsNumber, IsPlainLine, Means, MeansBy, MeansNothing, ReadsLimits, bad_value_line, has_control, kind_name, part_name, value_of};
 ghost use Rattle.pkder.specs.declared.line.LineFault.TheVariants.{Memory};
 
 use crate::command::command;
@@ -64,15 +64,17 @@ struct BadValue<'a> {
 }
 
 impl BadValue<'_> {
-    fn text(self, alloc: Global) -> Result<String, AllocError> {
-        let BadValue {
-            option,
-            value,
-            wanted,
-        } = self;
-        format!(in alloc;
-            "error: invalid value '{value}' for '{option}': {wanted} is wanted\n\nFor more information, try '--help'.\n"
-        )
+    fn text(self, alloc: Global) -> Result<String, AllocError>
+        ensures { IfOk result (λ text. string_bytes text ≡ bad_value_line self.entry) }
+    {
+        let mut text = String::from_str(alloc, "error: invalid value '")?;
+        text.push_str(self.value)?;
+        text.push_str("' for '")?;
+        text.push_str(self.option)?;
+        text.push_str("': ")?;
+        text.push_str(self.wanted)?;
+        text.push_str(" is wanted\n\nFor more information, try '--help'.\n")?;
+        Ok(text)
     }
 }
 
@@ -105,14 +107,39 @@ fn is_controlling(word: &str) -> bool
     word.chars().any(|c| c.is_control())
 }
 
-/// Says which word has control characters, without writing them as they are.
-fn controls_text(alloc: Global, words: &[String]) -> Result<String, AllocError> {
+/// Says which words have control characters, without writing them as they are.
+fn controls_text(alloc: Global, words: &[String]) -> Result<String, AllocError>
+    ensures { IfOk result (λ text. IsPlainLine (string_bytes text)) }
+{
+    let mut text = String::from_str(alloc, "error: a word has control characters:")?;
     for word in words {
         if is_controlling(word.as_str()) {
-            return format!(in alloc; "error: a word has control characters: {word:?}\n");
+            push_quoted(&mut text, word.as_str())?;
         }
     }
-    Ok(String::new(alloc))
+    text.push_str("\n")?;
+    Ok(text)
+}
+
+/// Appends a word in quotes, with what isn't printable ASCII escaped.
+fn push_quoted(text: &mut String, word: &str) -> Result<(), AllocError>
+    ensures { OnOk result (AppendsPlain (string_bytes text.old) (string_bytes text.new)) }
+{
+    text.push_str(" \"")?;
+    for c in word.chars() {
+        push_escaped(text, c)?;
+    }
+    text.push_str("\"")
+}
+
+/// Appends a character, or its escape where it isn't printable ASCII.
+fn push_escaped(text: &mut String, c: char) -> Result<(), AllocError>
+    ensures { OnOk result (AppendsPlain (string_bytes text.old) (string_bytes text.new)) }
+{
+    for shown in c.escape_default() {
+        text.push(shown)?;
+    }
+    Ok(())
 }
 
 /// What a line that clap doesn't take asks for.
@@ -144,8 +171,9 @@ fn matched_task(alloc: Global, matches: &ArgMatches<'_>) -> Result<Task, LineFau
 
 /// The task of a command by the values of its options.
 fn read_task<'a>(name: &'a str, options: &ArgMatches<'a>) -> Result<Task, BadValue<'a>>
-    ensures { MatchResult result (Means name.entry.now (rows_of (found_of options.now)))
+    ensures means { MatchResult result (Means name.entry.now (rows_of (found_of options.now)))
         (λ _. (task : _) → Means name.entry.now (rows_of (found_of options.now)) task → ⊥) }
+    ensures refused { IfErr result (BadTask name.entry.now (rows_of (found_of options.now))) }
 {
     let limits = read_limits(options)?;
     if name == "signed" {
@@ -187,8 +215,9 @@ fn read_task<'a>(name: &'a str, options: &ArgMatches<'a>) -> Result<Task, BadVal
 
 /// The limits that the options set.
 fn read_limits<'a>(options: &ArgMatches<'a>) -> Result<Limits, BadValue<'a>>
-    ensures { MatchResult result (ReadsLimits (rows_of (found_of options.now)))
+    ensures reads { MatchResult result (ReadsLimits (rows_of (found_of options.now)))
         (λ _. (limits : _) → ReadsLimits (rows_of (found_of options.now)) limits → ⊥) }
+    ensures refused { IfErr result (BadLimit (rows_of (found_of options.now))) }
 {
     let depth_text = value(options, "depth");
     let Some(depth) = number_up_to(depth_text, 64) else {
@@ -216,8 +245,7 @@ fn read_limits<'a>(options: &ArgMatches<'a>) -> Result<Limits, BadValue<'a>>
 fn read_kind<'a>(options: &ArgMatches<'a>) -> Result<Kind, BadValue<'a>>
     ensures { MatchResult result
         (λ kind. value_of (codes "kind") (rows_of (found_of options.now)) ≡ kind_name kind)
-        (λ _. (kind : _) → value_of (codes "kind") (rows_of (found_of options.now))
-        ≡ kind_name kind → ⊥) }
+        (BadKind (rows_of (found_of options.now))) }
 {
     let text = value(options, "kind");
     kind_named(text).ok_or(BadValue {
@@ -231,8 +259,7 @@ fn read_kind<'a>(options: &ArgMatches<'a>) -> Result<Kind, BadValue<'a>>
 fn read_part<'a>(options: &ArgMatches<'a>) -> Result<Part, BadValue<'a>>
     ensures { MatchResult result
         (λ part. value_of (codes "part") (rows_of (found_of options.now)) ≡ part_name part)
-        (λ _. (part : _) → value_of (codes "part") (rows_of (found_of options.now))
-        ≡ part_name part → ⊥) }
+        (BadPart (rows_of (found_of options.now))) }
 {
     let text = value(options, "part");
     part_named(text).ok_or(BadValue {

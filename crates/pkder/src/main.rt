@@ -3,19 +3,25 @@
 //!
 //! Proved here: what `run` answers and writes for every input, memory apart; which words ask for which task, and that
 //! others are refused; the exit status and the line on standard error of each outcome. Only tested, by the tables of
-//! `tests/`: the texts of help and of refused lines, and `main`.
+//! `tests/`: the texts of help and of lines that clap refuses, and `main`.
 #![tactic(auto)]
 
+ghost use Rattle.std.specs.Prelude.{◌≡◌};
+ghost use Rattle.std.specs.Process.{exit_status};
+ghost use Rattle.pkder.specs.Outcomes.{status_of};
+
+mod block_target;
 mod command;
 mod line;
 mod outcome;
 mod run;
 
 use asn_documents::document::write_octets;
+use block_target::run_in_blocks;
 use line::{LineFault, Task};
 use outcome::Outcome;
 use std::alloc::Global;
-use std::io::{BufReader, ErrorKind, Write};
+use std::io::{BufReader, BufWriter, ErrorKind, Write};
 use std::process::ExitCode;
 use tlv_core::source::FromRead;
 use tlv_core::target::ToWrite;
@@ -41,18 +47,16 @@ fn main(rt: HostRuntime) -> ExitCode {
     }
 }
 
-/// Runs the task from standard input, as it comes, to standard output.
+/// Runs the task from standard input, as it comes, to standard output, in blocks.
 fn serve(rt: &HostRuntime, alloc: Global, task: &Task) -> Outcome {
     let Ok(input) = BufReader::new(alloc, rt.stdin()) else {
         return Outcome::Memory;
     };
+    let Ok(output) = BufWriter::new(alloc, rt.stdout()) else {
+        return Outcome::Memory;
+    };
     let mut src = FromRead::new(input);
-    let mut dst = ToWrite::new(rt.stdout());
-    let outcome = run::run(alloc, &mut src, &mut dst, task);
-    let is_written = matches!(outcome, Outcome::Done | Outcome::NotDer(_));
-    if is_written && dst.into_inner().flush().is_err() {
-        return unflushed();
-    }
+    let (outcome, _stdout) = run_in_blocks(alloc, &mut src, output, task);
     outcome
 }
 
@@ -69,12 +73,16 @@ fn tell(rt: &HostRuntime, text: &str) -> Outcome {
 }
 
 /// The outcome where standard output isn't flushed: how many octets were kept back isn't told.
-fn unflushed() -> Outcome {
+fn unflushed() -> Outcome
+    ensures { result ≡ Outcome.WriteFailed 0 }
+{
     Outcome::WriteFailed(0)
 }
 
 /// Prints the line of the outcome, and answers its status.
-fn finish(rt: &HostRuntime, outcome: &Outcome) -> ExitCode {
+fn finish(rt: &HostRuntime, outcome: &Outcome) -> ExitCode
+    ensures { exit_status result ≡ status_of outcome.now }
+{
     let status = outcome::status(outcome);
     match outcome::outcome_text(rt.alloc(), outcome) {
         Ok(text) => complain(rt, text.as_str(), status),
@@ -82,7 +90,9 @@ fn finish(rt: &HostRuntime, outcome: &Outcome) -> ExitCode {
     }
 }
 
-fn complain(rt: &HostRuntime, text: &str, status: u8) -> ExitCode {
+fn complain(rt: &HostRuntime, text: &str, status: u8) -> ExitCode
+    ensures { exit_status result ≡ status }
+{
     let _ = rt.eprint(text);
     ExitCode::from(status)
 }

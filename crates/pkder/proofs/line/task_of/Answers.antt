@@ -8,7 +8,7 @@ use Rattle.pkder.proofs.line.task_of.Goals as goal
 
 pub returns-then-have_controls : goal.returns-then-have_controls
 returns-then-have_controls c =
-    controlled (map (λ s. string_bytes s) c.args.words.now) c.in_ok-controls_text.field-0 (sym (list_any-map has_control (λ s. string_bytes s) c.args.words.now) ∙ sym c.have_controls.ensures ∙ c.if-have_controls.true)
+    controlled (map (λ s. string_bytes s) c.args.words.now) c.in_ok-controls_text.field-0 (sym (list_any-map has_control (λ s. string_bytes s) c.args.words.now) ∙ sym c.have_controls.ensures ∙ c.if-have_controls.true) c.in_ok-controls_text.ensures
 
 pub returns-in-Ok : goal.returns-in-Ok
 returns-in-Ok c =

@@ -1,0 +1,117 @@
+-- Texts of printable ASCII, and that the escape of a character is one.
+use Rattle.std.proofs.Common.{◌≡◌, ◌∙◌, ◌⊎◌, ◌++◌, ◌<◌, ◌+◌, Bool, List, [], ◌∷◌, ap, append-nil, append_assoc, arith, cond, false, inl, inr, map, refl, Result, Ok, Err, subst, sym, true, ℕ}
+use Rattle.std.proofs.lemmas.Bool.Decides.{nat_tests}
+use Rattle.std.proofs.lemmas.List.Elements.{All-append, All-cons, All-head, All-nil, All-rest}
+use Rattle.std.proofs.lemmas.Nat.{mod_below}
+use Rattle.std.proofs.lemmas.Str.{encode_ascii}
+use Rattle.std.specs.Char.{digit_char, encode_utf8}
+use Rattle.std.specs.Char.Escape.{backslash, escape_default, escape_or, escape_unicode, hex_digit_at, short_escape}
+use Rattle.std.specs.Int.{IsInRange}
+use Rattle.std.specs.Prelude.{OnOk, if◌then◌else◌, nat_lt, ◌==◌}
+use Rattle.std.specs.Result.{is_ok}
+use Rattle.clap.specs.Words.{Text}
+use Rattle.pkder.specs.CommandLines.{AppendsPlain, IsPlain}
+
+abbrev Printable : ℕ → Type 0
+Printable c = IsInRange 32 126 c
+
+-- ---- what is appended
+
+pub plain_none : (text : Text) → AppendsPlain text text
+plain_none text = ([], sym (append-nil text), All-nil Printable)
+
+pub plain_then : (a b c : Text) → AppendsPlain a b → AppendsPlain b c → AppendsPlain a c
+plain_then a b c h k = (h.0 ++ k.0, k.1 ∙ ap (λ t. t ++ k.0) h.1 ∙ append_assoc a h.0 k.0, All-append Printable h.0 k.0 h.2 k.2)
+
+pub plain_char : (a b : Text) (c : ℕ) → Printable c → b ≡ a ++ encode_utf8 c → AppendsPlain a b
+plain_char a b c h e = (c ∷ [], e ∙ ap (λ t. a ++ t) (encode_ascii c (omega (arith, h.1))), All-cons Printable c [] h (All-nil Printable))
+
+-- the first of what is still to come, and the others
+pub plain_first : (xs ys : Text) (x : ℕ) → xs ≡ x ∷ ys → IsPlain xs → Printable x
+plain_first xs ys x e h = All-head Printable x ys (subst IsPlain e h)
+
+pub plain_others : (xs ys : Text) (x : ℕ) → xs ≡ x ∷ ys → IsPlain xs → IsPlain ys
+plain_others xs ys x e h = All-rest Printable x ys xs e h
+
+-- ---- the escape of a character
+
+either : {X : Type 0} (P : X → Type 0) (b : Bool) (x y : X) → (b ≡ true → P x) → (b ≡ false → P y) → P (cond b x y)
+either P true x y f g = f refl
+either P false x y f g = g refl
+
+both : {X : Type 0} (P : X → Type 0) (b : Bool) (x y : X) → P x → P y → P (cond b x y)
+both P b x y h k = either P b x y (λ e. h) (λ e. k)
+
+digit_plain : (d : ℕ) → d < 16 → Printable (digit_char d)
+digit_plain d small = both Printable (nat_lt d 10) (48 + d) (87 + d) (omega arith, omega arith) (omega arith, omega arith)
+
+hexes_plain : (places : List ℕ) (c : ℕ) → IsPlain (map (λ p. hex_digit_at p c) places ++ (125 ∷ []))
+hexes_plain [] c = All-cons Printable 125 [] (omega arith, omega arith) (All-nil Printable)
+hexes_plain (p ∷ places) c = All-cons Printable (hex_digit_at p c) _ (digit_plain _ (mod_below _ 16 (omega arith))) (hexes_plain places c)
+
+code_plain : (places : List ℕ) (c : ℕ) → IsPlain (backslash ∷ 117 ∷ 123 ∷ (map (λ p. hex_digit_at p c) places ++ (125 ∷ [])))
+code_plain places c =
+    let hexes : List ℕ = map (λ p. hex_digit_at p c) places ++ (125 ∷ []) in
+    All-cons Printable 92 (117 ∷ 123 ∷ hexes) (omega arith, omega arith) (All-cons Printable 117 (123 ∷ hexes) (omega arith, omega arith) (All-cons Printable 123 hexes (omega arith, omega arith) (hexes_plain places c)))
+
+unicode_plain : (c : ℕ) → IsPlain (escape_unicode c)
+unicode_plain c =
+    both IsPlain (nat_lt c 0x10) _ _ (code_plain (1 ∷ []) c)
+    (both IsPlain (nat_lt c 0x100) _ _ (code_plain (0x10 ∷ 1 ∷ []) c)
+    (both IsPlain (nat_lt c 0x1000) _ _ (code_plain (0x100 ∷ 0x10 ∷ 1 ∷ []) c)
+    (both IsPlain (nat_lt c 0x1_0000) _ _ (code_plain (0x1000 ∷ 0x100 ∷ 0x10 ∷ 1 ∷ []) c)
+    (both IsPlain (nat_lt c 0x10_0000) _ _ (code_plain (0x1_0000 ∷ 0x1000 ∷ 0x100 ∷ 0x10 ∷ 1 ∷ []) c)
+    (code_plain (0x10_0000 ∷ 0x1_0000 ∷ 0x1000 ∷ 0x100 ∷ 0x10 ∷ 1 ∷ []) c)))))
+
+-- a letter behind the backslash, or none
+abbrev Letter : ℕ → Type 0
+Letter n = (n ≡ 0) ⊎ Printable n
+
+letter : (c : ℕ) → Letter (short_escape c)
+letter c =
+    both Letter (c == 9) 116 _ (inr (omega arith, omega arith))
+    (both Letter (c == 13) 114 _ (inr (omega arith, omega arith))
+    (both Letter (c == 10) 110 _ (inr (omega arith, omega arith))
+    (both Letter (c == 39) 39 _ (inr (omega arith, omega arith))
+    (both Letter (c == 34) 34 _ (inr (omega arith, omega arith))
+    (both Letter (c == backslash) backslash 0 (inr (omega arith, omega arith)) (inl refl))))))
+
+lettered : (n : ℕ) → nat_lt 0 n ≡ true → Letter n → IsPlain (backslash ∷ n ∷ [])
+lettered n some (inl none) = let turned : nat_lt 0 0 ≡ true = subst (λ m. nat_lt 0 m ≡ true) none some in absurd cc
+lettered n some (inr h) = All-cons Printable 92 (n ∷ []) (omega arith, omega arith) (All-cons Printable n [] h (All-nil Printable))
+
+as_it_is : (c : ℕ) → nat_lt c 32 ≡ false → nat_lt c 127 ≡ true → Printable c
+as_it_is c least most = (grind (arith, nat_tests), grind (arith, nat_tests))
+
+pub escape_plain : (c : ℕ) → IsPlain (escape_default c)
+escape_plain c =
+    either IsPlain (nat_lt 0 (short_escape c)) _ _ (λ some. lettered (short_escape c) some (letter c))
+    (λ none. either IsPlain (nat_lt c 32) _ _ (λ low. unicode_plain c) (λ least.
+    either IsPlain (nat_lt c 127) _ _ (λ most. All-cons Printable c [] (as_it_is c least most) (All-nil Printable)) (λ high. unicode_plain c)))
+
+-- ---- a text that is there
+
+-- whether all of it is printable ASCII
+abbrev pub are_plain : List ℕ → Bool
+are_plain [] = true
+are_plain (x ∷ xs) = cond (nat_lt x 32) false (cond (nat_lt x 127) (are_plain xs) false)
+
+plain_before : (x : ℕ) (xs : Text) (low high : Bool) → nat_lt x 32 ≡ low → nat_lt x 127 ≡ high → (are_plain xs ≡ true → IsPlain xs) → cond low false (cond high (are_plain xs) false) ≡ true → IsPlain (x ∷ xs)
+plain_before x xs true high l h others e = absurd cc
+plain_before x xs false false l h others e = absurd cc
+plain_before x xs false true l h others e = All-cons Printable x xs (as_it_is x l h) (others e)
+
+pub plain_by : (text : Text) → are_plain text ≡ true → IsPlain text
+plain_by [] e = All-nil Printable
+plain_by (x ∷ xs) e = plain_before x xs (nat_lt x 32) (nat_lt x 127) refl refl (plain_by xs) e
+
+pub plain_text : (a b text : Text) → are_plain text ≡ true → b ≡ a ++ text → AppendsPlain a b
+plain_text a b text e is = (text, is, plain_by text e)
+
+pub plain_on : (a b : Text) → IsPlain a → AppendsPlain a b → IsPlain b
+plain_on a b before h = subst IsPlain (sym h.1) (All-append Printable a h.0 before h.2)
+
+-- what holds where it was appended
+pub where_ok : {T E : Type 0} {P : Type 0} (r : Result T E) (new whole old : Text) → new ≡ (if is_ok r then whole else old) → (new ≡ whole → P) → OnOk r P
+where_ok (Ok t) new whole old is holds = holds is
+where_ok (Err e) new whole old is holds = tt
