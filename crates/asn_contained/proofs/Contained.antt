@@ -22,6 +22,7 @@ use Rattle.x690_laws.proofs.Texts.{same_der}
 use Rattle.ber_pull.specs.Hears.{Hears, heard_error}
 use Rattle.ber_pull.proofs.Hearing.{hears_as, hears_done, hears_error, hears_fail, hears_on, hears_same, hears_then}
 use Rattle.asn_contained.specs.ClosedTypes.{reader_closed}
+use Rattle.asn_elements.proofs.Insides.{contained_fault}
 use Rattle.asn_elements.specs.Whole.{HaltsInside, read_inside}
 use Rattle.asn_contained.specs.Contained.{read_contained}
 
@@ -49,7 +50,7 @@ pub inside_said : (l : Limits) (T : TypeTerm) (p : ℕ) (octets : List ℕ) (v :
 inside_said l T p octets v k s e = hears_as _ _ _ _ _ _ _ (sym (e p)) (hears_done v k s)
 
 pub inside_refused : (l : Limits) (T : TypeTerm) (p : ℕ) (octets : List ℕ) (f : Fault) (k : ℕ) (s : Option (List ℕ)) → HaltsInside l T octets (errors.Fault f) → Hears (read_inside l T [] p octets) k s (Refused (record { at = p; why = Inner; inside = Some (f.at, f.why) })) k s
-inside_refused l T p octets f k s e = hears_as _ _ _ _ _ _ _ (sym (e p)) (hears_fail Value _ k s)
+inside_refused l T p octets f k s e = hears_as _ _ _ _ _ _ _ (sym (contained_fault p _ f e)) (hears_fail Value _ k s)
 
 -- A rule on what is contained.
 

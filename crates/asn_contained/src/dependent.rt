@@ -3,14 +3,14 @@
 //! `Dependent<A, F>` are the fields `A` and one behind them, `F`, that is due; in `OptionalDependent<A, F>` it may be
 //! absent. `F` is put together of `Independent`, an element of any type, `DefinedBy`, one of two by a leaf of the
 //! fields before it, `RuledBehind` and `RuledContaining`, with a rule that looks at these fields, and `Refused`.
-ghost use Rattle.std.specs.Prelude.{◌≡◌, ◌+◌, ◌++◌, ◌<◌, ◌^◌, ◌∷◌, ◌&&◌, Bool as Truth, IfOk, IfSome, IsSome, List, None, OnOk, [], length, slice_get, true};
+ghost use Rattle.std.specs.Prelude.{◌≡◌, ◌+◌, ◌++◌, ◌<◌, ◌^◌, ◌∷◌, ◌&&◌, Bool as Truth, IfOk, IfSome, IsSome, List, None, Ok, OnOk, [], false, length, slice_get, true};
 ghost use Rattle.tlv_core.specs.Sinks.{count, Puts};
 ghost use Rattle.x690.specs.DerTexts.{der, texts_of};
 ghost use Rattle.x690.specs.TypeTerms.{Required, TypeTerm, fits_tag};
 ghost use Rattle.x690.specs.Values.{Value, value_tag};
-ghost use Rattle.ber_pull.specs.View.{standing, SameSource, Keeps, ReadsFail, Onward, Uses};
+ghost use Rattle.ber_pull.specs.View.{standing, AsksNoMemory, SameSource, Keeps, ReadsFail, Onward, Unmoved, Uses};
 ghost use Rattle.asn_fields.specs.Apart.{may_begin};
-ghost use Rattle.asn_fields.specs.Fields.{IsInside, StaysInside};
+ghost use Rattle.asn_fields.specs.Fields.{IsInside, StaysInside, stands_next};
 ghost use Rattle.asn_contained.specs.Dependents.{AnswersBehind, DueBehind, LeavesWithin, OneTextBehind, OptionalBehind, TakesBehind, suits_where_there};
 ghost use Rattle.asn_contained.specs.DependentLaws.{dependent_begin, dependent_tell};
 
@@ -137,6 +137,7 @@ fn take_dependent<R: Source, A: FieldsText, F: DependentElement<A>>(
     ensures keeps { Keeps pull.new result }
     ensures read { ReadsFail pull.old pull.new result }
     ensures onward { Onward pull.old pull.new }
+    ensures memory { stands_next F.type_term next ≡ false → AsksNoMemory pull.old result }
 {
     let fits = match next.tag {
         Some((tag, _)) => F::fits(tag),
@@ -170,6 +171,7 @@ pub fn due_dependent<R: Source, A: FieldsText, F: DependentElement<A>>(
     ensures keeps { Keeps pull.new result }
     ensures read { ReadsFail pull.old pull.new result }
     ensures onward { Onward pull.old pull.new }
+    ensures memory { stands_next F.type_term next.old ≡ false → AsksNoMemory pull.old result }
 {
     let field = take_dependent::<R, A, F>(alloc, pull, *next, earlier)?;
     *next = ahead(pull)?;
@@ -199,6 +201,8 @@ pub fn optional_dependent<R: Source, A: FieldsText, F: DependentElement<A>>(
     ensures keeps { Keeps pull.new result }
     ensures read { ReadsFail pull.old pull.new result }
     ensures onward { Onward pull.old pull.new }
+    ensures absent { stands_next F.type_term next.old ≡ false
+        → (result ≡ Ok None) × Unmoved pull.old pull.new × (next.new ≡ next.old) }
 {
     let fits = match next.tag {
         Some((tag, _)) => F::fits(tag),

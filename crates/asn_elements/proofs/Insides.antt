@@ -15,7 +15,7 @@ use Rattle.x690.specs.Reads.{Reads, Said}
 use Rattle.x690.specs.TypeTerms.{TypeTerm}
 use Rattle.x690.specs.Values.{Value}
 use Rattle.ber_pull.specs.Hears.{Hears, heard_error}
-use Rattle.asn_elements.specs.Whole.{HaltsInside, IsFailedRead, read_inside}
+use Rattle.asn_elements.specs.Whole.{HaltsInside, IsFailedRead, fault_inside, read_inside}
 
 -- By the outcome of reading its octets as a document of their own.
 
@@ -23,14 +23,16 @@ contained_value : (p : ℕ) (o : Outcome Value) (v : Value) (n : ℕ) → o ≡ 
 unfolding from_inside
 contained_value p o v n e = ap (from_inside p) e
 
-contained_fault : (p : ℕ) (o : Outcome Value) (f : Fault) → o ≡ Halted f → from_inside p o ≡ Fail (record { at = p; why = Inner; inside = Some (f.at, f.why) })
+-- a fault inside, as the fault of the OCTET STRING that contains it
+pub contained_fault : (p : ℕ) (o : Outcome Value) (f : Fault) → fault_inside o ≡ Some f → from_inside p o ≡ Fail (record { at = p; why = Inner; inside = Some (f.at, f.why) })
 unfolding from_inside
-contained_fault p o f e = ap (from_inside p) e
+contained_fault p (Halted g) f e = let same : g ≡ f = cc in ap (λ found. Fail (record { at = p; why = Inner; inside = Some (found.at, found.why) })) same
+contained_fault p (Took v n []) f e = absurd cc
+contained_fault p (Took v n (x ∷ r)) f e = let same : fault n Trailing ≡ f = cc in ap (λ found. Fail (record { at = p; why = Inner; inside = Some (found.at, found.why) })) same
 
-contained_more : (p : ℕ) (o : Outcome Value) (v : Value) (n : ℕ) (r : List ℕ) → (r ≡ [] → ⊥) → o ≡ Took v n r → from_inside p o ≡ Fail (record { at = p; why = Inner; inside = Some (n, Trailing) })
-unfolding from_inside
-contained_more p o v n [] some e = absurd (some refl)
-contained_more p o v n (x ∷ r) some e = ap (from_inside p) e
+behind : (o : Outcome Value) (v : Value) (n : ℕ) (r : List ℕ) → (r ≡ [] → ⊥) → o ≡ Took v n r → fault_inside o ≡ Some (fault n Trailing)
+behind o v n [] some e = absurd (some refl)
+behind o v n (x ∷ r) some e = ap fault_inside e
 
 -- By what was heard of them, when a slice told them.
 
@@ -40,11 +42,11 @@ inside_value l T octets rest v k empty x place = contained_value place _ v k (x.
 
 pub inside_more : (l : Limits) (T : TypeTerm) (octets rest : List ℕ) (v : Value) (k : ℕ) → (rest ≡ [] → ⊥) → Hears (read_element l T [] outermost) 0 (Some octets) (Said v) k (Some rest) → HaltsInside l T octets (errors.Fault (fault k Trailing))
 unfolding Hears Reads
-inside_more l T octets rest v k some x place = contained_more place _ v k rest some x.1
+inside_more l T octets rest v k some x = behind _ v k rest some x.1
 
 pub inside_stops : (l : Limits) (T : TypeTerm) (octets rest : List ℕ) (e : ReadError) (k : ℕ) → IsFailedRead false e → Hears (read_element l T [] outermost) 0 (Some octets) (heard_error e) k (Some rest) → HaltsInside l T octets e
 unfolding Hears Reads
-inside_stops l T octets rest (errors.Fault f) k told x = λ place. contained_fault place _ f x.1
+inside_stops l T octets rest (errors.Fault f) k told x = ap fault_inside x.1
 inside_stops l T octets rest (errors.Read at) k told x = let turned : false ≡ true = told in cc
 inside_stops l T octets rest errors.Memory k told x = tt
 

@@ -1,12 +1,13 @@
 -- An element by itself: at the start of what a source tells, or as all of some octets.
-use Rattle.std.specs.Prelude.{Bool, List, MatchResult, Option, Result, Some, [], false, true, ℕ, ◌≡◌}
+use Rattle.std.specs.Prelude.{Bool, List, MatchResult, None, Option, Result, Some, [], false, true, ℕ, ◌≡◌, ◌∷◌}
 use Rattle.tlv_core.specs.Limits.{Limits}
+use Rattle.tlv_core.specs.declared.fault.Fault.{Fault}
 use Rattle.tlv_core.specs.declared.fault.ReadError.{ReadError}
 use Rattle.tlv_core.specs.declared.fault.ReadError.TheVariants as errors
-use Rattle.tlv_core.specs.declared.reason.Reason.TheVariants.{Inner}
-use Rattle.x690.specs.Points.{outermost}
+use Rattle.tlv_core.specs.declared.reason.Reason.TheVariants.{Trailing}
+use Rattle.x690.specs.Points.{fault, outermost}
 use Rattle.x690.specs.ReadTypes.{from_inside, read_element}
-use Rattle.x690.specs.Reading.{Fail, Done, Reading, run}
+use Rattle.x690.specs.Reading.{Done, Halted, Outcome, Reading, Took, run}
 use Rattle.x690.specs.Reads.{Said}
 use Rattle.x690.specs.TypeTerms.{TypeTerm}
 use Rattle.x690.specs.Values.{Same, Value}
@@ -20,9 +21,15 @@ read_inside limits type earlier place octets = from_inside place (run (read_elem
 abbrev pub IsValueInside : Limits → TypeTerm → List ℕ → Value → Type 0
 IsValueInside limits type octets value = (v : Value) × Same v value × ((place : ℕ) → read_inside limits type [] place octets ≡ Done v)
 
--- the octets are at fault here; want of memory says nothing
+-- the fault of octets that aren't one element and nothing else, by what reading one at their start comes to
+abbrev pub fault_inside : Outcome Value → Option Fault
+fault_inside (Halted found) = Some found
+fault_inside (Took value taken []) = None
+fault_inside (Took value taken (octet ∷ more)) = Some (fault taken Trailing)
+
+-- the octets have this fault; want of memory says nothing
 abbrev pub HaltsInside : Limits → TypeTerm → List ℕ → ReadError → Type 0
-HaltsInside limits type octets (errors.Fault found) = (place : ℕ) → read_inside limits type [] place octets ≡ Fail (record { at = place; why = Inner; inside = Some (found.at, found.why) })
+HaltsInside limits type octets (errors.Fault found) = fault_inside (run (read_element limits type [] outermost) 0 octets) ≡ Some found
 HaltsInside limits type octets (errors.Read at) = ⊥
 HaltsInside limits type octets errors.Memory = Unit {0}
 

@@ -1,5 +1,5 @@
 -- The tag of a field that was read is one of its type.
-use Rattle.std.proofs.Common.{◌≡◌, ◌∙◌, ◌||◌, ℕ, Bool, List, [], Option, ap, ap₂, refl, sym, subst, true, ⊎_elim}
+use Rattle.std.proofs.Common.{◌≡◌, ◌∙◌, ◌||◌, ℕ, Bool, List, [], Option, Some, ap, ap₂, false, refl, sym, subst, true, ⊎_elim}
 use Rattle.tlv_core.specs.Identifier.{Tag}
 use Rattle.x690.specs.Fitting.{Fits}
 use Rattle.x690.specs.Layouts.{Constructed, Primitive, RawTree, tree_tag}
@@ -18,6 +18,7 @@ use Rattle.ber_pull.specs.Standing.{Standing, enclosing}
 use Rattle.ber_pull.proofs.Hearing.{hears_given}
 use Rattle.asn_fields.specs.ApartLaws.{text_tag}
 use Rattle.asn_fields.specs.Apart.{may_begin}
+use Rattle.asn_fields.specs.Fields.{may_stand}
 
 open_tagged : (r : RawTree) (v : Value) → FitsOpen r v → tree_tag r ≡ value_tag v
 unfolding FitsOpen
@@ -50,6 +51,10 @@ fits_may (RefusedType own why) tag = refl
 fits_may (RuledType rule T) tag = fits_may T tag
 fits_may (DefinedByType path octets A B) tag = ap₂ (λ a b. a || b) (fits_may A tag) (fits_may B tag)
 fits_may (ChoiceType A B) tag = ap₂ (λ a b. a || b) (fits_may A tag) (fits_may B tag)
+
+-- one that begins as the type may stands there
+pub stands_there : (T : TypeTerm) (n : Option (Tag × Bool)) (t : Tag × Bool) → n ≡ Some t → fits_tag T t.0 ≡ true → may_stand T n ≡ false → ⊥
+stands_there T n t is on off = let turned : true ≡ false = sym on ∙ sym (ap (may_stand T) is) ∙ off in cc
 
 -- behind any earlier fields
 pub field_tagged_behind : (T : TypeTerm) (earlier : List Value) (s : Standing) (p : ℕ) (t : Tag) (form : Bool) (v w : Value) (q : ℕ) (o u : Option (List ℕ)) → BeginsBefore s (ElementStands p t form) → Hears (read_type s.limits T earlier (enclosing s) p t form) s.taken o (Said v) q u → Same v w → may_begin T (value_tag w) ≡ true

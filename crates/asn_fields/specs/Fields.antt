@@ -13,7 +13,7 @@ use Rattle.x690.specs.ReadHeaders.{next_tag}
 use Rattle.x690.specs.ReadTypes.{read_type}
 use Rattle.x690.specs.Reading.{Reading}
 use Rattle.x690.specs.Reads.{Heard, Said}
-use Rattle.x690.specs.TypeTerms.{Fields as FieldTypes, SequenceType, TypeTerm}
+use Rattle.x690.specs.TypeTerms.{Fields as FieldTypes, SequenceType, TypeTerm, fits_tag}
 use Rattle.x690.specs.Values.{Leaf, Same, Sequence, Value, values_of}
 use Rattle.asn_fields.specs.Insides.{Inside, Within}
 use Rattle.asn_fields.specs.FieldReadings.{read_begin, read_due, read_optional, read_take}
@@ -32,6 +32,14 @@ next_of n = next_at n.at n.tag
 -- it stands inside a container, before this
 abbrev pub IsInside : {R : Type 0} {s : Ghosts R} → Pull R s → Next → Type 0
 IsInside pull next = (outer : Standing) × (inside : Enclosing) × Inside outer inside pull.state (next_of next)
+
+-- an element stands there that may begin as one of the type
+abbrev pub may_stand : TypeTerm → Option (Tag × Bool) → Bool
+may_stand type None = false
+may_stand type (Some element) = fits_tag type element.0
+
+abbrev pub stands_next : TypeTerm → Next → Bool
+stands_next type next = may_stand type next.tag
 
 -- wherever the container was opened, what was answered is what this reading gives
 abbrev pub AnswersInside : {R A : Type 0} {s : Ghosts R} → Pull R s → Pull R s → Next → (Standing → Enclosing → Reading A) → Heard A → Type 0

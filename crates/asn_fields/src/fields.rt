@@ -5,13 +5,13 @@
 //! a value, which keep in a record what was read so far and what is left, and `answered`, or `stopped_at_` the call
 //! that failed, where it returns. A rule on a field is tested between `take` and `ahead`, which `due` is put together
 //! from; one on the whole value behind `end`. `take`, `due` and `optional` also tell that the text of a field is short.
-ghost use Rattle.std.specs.Prelude.{◌≡◌, ◌<◌, ◌^◌, IfOk, IfSome, IsSome, None, OnOk, length};
+ghost use Rattle.std.specs.Prelude.{◌≡◌, ◌<◌, ◌^◌, IfOk, IfSome, IsSome, None, Ok, OnOk, false, length};
 ghost use Rattle.x690.specs.DerTexts.{der};
 ghost use Rattle.asn_fields.specs.FieldReadings.{read_end};
 ghost use Rattle.ber_pull.specs.Hears.{heard};
-ghost use Rattle.ber_pull.specs.View.{standing, AsksNoMemory, SameSource, Repeats, Keeps, ReadsFail, Onward};
+ghost use Rattle.ber_pull.specs.View.{standing, AsksNoMemory, SameSource, Repeats, Keeps, ReadsFail, Onward, Unmoved};
 ghost use Rattle.asn_fields.specs.Apart.{BeginsAs};
-ghost use Rattle.asn_fields.specs.Fields.{AnswersAhead, AnswersBegin, AnswersDue, AnswersInside, AnswersOptional, AnswersTake, IsInside, LeavesContainer, LeavesWithin, StandsAhead, StandsInto, StaysInside, next_of};
+ghost use Rattle.asn_fields.specs.Fields.{AnswersAhead, AnswersBegin, AnswersDue, AnswersInside, AnswersOptional, AnswersTake, IsInside, LeavesContainer, LeavesWithin, StandsAhead, StandsInto, StaysInside, next_of, stands_next};
 
 use asn_elements::element::Element;
 use asn_elements::leaf_reading::expect_tag;
@@ -86,6 +86,7 @@ pub fn take<R: Source, T: Element>(
     ensures keeps { Keeps pull.new result }
     ensures read { ReadsFail pull.old pull.new result }
     ensures onward { Onward pull.old pull.new }
+    ensures memory { stands_next T.type_term next ≡ false → AsksNoMemory pull.old result }
 {
     let fits = match next.tag {
         Some((tag, _)) => T::fits(tag),
@@ -115,6 +116,7 @@ pub fn due<R: Source, T: Element>(
     ensures keeps { Keeps pull.new result }
     ensures read { ReadsFail pull.old pull.new result }
     ensures onward { Onward pull.old pull.new }
+    ensures memory { stands_next T.type_term next.old ≡ false → AsksNoMemory pull.old result }
 {
     let field = take::<R, T>(alloc, pull, *next)?;
     *next = ahead(pull)?;
@@ -139,6 +141,8 @@ pub fn optional<R: Source, T: Element>(
     ensures keeps { Keeps pull.new result }
     ensures read { ReadsFail pull.old pull.new result }
     ensures onward { Onward pull.old pull.new }
+    ensures absent { stands_next T.type_term next.old ≡ false
+        → (result ≡ Ok None) × Unmoved pull.old pull.new × (next.new ≡ next.old) }
 {
     let fits = match next.tag {
         Some((tag, _)) => T::fits(tag),

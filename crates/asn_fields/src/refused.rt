@@ -9,7 +9,7 @@ ghost use Rattle.x690.specs.Premises.{HonestReason};
 ghost use Rattle.x690.specs.TypeTerms.{RefusedType};
 ghost use Rattle.x690.specs.Values.{Leaf};
 ghost use Rattle.x690_laws.proofs.OneTexts.{leaf_one_text};
-ghost use Rattle.ber_pull.specs.View.{standing, SameSource, Repeats, Keeps, ReadsFail, Onward, Uses};
+ghost use Rattle.ber_pull.specs.View.{standing, AsksNoMemory, SameSource, Repeats, Keeps, ReadsFail, Onward, Uses};
 ghost use Rattle.x690_laws.proofs.ClosedTypes.{refused_closed};
 ghost use Rattle.asn_fields.specs.Fields.{AnswersGiven};
 
@@ -71,6 +71,7 @@ pub fn read_refused<R: Source, K: Refusal>(pull: &mut Pull<'_, R>) -> Result<Nev
     ensures stands { OnOk result (Uses pull.old pull.new) }
     ensures keeps { Keeps pull.new result }
     ensures read { ReadsFail pull.old pull.new result }
+    ensures memory { AsksNoMemory pull.old result }
     ensures onward { Onward pull.old pull.new }
 {
     let at = expect_tag(pull, K::tag())?;

@@ -76,6 +76,10 @@ abbrev pub Moves : {R : Type 0} {s : Ghosts R} {A : Type 0} → Pull R s → Pul
 Moves old new result =
     MatchResult result (λ _. new.state ≡ moved new.state.taken old.state) (λ e. new.state ≡ failed_with e (moved new.state.taken old.state))
 
+-- of one that hadn't failed: on an error it has failed with it, and but for octets that were taken all is as it was, what is given and what is open
+abbrev pub FailsThere : {R : Type 0} {s : Ghosts R} {A : Type 0} → Pull R s → Pull R s → Result A ReadError → Type 0
+FailsThere old new result = old.state.error ≡ None → IfErr result (λ e. new.state ≡ failed_with e (moved new.state.taken old.state))
+
 -- the element that was given is read
 abbrev pub Uses : {R : Type 0} {s : Ghosts R} → Pull R s → Pull R s → Type 0
 Uses old new = new.state ≡ used new.state.taken old.state

@@ -19,7 +19,7 @@ const PIECE: usize = 1024;
 const SHORT: usize = 32;
 
 impl<R: Source> Pull<'_, R> {
-    ghost use Rattle.ber_pull.specs.View.{standing, SameSource, Repeats, Keeps, ReadsFail, Onward, Answers, Moves, Uses};
+    ghost use Rattle.ber_pull.specs.View.{FailsThere, standing, SameSource, Repeats, Keeps, ReadsFail, Onward, Answers, Moves, Uses};
     ghost use Rattle.ber_pull.specs.Contents.{AddsPiece};
 
     /// The contents of the primitive element that `next_tag` gave.
@@ -34,6 +34,7 @@ impl<R: Source> Pull<'_, R> {
             → Answers self.old self.new (read_primitive (standing self.old) g)
             (heard (λ v. v.items) result) }
         ensures stands { OnOk result (Uses self.old self.new) }
+        ensures fails { FailsThere self.old self.new result }
         ensures keeps { Keeps self.new result }
         ensures read { ReadsFail self.old self.new result }
         ensures onward { Onward self.old self.new }
@@ -55,6 +56,7 @@ impl<R: Source> Pull<'_, R> {
             → Answers self.old self.new (read_primitive (standing self.old) g)
             (heard (λ _. octets.new.items) result) }
         ensures stands { OnOk result (Uses self.old self.new) }
+        ensures fails { FailsThere self.old self.new result }
         ensures keeps { Keeps self.new result }
         ensures read { ReadsFail self.old self.new result }
         ensures onward { Onward self.old self.new }
@@ -82,6 +84,7 @@ impl<R: Source> Pull<'_, R> {
             (primitive_contents (standing self.old).limits (enclosing (standing self.old)) start)
             (heard (λ _. octets.new.items) result) }
         ensures stands { OnOk result (Uses self.old self.new) }
+        ensures fails { FailsThere self.old self.new result }
         ensures keeps { Keeps self.new result }
         ensures read { ReadsFail self.old self.new result }
         ensures onward { Onward self.old self.new }

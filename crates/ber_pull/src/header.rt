@@ -23,7 +23,7 @@ pub enum LengthForm {
 }
 
 impl<R: Source> Pull<'_, R> {
-    ghost use Rattle.ber_pull.specs.View.{AsksNoMemory, standing, source, told, SameSource, Keeps, ReadsFail, Onward, Answers, Moves};
+    ghost use Rattle.ber_pull.specs.View.{AsksNoMemory, FailsThere, standing, source, told, SameSource, Keeps, ReadsFail, Onward, Answers, Moves};
     ghost use Rattle.ber_pull.specs.Lengths.{AnswersClipped, IsClipped, IsWithin, form_of};
 
     /// The next octet of a header or of end-of-contents octets, which belongs to the identifier at `start`.
@@ -77,6 +77,7 @@ impl<R: Source> Pull<'_, R> {
         ensures stands { OnOk result (standing self.new
             ≡ ending (moved (standing self.new).taken (standing self.old))) }
         ensures ends { OnOk result (is_over (standing self.new) ≡ true) }
+        ensures fails { FailsThere self.old self.new result }
         ensures keeps { Keeps self.new result }
         ensures read { ReadsFail self.old self.new result }
         ensures memory { AsksNoMemory self.old result }

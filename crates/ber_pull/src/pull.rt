@@ -30,7 +30,7 @@ pub struct Pull<'a, R: Source> {
 }
 
 impl<'a, R: Source> Pull<'a, R> {
-    ghost use Rattle.ber_pull.specs.View.{AsksNoMemory, standing, source, SameSource, Unmoved, Repeats, Keeps, ReadsFail, Onward, Answers, Opens};
+    ghost use Rattle.ber_pull.specs.View.{AsksNoMemory, FailsThere, standing, source, SameSource, Unmoved, Repeats, Keeps, ReadsFail, Onward, Answers, Opens};
     ghost use Rattle.ber_pull.specs.Lengths.{IsWithin, form_of};
 
     /// A reader at place 0, with no container open.
@@ -93,6 +93,7 @@ impl<'a, R: Source> Pull<'a, R> {
         ensures advances { (standing self.old).given ≡ None
             → IfOk result (λ next. IsSome next
             → (standing self.old).taken < (standing self.new).taken) }
+        ensures fails { FailsThere self.old self.new result }
         ensures keeps { Keeps self.new result }
         ensures read { ReadsFail self.old self.new result }
         ensures memory { AsksNoMemory self.old result }
@@ -139,6 +140,7 @@ impl<'a, R: Source> Pull<'a, R> {
             (heard (λ _. enclosing (standing self.new)) result) }
         ensures stands { OnOk result (Opens self.old self.new) }
         ensures advances { OnOk result ((standing self.old).taken < (standing self.new).taken) }
+        ensures fails { FailsThere self.old self.new result }
         ensures keeps { Keeps self.new result }
         ensures read { ReadsFail self.old self.new result }
         ensures memory { AsksNoMemory self.old result }

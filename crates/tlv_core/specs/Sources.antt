@@ -1,8 +1,12 @@
 -- What clauses see of the sources.
-use Rattle.std.specs.Prelude.{ℕ, Bool, List, None, Option, false, true}
+use Rattle.std.specs.Prelude.{ℕ, Bool, List, [], None, Option, false, true}
 use Rattle.std.specs.declared.io.Read.{Ghosts}
 use Rattle.tlv_core.specs.declared.source.FromRead.{FromRead}
 use Rattle.tlv_core.specs.declared.source.Pieces.{Pieces}
+
+-- what no read changes, of a source that holds no reference to another one
+abbrev pub no_frame : List ℕ
+no_frame = []
 
 -- the reader under the source
 abbrev pub reader_of : {R : Type 0} {s : Ghosts R} → FromRead R s → R

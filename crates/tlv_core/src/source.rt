@@ -1,5 +1,5 @@
 //! Readers that say what they still tell, and whether they have failed.
-ghost use Rattle.std.specs.Prelude.{◌≡◌, ◌<◌, ◌↔◌, ℕ, Bool, true, false, Option, None, Some, List, [], IsErr, IsSome};
+ghost use Rattle.std.specs.Prelude.{◌≡◌, ◌<◌, ◌≤◌, ◌↔◌, ℕ, Bool, true, false, Option, None, Some, List, [], IfOk, IsErr, IsSome};
 ghost use Rattle.std.specs.Io.{ReadsAtMost};
 ghost use Rattle.std.specs.Io.KnownBytes.{ReadConsumes};
 
@@ -110,15 +110,28 @@ impl<R: Read> FromRead<R> {
 }
 
 impl<R: Read> Source for FromRead<R> {
-    ghost use Rattle.tlv_core.specs.Sources.{reader_of, is_telling, read_failed, told_by};
+    ghost use Rattle.tlv_core.specs.Sources.{reader_of, is_telling, read_failed, told_by, no_frame};
 
     ghost remaining = { λ source. told_by (is_telling source) (R.remaining (reader_of source)) };
 
     ghost has_failed = { λ source. read_failed source };
 
-    ghost frame = { λ _. [] };
+    ghost frame = { λ _. no_frame };
 
-    fn read(&mut self, room: &mut [u8]) -> Result<usize, Failed> {
+    // The trait's clauses, and `reader`: whether or not it tells, it hands on what its reader gives.
+    fn read(&mut self, room: &mut [u8]) -> Result<usize, Failed>
+        requires { read_failed self.old ≡ false }
+        ensures bound { ReadsAtMost result room.new }
+        ensures octets { ReadConsumes
+            (told_by (is_telling self.old) (R.remaining (reader_of self.old)))
+            (told_by (is_telling self.new) (R.remaining (reader_of self.new))) result room.new }
+        ensures failed { IsErr result ↔ (read_failed self.new ≡ true) }
+        ensures frame { no_frame ≡ no_frame }
+        ensures silent { told_by (is_telling self.old) (R.remaining (reader_of self.old)) ≡ None
+            → told_by (is_telling self.new) (R.remaining (reader_of self.new)) ≡ None }
+        ensures reader { ReadConsumes (R.remaining (reader_of self.old))
+            (R.remaining (reader_of self.new)) result room.new }
+    {
         match self.inner.read(room) {
             Ok(count) => Ok(count),
             Err(_) => {
@@ -165,15 +178,28 @@ impl<'a> Pieces<'a> {
 }
 
 impl Source for Pieces<'_> {
-    ghost use Rattle.tlv_core.specs.Sources.{octets_left, pieces_failed};
+    ghost use Rattle.tlv_core.specs.Sources.{octets_left, pieces_failed, piece_size, fails_at_end, no_frame};
 
     ghost remaining = { λ source. Some (octets_left source) };
 
     ghost has_failed = { λ source. pieces_failed source };
 
-    ghost frame = { λ _. [] };
+    ghost frame = { λ _. no_frame };
 
-    fn read(&mut self, room: &mut [u8]) -> Result<usize, Failed> {
+    // The trait's clauses, and what the numbers of `new` say.
+    fn read(&mut self, room: &mut [u8]) -> Result<usize, Failed>
+        requires { pieces_failed self.old ≡ false }
+        ensures bound { ReadsAtMost result room.new }
+        ensures octets { ReadConsumes (Some (octets_left self.old)) (Some (octets_left self.new))
+            result room.new }
+        ensures failed { IsErr result ↔ (pieces_failed self.new ≡ true) }
+        ensures frame { no_frame ≡ no_frame }
+        ensures silent { Some (octets_left self.old) ≡ None → Some (octets_left self.new) ≡ None }
+        ensures size { IfOk result (λ count. count ≤ piece_size self.old) }
+        ensures end { octets_left self.old ≡ [] → fails_at_end self.old ≡ true → IsErr result }
+        ensures same { (piece_size self.new ≡ piece_size self.old)
+            × (fails_at_end self.new ≡ fails_at_end self.old) }
+    {
         if self.left.is_empty() && self.fails {
             self.broken = true;
             return Err(Failed);

@@ -121,13 +121,24 @@ impl Stops {
 }
 
 impl Target for Stops {
-    ghost use Rattle.tlv_core.specs.Targets.{octets_taken, stops_failed};
+    ghost use Rattle.tlv_core.specs.Targets.{octets_taken, room_in_all, piece_taken, stops_failed};
 
     ghost contents = { λ target. Some (octets_taken target) };
 
     ghost has_failed = { λ target. stops_failed target };
 
-    fn write(&mut self, piece: &[u8]) -> Result<usize, Failed> {
+    // The trait's clauses, and what the numbers of `new` say.
+    fn write(&mut self, piece: &[u8]) -> Result<usize, Failed>
+        requires { stops_failed self.old ≡ false }
+        ensures bound { WritesAtMost result piece.now }
+        ensures progress { IfOk result (λ count. count ≡ 0 → length piece.now ≡ 0) }
+        ensures octets { WriteAppends (Some (octets_taken self.old)) (Some (octets_taken self.new))
+            result piece.now }
+        ensures failed { IsErr result ↔ (stops_failed self.new ≡ true) }
+        ensures size { IfOk result (λ count. count ≤ piece_taken self.old) }
+        ensures same { (piece_taken self.new ≡ piece_taken self.old)
+            × (room_in_all self.new ≡ room_in_all self.old) }
+    {
         let left = self.room.len() - self.used;
         let count = piece.len().min(self.piece).min(left);
         if count == 0 && !piece.is_empty() {

@@ -7,7 +7,7 @@ use Rattle.asn_fields.proofs.Insides.{field_given, stands_some, used_within}
 use Rattle.ber_pull.specs.declared.state.Given.{Given}
 use Rattle.asn_fields.specs.Fields.{next_of}
 use Rattle.asn_fields.specs.Insides.{BeginsBefore}
-use Rattle.asn_fields.proofs.FieldTags.{field_tagged_behind}
+use Rattle.asn_fields.proofs.FieldTags.{field_tagged_behind, stands_there}
 use Rattle.asn_fields.proofs.ShortFields.{field_short_behind}
 use Rattle.asn_fields.proofs.Handing.{with_error}
 use Rattle.x690_laws.proofs.Judging.{each_refl}
@@ -91,3 +91,18 @@ returns-clause-begins g c =
     let given : Given = record { at = at; tag = c.in-Some.tag; constructed = c.in-Some.field-0-1 } in
     let read = c.in_ok-field.ensures.reads fields given (each_refl fields) c.requires.fine (field_given outer inside c.args.pull.now.state at n t a c.in-Some.is) in
     field_tagged_behind g.F.DependentElement.type_term fields c.args.pull.now.state at c.in-Some.tag c.in-Some.field-0-1 read.0 (g.F.DependentElement.value c.in_ok-field.field) _ _ _ (subst (λ w. BeginsBefore c.args.pull.now.state (next_at at w)) c.in-Some.is a.begins) read.2 read.1
+
+pub returns-in_err-field-clause-absent : goal.returns-in_err-field-clause-absent
+returns-in_err-field-clause-absent g c = λ other.
+    let t : Tag × Bool = (c.in-Some.tag, c.in-Some.field-0-1) in
+    absurd (stands_there g.F.DependentElement.type_term c.args.next.now.tag t c.in-Some.is (sym c.fits-fits.ensures ∙ c.if-not-fits.false) other)
+
+pub returns-in_err-next-clause-absent : goal.returns-in_err-next-clause-absent
+returns-in_err-next-clause-absent g c = λ other.
+    let t : Tag × Bool = (c.in-Some.tag, c.in-Some.field-0-1) in
+    absurd (stands_there g.F.DependentElement.type_term c.args.next.now.tag t c.in-Some.is (sym c.fits-fits.ensures ∙ c.if-not-fits.false) other)
+
+pub returns-clause-absent : goal.returns-clause-absent
+returns-clause-absent g c = λ other.
+    let t : Tag × Bool = (c.in-Some.tag, c.in-Some.field-0-1) in
+    absurd (stands_there g.F.DependentElement.type_term c.args.next.now.tag t c.in-Some.is (sym c.fits-fits.ensures ∙ c.if-not-fits.false) other)

@@ -13,7 +13,7 @@ use Rattle.ber_pull.proofs.Hearing.{hears_stop}
 use Rattle.asn_fields.proofs.Insides.{field_given}
 use Rattle.asn_fields.specs.Apart.{may_begin}
 use Rattle.asn_fields.specs.Fields.{next_of}
-use Rattle.asn_fields.proofs.FieldTags.{field_tagged_behind}
+use Rattle.asn_fields.proofs.FieldTags.{field_tagged_behind, stands_there}
 use Rattle.asn_fields.proofs.Handing.{of_value, value_through}
 use Rattle.asn_fields.proofs.ShortFields.{field_short_behind}
 use Rattle.asn_contained.proofs.Dependents.{there_as}
@@ -65,3 +65,8 @@ returns-clause-begins g c =
     of_value c.read.result g.F.DependentElement.value _ _ _ _ _ (λ field. may_begin g.F.DependentElement.type_term (value_tag (g.F.DependentElement.value field)) ≡ true)
     (λ x v same h. field_tagged_behind g.F.DependentElement.type_term fields c.args.pull.now.state at c.in-Some.tag c.in-Some.field-0-1 v (g.F.DependentElement.value x) _ _ _ (subst (λ w. BeginsBefore c.args.pull.now.state (next_at at w)) c.in-Some.is a.begins) h same)
     (c.read.ensures.reads fields given (each_refl fields) c.requires.fine (field_given c.requires.inside.0 c.requires.inside.1 c.args.pull.now.state at n t a c.in-Some.is))
+
+pub returns-clause-memory : goal.returns-clause-memory
+returns-clause-memory g c = λ other.
+    let t : Tag × Bool = (c.in-Some.tag, c.in-Some.field-0-1) in
+    absurd (stands_there g.F.DependentElement.type_term c.args.next.tag t c.in-Some.is (sym c.fits-fits.ensures ∙ c.if-not-fits.false) other)

@@ -7,7 +7,7 @@ use Rattle.asn_fields.proofs.Insides.{field_as, field_given, stands_some, used_w
 use Rattle.ber_pull.specs.declared.state.Given.{Given}
 use Rattle.asn_fields.specs.Fields.{next_of}
 use Rattle.asn_fields.specs.Insides.{BeginsBefore}
-use Rattle.asn_fields.proofs.FieldTags.{field_tagged}
+use Rattle.asn_fields.proofs.FieldTags.{field_tagged, stands_there}
 use Rattle.asn_fields.proofs.ShortFields.{field_short}
 use Rattle.asn_fields.proofs.Handing.{with_error}
 use Rattle.asn_fields.proofs.fields.optional.Goals as goal
@@ -87,3 +87,18 @@ returns-clause-begins g c =
     let given : Given = record { at = at; tag = c.in-Some.tag; constructed = c.in-Some.field-0-1 } in
     let read = c.in_ok-field.ensures.reads given c.requires.fine (field_given outer inside c.args.pull.now.state at n t a c.in-Some.is) in
     field_tagged g.T.Element.type_term c.args.pull.now.state at c.in-Some.tag c.in-Some.field-0-1 read.0 (g.T.DerText.value c.in_ok-field.field) _ _ _ (subst (λ w. BeginsBefore c.args.pull.now.state (next_at at w)) c.in-Some.is a.begins) read.2 read.1
+
+pub returns-in_err-field-clause-absent : goal.returns-in_err-field-clause-absent
+returns-in_err-field-clause-absent g c = λ other.
+    let t : Tag × Bool = (c.in-Some.tag, c.in-Some.field-0-1) in
+    absurd (stands_there g.T.Element.type_term c.args.next.now.tag t c.in-Some.is (sym c.fits-fits.ensures ∙ c.if-not-fits.false) other)
+
+pub returns-in_err-next-clause-absent : goal.returns-in_err-next-clause-absent
+returns-in_err-next-clause-absent g c = λ other.
+    let t : Tag × Bool = (c.in-Some.tag, c.in-Some.field-0-1) in
+    absurd (stands_there g.T.Element.type_term c.args.next.now.tag t c.in-Some.is (sym c.fits-fits.ensures ∙ c.if-not-fits.false) other)
+
+pub returns-clause-absent : goal.returns-clause-absent
+returns-clause-absent g c = λ other.
+    let t : Tag × Bool = (c.in-Some.tag, c.in-Some.field-0-1) in
+    absurd (stands_there g.T.Element.type_term c.args.next.now.tag t c.in-Some.is (sym c.fits-fits.ensures ∙ c.if-not-fits.false) other)

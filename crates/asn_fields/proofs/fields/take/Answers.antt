@@ -12,7 +12,7 @@ use Rattle.asn_fields.proofs.Insides.{field_as, field_given}
 use Rattle.ber_pull.specs.declared.state.Given.{Given}
 use Rattle.asn_fields.specs.Fields.{next_of}
 use Rattle.asn_fields.specs.Insides.{BeginsBefore}
-use Rattle.asn_fields.proofs.FieldTags.{field_tagged}
+use Rattle.asn_fields.proofs.FieldTags.{field_tagged, stands_there}
 use Rattle.asn_fields.proofs.ShortFields.{field_short}
 use Rattle.asn_fields.proofs.Handing.{of_value, value_through}
 use Rattle.asn_fields.proofs.fields.take.Goals as goal
@@ -61,3 +61,8 @@ returns-clause-begins g c =
     of_value c.read.result g.T.DerText.value _ _ _ _ _ (λ field. may_begin g.T.Element.type_term (value_tag (g.T.DerText.value field)) ≡ true)
     (λ x v same h. field_tagged g.T.Element.type_term c.args.pull.now.state at c.in-Some.tag c.in-Some.field-0-1 v (g.T.DerText.value x) _ _ _ (subst (λ w. BeginsBefore c.args.pull.now.state (next_at at w)) c.in-Some.is a.begins) h same)
     (c.read.ensures.reads given c.requires.fine (field_given c.requires.inside.0 c.requires.inside.1 c.args.pull.now.state at n t a c.in-Some.is))
+
+pub returns-clause-memory : goal.returns-clause-memory
+returns-clause-memory g c = λ other.
+    let t : Tag × Bool = (c.in-Some.tag, c.in-Some.field-0-1) in
+    absurd (stands_there g.T.Element.type_term c.args.next.tag t c.in-Some.is (sym c.fits-fits.ensures ∙ c.if-not-fits.false) other)
