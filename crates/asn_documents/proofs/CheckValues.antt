@@ -6,8 +6,11 @@ use Rattle.std.specs.Io.KnownBytes.{Consumes, Keeps}
 use Rattle.tlv_core.specs.Limits.{IsLimits, Limits}
 use Rattle.tlv_core.specs.declared.fault.ReadError.{ReadError}
 use Rattle.tlv_core.specs.declared.fault.ReadError.TheVariants as errors
+use Rattle.tlv_core.specs.declared.reason.Reason.TheVariants.{Truncated}
+use Rattle.x690.specs.Answers.{Refused, Spelled}
 use Rattle.x690.specs.DerTexts.{der}
 use Rattle.x690.specs.Fitting.{Spells}
+use Rattle.x690.specs.Points.{fault}
 use Rattle.x690.specs.Premises.{Lawful}
 use Rattle.x690.specs.TypeTerms.{TypeTerm}
 use Rattle.x690.specs.Values.{Value}
@@ -20,6 +23,7 @@ use Rattle.asn_documents.specs.Checked.{CheckedAs, InBoth, Unchecked, WhereTold}
 use Rattle.asn_documents.specs.Differences.{Differs, DiffersFirst}
 use Rattle.asn_documents.specs.Keepings.{framed, whole}
 use Rattle.asn_documents.proofs.Normalising.{one_spelling, took_as, unread_as}
+use Rattle.asn_documents.proofs.ReadValues.{refused_within}
 
 -- the octets that are taken are kept, and the whole stays as it was
 kept_on : (kept piece : List ℕ) (before after : Option (List ℕ)) → (before ≡ None → after ≡ None) → Consumes before after piece → whole (kept ++ piece) after ≡ whole kept before
@@ -102,11 +106,13 @@ checked_as l T w before after taken kept place lawful fine r same h = (
   },
 )
 
--- want of memory says nothing but that octets were taken
+-- memory ran out for what would be kept, and no octet more was taken
 pub no_memory : (l : Limits) (T : TypeTerm) (e : ReadError) (before after : Option (List ℕ)) → StopsReading l T e before after → StopsReading l T errors.Memory before after
 no_memory l T e None after s = tt
 no_memory l T e (Some before) None s = absurd s
-no_memory l T e (Some before) (Some after) s = (s.0, s.1, tt)
+no_memory l T (errors.Fault f) (Some before) (Some after) s = (s.0, s.1, λ text n a. let turned : Refused f ≡ Spelled text n = sym s.2.answers ∙ a in absurd cc)
+no_memory l T (errors.Read at) (Some before) (Some after) s = (s.0, s.1, λ text n a. refused_within l T before s.0 after text n (fault at Truncated) s.1 s.2.1.answers a)
+no_memory l T errors.Memory (Some before) (Some after) s = s
 
 cons_tail : (x y : ℕ) (xs ys : List ℕ) → x ∷ xs ≡ y ∷ ys → (x ≡ y) × (xs ≡ ys)
 cons_tail x y xs ys e = (cc, cc)

@@ -43,6 +43,10 @@ took_as l T w before after taken lawful fine r = record {
   one = λ other behind more rest e s. one_spelling l T other r.spelled more r.octets rest behind lawful fine s r.spells (sym e);
 }
 
+-- the octets that were taken are answered as what they spell
+pub took_answers : (l : Limits) (T : TypeTerm) (v : Value) (before after : Option (List ℕ)) (count : ℕ) → Lawful T → (t : Took l T v before after count) → (more : List ℕ) → answer l T (t.octets ++ more) ≡ Spelled (der v) (length t.octets)
+took_answers l T v before after count lawful t more = spelling_is_answered l T v t.octets more lawful.fair t.spells
+
 pub normalised_as : (l : Limits) (T : TypeTerm) (w : Value) (before after old new : Option (List ℕ)) (taken written : ℕ) → Lawful T → IsLimits l → ReadsValue l T w before after taken → Appends old new (der w) → written ≡ length (der w)
     → (value : Value) × NormalisedAs l T value before after old new taken written
 normalised_as l T w before after old new taken written lawful fine r text count =

@@ -1,5 +1,6 @@
 -- What was read from a source, by the answer to its octets.
-use Rattle.std.proofs.Common.{◌≡◌, ◌∙◌, ◌+◌, ◌++◌, ◌<◌, ◌≤◌, List, None, Option, Some, [], ℕ, ap, append-nil, arith, length, subst, sym}
+use Rattle.std.proofs.Common.{◌≡◌, ◌∙◌, ◌+◌, ◌++◌, ◌∷◌, ◌<◌, ◌≤◌, ⊎_elim, List, None, Option, Some, [], ℕ, ap, append-nil, arith, length, refl, subst, sym}
+use Rattle.std.proofs.lemmas.Bool.{cases_lt}
 use Rattle.std.specs.Io.KnownBytes.{Consumes}
 use Rattle.tlv_core.specs.Limits.{Limits}
 use Rattle.tlv_core.specs.declared.fault.Fault.{Fault}
@@ -12,12 +13,13 @@ use Rattle.x690.specs.Fitting.{Spells}
 use Rattle.x690.specs.Layouts.{LaidOut}
 use Rattle.x690.specs.Points.{fault, outermost}
 use Rattle.x690.specs.ReadTypes.{read_element}
-use Rattle.x690.specs.Reading.{Halted, Took, run}
-use Rattle.x690.specs.Reads.{Reads, Said}
+use Rattle.x690.specs.Reading.{Halted, Outcome, Took, run}
+use Rattle.x690.specs.Reads.{Needs, Reads, Said}
 use Rattle.x690.specs.TypeTerms.{TypeTerm}
 use Rattle.x690.specs.Values.{Same, Value}
+use Rattle.x690.proofs.Needs.{longer}
 use Rattle.x690.proofs.Runs.{taken}
-use Rattle.x690_laws.proofs.Answering.{answered, fits_text, halted_is, long_text, one_answer}
+use Rattle.x690_laws.proofs.Answering.{answered, fits_text, halted_is, judged, long_text, one_answer, rest_apart, spelled_place}
 use Rattle.x690_laws.proofs.Judging.{sound}
 use Rattle.x690_laws.proofs.Texts.{same_der}
 use Rattle.ber_pull.specs.Hears.{Hears, heard_error}
@@ -30,6 +32,60 @@ is_answer l T octets a e = subst (IsAnswer l T octets) e (one_answer.is_answer l
 answers_fault : (l : Limits) (T : TypeTerm) (octets : List ℕ) (f : Fault) → answer l T octets ≡ Refused f → AnswersFault l T octets f
 answers_fault l T octets f e = record { is_answer = is_answer l T octets (Refused f) e; answers = e }
 
+-- These octets go on behind what is spelled by the first ones of them.
+record GoesOn (l : Limits) (T : TypeTerm) (octets text : List ℕ) (n : ℕ) : Type 0 where
+  pub value : Value
+  pub spelling : List ℕ
+  pub octet : ℕ
+  pub more : List ℕ
+  pub is : octets ≡ spelling ++ (octet ∷ more)
+  pub took : (y : List ℕ) → run (read_element l T [] outermost) 0 (spelling ++ y) ≡ Took value n y
+  pub spelled : (y : List ℕ) → judged l (Took value n y) ≡ Spelled text n
+
+goes_on : (l : Limits) (T : TypeTerm) (before octets after text : List ℕ) (n : ℕ) → before ≡ octets ++ after → answer l T before ≡ Spelled text n → n < length octets → GoesOn l T octets text n
+goes_on l T before octets after text n is a past = go (run (read_element l T [] outermost) 0 before) refl
+  where
+    go : (o : Outcome Value) → run (read_element l T [] outermost) 0 before ≡ o → GoesOn l T octets text n
+    go (Halted f) e = let turned : Refused f ≡ Spelled text n = sym (halted_is l f) ∙ sym (answered l T before (Halted f) e) ∙ a in cc
+    go (Took v q r) e =
+        let said = sym (answered l T before (Took v q r) e) ∙ a in
+        let place : q ≡ n = spelled_place l v q r text n said in
+        let t = taken (read_element l T [] outermost) 0 before v q r e in
+        let count = t.place in
+        let h = longer octets t.octets after r (sym is ∙ t.is) (omega arith) in
+        record {
+          value = v;
+          spelling = t.octets;
+          octet = h.0;
+          more = h.1;
+          is = h.2;
+          took = λ y. t.any_rest y ∙ ap (λ p. Took v p y) place;
+          spelled = λ y. sym (ap (λ p. judged l (Took v p y)) place) ∙ rest_apart l v q r y ∙ said;
+        }
+
+-- What is asked for doesn't go on so,
+needed_within : (l : Limits) (T : TypeTerm) (before octets after text : List ℕ) (n : ℕ) → before ≡ octets ++ after → Needs (read_element l T [] outermost) 0 octets → answer l T before ≡ Spelled text n → length octets ≤ n
+needed_within l T before octets after text n is needs a = ⊎_elim (λ past. absurd (never past)) (λ within. within) (cases_lt n (length octets))
+  where
+    never : n < length octets → ⊥
+    never past =
+        let g = goes_on l T before octets after text n is a past in
+        let some = needs g.spelling g.octet g.more g.is in
+        let all = ap (run (read_element l T [] outermost) 0) (sym (append-nil g.spelling)) ∙ g.took [] in
+        let turned : Halted (fault (0 + length g.spelling) Truncated) ≡ Took g.value n [] = sym some ∙ all in
+        cc
+
+-- nor octets to which the answer is a fault.
+pub refused_within : (l : Limits) (T : TypeTerm) (before octets after text : List ℕ) (n : ℕ) (f : Fault) → before ≡ octets ++ after → answer l T octets ≡ Refused f → answer l T before ≡ Spelled text n → length octets ≤ n
+refused_within l T before octets after text n f is refused a = ⊎_elim (λ past. absurd (never past)) (λ within. within) (cases_lt n (length octets))
+  where
+    never : n < length octets → ⊥
+    never past =
+        let g = goes_on l T before octets after text n is a past in
+        let took = ap (run (read_element l T [] outermost) 0) g.is ∙ g.took (g.octet ∷ g.more) in
+        let turned : Refused f ≡ Spelled text n = sym refused ∙ answered l T octets (Took g.value n (g.octet ∷ g.more)) took ∙ g.spelled (g.octet ∷ g.more) in
+        cc
+
 pub stopped : (l : Limits) (T : TypeTerm) (e : ReadError) (k : ℕ) (s u : Option (List ℕ)) → Hears (read_element l T [] outermost) 0 s (heard_error e) k u → StopsReading l T e s u
 unfolding Hears Reads
 stopped l T e k None u x = tt
@@ -39,7 +95,7 @@ stopped l T (errors.Read at) k (Some s) (Some u) x =
     let y = x.1 in
     let e : at ≡ 0 + length y.0 = y.2 in
     (y.0, y.1, (omega arith, answers_fault l T y.0 (fault at Truncated) (answered l T y.0 (Halted (fault at Truncated)) y.3 ∙ halted_is l (fault at Truncated))))
-stopped l T errors.Memory k (Some s) (Some u) x = (x.0.0, x.0.1, tt)
+stopped l T errors.Memory k (Some s) (Some u) x = let y = x.1 in (y.0, y.1, λ text n a. needed_within l T s y.0 u text n y.1 y.2 a)
 
 -- octets that the reading takes whole spell the value
 spells_all : (l : Limits) (T : TypeTerm) (v : Value) (octets : List ℕ) (k : ℕ) → run (read_element l T [] outermost) 0 octets ≡ Took v k [] → length (der v) ≤ l.octets → Spells l T v octets

@@ -1,5 +1,5 @@
 -- What reading a value of a type from a source answers. Octets are told before the call and after it, where the source tells them.
-use Rattle.std.specs.Prelude.{List, None, Option, Some, length, ℕ, ◌++◌, ◌≡◌}
+use Rattle.std.specs.Prelude.{List, None, Option, Some, length, ℕ, ◌++◌, ◌≡◌, ◌≤◌}
 use Rattle.std.specs.Io.KnownBytes.{Consumes}
 use Rattle.tlv_core.specs.Limits.{Limits}
 use Rattle.tlv_core.specs.declared.fault.Fault.{Fault as Found}
@@ -34,11 +34,11 @@ pub record AnswersFault (limits : Limits) (type : TypeTerm) (octets : List ℕ) 
   pub answers : answer limits type octets ≡ Refused found
 
 -- Why there is no value, these octets being taken of those that were told: a fault is the answer to all of them; where a read failed,
--- the octets taken are too few for any other answer; want of memory says nothing.
+-- the octets taken are too few for any other answer; where memory ran out, no octet is taken behind a value that stands there.
 abbrev pub Halts : Limits → TypeTerm → ReadError → List ℕ → List ℕ → Type 0
 Halts limits type (Fault found) octets before = AnswersFault limits type before found
 Halts limits type (Read at) octets before = (at ≡ length octets) × AnswersFault limits type octets (fault at Truncated)
-Halts limits type Memory octets before = Unit {0}
+Halts limits type Memory octets before = (text : List ℕ) (taken : ℕ) → answer limits type before ≡ Spelled text taken → length octets ≤ taken
 
 -- No value was read. Of a source that doesn't tell its octets nothing is said.
 abbrev pub StopsReading : Limits → TypeTerm → ReadError → Option (List ℕ) → Option (List ℕ) → Type 0

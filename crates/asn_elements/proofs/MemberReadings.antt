@@ -20,7 +20,7 @@ use Rattle.ber_pull.specs.declared.pull.Pull.{Pull}
 use Rattle.ber_pull.specs.declared.state.Container.{Container}
 use Rattle.ber_pull.specs.declared.state.Container.TheVariants as open'
 use Rattle.ber_pull.specs.declared.state.Given.{Given}
-use Rattle.ber_pull.proofs.Hearing.{hears_as, hears_done, hears_error, hears_same, hears_then, hears_then_memory}
+use Rattle.ber_pull.proofs.Hearing.{hears_as, hears_done, hears_error, hears_memory, hears_same, hears_then}
 use Rattle.ber_pull.proofs.Nexts.{place_taken}
 use Rattle.x690.proofs.Runs.{bind_assoc, bind_same}
 use Rattle.x690_laws.proofs.ShortTexts.{texts_pushed}
@@ -166,7 +166,7 @@ module _ (one : Enclosing → ℕ → Tag → Bool → Reading Value) where
     inside_stops mid new place tag form e x y = go_on _ _ _ (rest_stops one_left.0 start.state.limits (enclosing now.state) values place tag form e _ _ _ _ _ _ (hears_as _ _ _ _ _ _ _ next_here x) y)
 
     pub inside_memory : (new : Pull R s) (e : ReadError) → e ≡ errors.Memory → new.state.taken ≡ now.state.taken → told new ≡ told now → Answers start new p (heard_error e)
-    inside_memory new e x k t = i.reads.rest _ _ _ (hears_then_memory (Done values) (Said values) _ e _ _ _ _ _ _ x k t (hears_done values now.state.taken (told now)))
+    inside_memory new e x k t = i.reads.rest _ _ _ (hears_memory _ e _ _ _ _ x k t)
 
     pub inside_more : (mid new : Pull R s) (place : ℕ) (tag : Tag) (form : Bool) (v : Value) → Answers now mid (read_next now.state) (Said (ElementStands place tag form)) → SameSource now mid → mid.state ≡ after_next mid.state.taken (Some (tag, form)) now.state → now.state.taken < mid.state.taken
         → Answers mid new (one (enclosing now.state) place tag form) (Said v) → SameSource mid new → Uses mid new → new.state.error ≡ None → mid.state.taken ≤ new.state.taken → length (der v) + 2 * now.state.taken ≤ 2 * new.state.taken → start.state.limits.octets ≤ 2147483647 → Inside p start new (values ++ (v ∷ []))

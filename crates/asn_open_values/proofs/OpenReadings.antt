@@ -52,7 +52,7 @@ text_as old new p q before after r e x = subst (λ z. AnswersText old new z befo
 pub text_put : {R : Type 0} {s : Ghosts R} (old mid new : Pull R s) (p : Reading Value) (v : Value) (before after : List ℕ) (r : Result (Unit {0}) ReadError) → Answers old mid p (Said v) → OnOk r (after ≡ before ++ der v) → OnOk r (new ≡ mid)
     → IfErr r (λ e. (e ≡ errors.Memory) × (source new ≡ source mid) × (standing new ≡ failed_with e (standing mid))) → AnswersText old new p before after r
 text_put old mid new p v before after (Ok x) a put still stops = (v, put, subst (λ z. Answers old z p (Said v)) (sym still) a)
-text_put {R} {s} old mid new p v before after (Err e) a put still stops = hears_then_memory p (Said v) p e _ _ _ _ _ _ stops.0 (ap (λ z. z.taken) stops.2) (ap s.remaining stops.1) a
+text_put {R} {s} old mid new p v before after (Err e) a put still stops = hears_then_memory p v e _ _ _ _ _ _ stops.0 (ap (λ z. z.taken) stops.2) (ap s.remaining stops.1) a
 
 -- what is answered from a reader that stands as it did
 unmoved_text : {R : Type 0} {s : Ghosts R} (f : Standing → Reading Value) (old mid new : Pull R s) (before after : List ℕ) (r : Result (Unit {0}) ReadError) → Unmoved old mid → AnswersText mid new (f (standing mid)) before after r → AnswersText old new (f (standing old)) before after r

@@ -12,11 +12,11 @@
 //! Proved of each type: `put` writes the text, `size` is its length, `octet` its octets, `der_text` the whole, and the
 //! members of a `SetOf` ascend as 11.6 has it, equal ones kept. A reader answers what the plain reading of its type
 //! (`x690`) gives for the octets taken: a value that is the same up to the order in SET OF, or the first fault; a
-//! failed read only where that octet was needed; want of memory says nothing. By the laws of `x690_laws` a value that
-//! was read is spelled by exactly those octets, and no spelling is refused. `from_content`, `from_slice` and
-//! `from_items` refuse exactly what they name. `same` is proved to be the same value, a SET OF as a multiset. An
-//! `Implicit<N, T>` has the text of `T` under the tag [N] in place of its own (8.14.3), and is read as the plain
-//! reading of `T`'s type under that tag says; exactly elements of that tag are of it.
+//! failed read only where that octet was needed; where memory ran out, no octet taken that wasn't. By the laws of
+//! `x690_laws` a value that was read is spelled by exactly those octets, and no spelling is refused. `from_content`,
+//! `from_slice` and `from_items` refuse exactly what they name. `same` is proved to be the same value, a SET OF as a
+//! multiset. An `Implicit<N, T>` has the text of `T` under the tag [N] in place of its own (8.14.3), and is read as the
+//! plain reading of `T`'s type under that tag says; exactly elements of that tag are of it.
 #![tactic(auto)]
 
 pub use asn_containers::{list, list_of_some, set_of};

@@ -10,6 +10,7 @@ use Rattle.x690.specs.Points.{fault}
 use Rattle.x690.specs.Reading.{Reading, Done, Fail, Where, Ask, ◌>>=◌, require, choose, run}
 use Rattle.x690.specs.Reads.{Heard, Said, Refused, ReadFailed, NoMemory, Reads}
 use Rattle.ber_pull.specs.Hears.{Gives, Hears, TakesFrom, heard, heard_error}
+use Rattle.x690.proofs.Needs.{needs_first, needs_taken, needs_then, none_there}
 use Rattle.x690.proofs.Runs.{run_bind, halt_bind, taken}
 
 -- what two calls take, one after the other
@@ -38,20 +39,22 @@ reads_then p f a (ReadFailed at) k j i s u v x y =
       omega arith,
       run_bind p f k (t.octets ++ y.0) a j y.0 (t.any_rest y.0) ∙ y.3,
     )
-reads_then p f a NoMemory k j i s u v x y = tt
+reads_then p f a NoMemory k j i s u v x y =
+    let t = taken p k s a j u x in
+    (t.octets ++ y.0, t.is ∙ ap (λ w. t.octets ++ w) y.1 ∙ sym (append_assoc t.octets y.0 v), needs_then p f a k j t.octets y.0 t.any_rest t.place y.2)
 
 reads_error : {A B : Type 0} (p : Reading A) (f : A → Reading B) (e : ReadError) (k i : ℕ) (s v : List ℕ) → Reads p k s (heard_error e) i v → Reads (p >>= f) k s (heard_error e) i v
 unfolding Reads
 reads_error p f (errors.Fault g) k i s v x = halt_bind p f k s g x
 reads_error p f (errors.Read at) k i s v x = (x.0, x.1, x.2, halt_bind p f k x.0 (fault at Truncated) x.3)
-reads_error p f errors.Memory k i s v x = tt
+reads_error p f errors.Memory k i s v x = (x.0, x.1, needs_first p f k x.0 x.2)
 
 reads_where : {A : Type 0} (f : ℕ → Reading A) (h : Heard A) (k i : ℕ) (s v : List ℕ) → Reads (f k) k s h i v → Reads (Where f) k s h i v
 unfolding Reads run
 reads_where f (Said a) k i s v x = x
 reads_where f (Refused g) k i s v x = x
 reads_where f (ReadFailed at) k i s v x = x
-reads_where f NoMemory k i s v x = tt
+reads_where f NoMemory k i s v x = x
 
 -- an error gives no value
 pub gives_error : {A : Type 0} (p : Reading A) (e : ReadError) (k i : ℕ) → Gives p k (heard_error e) i
@@ -170,7 +173,7 @@ unfolding Reads
 reads_same p q (Said a) k i s v e x = sym (e k s) ∙ x
 reads_same p q (Refused g) k i s v e x = sym (e k s) ∙ x
 reads_same p q (ReadFailed at) k i s v e x = (x.0, x.1, x.2, sym (e k x.0) ∙ x.3)
-reads_same p q NoMemory k i s v e x = tt
+reads_same p q NoMemory k i s v e x = (x.0, x.1, λ some y more h. sym (e k some) ∙ x.2 some y more h)
 
 gives_same : {A : Type 0} (p q : Reading A) (h : Heard A) (k i : ℕ) → ((k : ℕ) (s : List ℕ) → run p k s ≡ run q k s) → Gives p k h i → Gives q k h i
 gives_same p q (Said a) k i e x = (x.0, x.1, sym (e k x.0) ∙ x.2)
@@ -220,26 +223,26 @@ hears_failed f k (Some s) (Some t) h = (([], sym h, omega arith), ([], sym h, om
 pub hears_failed_at : {A : Type 0} (f : ℕ → Reading A) (at k i : ℕ) (s t : Option (List ℕ)) → at ≡ k → i ≡ k → Keeps s t → Hears (Ask f) k s (ReadFailed at) i t
 hears_failed_at f at k i s t x y h = subst (λ w. Hears (Ask f) k s (ReadFailed w) i t) (sym x) (subst (λ w. Hears (Ask f) k s (ReadFailed k) w t) (sym y) (hears_failed f k s t h))
 
--- want of memory says only what was taken
-hears_nothing : {A : Type 0} (p : Reading A) (k i : ℕ) (s u : Option (List ℕ)) (octets : List ℕ) → Consumes s u octets → i ≡ k + length octets → Hears p k s NoMemory i u
+hears_nothing : {A : Type 0} (p : Reading A) (k : ℕ) (s : Option (List ℕ)) → Hears p k s NoMemory k s
 unfolding Hears Reads
-hears_nothing p k i None u octets h e = tt
-hears_nothing p k i (Some s) None octets h e = absurd h
-hears_nothing p k i (Some s) (Some u) octets h e = ((octets, h, e), tt)
+hears_nothing p k None = tt
+hears_nothing p k (Some s) = (takes_none k s, ([], refl, λ some x more e. absurd (none_there some x more e)))
 
-only_taken : {A B : Type 0} (p : Reading A) (h : Heard A) (q : Reading B) (k j : ℕ) (s u : Option (List ℕ)) → Hears p k s h j u → Hears q k s NoMemory j u
+-- memory ran out before an octet was taken
+pub hears_memory : {A : Type 0} (p : Reading A) (e : ReadError) (k k' : ℕ) (s s' : Option (List ℕ)) → e ≡ errors.Memory → k' ≡ k → s' ≡ s → Hears p k s (heard_error e) k' s'
+hears_memory p e k k' s s' x y z = subst (λ w. Hears p k s (heard_error w) k' s') (sym x) (hears_at p NoMemory k k k' s s s' y z (hears_nothing p k s))
+
+only_taken : {A : Type 0} (p : Reading A) (a : A) (k j : ℕ) (s u : Option (List ℕ)) → Hears p k s (Said a) j u → Hears p k s NoMemory j u
 unfolding Hears Reads
-only_taken p h q k j None u x = tt
-only_taken p h q k j (Some s) None x = absurd x
-only_taken p h q k j (Some s) (Some u) x = (x.0, tt)
+only_taken p a k j None u x = tt
+only_taken p a k j (Some s) None x = absurd x
+only_taken p a k j (Some s) (Some u) x =
+    let t = taken p k s a j u x.1 in
+    (x.0, (t.octets, t.is, needs_taken p k t.octets a j (ap (run p k) (sym (append-nil t.octets)) ∙ t.any_rest [])))
 
-pub hears_memory : {A : Type 0} (p : Reading A) (e : ReadError) (k i : ℕ) (s u u' : Option (List ℕ)) (octets : List ℕ) → e ≡ errors.Memory → u' ≡ u → Consumes s u octets → i ≡ k + length octets → Hears p k s (heard_error e) i u'
-hears_memory p e k i s u u' octets x y h z =
-    subst (λ w. Hears p k s (heard_error w) i u') (sym x) (subst (λ w. Hears p k s NoMemory i w) (sym y) (hears_nothing p k i s u octets h z))
-
--- the same octets were taken, and then memory ran out
-pub hears_then_memory : {A B : Type 0} (p : Reading A) (h : Heard A) (q : Reading B) (e : ReadError) (k j j' : ℕ) (s u u' : Option (List ℕ)) → e ≡ errors.Memory → j' ≡ j → u' ≡ u → Hears p k s h j u → Hears q k s (heard_error e) j' u'
-hears_then_memory p h q e k j j' s u u' x y z w = subst (λ v. Hears q k s (heard_error v) j' u') (sym x) (hears_at q NoMemory k j j' s u u' y z (only_taken p h q k j s u w))
+-- a value was given, and then memory ran out
+pub hears_then_memory : {A : Type 0} (p : Reading A) (a : A) (e : ReadError) (k j j' : ℕ) (s u u' : Option (List ℕ)) → e ≡ errors.Memory → j' ≡ j → u' ≡ u → Hears p k s (Said a) j u → Hears p k s (heard_error e) j' u'
+hears_then_memory p a e k j j' s u u' x y z w = subst (λ v. Hears p k s (heard_error v) j' u') (sym x) (hears_at p NoMemory k j j' s u u' y z (only_taken p a k j s u w))
 
 -- the room for one octet, when it came
 pub one_octet : (n : ℕ) (room : List ℕ) → n ≤ length room → length room ≡ 1 → (n ≡ 0 → ⊥) → take n room ≡ get_or room 0 0 ∷ []

@@ -17,7 +17,7 @@ pub record PieceCame {R : Type 0} {s : Ghosts R} (old new : Pull R s) (before af
   pub some : 0 < length octets
   pub most_of_them : length octets ≤ most
 
--- a piece came, or the error is what the reading of any number of octets gives
+-- a piece came, or the error is what the reading of all of them gives
 abbrev pub AddsPiece : {R : Type 0} {s : Ghosts R} → Pull R s → Pull R s → List ℕ → List ℕ → ℕ → Result (Unit {0}) ReadError → Type 0
 AddsPiece old new before after most result =
-    MatchResult result (λ _. PieceCame old new before after most) (λ e. (n : ℕ) → 0 < n → n ≤ most → Answers old new (next_octets n) (heard_error e))
+    MatchResult result (λ _. PieceCame old new before after most) (λ e. Answers old new (next_octets most) (heard_error e))

@@ -1,10 +1,11 @@
 -- What is answered and written, as replies.
-use Rattle.std.proofs.Common.{◌≡◌, ◌∙◌, ◌≤◌, ◌++◌, Bool, Err, IfOk, List, None, Ok, Option, Result, Some, ap, false, inl, inr, length, refl, subst, sym, take, ℕ}
+use Rattle.std.proofs.Common.{◌≡◌, ◌∙◌, ◌≤◌, ◌++◌, arith, Bool, Err, IfOk, List, None, Ok, Option, Result, Some, ap, false, inl, inr, length, refl, subst, sym, take, ℕ}
 use Rattle.std.specs.Io.KnownBytes.{Appends, Consumes, IsAtEnd}
 use Rattle.tlv_core.specs.declared.fault.ReadError.{ReadError}
 use Rattle.tlv_core.specs.declared.fault.ReadError.TheVariants.{Fault as FaultRead, Read as ReadAt, Memory as MemoryRead}
 use Rattle.tlv_core.specs.Limits.{IsLimits, Limits}
 use Rattle.tlv_core.specs.declared.sink.WriteError.{WriteError}
+use Rattle.x690.specs.Answers.{Spelled, answer}
 use Rattle.x690.specs.Premises.{Lawful}
 use Rattle.x690.specs.TypeTerms.{TypeTerm}
 use Rattle.x690.specs.Values.{Same, Value}
@@ -68,11 +69,14 @@ unread_failed MemoryRead source target h = h
 pub unread_fails : (error : ReadError) (outcome : Outcome) (source target : Bool) → outcome ≡ unread_outcome error → FailedAs (Read error) source target → FailedBy outcome source target
 unread_fails error outcome source target is h = subst (λ o. FailedBy o source target) (sym is) (unread_failed error source target h)
 
--- memory ran out behind what was taken
-pub no_memory : (limits : Limits) (type : TypeTerm) (before after : Option (List ℕ)) (octets : List ℕ) → Consumes before after octets → Unreadable limits type MemoryRead before after
-no_memory limits type None after octets takes = inl (tt, tt)
-no_memory limits type (Some before) None octets takes = absurd takes
-no_memory limits type (Some before) (Some after) octets takes = inl ((octets, takes, tt), tt)
+-- memory ran out behind a value that was taken
+pub no_memory : (limits : Limits) (type : TypeTerm) (before after : Option (List ℕ)) (octets text : List ℕ) → Consumes before after octets → ((more : List ℕ) → answer limits type (octets ++ more) ≡ Spelled text (length octets)) → Unreadable limits type MemoryRead before after
+no_memory limits type None after octets text takes spells = inl (tt, tt)
+no_memory limits type (Some before) None octets text takes spells = absurd takes
+no_memory limits type (Some before) (Some after) octets text takes spells = inl ((octets, takes, λ other n a. within other n (sym (spells after) ∙ sym (ap (answer limits type) takes) ∙ a)), tt)
+  where
+    within : (other : List ℕ) (n : ℕ) → Spelled text (length octets) ≡ Spelled other n → length octets ≤ n
+    within other n e = let count : length octets ≡ n = cc in omega (arith, count)
 
 -- ---- what is written
 

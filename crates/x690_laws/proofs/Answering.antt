@@ -52,7 +52,16 @@ long_only l v n r f h = go (nat_le (length (der v)) l.octets) h
     go true e = cc
     go false e = cc
 
-rest_apart : (l : Limits) (v : Value) (q : ℕ) (r r' : List ℕ) → judged l (Took v q r') ≡ judged l (Took v q r)
+-- of what is spelled the place behind what was taken is told
+pub spelled_place : (l : Limits) (v : Value) (n : ℕ) (r text : List ℕ) (m : ℕ) → judged l (Took v n r) ≡ Spelled text m → n ≡ m
+unfolding judged
+spelled_place l v n r text m h = go (nat_le (length (der v)) l.octets) h
+  where
+    go : (x : Bool) → elim x [ true ↦ Spelled (der v) n | false ↦ Refused (fault 0 TextTooLong) ] ≡ Spelled text m → n ≡ m
+    go true e = cc
+    go false e = cc
+
+pub rest_apart : (l : Limits) (v : Value) (q : ℕ) (r r' : List ℕ) → judged l (Took v q r') ≡ judged l (Took v q r)
 unfolding judged
 rest_apart l v q r r' = refl
 

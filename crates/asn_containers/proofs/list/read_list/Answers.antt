@@ -73,7 +73,9 @@ returns-in_err-row-clause-reads g c = λ given fine is.
     let read = c.in_ok-items.ensures.reads given fine' is' in
     let stop = c.in_err-row.ensures.stops in
     value_err c.args.pull.now c.row_of.new.pull (read_given (SequenceOfType own least type) s given) (λ list. Sequence own (values_of (map g.T.DerText.value (list_items list)))) c.from_residual-in_err-row.result c.in_err-row.field-0.0 (search rules)
-    (hears_then_memory _ _ _ c.in_err-row.field-0.0 _ _ _ _ _ _ stop.0 (ap (λ z. z.taken) stop.2) (ap g.R.Source.remaining stop.1) (unmoved_answers (λ z. read_given_members type z given) c.args.pull.now c.expect_tag.new.pull c.read_members.new.pull _ still read.2))
+    (hears_as _ _ _ _ _ _ _ (list_type_is own least type s given) (hears_on _ _ _ _ _ _ _ _ ok.1
+    (hears_error (read_given_members type s given) (list_of own least) c.in_err-row.field-0.0 _ _ _ _
+    (hears_then_memory _ (ended read.0 c.in_ok-items.at) c.in_err-row.field-0.0 _ _ _ _ _ _ stop.0 (ap (λ z. z.taken) stop.2) (ap g.R.Source.remaining stop.1) (unmoved_answers (λ z. read_given_members type z given) c.args.pull.now c.expect_tag.new.pull c.read_members.new.pull _ still read.2)))))
 
 pub returns-clause-reads : goal.returns-clause-reads
 returns-clause-reads g c = λ given fine is.

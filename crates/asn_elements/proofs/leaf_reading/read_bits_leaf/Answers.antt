@@ -23,8 +23,11 @@ returns-in-Ok-clause-reads g c = λ own given fine is.
 
 pub returns-in-Err-clause-reads : goal.returns-in-Err-clause-reads
 returns-in-Err-clause-reads g c = λ own given fine is.
+    let s = c.args.pull.now.state in
     let first = c.no_memory.ensures.first (search rules) in
-    hears_then_memory _ _ _ _ _ _ _ _ _ _ first.0 (ap (λ z. z.taken) first.1) (ap g.R.Source.remaining c.no_memory.ensures.same) (c.in_ok-unused.ensures.reads given fine is)
+    hears_same _ _ _ _ _ _ _ (bits_leaf_is own s given)
+    (hears_error (read_bits s given) (bits_leaf own) c.no_memory.result _ _ _ _
+    (hears_then_memory _ (c.in_ok-unused.unused, c.in_ok-unused.octets.items) c.no_memory.result _ _ _ _ _ _ first.0 (ap (λ z. z.taken) first.1) (ap g.R.Source.remaining c.no_memory.ensures.same) (c.in_ok-unused.ensures.reads given fine is)))
 
 pub returns-in-Ok-clause-bits : goal.returns-in-Ok-clause-bits
 returns-in-Ok-clause-bits g c =

@@ -35,7 +35,8 @@ append_container-returns-in_err-contents-clause-reads g t c = λ deep given fine
     let read = c.in_ok-octets.ensures.reads deep given fine is bound in
     let stop = c.in_err-contents.ensures.stops in
     text_err c.args.pull.now c.arranged.new.pull (read_given_container deep c.args.is_set c.args.tag s given) _ _ c.from_residual-in_err-contents.result c.in_err-contents.field-0.0 (search rules)
-    (hears_then_memory _ _ _ c.in_err-contents.field-0.0 _ _ _ _ _ _ stop.0 (ap (λ z. z.taken) stop.2) (ap g.R.Source.remaining stop.1) read.3)
+    (hears_error (read_given_open_members deep s given) (λ e. Done (container c.args.is_set c.args.tag (values_of e.all))) c.in_err-contents.field-0.0 _ _ _ _
+    (hears_then_memory _ (ended read.0 read.1) c.in_err-contents.field-0.0 _ _ _ _ _ _ stop.0 (ap (λ z. z.taken) stop.2) (ap g.R.Source.remaining stop.1) read.3))
 
 pub append_container-returns-clause-reads : goal.append_container-returns-clause-reads
 append_container-returns-clause-reads g t c = λ deep given fine is bound.

@@ -1,5 +1,7 @@
 use Rattle.std.proofs.Common.{refl}
 use Rattle.std.specs.Prelude.{string_bytes}
+use Rattle.asn_documents.proofs.Normalising.{took_answers}
+use Rattle.pk_documents.proofs.LawfulKinds.{kinds_are_lawful}
 use Rattle.pk_documents.specs.Kinds.{type_of}
 use Rattle.pkder.specs.Outcomes.{verdict_of}
 use Rattle.pkder.specs.Replies.{DueOfCheck}
@@ -17,7 +19,7 @@ returns-in-Ok-clause-replied g c =
     text_replies (λ text. string_bytes text) c.args.dst.now c.write_text.new.dst g.W.Target.contents g.W.Target.has_failed place c.write_text.result c.checked.result c.checked.ensures
     l T (DueOfCheck l T before after) before after (verdict_of place) c.verdict_text.result c.verdict_text.ensures
     (due_of_check l T before after c.in-Ok._taken place (verdict_of place) checked c.in-Ok.ensures.ends refl)
-    (no_memory l T before after checked.1.took.octets checked.1.took.takes)
+    (no_memory l T before after checked.1.took.octets _ checked.1.took.takes (took_answers l T checked.0 before after _ (kinds_are_lawful c.args.kind) checked.1.took))
     c.write_text.ensures
 
 pub returns-in-Ok-clause-unwritten : goal.returns-in-Ok-clause-unwritten

@@ -1,5 +1,7 @@
-use Rattle.std.proofs.Common.{None, refl}
+use Rattle.std.proofs.Common.{◌∙◌, None, ap, refl}
 use Rattle.std.specs.Prelude.{string_bytes}
+use Rattle.x690.specs.Answers.{Spelled}
+use Rattle.x690.specs.DerTexts.{der}
 use Rattle.pk_documents.specs.Kinds.{type_of}
 use Rattle.pk_documents.proofs.DocumentValues.{valued}
 use Rattle.pk_show.specs.Shown.{document_lines}
@@ -16,10 +18,11 @@ returns-in-Ok-clause-replied g c =
     let after = g.R.Source.remaining c.read_whole_document.new.src in
     let document = c.in-Ok.document in
     let reads = c.in-Ok.ensures.reads in
+    let text = der (valued document) in
     text_replies (λ text. string_bytes text) c.args.dst.now c.write_text.new.dst g.W.Target.contents g.W.Target.has_failed None c.write_text.result outcomes.Done refl
     l T (DueOfShow valued l c.args.kind before after) before after (document_lines document) c.show_text.result c.show_text.ensures
     (document, c.in-Ok._taken, c.in-Ok.ensures.kind, reads, c.in-Ok.ensures.ends, refl, refl)
-    (no_memory l T before after reads.octets reads.takes)
+    (no_memory l T before after reads.octets text reads.takes (λ more. reads.answers more ∙ ap (Spelled text) reads.taken_are))
     c.write_text.ensures
 
 pub returns-in-Ok-clause-unwritten : goal.returns-in-Ok-clause-unwritten

@@ -81,7 +81,9 @@ returns-in_err-sorted-clause-reads g c = λ given fine is.
     let read = c.in_ok-items.ensures.reads given fine' is' in
     let stop = c.in_err-sorted.ensures.stops in
     value_err c.args.pull.now c.put_in_order.new.pull (read_given (SetOfType own least type) s given) (λ set'. SetOf own (values_of (map g.T.DerText.value (set_items set')))) c.from_residual-in_err-sorted.result c.in_err-sorted.field-0.0 (search rules)
-    (hears_then_memory _ _ _ c.in_err-sorted.field-0.0 _ _ _ _ _ _ stop.0 (ap (λ z. z.taken) stop.2) (ap g.R.Source.remaining stop.1) (unmoved_answers (λ z. read_given_members type z given) c.args.pull.now c.expect_tag.new.pull c.read_members.new.pull _ still read.2))
+    (hears_as _ _ _ _ _ _ _ (set_type_is own least type s given) (hears_on _ _ _ _ _ _ _ _ ok.1
+    (hears_error (read_given_members type s given) (set_of own least given.at) c.in_err-sorted.field-0.0 _ _ _ _
+    (hears_then_memory _ (ended read.0 c.in_ok-items._end) c.in_err-sorted.field-0.0 _ _ _ _ _ _ stop.0 (ap (λ z. z.taken) stop.2) (ap g.R.Source.remaining stop.1) (unmoved_answers (λ z. read_given_members type z given) c.args.pull.now c.expect_tag.new.pull c.read_members.new.pull _ still read.2)))))
 
 pub returns-in_err-row-clause-reads : goal.returns-in_err-row-clause-reads
 returns-in_err-row-clause-reads g c = λ given fine is.
@@ -96,7 +98,9 @@ returns-in_err-row-clause-reads g c = λ given fine is.
     let read = c.in_ok-items.ensures.reads given fine' is' in
     let stop = c.in_err-row.ensures.stops in
     value_err c.args.pull.now c.row_of.new.pull (read_given (SetOfType own least type) s given) (λ set'. SetOf own (values_of (map g.T.DerText.value (set_items set')))) c.from_residual-in_err-row.result c.in_err-row.field-0.0 (search rules)
-    (hears_then_memory _ _ _ c.in_err-row.field-0.0 _ _ _ _ _ _ stop.0 (ap (λ z. z.taken) stop.2 ∙ ap (λ z. z.state.taken) c.in_ok-sorted.ensures.still) (ap g.R.Source.remaining stop.1 ∙ ap told c.in_ok-sorted.ensures.still) (unmoved_answers (λ z. read_given_members type z given) c.args.pull.now c.expect_tag.new.pull c.read_members.new.pull _ still read.2))
+    (hears_as _ _ _ _ _ _ _ (set_type_is own least type s given) (hears_on _ _ _ _ _ _ _ _ ok.1
+    (hears_error (read_given_members type s given) (set_of own least given.at) c.in_err-row.field-0.0 _ _ _ _
+    (hears_then_memory _ (ended read.0 c.in_ok-items._end) c.in_err-row.field-0.0 _ _ _ _ _ _ stop.0 (ap (λ z. z.taken) stop.2 ∙ ap (λ z. z.state.taken) c.in_ok-sorted.ensures.still) (ap g.R.Source.remaining stop.1 ∙ ap told c.in_ok-sorted.ensures.still) (unmoved_answers (λ z. read_given_members type z given) c.args.pull.now c.expect_tag.new.pull c.read_members.new.pull _ still read.2)))))
 
 pub returns-clause-reads : goal.returns-clause-reads
 returns-clause-reads g c = λ given fine is.

@@ -92,8 +92,9 @@ returns-in-Err-clause-reads g c = λ given fine is.
     let b = begun old mid given c.in_ok-tag.field-0 c.in-Some.tag c.in-Some.constructed c.in-Some.is (c.in_ok-tag.ensures.given given fine is) c.in_ok-tag.ensures.fits in
     let read = c.in_ok-oid.ensures.reads given.tag given (fine_still old mid b.still fine) (given_still old mid given b.still is) in
     let first = c.no_memory.ensures.first (search rules) in
-    hears_then_memory _ _ _ c.no_memory.result _ _ _ _ _ _ first.0 (ap (λ z. z.taken) first.1) (ap g.R.Source.remaining c.no_memory.ensures.same)
-    (unmoved_answers (λ z. read_given_leaf ObjectIdentifier given.tag z given) old mid c.read_identifier.new.pull (Said (Leaf given.tag c.in_ok-oid.oid)) b.still read)
+    hears_as _ _ _ _ _ _ _ (identifier_is s given b.fits (rw (← b.tag_is) (search rules)))
+    (hears_then_memory _ (Leaf given.tag c.in_ok-oid.oid) c.no_memory.result _ _ _ _ _ _ first.0 (ap (λ z. z.taken) first.1) (ap g.R.Source.remaining c.no_memory.ensures.same)
+    (unmoved_answers (λ z. read_given_leaf ObjectIdentifier given.tag z given) old mid c.read_identifier.new.pull (Said (Leaf given.tag c.in_ok-oid.oid)) b.still read))
 
 pub returns-clause-reads : goal.returns-clause-reads
 returns-clause-reads g c = λ given fine is.

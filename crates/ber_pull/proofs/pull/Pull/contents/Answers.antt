@@ -1,13 +1,12 @@
-use Rattle.std.proofs.Common.{rules, arith, ◌-◌, length}
+use Rattle.std.proofs.Common.{rules, arith}
 use Rattle.ber_pull.proofs.Hearing.{hears_err}
 use Rattle.ber_pull.proofs.Pieces.{contents_done, contents_error}
 use Rattle.ber_pull.proofs.pull.Pull.contents.Goals as goal
 
 pub returns-in_err-piece-clause-reads : goal.returns-in_err-piece-clause-reads
 returns-in_err-piece-clause-reads g c =
-    let left = c.args.count - length c.loop-octets.octets.items in
     hears_err _ _ c.from_residual.result c.in_err-piece.field-0.0 _ _ _ _ (search rules)
-    (contents_error left c.args.count _ _ _ c.in_err-piece.field-0.0 c.loop-octets.octets.items _ _ _ c.loop-octets.invariant.came c.loop-octets.invariant.count (omega arith) (c.in_err-piece.ensures.adds left (omega arith) (omega arith)))
+    (contents_error _ c.args.count _ _ _ c.in_err-piece.field-0.0 c.loop-octets.octets.items _ _ _ c.loop-octets.invariant.came c.loop-octets.invariant.count (omega arith) c.in_err-piece.ensures.adds)
 
 pub returns-clause-reads : goal.returns-clause-reads
 returns-clause-reads g c = contents_done c.args.count _ _ c.loop-octets.octets.items _ _ c.loop-octets.invariant.came c.loop-octets.invariant.count (omega arith)

@@ -31,6 +31,8 @@ returns-in-Ok-clause-reads g c = λ s joins.
     )
 
 pub returns-in-Err-clause-reads : goal.returns-in-Err-clause-reads
+unfolding read_one_segment
 returns-in-Err-clause-reads g c = λ s joins.
     let first = c.no_memory.ensures.first (search rules) in
-    hears_then_memory _ _ _ _ _ _ _ _ _ _ first.0 (ap (λ s. s.taken) first.1) (ap g.R.Source.remaining c.no_memory.ensures.same) c.in_ok-primitive_contents.ensures.reads
+    hears_error _ _ c.no_memory.result _ _ _ _
+    (hears_then_memory _ c.primitive_contents.new.octets.items c.no_memory.result _ _ _ _ _ _ first.0 (ap (λ s. s.taken) first.1) (ap g.R.Source.remaining c.no_memory.ensures.same) c.in_ok-primitive_contents.ensures.reads)
