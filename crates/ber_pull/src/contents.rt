@@ -108,6 +108,10 @@ impl<R: Source> Pull<'_, R> {
     {
         let size = count as usize;
         octets.clear();
+        // (of what a length only claims no more than a piece)
+        if octets.reserve_exact(size.min(PIECE)).is_err() {
+            return Err(self.no_memory());
+        }
         while octets.len() < size {
             let left = size - octets.len();
             self.piece(octets, left)?;

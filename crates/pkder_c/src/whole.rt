@@ -26,8 +26,12 @@ pub fn whole_text(alloc: Global, kind: Kind, limits: Limits, src: &[u8]) -> Resu
     ensures text { IfOk result (λ text. WholeText limits (type_of kind) src.now text.items) }
     ensures refused { IfErr result (WholeRefused limits (type_of kind) src.now) }
 {
+    // (most documents are as long as their DER texts)
+    let Ok(room) = Vec::with_capacity(alloc, src.len()) else {
+        return Err(Refusal::Memory);
+    };
     let mut rest = src;
-    let mut target = ToWrite::new(Vec::new(alloc));
+    let mut target = ToWrite::new(room);
     match normalise_whole_document(alloc, &mut rest, &mut target, kind, limits) {
         Ok(_) => Ok(target.into_inner()),
         Err(error) => Err(unwritten(&error)),

@@ -1,7 +1,13 @@
-use Rattle.std.proofs.Common.{rules, arith}
-use Rattle.ber_pull.proofs.Hearing.{hears_err}
+use Rattle.std.proofs.Common.{rules, ap, arith}
+use Rattle.x690.specs.ReadHeaders.{next_octets}
+use Rattle.ber_pull.proofs.Hearing.{hears_err, hears_memory}
 use Rattle.ber_pull.proofs.Pieces.{contents_done, contents_error}
 use Rattle.ber_pull.proofs.pull.Pull.contents.Goals as goal
+
+pub returns-then-is_err-clause-reads : goal.returns-then-is_err-clause-reads
+returns-then-is_err-clause-reads g c =
+    let first = c.no_memory.ensures.first c.requires.live in
+    hears_memory (next_octets c.args.count) c.no_memory.result _ _ _ _ first.0 (ap (λ s. s.taken) first.1) (ap g.R.Source.remaining c.no_memory.ensures.same)
 
 pub returns-in_err-piece-clause-reads : goal.returns-in_err-piece-clause-reads
 returns-in_err-piece-clause-reads g c =
