@@ -10,17 +10,13 @@ use Rattle.x690.specs.Layouts.{same_tag}
 use Rattle.x690.specs.Points.{Enclosing, fault}
 use Rattle.x690.specs.ReadContents.{read_leaf}
 use Rattle.x690.specs.Reading.{Reading, require, ◌>>=◌}
-use Rattle.x690.specs.TypeTerms.{Rule, TypeTerm}
+use Rattle.x690.specs.TypeTerms.{TypeTerm}
 use Rattle.x690.specs.Values.{Value, leaf_contents}
 use Rattle.ber_pull.specs.Standing.{Standing, enclosing}
 use Rattle.ber_pull.specs.declared.pull.Pull.{Pull}
 use Rattle.ber_pull.specs.declared.state.Given.{Given}
 use Rattle.asn_elements.specs.Reading.{AnswersValue}
 use Rattle.asn_elements.specs.Whole.{read_inside}
-
--- nothing is refused
-abbrev pub no_rule : Rule
-no_rule earlier value = None
 
 -- the value that an OCTET STRING of this tag contains, whose identifier is taken
 abbrev pub read_contained : Limits → Tag → TypeTerm → List Value → Enclosing → ℕ → Tag → Bool → Reading Value

@@ -11,7 +11,7 @@ use Rattle.x690.specs.ReadTypes.{read_type}
 use Rattle.x690.specs.Reading.{Reading}
 use Rattle.x690.specs.TypeTerms.{TypeTerm}
 use Rattle.x690.specs.Values.{Same, Value}
-use Rattle.asn_fields.specs.Insides.{Inside, Within}
+use Rattle.asn_fields.specs.Insides.{Inside}
 use Rattle.asn_fields.specs.FieldReadings.{read_due, read_optional, read_take}
 use Rattle.ber_pull.specs.Standing.{Standing, enclosing}
 use Rattle.ber_pull.specs.declared.pull.Pull.{Pull}
@@ -45,10 +45,6 @@ DueBehind old new next next' type earlier value result =
 abbrev pub OptionalBehind : {R A : Type 0} {s : Ghosts R} → Pull R s → Pull R s → code.Next → code.Next → TypeTerm → List Value → (A → Value) → Result (Option A) ReadError → Type 0
 OptionalBehind old new next next' type earlier value result =
     (fields : List Value) → Each Same fields earlier → AnswersField old new next (λ outer inside. read_optional outer.limits type fields inside (next_of next)) SameField (option_map value) (next_of next') result
-
--- no identifier is given inside the container
-abbrev pub LeavesWithin : {R : Type 0} {s : Ghosts R} → Pull R s → Pull R s → code.Next → Type 0
-LeavesWithin old new next = (outer : Standing) (inside : Enclosing) → Inside outer inside old.state (next_of next) → Within outer inside new.state
 
 -- Of values that suit the fields before them, two with one text are the same.
 abbrev pub OneTextBehind : {A : Type 0} → (A → Value) → (List Value → A → Bool) → Type 0

@@ -4,11 +4,11 @@ ghost use Rattle.std.specs.Prelude.{◌≡◌, ◌↔◌, ◌+◌, ◌<◌, ◌^
 ghost use Rattle.tlv_core.specs.Sinks.{count, Puts};
 ghost use Rattle.x690.specs.DerTexts.{der};
 ghost use Rattle.x690.specs.Layouts.{universal};
-ghost use Rattle.x690.specs.TypeTerms.{ContainingType};
+ghost use Rattle.x690.specs.TypeTerms.{ContainingType, no_rule};
 ghost use Rattle.x690.specs.Values.{Leaf, Same};
 ghost use Rattle.ber_pull.specs.View.{standing, SameSource, Repeats, Keeps, ReadsFail, Onward, Uses};
 ghost use Rattle.asn_contained.specs.ClosedTypes.{containing_closed};
-ghost use Rattle.asn_contained.specs.Contained.{AnswersContained, no_rule};
+ghost use Rattle.asn_contained.specs.Contained.{AnswersContained};
 
 use asn_elements::der_text::{DerText, same_text};
 use asn_elements::element::Element;

@@ -10,8 +10,8 @@ ghost use Rattle.x690.specs.TypeTerms.{Required, TypeTerm, fits_tag};
 ghost use Rattle.x690.specs.Values.{Value, value_tag};
 ghost use Rattle.ber_pull.specs.View.{standing, AsksNoMemory, SameSource, Keeps, ReadsFail, Onward, Unmoved, Uses};
 ghost use Rattle.asn_fields.specs.Apart.{may_begin};
-ghost use Rattle.asn_fields.specs.Fields.{IsInside, StaysInside, stands_next};
-ghost use Rattle.asn_contained.specs.Dependents.{AnswersBehind, DueBehind, LeavesWithin, OneTextBehind, OptionalBehind, TakesBehind, suits_where_there};
+ghost use Rattle.asn_fields.specs.Fields.{IsInside, LeavesWithin, StaysInside, stands_next};
+ghost use Rattle.asn_contained.specs.Dependents.{AnswersBehind, DueBehind, OneTextBehind, OptionalBehind, TakesBehind, suits_where_there};
 ghost use Rattle.asn_contained.specs.DependentLaws.{dependent_begin, dependent_tell};
 
 use asn_elements::element::Element;

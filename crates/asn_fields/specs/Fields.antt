@@ -93,6 +93,7 @@ abbrev pub AnswersTake : {R A : Type 0} {s : Ghosts R} → Pull R s → Pull R s
 AnswersTake old new next type value result =
     (earlier : List Value) (outer : Standing) (inside : Enclosing) → Inside outer inside old.state (next_of next) → AnswersValue old new (read_take outer.limits type earlier inside (next_of next)) value result
 
+-- no identifier is given inside the container
 abbrev pub LeavesWithin : {R : Type 0} {s : Ghosts R} → Pull R s → Pull R s → Next → Type 0
 LeavesWithin old new next = (outer : Standing) (inside : Enclosing) → Inside outer inside old.state (next_of next) → Within outer inside new.state
 

@@ -3,11 +3,11 @@ use Rattle.std.specs.Prelude.{List, [], ℕ, ◌∷◌}
 use Rattle.tlv_core.specs.declared.reason.Reason.TheVariants.{VersionRule}
 use Rattle.x690.specs.Contents.{BitString, Boolean}
 use Rattle.x690.specs.Layouts.{context_specific, universal}
-use Rattle.x690.specs.TypeTerms.{ContainingType, Default, DefinedByType, EndOfFields, LeafType, OpenType, Optional, RefusedType, Required, RuledType, SequenceOfType, SetOfType, TypeTerm}
+use Rattle.x690.specs.TypeTerms.{ContainingType, Default, DefinedByType, EndOfFields, LeafType, OpenType, Optional, RefusedType, Required, RuledType, SequenceOfType, SetOfType, TypeTerm, no_rule}
 use Rattle.x690.specs.UniversalTypes.{bit_string, explicit, integer, object_identifier, octet_string, sequence, sequence_of, set_of_some, ◌⨾◌}
 use Rattle.pkix_types.specs.Identifiers.{ec_public_key, extension_request, rfc8410_algorithms, rsa_encryption}
 use Rattle.pkix_types.specs.Paths.{algorithm_of_key, algorithm_of_public_key, first_field, version_0, version_1}
-use Rattle.pkix_types.specs.Rules.{ec_parameters_rule, ec_rule, inner_curve_rule, inner_ec_rule, key_bits_rule, key_version_rule, no_rule, parameters_rule, rsa_version_rule, version_rule}
+use Rattle.pkix_types.specs.Rules.{ec_parameters_rule, ec_rule, inner_curve_rule, inner_ec_rule, key_bits_rule, key_version_rule, parameters_rule, rsa_version_rule, version_rule}
 
 -- an INTEGER that is one of these numbers, each below 128
 abbrev pub version : List (List ℕ) → TypeTerm

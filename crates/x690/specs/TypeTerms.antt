@@ -1,5 +1,5 @@
 -- Type terms: the types of ASN.1 that the documents use, as data.
-use Rattle.std.specs.Prelude.{Bool, List, Option, [], false, true, ℕ, ◌||◌, ◌∷◌, ◌≡◌, ◌⊎◌}
+use Rattle.std.specs.Prelude.{Bool, List, None, Option, [], false, true, ℕ, ◌||◌, ◌∷◌, ◌≡◌, ◌⊎◌}
 use Rattle.tlv_core.specs.Identifier.{Tag}
 use Rattle.tlv_core.specs.declared.reason.Reason.{Reason}
 use Rattle.x690.specs.Contents.{LeafKind}
@@ -9,6 +9,10 @@ use Rattle.x690.specs.Values.{Value}
 -- Why a value is refused, if it is, by the earlier fields of its container and itself.
 abbrev pub Rule : Type 0
 Rule = List Value → Value → Option Reason
+
+-- nothing is refused
+abbrev pub no_rule : Rule
+no_rule earlier value = None
 
 -- the first where the test holds, else the second
 abbrev pub Chosen : Bool → Type 0 → Type 0 → Type 0

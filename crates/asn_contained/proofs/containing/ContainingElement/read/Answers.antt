@@ -2,7 +2,7 @@ use Rattle.std.proofs.Common.{rules, [], None, refl, subst}
 use Rattle.x690.specs.DerTexts.{der}
 use Rattle.x690.specs.Layouts.{universal}
 use Rattle.x690.specs.Reads.{Said}
-use Rattle.x690.specs.TypeTerms.{ContainingType}
+use Rattle.x690.specs.TypeTerms.{ContainingType, no_rule}
 use Rattle.x690.specs.Values.{Leaf}
 use Rattle.ber_pull.specs.Hears.{heard_error}
 use Rattle.ber_pull.specs.Standing.{enclosing}
@@ -10,7 +10,7 @@ use Rattle.ber_pull.specs.View.{Answers}
 use Rattle.asn_elements.proofs.RuledReadings.{rule_holds}
 use Rattle.asn_elements.specs.Reading.{read_given}
 use Rattle.asn_elements.proofs.Answering.{value_err}
-use Rattle.asn_contained.specs.Contained.{no_rule, read_given_contained}
+use Rattle.asn_contained.specs.Contained.{read_given_contained}
 use Rattle.asn_contained.proofs.Contained.{containing, containing_error, same_octets_inside}
 use Rattle.asn_contained.proofs.containing.ContainingElement.read.Goals as goal
 
