@@ -60,4 +60,4 @@ cc -shared -s -o "$out/libpkder.so.0" pkder.o -Wl,-soname,libpkder.so.0 -Wl,--ve
     -Wl,-z,relro,-z,now,-z,noexecstack -Wl,--no-undefined
 ln -sf libpkder.so.0 "$out/libpkder.so"
 # (for use from here; tools/install.sh writes the one that is installed)
-sed -e "s|@LIBDIR@|$out|" -e "s|@INCLUDEDIR@|$here|" "$here/pkder.pc.in" > "$out/pkder.pc"
+sed -e "s|@PREFIX@|$here|" -e "s|@LIBDIR@|$out|" -e "s|@INCLUDEDIR@|$here|" "$here/pkder.pc.in" > "$out/pkder.pc"

@@ -3,8 +3,9 @@
  * first fault, with its place and its reason. It does no cryptography, and says of a document that it has a sound form
  * and nothing more. It reads the octets of the document itself, and no PEM.
  *
- * Compile by `cc FILE.c $(pkg-config --cflags --libs pkder)`, which is -lpkder. docs/library.md has first steps, and
- * docs/manual.md what each reason often comes from and what to do about it.
+ * Compile by `cc FILE.c $(pkg-config --cflags --libs pkder)`, which is -lpkder; the program finds libpkder.so.0 once
+ * ldconfig has seen it, or by LD_LIBRARY_PATH. docs/library.md has first steps, and docs/manual.md what each reason
+ * often comes from and what to do about it; docs/formats.md says what is refused that other readers take.
  *
  * Reading and writing are proved. What stands below under "Promised" is the proved contract of each function in words,
  * for callers that do what stands under "The caller owes": no compiler checks that.
@@ -53,7 +54,10 @@ extern "C" {
  * name for one that refuses. */
 #define PKDER_INTERFACE 1
 
-/* What a document is; the caller says. All of the octets given have to be one: octets behind it are a fault. */
+/* What a document is; the caller says. All of the octets given have to be one: octets behind it are a fault. Octets of
+ * a PEM file are none (WrongTag at 0). Of a file of unknown kind ask for each kind: as the types stand, one accepts
+ * it at most. Where all refuse it, the faults can't be compared by their places: take that of the kind which the file's
+ * label or sender names; the next best guess is the one that isn't WrongTag. */
 #define PKDER_KEY 1u       /* OneAsymmetricKey, PKCS #8 (RFC 5958): what PEM calls PRIVATE KEY */
 #define PKDER_EC 2u        /* ECPrivateKey (RFC 5915): EC PRIVATE KEY */
 #define PKDER_REQUEST 3u   /* CertificationRequest, PKCS #10 (RFC 2986): CERTIFICATE REQUEST */
@@ -76,10 +80,11 @@ extern "C" {
 #define PKDER_MOST_OCTETS UINT64_C(2147483647)
 
 /* Octets of stack that are enough for a call. Tested and not proved. It grows with the depth that is allowed: half of
- * it is enough up to PKDER_DEPTH. */
+ * it is enough up to PKDER_DEPTH. Nothing checks it: a call with less runs past the end of its thread's stack. So look
+ * at threads with small stacks (musl gives 128 KiB where nothing else is asked for). */
 #define PKDER_STACK 262144
 
-/* What comes of a call. */
+/* What comes of a call. Ask whether it is PKDER_ACCEPTED, and never whether it isn't PKDER_FAULT. */
 #define PKDER_ACCEPTED 0u  /* the octets are a document, and what was asked for is done */
 #define PKDER_FAULT 1u     /* they are none: reason and at, inside_reason and inside_at say why */
 #define PKDER_NO_ROOM 2u   /* they are a document, and dst_len is less than size: dst is as it was */
@@ -95,12 +100,14 @@ typedef struct pkder_outcome {
     uint32_t spare;
     uint64_t at;            /* of a fault: its place in src; not in DER: the first place where the DER text has another
                              * octet */
-    uint64_t inside_at;     /* of a fault inside an OCTET STRING: its place in the octets that the string holds */
+    uint64_t inside_at;     /* of a fault inside an OCTET STRING: its place in the octets that the string holds, which
+                             * may stand in src in several pieces */
     uint64_t taken;         /* accepted, no room, not in DER: src_len */
     uint64_t size;          /* accepted, no room: the octets that are written, or would be; pkder_check: 0 */
 } pkder_outcome;
 
-/* The reasons. pkder_reason_name has their names. */
+/* The reasons. pkder_reason_name has their names. Where nothing else is said, `at` is where the identifier of the
+ * element begins that the reason speaks of; of Missing where its container's contents end; of TextTooLong 0. */
 #define PKDER_REASON_TRUNCATED 1u      /* the octets end at `at`, where one is needed */
 #define PKDER_REASON_TOO_LONG 2u       /* an element reaches past the limit of octets */
 #define PKDER_REASON_BAD_TAG 3u        /* identifier octets that are no tag, or a number of 2^28 or more */
@@ -151,7 +158,8 @@ uint32_t pkder_interface(void);
 pkder_outcome pkder_normalise(uint32_t kind, uint32_t depth, uint64_t octets, const uint8_t *src, size_t src_len,
                               uint8_t *dst, size_t dst_len);
 
-/* Room that is always enough for the DER text of a document of n octets. Promised: see `size` above. */
+/* Room that is always enough for the DER text of a document of n octets. Promised: see `size` above. No more than the
+ * limit of octets is needed, either, however great n is. */
 #define PKDER_ROOM(n) (2 * (n))
 
 /* Whether the octets of src are a document in DER. Nothing is written.
@@ -172,7 +180,8 @@ pkder_outcome pkder_signed(uint32_t part, uint32_t depth, uint64_t octets, const
                            uint8_t *dst, size_t dst_len);
 
 /* Writes what the document is that the octets of src are, in lines of ASCII, each ended by a line feed, where dst
- * begins. No octet 0 stands behind them. Of private and encrypted keys their lengths alone are shown.
+ * begins. No octet 0 stands behind them. Of private and encrypted keys their lengths alone are shown; of a request all
+ * attributes, a challengePassword among them.
  *
  * Promised: as of pkder_normalise, but that what is written is the document's lines (docs/formats.md states them), and
  * `size` the number of their octets: a call with a dst_len of 0 tells it. */
@@ -181,9 +190,9 @@ pkder_outcome pkder_show(uint32_t kind, uint32_t depth, uint64_t octets, const u
 
 /* Writes the name of a reason, as "Truncated", and an octet 0 behind it, where dst begins.
  *
- * Promised: it returns the octets of the name without the 0 (of the longest today 11; 16 octets of room will stay
- * enough for each), or 0 where no reason has that number. Where one has, and dst_len is greater than what is returned,
- * name and 0 are written; all else of dst is as it was. */
+ * Promised: it returns the octets of the name without the 0 (of the longest today 11; 16 octets of room, the 0 among
+ * them, will stay enough for each), or 0 where no reason has that number. Where one has, and dst_len is greater than
+ * what is returned, name and 0 are written; all else of dst is as it was. */
 size_t pkder_reason_name(uint32_t reason, uint8_t *dst, size_t dst_len);
 
 #ifdef __cplusplus

@@ -161,7 +161,7 @@ stand_in() (
     ar rc libpkder.a pkder.o || exit
     cc -shared -o libpkder.so.0 pkder.o -Wl,-soname,libpkder.so.0 || exit
     ln -s libpkder.so.0 libpkder.so
-    sed -e "s|@LIBDIR@|$work/stand_in|" -e "s|@INCLUDEDIR@|$here|" "$here/pkder.pc.in" > pkder.pc
+    sed -e "s|@PREFIX@|$work|" -e "s|@LIBDIR@|$work/stand_in|" -e "s|@INCLUDEDIR@|$here|" "$here/pkder.pc.in" > pkder.pc
 )
 
 # The first folder of the PATH whose pip can build without a network.
@@ -222,7 +222,7 @@ installed() {
     DESTDIR=$work/root PREFIX=/opt/pkder LIBDIR=/opt/pkder/lib64 sh "$top/tools/install.sh" library || return 1
     (cd "$work/root" && find . ! -type d | sort) > "$work/files"
     for name in include/pkder.h lib64/libpkder.a lib64/libpkder.so lib64/libpkder.so.0 lib64/pkgconfig/pkder.pc \
-        share/man/man3/pkder.3 share/man/man3/pkder_check.3; do
+        share/man/man3/pkder.3 share/man/man3/pkder_check.3 share/doc/pkder/library.md; do
         grep -qx "./opt/pkder/$name" "$work/files" || { echo "no $name" && return 1; }
     done
     command -v pkg-config > /dev/null || { echo "left out: no pkg-config" && return; }
@@ -230,7 +230,11 @@ installed() {
         pkg-config --cflags --libs pkder) || return 1
     cc -o "$work/installed" "$here/c/filter.c" $flags || return 1
     LD_LIBRARY_PATH=$work/root/opt/pkder/lib64 "$work/installed" normalise --kind request \
-        < "$top/examples/request-indefinite.der" | cmp - "$top/examples/request-p256.der" && echo "found"
+        < "$top/examples/request-indefinite.der" | cmp - "$top/examples/request-p256.der" || return 1
+    # (and by its own place, wherever it was moved to)
+    moved=$(PKG_CONFIG_PATH=$work/root/opt/pkder/lib64/pkgconfig pkg-config --define-prefix --cflags pkder) || return 1
+    [ "$moved" = "-I$work/root/opt/pkder/include " ] || [ "$moved" = "-I$work/root/opt/pkder/include" ] || return 1
+    echo "found"
 }
 
 # What stands in docs/library.md and in the README of the Python package, as it stands there. pip puts the package into

@@ -1,7 +1,7 @@
 #!/bin/sh
 # Puts the program and its man page in place, or the library, or both:
 #   [DESTDIR=FOLDER] [PREFIX=/usr/local] [LIBDIR=PREFIX/lib] sh tools/install.sh [program] [library]
-# The library is libpkder.a, libpkder.so.0, pkder.h, pkder.pc and man pages.
+# The library is libpkder.a, libpkder.so.0, pkder.h, pkder.pc, man pages and three pages of docs/ that they name.
 set -eu
 top=$(cd "$(dirname "$0")/.." && pwd)
 prefix=${PREFIX:-/usr/local}
@@ -22,15 +22,24 @@ put_program() {
     install -m 644 "$top/docs/pkder.1" "$root$prefix/share/man/man1/pkder.1"
 }
 
+# The folder as pkder.pc has it, which a packager may move.
+under_prefix() {
+    case $1 in
+        "$prefix"/*) printf '%s' "\${prefix}${1#"$prefix"}" ;;
+        *) printf '%s' "$1" ;;
+    esac
+}
+
 put_library() {
-    from=$top/interface man=$root$prefix/share/man/man3
+    from=$top/interface man=$root$prefix/share/man/man3 docs=$root$prefix/share/doc/pkder
     needs "$from/out/libpkder.so.0" "run 'sh interface/build.sh'"
-    mkdir -p "$root$prefix/include" "$root$libdir/pkgconfig" "$man"
+    mkdir -p "$root$prefix/include" "$root$libdir/pkgconfig" "$man" "$docs"
     install -m 644 "$from/pkder.h" "$root$prefix/include/pkder.h"
     install -m 644 "$from/out/libpkder.a" "$from/out/libpkder.so.0" "$root$libdir"
     ln -sf libpkder.so.0 "$root$libdir/libpkder.so"
-    sed -e "s|@LIBDIR@|$libdir|" -e "s|@INCLUDEDIR@|$prefix/include|" "$from/pkder.pc.in" \
-        > "$root$libdir/pkgconfig/pkder.pc"
+    sed -e "s|@PREFIX@|$prefix|" -e "s|@LIBDIR@|$(under_prefix "$libdir")|" \
+        -e "s|@INCLUDEDIR@|$(under_prefix "$prefix/include")|" "$from/pkder.pc.in" > "$root$libdir/pkgconfig/pkder.pc"
+    install -m 644 "$top/docs/library.md" "$top/docs/manual.md" "$top/docs/formats.md" "$docs"
     install -m 644 "$top/docs/pkder.3" "$man/pkder.3"
     for name in $(sed -n 's/^ *\(pkder_[a-z_]*\);$/\1/p' "$from/pkder.map"); do
         ln -sf pkder.3 "$man/$name.3"
