@@ -380,7 +380,9 @@ def main(words):
     # (its first call sets a signal's handler, which only the main thread may)
     rtlib.guarded()
     found, counts = chosen({*words} - options), {}
-    with tempfile.TemporaryDirectory(prefix="edits-libraries-") as room, ThreadPoolExecutor(rt.processors()) as lanes:
+    # (two more than processors: the last crates have the most edits, and would wait for all before them)
+    lane_count = rt.processors() + 2
+    with tempfile.TemporaryDirectory(prefix="edits-libraries-") as room, ThreadPoolExecutor(lane_count) as lanes:
         if "--beside-gate" in options:
             crates = proved_ones(found, room)
         else:
