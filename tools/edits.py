@@ -58,10 +58,18 @@ class Share:
     def __init__(self):
         self.trials, self.is_whole = [], False
 
+    def each(self):
+        """How many processors a crate has."""
+        count = sum(not it.done() for it in self.trials) if self.is_whole else rt.processors()
+        return max(1, rt.processors() // max(1, count))
+
+    def rounds(self):
+        """How many rounds of a crate run at once: a round alone can't keep many processors busy."""
+        return min(2, self.each())
+
     def jobs(self):
         """The words that give a check its share."""
-        count = sum(not it.done() for it in self.trials) if self.is_whole else rt.processors()
-        return ["--jobs", str(max(1, rt.processors() // max(1, count)))]
+        return ["--jobs", str(max(1, self.each() // self.rounds()))]
 
 
 rt = toolchain()
@@ -203,8 +211,11 @@ def refusal(why):
 class Trial:
     """The edits of one crate, tried over what the rounds before proved."""
 
-    def __init__(self, code, kept, options):
-        self.code, self.crate, self.kept = code, code.crate, kept
+    def __init__(self, code, room, options):
+        self.code, self.crate, self.room, self.kept = code, code.crate, room, f"{room}/0"
+        os.mkdir(self.kept)
+        if "--over-kept" in options and os.path.isdir(f"{self.crate.folder}/out/incremental"):
+            shutil.copytree(f"{self.crate.folder}/out/incremental", self.kept, dirs_exist_ok=True)
         self.flags = [HALF] * ("--all-counts" not in options)
         self.is_settled = "--beside-gate" not in options and self.settles()
 
@@ -223,7 +234,7 @@ class Trial:
         self.code.look(ran.stdout)
         return ran.returncode == 0
 
-    def check(self, batch):
+    def check(self, batch, kept):
         """Returns what a check says of the crate with these edits in it, or None where it can't be read."""
         texts, why = rt.edited("\n".join(it.text for it in batch), self.crate.folder)
         if why:
@@ -231,18 +242,18 @@ class Trial:
         # (once the paths are known the edits' functions are looked at alone, and what they call)
         paths = sorted(set().union(*(it.paths() for it in batch)))
         only = [word for it in paths for word in ("--only", it)]
-        said = rt.checked(self.crate, texts, self.flags + share.jobs() + only, self.kept).stdout
+        said = rt.checked(self.crate, texts, self.flags + share.jobs() + only, kept).stdout
         lines = said.rstrip("\n").split("\n")
         if rtlib.STALE.search(said) or any(rt.unread(it, texts) for it in lines):
             return None
         return said if lines[-1].startswith("only=" if only else "logic=") else None
 
-    def round(self, batch):
+    def round(self, batch, kept):
         """Returns the state of each edit after a check of all."""
-        said = self.check(batch)
+        said = self.check(batch, kept)
         if said is None:
             half = len(batch) // 2
-            return {**self.round(batch[:half]), **self.round(batch[half:])} if half else {batch[0]: ALONE}
+            return {**self.round(batch[:half], kept), **self.round(batch[half:], kept)} if half else {batch[0]: ALONE}
         if not self.code.paths:
             self.code.look(said)
         failed, paths = failures(self.code, said), {it: it.paths() for it in batch}
@@ -263,6 +274,24 @@ class Trial:
                 taken |= proofs
         return batch
 
+    def batches_of(self, left):
+        """Returns the edits of the rounds that run next: of one, until the functions' paths are known."""
+        batches, rest = [], {**left}
+        while rest and len(batches) < (share.rounds() if self.is_settled and self.code.paths else 1):
+            batches.append(self.batch_of(rest))
+            rest = {it: functions for it, functions in rest.items() if it not in batches[-1]}
+        return batches
+
+    def rounds(self, batches):
+        """Returns the states of the edits of rounds side by side, each over a copy of its own of what is kept."""
+        rooms = [f"{self.room}/{i}" for i in range(len(batches))]
+        for room in rooms[1:]:
+            if not os.path.isdir(room):
+                shutil.copytree(self.kept, room)
+        with ThreadPoolExecutor(len(batches)) as lanes:
+            states = [*lanes.map(self.round, batches, rooms)]
+        return {it: why for of_round in states for it, why in of_round.items()}
+
     def tried(self, edits):
         """Returns of each edit whether it is refused, and what to say of it."""
         ended = {it: (False, f"BAD EDIT: {it.why}") for it in edits if it.why}
@@ -271,7 +300,8 @@ class Trial:
         left = {it: functions for it, functions in left.items() if functions}
         while left:
             counts = [*self.flags]
-            states = self.round(self.batch_of(left))
+            batches = self.batches_of(left)
+            states = self.rounds(batches)
             if not self.is_settled:
                 # (over the first round, which proved what no edit is in, this takes little)
                 self.is_settled = self.settles()
@@ -286,7 +316,8 @@ class Trial:
             refused = {it: why for it, why in states.items() if why and why != ALONE}
             ended.update({it: (True, refusal(why)) for it, why in refused.items()})
             left = {it: functions for it, functions in left.items() if it not in ended and it not in alone}
-            say(f"{self.crate.name}: {len(states)} edits in a round; {len(left)} left, {len(alone)} {ALONE}")
+            count = "a round" if len(batches) == 1 else f"{len(batches)} rounds"
+            say(f"{self.crate.name}: {len(states)} edits in {count}; {len(left)} left, {len(alone)} {ALONE}")
         for it in alone:
             well, text = rt.must_fail(self.crate, it.file, self.flags + share.jobs(), self.kept)
             ended[it] = well, text.partition(".edit: ")[2]
@@ -315,10 +346,8 @@ def passes_control(trial):
 def try_crate(code, edits, has_control, options):
     """Returns how many of its edits, the control counting as one, passed and failed."""
     name, count = code.crate.name, {True: 0, False: 0}
-    with tempfile.TemporaryDirectory(prefix="edits-kept-") as kept:
-        if "--over-kept" in options and os.path.isdir(f"{code.crate.folder}/out/incremental"):
-            shutil.copytree(f"{code.crate.folder}/out/incremental", kept, dirs_exist_ok=True)
-        trial = Trial(code, kept, options)
+    with tempfile.TemporaryDirectory(prefix="edits-kept-") as room:
+        trial = Trial(code, room, options)
         if not trial.is_settled and "--beside-gate" not in options:
             say(f"{name} is not proved, so none of its {len(edits)} edits is tried")
             return 0, len(edits) + has_control
