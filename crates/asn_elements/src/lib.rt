@@ -18,6 +18,7 @@
 
 pub mod bits;
 pub mod boolean;
+pub mod boxed;
 pub mod build;
 pub mod calls;
 pub mod der_text;

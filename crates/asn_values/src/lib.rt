@@ -21,7 +21,7 @@
 
 pub use asn_containers::{list, list_of_some, set_of};
 pub use asn_elements::{
-    bits, boolean, build, der_text, element, framing, implicit, integer, leaf_reading, null,
+    bits, boolean, boxed, build, der_text, element, framing, implicit, integer, leaf_reading, null,
     object_identifier, octets, tags, text,
 };
 pub use asn_fields::{fields, parts, sequence, tagged};

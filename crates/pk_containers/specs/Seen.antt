@@ -32,7 +32,7 @@ key_in contained =
       | Second others ↦ elim others.value [
         | First curve ↦ Second (First curve.string.inner)
         | Second rest ↦ elim rest.value [
-          | First rsa ↦ Second (Second (First rsa.0.inner))
+          | First rsa ↦ Second (Second (First rsa.0.inner.0.value))
           | Second octets ↦ Second (Second (Second octets.0))
         ]
       ]

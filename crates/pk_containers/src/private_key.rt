@@ -19,6 +19,7 @@ use asn_contained::dependent::{DependentElement, Independent};
 use asn_contained::ruled_containing::RuledContaining;
 use asn_fields::either::Either;
 use asn_fields::judged::FieldRules;
+use asn_values::boxed::Boxed;
 use asn_values::octets::Octets;
 use ber_pull::pull::Pull;
 use pk_keys::curve_key::CurveKey;
@@ -155,12 +156,13 @@ impl<A: NamesKey> Defines<A> for UnderRsa {
     }
 }
 
-/// What stands under the algorithm: under all others than these the octets are carried.
+/// What stands under the algorithm: under all others than these the octets are carried. An RSA key is great, and takes
+/// room in no other.
 type ByAlgorithm = DefinedBy<
     RuledContaining<EcPrivateKey, UnderEc>,
     DefinedBy<
         RuledContaining<CurveKey, UnderCurve>,
-        DefinedBy<Independent<Containing<RsaPrivateKey>>, Independent<Octets>, UnderRsa>,
+        DefinedBy<Independent<Containing<Boxed<RsaPrivateKey>>>, Independent<Octets>, UnderRsa>,
         UnderCurve,
     >,
     UnderEc,
@@ -192,7 +194,7 @@ impl ContainedKey {
             Either::Second(others) => match others.value() {
                 Either::First(curve) => PrivateKey::Curve(curve.value()),
                 Either::Second(others) => match others.value() {
-                    Either::First(rsa) => PrivateKey::Rsa(rsa.0.value()),
+                    Either::First(rsa) => PrivateKey::Rsa(rsa.0.value().value()),
                     Either::Second(octets) => PrivateKey::Carried(&octets.0),
                 },
             },
