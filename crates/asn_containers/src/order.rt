@@ -1,5 +1,5 @@
 // The order of SET OF (X.690 11.6). No DER text begins another one, so it is the plain order of the members' texts.
-ghost use Rattle.std.specs.Prelude.{◌≡◌, ◌==◌, ◌↔◌, ◌<◌, ◌^◌, IfOk, IsPermutation, IsSorted, IsTrue, length, map, true};
+ghost use Rattle.std.specs.Prelude.{◌≡◌, ◌==◌, ◌↔◌, ◌<◌, ◌^◌, IfOk, IsOk, IsPermutation, IsSorted, IsTrue, length, map, true};
 ghost use Rattle.std.proofs.Common.{rules};
 ghost use Rattle.std.specs.Cmp.{partial_order_from_own_ties};
 ghost use Rattle.std.specs.Cmp.Rules.{comparing};
@@ -109,6 +109,8 @@ pub fn in_order<T: DerText>(alloc: Global, items: Vec<T>) -> Result<Vec<T>, Allo
     requires { length (texts_of (map T.value items.items)) < 2 ^ 63 }
     ensures same { IfOk result (λ sorted. IsPermutation items.items sorted.items) }
     ensures in_order { IfOk result (λ sorted. ascends (map der (map T.value sorted.items)) ≡ true) }
+    // (memory is asked for where there is something to put in order)
+    ensures few { length items.items < 2 → IsOk result }
 {
     let mut exact = items;
     // A vector that grew may have room for twice as many.

@@ -1,5 +1,5 @@
 // Reading open values (X.690; profile): elements that stand where any type may, kept as their text in DER.
-ghost use Rattle.std.specs.Prelude.{◌≡◌, ◌++◌, ◌+◌, ◌<◌, ◌≤◌, Bool, List, ℕ, None, Some, IfErr, IfOk, IsSome, OnOk, length, suc};
+ghost use Rattle.std.specs.Prelude.{◌≡◌, ◌++◌, ◌+◌, ◌<◌, ◌≤◌, Bool, List, ℕ, None, Ok, Some, IfErr, IfOk, IsSome, OnOk, false, length, suc};
 ghost use Rattle.tlv_core.specs.Header.{der_header};
 ghost use Rattle.tlv_core.specs.Identifier.{Tag as Identified};
 ghost use Rattle.tlv_core.specs.declared.fault.ReadError.TheVariants.{Memory};
@@ -143,6 +143,7 @@ fn arranged<R: Source>(
     ensures is { IfOk result (λ contents. (values : List Value) (tag : Identified)
         → StandIn values octets.items starts.now
         → der (container is_set tag (values_of values)) ≡ framed tag contents.items) }
+    ensures other { is_set ≡ false → result ≡ Ok octets }
     ensures still { OnOk result (pull.new ≡ pull.old) }
     ensures stops { IfErr result (λ e. (e ≡ Memory) × (source pull.new ≡ source pull.old)
         × (standing pull.new ≡ failed_with e (standing pull.old))) }

@@ -1,5 +1,7 @@
 // The texts of a SET OF's members, as octets, in the order of SET OF (X.690 11.6).
-ghost use Rattle.std.specs.Prelude.{◌≡◌, List, IfOk, map};
+ghost use Rattle.std.specs.Prelude.{◌≡◌, List, IfOk, IsSorted, Ok, map};
+ghost use Rattle.std.specs.Cmp.Lexicographic.{slice_cmp};
+ghost use Rattle.std.specs.Ordering.{nat_cmp};
 ghost use Rattle.x690.specs.DerTexts.{arrange, der};
 ghost use Rattle.x690.specs.Lists.{join};
 ghost use Rattle.x690.specs.Values.{Value};
@@ -36,8 +38,12 @@ fn joined(alloc: Global, capacity: usize, texts: &[&[u8]]) -> Result<Vec<u8>, Al
 /// ones stay. No DER text begins another one, so the plain order of octets, in which nothing is padded, is that order.
 pub fn in_order(alloc: Global, octets: Vec<u8>, starts: &[u64]) -> Result<Vec<u8>, AllocError>
     requires { (values : List Value) × StandIn values octets.items starts.now }
-    ensures { IfOk result (λ sorted. (values : List Value) → StandIn values octets.items starts.now
+    ensures sorted { IfOk result (λ sorted. (values : List Value)
+        → StandIn values octets.items starts.now
         → sorted.items ≡ join (arrange (map der values))) }
+    // (memory is asked for where they aren't in order)
+    ensures still { (values : List Value) → StandIn values octets.items starts.now
+        → IsSorted (slice_cmp nat_cmp) (map der values) → result ≡ Ok octets }
 {
     // In DER they stand so already.
     if ascend(&octets, starts) {

@@ -15,8 +15,9 @@ use tlv_core::source::{Failed, Source};
 /// How many octets are asked for at once, at most.
 const PIECE: usize = 1024;
 
-/// Pieces of no more than this get a room of their own, since clearing the great one takes longer than reading them.
+/// Pieces of no more than these get rooms of their own, since clearing the great one takes longer than reading them.
 const SHORT: usize = 32;
+const MIDDLE: usize = 160;
 
 impl<R: Source> Pull<'_, R> {
     ghost use Rattle.ber_pull.specs.View.{FailsThere, standing, SameSource, Repeats, Keeps, ReadsFail, Onward, Answers, Moves, Uses};
@@ -132,6 +133,10 @@ impl<R: Source> Pull<'_, R> {
     {
         if most <= SHORT {
             let mut room = [0u8; SHORT];
+            return self.fill(octets, &mut room[..most]);
+        }
+        if most <= MIDDLE {
+            let mut room = [0u8; MIDDLE];
             return self.fill(octets, &mut room[..most]);
         }
         let mut room = [0u8; PIECE];

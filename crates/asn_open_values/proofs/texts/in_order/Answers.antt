@@ -1,4 +1,4 @@
-use Rattle.std.proofs.Common.{◌≡◌, ◌∙◌, List, ap, map, subst, sym, IsPermutation}
+use Rattle.std.proofs.Common.{◌≡◌, ◌∙◌, List, ap, map, subst, sym, true, IsPermutation}
 use Rattle.std.proofs.lemmas.List.{map-id}
 use Rattle.std.proofs.lemmas.List.Sorted.{IsPermutation-map, IsPermutation-refl}
 use Rattle.std.proofs.lemmas.Result.{IfOk-weaker}
@@ -9,16 +9,26 @@ use Rattle.asn_elements.specs.Members.{StandIn}
 use Rattle.asn_elements.proofs.ArrangedTexts.{sorted_arranged}
 use Rattle.asn_open_values.proofs.texts.in_order.Goals as goal
 
-pub returns-then-ascend : goal.returns-then-ascend
-returns-then-ascend c = λ values stands.
+pub returns-then-ascend-clause-sorted : goal.returns-then-ascend-clause-sorted
+returns-then-ascend-clause-sorted c = λ values stands.
     let texts = map der values in
     let e = sym (map-id texts) in
     let p = subst (IsPermutation texts) e (IsPermutation-refl texts) in
     let sorted = (c.ascend.ensures values (c.deref.ensures.value ∙ stands.0, stands.1)).0 c.if-ascend.true in
     stands.0 ∙ ap join (e ∙ sorted_arranged (λ t. t) values texts p sorted)
 
-pub returns : goal.returns
-returns c =
+pub returns-in_err-texts-clause-still : goal.returns-in_err-texts-clause-still
+returns-in_err-texts-clause-still c = λ values stands sorted.
+    let yes : c.ascend.result ≡ true = (c.ascend.ensures values (c.deref.ensures.value ∙ stands.0, stands.1)).1 sorted in
+    absurd cc
+
+pub returns-clause-still : goal.returns-clause-still
+returns-clause-still c = λ values stands sorted.
+    let yes : c.ascend.result ≡ true = (c.ascend.ensures values (c.deref.ensures.value ∙ stands.0, stands.1)).1 sorted in
+    absurd cc
+
+pub returns-clause-sorted : goal.returns-clause-sorted
+returns-clause-sorted c =
     let texts = c.sort_unstable.new.self.items in
     IfOk-weaker c.joined.result (λ s. s.items ≡ join (map (λ t. t.now) c.deref-3.result.now)) (λ s. (values : List Value) → StandIn values c.args.octets.items c.args.starts.now → s.items ≡ join (arrange (map der values)))
     (λ s is values stands.
