@@ -3,7 +3,8 @@
 //! `DerText` is what has a text, `Element` what can be read as well, from any source and in any layout of BER. There
 //! are the leaves `Bool`, `Int`, `Null`, `Bits`, `Octets`, `Text` and `tlv_core`'s `Oid`, the containers `List`,
 //! `ListOfSome` and `SetOf`, `Tagged` for explicit tags, `Implicit` for implicit ones, and `Any`, an open value.
-//! `sequence` reads a SEQUENCE by the list of its fields and `parts` writes one; `fields` reads one field by field.
+//! `record` keeps a SEQUENCE as the list of its fields, `ruled`, `judged` and `chosen` put rules on it; `sequence` reads
+//! one by that list and `parts` writes it; `fields` reads one field by field.
 //!
 //! This crate is the table of contents: what stands here is proved in `asn_elements` (the traits and the leaves),
 //! `asn_fields`, `asn_containers` and `asn_open_values`, each of which says what. `tests/library_rows/values.tsv` has
@@ -24,5 +25,7 @@ pub use asn_elements::{
     bits, boolean, boxed, build, der_text, element, framing, implicit, integer, leaf_reading, null,
     object_identifier, octets, tags, text,
 };
-pub use asn_fields::{fields, parts, sequence, tagged};
+pub use asn_fields::{
+    chosen, either, field_list, fields, judged, parts, record, refused, ruled, sequence, tagged,
+};
 pub use asn_open_values::any;

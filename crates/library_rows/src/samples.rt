@@ -3,10 +3,10 @@ ghost use Rattle.std.proofs.lemmas.Bool.{ltb-true};
 ghost use Rattle.std.specs.Prelude.{refl};
 ghost use Rattle.library_rows.specs.Samples.{SampleType, sample_closed};
 
-use asn_fields::record::{Form, Record};
 use asn_values::der_text::DerText;
 use asn_values::element::Element;
 use asn_values::integer::Int;
+use asn_values::record::{Form, Record};
 use asn_values::sequence::Due;
 use asn_values::set_of::SetOf;
 use ber_pull::pull::Pull;

@@ -8,10 +8,10 @@ ghost use Rattle.pk_containers.specs.Keys.{curve_octets, identifier_of};
 ghost use Rattle.x690.specs.Values.{leaf_at};
 
 use crate::key_identifiers::is_ec_public_key;
-use asn_fields::field_list::{FieldsText, FirstFields};
-use asn_fields::fields::Next;
-use asn_fields::ruled::{Ruled, Rules};
 use asn_values::any::Any;
+use asn_values::field_list::{FieldsText, FirstFields};
+use asn_values::fields::Next;
+use asn_values::ruled::{Ruled, Rules};
 use asn_values::sequence::Due;
 use ber_pull::pull::Pull;
 use pkix_values::algorithm::AlgorithmIdentifier;

@@ -5,8 +5,8 @@ ghost use Rattle.pkix_types.specs.DocumentTypes.{version as version_type};
 ghost use Rattle.x690.specs.TypeTerms.{Optional as OptionalType, Required};
 ghost use Rattle.x690.specs.UniversalTypes.{bit_string, explicit, object_identifier, octet_string};
 
-use asn_fields::fields::Next;
 use asn_values::bits::Bits;
+use asn_values::fields::Next;
 use asn_values::octets::Octets;
 use asn_values::sequence::{Due, FieldsText, FirstFields, Optional};
 use asn_values::tagged::Tagged;

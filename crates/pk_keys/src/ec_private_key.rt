@@ -12,12 +12,12 @@ ghost use Rattle.pk_keys.specs.EcKeys.{honest_ec, named_length};
 
 use crate::curves::private_key_length;
 use crate::ec_fields::EcFields;
-use asn_fields::record::{Form, Record};
-use asn_fields::ruled::{Ruled, Rules};
 use asn_values::bits::Bits;
 use asn_values::der_text::DerText;
 use asn_values::element::Element;
 use asn_values::octets::Octets;
+use asn_values::record::{Form, Record};
+use asn_values::ruled::{Ruled, Rules};
 use asn_values::tagged::Tagged;
 use ber_pull::pull::Pull;
 use std::alloc::Global;

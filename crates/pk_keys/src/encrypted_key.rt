@@ -5,10 +5,10 @@ ghost use Rattle.pkix_types.specs.DocumentTypes.{EncryptedPrivateKeyInfo};
 ghost use Rattle.pkix_types.proofs.ClosedTypes.{encrypted_key_closed};
 ghost use Rattle.x690.specs.Values.{Same};
 
-use asn_fields::record::{Form, Record};
 use asn_values::der_text::DerText;
 use asn_values::element::Element;
 use asn_values::octets::Octets;
+use asn_values::record::{Form, Record};
 use asn_values::sequence::Due;
 use ber_pull::pull::Pull;
 use pkix_values::algorithm::AlgorithmIdentifier;

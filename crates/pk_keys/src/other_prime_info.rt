@@ -6,10 +6,10 @@ ghost use Rattle.pkix_types.proofs.ClosedTypes.{other_prime_closed};
 ghost use Rattle.x690.specs.Values.{Same};
 
 use crate::rsa_numbers::Two;
-use asn_fields::record::{Form, Record};
 use asn_values::der_text::DerText;
 use asn_values::element::Element;
 use asn_values::integer::Int;
+use asn_values::record::{Form, Record};
 use asn_values::sequence::Due;
 use ber_pull::pull::Pull;
 use std::alloc::Global;

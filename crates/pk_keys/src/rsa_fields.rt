@@ -13,7 +13,7 @@ ghost use Rattle.pk_keys.specs.RsaKeys.{numbers_of, other_primes};
 
 use crate::other_primes::{OtherPrimes, VersionAndNumbers};
 use asn_contained::optional_dependent::OptionalDependent;
-use asn_fields::fields::Next;
+use asn_values::fields::Next;
 use asn_values::integer::Int;
 use asn_values::sequence::{FieldsText, FirstFields};
 use ber_pull::pull::Pull;

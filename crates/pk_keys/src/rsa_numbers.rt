@@ -7,7 +7,7 @@ ghost use Rattle.x690.specs.TypeTerms.{Required};
 ghost use Rattle.x690.specs.UniversalTypes.{integer};
 ghost use Rattle.pk_keys.specs.RsaKeys.{numbers_of};
 
-use asn_fields::fields::Next;
+use asn_values::fields::Next;
 use asn_values::integer::Int;
 use asn_values::sequence::{Due, Fields, FieldsText};
 use ber_pull::pull::Pull;

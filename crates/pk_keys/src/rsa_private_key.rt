@@ -10,11 +10,11 @@ ghost use Rattle.x690.specs.Values.{Same};
 ghost use Rattle.pkix_types.proofs.LawfulTypes.{honest_rsa_version};
 
 use crate::rsa_fields::RsaFields;
-use asn_fields::record::{Form, Record};
-use asn_fields::ruled::{Ruled, Rules};
 use asn_values::der_text::DerText;
 use asn_values::element::Element;
 use asn_values::integer::Int;
+use asn_values::record::{Form, Record};
+use asn_values::ruled::{Ruled, Rules};
 use ber_pull::pull::Pull;
 use std::alloc::Global;
 use tlv_core::fault::ReadError;

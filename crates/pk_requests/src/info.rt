@@ -7,9 +7,9 @@ ghost use Rattle.x690.specs.Values.{Same};
 ghost use Rattle.pkix_types.proofs.ClosedTypes.{info_closed};
 
 use crate::info_fields::InfoFields;
-use asn_fields::record::{Form, Record};
 use asn_values::der_text::DerText;
 use asn_values::element::Element;
+use asn_values::record::{Form, Record};
 use asn_values::set_of::SetOf;
 use ber_pull::pull::Pull;
 use pkix_values::name::Name;

@@ -5,7 +5,7 @@ ghost use Rattle.pkix_types.specs.DocumentTypes.{Name as NameType, RequestAttrib
 ghost use Rattle.x690.specs.Layouts.{context_specific};
 ghost use Rattle.x690.specs.TypeTerms.{Optional as OptionalType, Required, SetOfType};
 
-use asn_fields::fields::Next;
+use asn_values::fields::Next;
 use asn_values::implicit::Implicit;
 use asn_values::sequence::{Due, FieldsText, FirstFields, Optional};
 use asn_values::set_of::SetOf;

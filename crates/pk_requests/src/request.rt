@@ -6,10 +6,10 @@ ghost use Rattle.x690.specs.Values.{Same};
 ghost use Rattle.pkix_types.proofs.ClosedTypes.{request_closed};
 
 use crate::info::CertificationRequestInfo;
-use asn_fields::record::{Form, Record};
 use asn_values::bits::Bits;
 use asn_values::der_text::DerText;
 use asn_values::element::Element;
+use asn_values::record::{Form, Record};
 use asn_values::sequence::Due;
 use ber_pull::pull::Pull;
 use pkix_values::algorithm::AlgorithmIdentifier;

@@ -12,11 +12,11 @@ ghost use Rattle.pkix_types.proofs.Fairs.{fair_parameters};
 ghost use Rattle.pkix_values.specs.Forms.{honest_parameters};
 
 use crate::identifiers::public_key_length;
-use asn_fields::record::{Form, Record};
-use asn_fields::ruled::{Ruled, Rules};
 use asn_values::any::Any;
 use asn_values::der_text::DerText;
 use asn_values::element::Element;
+use asn_values::record::{Form, Record};
+use asn_values::ruled::{Ruled, Rules};
 use asn_values::sequence::{Due, Optional};
 use ber_pull::pull::Pull;
 use std::alloc::Global;

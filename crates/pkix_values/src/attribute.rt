@@ -7,10 +7,10 @@ ghost use Rattle.x690.specs.Values.{Same};
 ghost use Rattle.pkix_types.proofs.ClosedTypes.{attribute_closed};
 
 use crate::set_of_some::SetOfSome;
-use asn_fields::record::{Form, Record};
 use asn_values::any::Any;
 use asn_values::der_text::DerText;
 use asn_values::element::Element;
+use asn_values::record::{Form, Record};
 use asn_values::sequence::Due;
 use asn_values::set_of::SetOf;
 use ber_pull::pull::Pull;

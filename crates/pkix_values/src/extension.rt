@@ -5,10 +5,10 @@ ghost use Rattle.pkix_types.specs.DocumentTypes.{Extension as ExtensionType};
 ghost use Rattle.x690.specs.Values.{Same};
 ghost use Rattle.pkix_types.proofs.ClosedTypes.{extension_closed};
 
-use asn_fields::record::{Form, Record};
 use asn_values::der_text::DerText;
 use asn_values::element::Element;
 use asn_values::octets::Octets;
+use asn_values::record::{Form, Record};
 use asn_values::sequence::{DefaultFalse, Due};
 use ber_pull::pull::Pull;
 use std::alloc::Global;

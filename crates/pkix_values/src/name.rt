@@ -6,11 +6,11 @@ ghost use Rattle.x690.specs.Values.{Same};
 ghost use Rattle.pkix_types.proofs.ClosedTypes.{name_closed, name_item_closed};
 
 use crate::set_of_some::SetOfSome;
-use asn_fields::record::{Form, Record};
 use asn_values::any::Any;
 use asn_values::der_text::DerText;
 use asn_values::element::Element;
 use asn_values::list::List;
+use asn_values::record::{Form, Record};
 use asn_values::sequence::Due;
 use ber_pull::pull::Pull;
 use std::alloc::Global;

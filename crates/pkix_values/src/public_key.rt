@@ -12,11 +12,11 @@ ghost use Rattle.pkix_values.specs.Values.{key_fits};
 
 use crate::algorithm::{AlgorithmIdentifier, NamesAlgorithm};
 use crate::identifiers::public_key_length;
-use asn_fields::judged::{FieldRules, Judged};
-use asn_fields::record::{Form, Record};
 use asn_values::bits::Bits;
 use asn_values::der_text::DerText;
 use asn_values::element::Element;
+use asn_values::judged::{FieldRules, Judged};
+use asn_values::record::{Form, Record};
 use asn_values::sequence::Due;
 use ber_pull::pull::Pull;
 use std::alloc::Global;

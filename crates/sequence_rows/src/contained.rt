@@ -6,10 +6,10 @@ ghost use Rattle.std.specs.Prelude.{refl};
 use crate::flagged::FlaggedForm;
 use asn_contained::containing::Containing;
 use asn_contained::ruled_containing::JudgedInside;
-use asn_fields::record::{Form, Record};
 use asn_values::boolean::Bool;
 use asn_values::integer::Int;
 use asn_values::octets::Octets;
+use asn_values::record::{Form, Record};
 use asn_values::sequence::Due;
 
 /// OCTET STRING (CONTAINING INTEGER).

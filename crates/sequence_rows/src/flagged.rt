@@ -3,10 +3,10 @@ ghost use Rattle.std.proofs.lemmas.Bool.{ltb-true};
 ghost use Rattle.std.specs.Prelude.{refl};
 ghost use Rattle.sequence_rows.specs.Rules.{fair_flag, flag_rule, honest_flag};
 
-use asn_fields::judged::{FieldRules, Judged};
-use asn_fields::record::{Form, Record};
 use asn_values::boolean::Bool;
+use asn_values::judged::{FieldRules, Judged};
 use asn_values::octets::Octets;
+use asn_values::record::{Form, Record};
 use asn_values::sequence::Due;
 use tlv_core::reason::Reason;
 

@@ -3,10 +3,10 @@
 ghost use Rattle.std.proofs.lemmas.Bool.{ltb-true};
 ghost use Rattle.std.specs.Prelude.{refl};
 
-use asn_fields::record::{Form, Record};
 use asn_values::integer::Int;
 use asn_values::list_of_some::ListOfSome;
 use asn_values::octets::Octets;
+use asn_values::record::{Form, Record};
 use asn_values::sequence::{Due, Optional};
 use tlv_core::oid::Oid;
 
