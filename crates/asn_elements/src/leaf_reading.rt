@@ -169,12 +169,13 @@ fn is_string(utf8: bool, octets: &[u8]) -> bool
     !utf8 || is_utf8(octets)
 }
 
-/// The octets of the string that is given, which are UTF-8 where they have to be.
+/// The octets of the string that is given, which are UTF-8 where they have to be, in place of what the vector holds.
 fn read_octets_leaf<R: Source>(
     alloc: Global,
     pull: &mut Pull<'_, R>,
     utf8: bool,
-) -> Result<Vec<u8>, ReadError>
+    contents: &mut Vec<u8>,
+) -> Result<(), ReadError>
     requires { (standing pull.old).error ≡ None → IsSome (standing pull.old).given }
     ensures same_source { SameSource pull.old pull.new }
     ensures repeats { Repeats pull.old pull.new result }
@@ -182,19 +183,20 @@ fn read_octets_leaf<R: Source>(
         → (standing pull.old).given ≡ Some g
         → Answers pull.old pull.new
         (read_given_leaf (string_kind utf8) own (standing pull.old) g)
-        (heard (λ v. Leaf own v.items) result) }
-    ensures contents { IfOk result (λ v. reading.is_contents (string_kind utf8) v.items ≡ true) }
+        (heard (λ _. Leaf own contents.new.items) result) }
+    ensures contents { OnOk result (reading.is_contents (string_kind utf8) contents.new.items
+        ≡ true) }
     ensures stands { OnOk result (Uses pull.old pull.new) }
     ensures keeps { Keeps pull.new result }
     ensures read { ReadsFail pull.old pull.new result }
     ensures onward { Onward pull.old pull.new }
 {
     let at = pull.at();
-    let octets = pull.octets(alloc)?;
-    if !is_string(utf8, &octets) {
+    pull.octets_into(alloc, contents)?;
+    if !is_string(utf8, contents) {
         return Err(pull.refuse(at, Reason::BadText, None));
     }
-    Ok(octets)
+    Ok(())
 }
 
 /// The DER contents of the leaf that is given, whatever its tag, in place of what the vector holds.
@@ -220,8 +222,8 @@ pub fn read_leaf_into<R: Source>(
 {
     match kind {
         Kind::BitString => *contents = read_bits_leaf(alloc, pull)?,
-        Kind::OctetString => *contents = read_octets_leaf(alloc, pull, false)?,
-        Kind::Utf8String => *contents = read_octets_leaf(alloc, pull, true)?,
+        Kind::OctetString => read_octets_leaf(alloc, pull, false, contents)?,
+        Kind::Utf8String => read_octets_leaf(alloc, pull, true, contents)?,
         Kind::Boolean | Kind::Integer | Kind::Null => read_primitive_leaf(pull, kind, contents)?,
     }
     Ok(())

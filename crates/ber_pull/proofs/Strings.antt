@@ -1,13 +1,13 @@
 -- Whole strings: in one piece, or the walk from its first step to its last.
-use Rattle.std.proofs.Common.{◌≡◌, ℕ, ◌+◌, ◌<◌, ◌≤◌, true, false, List, [], ◌∷◌, length, Option, Result, Ok, Err, refl, ◌∙◌, ap, arith}
+use Rattle.std.proofs.Common.{◌≡◌, ℕ, ◌+◌, ◌++◌, ◌<◌, ◌≤◌, true, false, List, [], ◌∷◌, length, Option, Result, Ok, Err, refl, sym, ◌∙◌, ap, append-nil, arith}
 use Rattle.tlv_core.specs.Limits.{Limits}
 use Rattle.tlv_core.specs.declared.fault.ReadError.{ReadError}
 use Rattle.tlv_core.specs.declared.source.Source.{Ghosts}
 use Rattle.x690.specs.Points.{Enclosing}
-use Rattle.x690.specs.ReadHeaders.{LengthForm, in_container}
+use Rattle.x690.specs.ReadHeaders.{LengthForm, in_container, primitive_contents}
 use Rattle.x690.specs.Reading.{Done, Reading, ◌>>=◌, run}
 use Rattle.x690.specs.Reads.{Said}
-use Rattle.ber_pull.specs.Calls.{read_entering, read_segments}
+use Rattle.ber_pull.specs.Calls.{read_entering, read_octets, read_segments}
 use Rattle.ber_pull.specs.Hears.{Continues, Hears, heard_error}
 use Rattle.ber_pull.specs.Segments.{GoesOn, Joins, Level, Stacked, Steps, read_one_segment, read_rest}
 use Rattle.ber_pull.specs.Standing.{Standing, container_of, enclosing, enclosing_of}
@@ -15,7 +15,7 @@ use Rattle.ber_pull.specs.declared.pull.Pull.{Pull}
 use Rattle.ber_pull.specs.declared.state.Container.{Container}
 use Rattle.ber_pull.specs.declared.state.Given.{Given}
 use Rattle.ber_pull.specs.declared.string.Joined.{Joined}
-use Rattle.ber_pull.proofs.Hearing.{hears_done, hears_error, hears_same, hears_then}
+use Rattle.ber_pull.proofs.Hearing.{hears_as, hears_done, hears_done_as, hears_error, hears_on, hears_same, hears_then}
 use Rattle.x690.proofs.Runs.{bind_done}
 use Rattle.ber_pull.proofs.Walk.{fresh, inside, into_is, level}
 
@@ -23,6 +23,19 @@ use Rattle.ber_pull.proofs.Walk.{fresh, inside, into_is, level}
 pub segments_one : (n : ℕ) (s : Standing) (g : Given) → g.constructed ≡ false → read_one_segment n s.limits (enclosing s) [] g.at ≡ read_segments n s g
 unfolding read_segments read_one_segment
 segments_one n s g h = rw h refl
+
+one_segment : (l : Limits) (c : Enclosing) (p : ℕ) (o : List ℕ) (k j : ℕ) (t u : Option (List ℕ)) → Hears (primitive_contents l c p) k t (Said o) j u → Hears (read_one_segment 4 l c [] p) k t (Said (o ∷ [])) j u
+unfolding read_one_segment
+one_segment l c p o k j t u x = hears_then _ _ o _ _ _ _ _ _ _ x (hears_on _ _ _ _ _ _ _ _ refl (hears_done _ _ _))
+
+-- the octets of a primitive string are its contents
+pub octets_one : (s : Standing) (g : Given) (o : List ℕ) (k j : ℕ) (t u : Option (List ℕ)) → g.constructed ≡ false → Hears (primitive_contents s.limits (enclosing s) g.at) k t (Said o) j u → Hears (read_octets s g) k t (Said o) j u
+unfolding read_octets
+octets_one s g o k j t u h x = hears_then _ _ (o ∷ []) _ _ _ _ _ _ _ (hears_as _ _ _ _ _ _ _ (segments_one 4 s g h) (one_segment s.limits (enclosing s) g.at o k j t u x)) (hears_done_as (o ++ []) o _ _ (sym (append-nil o)))
+
+pub octets_stop : (s : Standing) (g : Given) (e : ReadError) (k j : ℕ) (t u : Option (List ℕ)) → g.constructed ≡ false → Hears (primitive_contents s.limits (enclosing s) g.at) k t (heard_error e) j u → Hears (read_octets s g) k t (heard_error e) j u
+unfolding read_octets read_one_segment
+octets_stop s g e k j t u h x = hears_error _ _ e _ _ _ _ (hears_as _ _ _ _ _ _ _ (segments_one 4 s g h) (hears_error _ _ e _ _ _ _ x))
 
 segments_is : (n : ℕ) (s : Standing) (g : Given) (k : ℕ) (o : List ℕ) → g.constructed ≡ true → run (read_entering s g >>= λ c. read_rest n s.limits (level s.limits.depth s.limits.octets c ∷ []) []) k o ≡ run (read_segments n s g) k o
 unfolding read_segments read_entering read_rest

@@ -146,6 +146,34 @@ impl<R: Source> Pull<'_, R> {
         Ok(joined.octets)
     }
 
+    /// The same, in place of what the vector holds: for a primitive string its room is used again. What the vector holds
+    /// after an error isn't said.
+    pub fn octets_into(&mut self, alloc: Global, octets: &mut Vec<u8>) -> Result<(), ReadError>
+        requires { (standing self.old).error ≡ None → IsSome (standing self.old).given }
+        ensures same_source { SameSource self.old self.new }
+        ensures repeats { Repeats self.old self.new result }
+        ensures reads { (g : Given) → (standing self.old).error ≡ None
+            → (standing self.old).given ≡ Some g
+            → Answers self.old self.new (read_octets (standing self.old) g)
+            (heard (λ _. octets.new.items) result) }
+        ensures stands { OnOk result (Uses self.old self.new) }
+        ensures keeps { Keeps self.new result }
+        ensures read { ReadsFail self.old self.new result }
+        ensures onward { Onward self.old self.new }
+    {
+        if let Some(error) = self.state.error() {
+            return Err(error);
+        }
+        let given = self.state.given().unwrap();
+        if given.constructed {
+            let joined = self.octets(alloc)?;
+            *octets = joined;
+            return Ok(());
+        }
+        self.primitive_contents(octets, given.at)?;
+        Ok(())
+    }
+
     /// The number of unused bits of the BIT STRING that `next_tag` gave, and its octets, segments joined and unused
     /// bits 0.
     ///
