@@ -1,6 +1,6 @@
 #!/usr/bin/env python3
-"""edits.py [--beside-gate | --over-kept] [--all-counts] [NAME | NAME/EDIT ..]: bugs planted in the code, which the
-proofs must refuse.
+"""edits.py [--beside-gate | --over-kept] [--all-counts] [--anew] [NAME | NAME/EDIT ..]: bugs planted in the code, which
+the proofs must refuse.
 
 The edits stand in crates/NAME/edits, written as those of must-fail/ are. Without names all are tried, and the control.
 
@@ -21,7 +21,12 @@ isn't, and under --all-counts, its edits are tried with all of them.
 that `rt ci` left. Else the crate is proved first, with --over-kept over what `rt check` kept. The script reads the
 lines of the toolchain's check and calls its script `rt`, of this kit both.
 
+An edit that is refused stays so wherever the same is tried, so it is kept on this machine as `rt ci` keeps what it
+proved: by the sum of the toolchain, of this script, of the crate, of those below it and of the edit. A later run takes
+it over, and tries what has changed; --anew tries all. What was tried beside `rt ci` isn't taken from another run.
+
 Each edit has a line, and the last line is 'edits: N passed, M failed'."""
+import hashlib
 import importlib.machinery
 import importlib.util
 import os
@@ -204,6 +209,31 @@ def state(code, paths, failed):
     return refused[0] if refused else None if own and not any(own) else ALONE
 
 
+class Refusals:
+    """The edits that earlier runs on this machine saw refused, by the sum of all that such an answer stands on."""
+
+    def __init__(self, crates, options):
+        # (a gate's libraries are its own, so it takes nothing from other runs)
+        self.kept, self.beside = rt.Kept(crates, "--anew" in options), "--beside-gate" in options
+        with open(os.path.realpath(__file__), "rb") as it:
+            self.script, seen = hashlib.sha256(it.read()).hexdigest(), {}
+        self.sums = {it.name: rt.stamp_of(it, seen) for it in crates}
+
+    def name(self, edit):
+        return self.kept.of_edit(edit.file, f"{self.script} {self.beside} {self.sums[edit.code.crate.name]}")
+
+    def known(self, edits):
+        """Returns what was said of those edits that are kept."""
+        told = {it: self.kept.tried(self.name(it)) for it in edits}
+        return {it: found[1] for it, found in told.items() if found}
+
+    def keep(self, crate, said):
+        """Keeps what was said of edits that were refused, unless a file that this stands on was changed meanwhile."""
+        if all(self.kept.is_untouched(it) for it in [crate, *crate.below()]):
+            for edit, text in said.items():
+                self.kept.keep_tried(self.name(edit), rt.REFUSED, text)
+
+
 def refusal(why):
     return f"refused{' by a name alone' if BY_NAME.search(why) else ''}: {why[:160]}"
 
@@ -211,8 +241,8 @@ def refusal(why):
 class Trial:
     """The edits of one crate, tried over what the rounds before proved."""
 
-    def __init__(self, code, room, options):
-        self.code, self.crate, self.room, self.kept = code, code.crate, room, f"{room}/0"
+    def __init__(self, code, room, options, refusals):
+        self.code, self.crate, self.room, self.kept, self.refusals = code, code.crate, room, f"{room}/0", refusals
         os.mkdir(self.kept)
         if "--over-kept" in options and os.path.isdir(f"{self.crate.folder}/out/incremental"):
             shutil.copytree(f"{self.crate.folder}/out/incremental", self.kept, dirs_exist_ok=True)
@@ -313,14 +343,17 @@ class Trial:
             # (where all wait, each for another one, no further round would tell more)
             is_stuck = not any(states.values())
             alone += [it for it, why in states.items() if why == ALONE or is_stuck]
-            refused = {it: why for it, why in states.items() if why and why != ALONE}
-            ended.update({it: (True, refusal(why)) for it, why in refused.items()})
+            refused = {it: refusal(why) for it, why in states.items() if why and why != ALONE}
+            self.refusals.keep(self.crate, refused)
+            ended.update({it: (True, text) for it, text in refused.items()})
             left = {it: functions for it, functions in left.items() if it not in ended and it not in alone}
             count = "a round" if len(batches) == 1 else f"{len(batches)} rounds"
             say(f"{self.crate.name}: {len(states)} edits in {count}; {len(left)} left, {len(alone)} {ALONE}")
         for it in alone:
-            well, text = rt.must_fail(self.crate, it.file, self.flags + share.jobs(), self.kept)
-            ended[it] = well, text.partition(".edit: ")[2]
+            kind, text = rt.must_fail(self.crate, it.file, self.flags + share.jobs(), self.kept)
+            ended[it] = kind in (rt.REFUSED, rt.AT_LIMIT), text.partition(".edit: ")[2]
+            if kind == rt.REFUSED:
+                self.refusals.keep(self.crate, {it: ended[it][1]})
         return ended
 
 
@@ -343,15 +376,18 @@ def passes_control(trial):
     return not wrong and {*kinds.values()} == {*CONTROLLED}
 
 
-def try_crate(code, edits, has_control, options):
+def try_crate(code, edits, has_control, options, refusals):
     """Returns how many of its edits, the control counting as one, passed and failed."""
-    name, count = code.crate.name, {True: 0, False: 0}
+    name, known, count = code.crate.name, refusals.known(edits), {True: 0, False: 0}
+    if known:
+        say(f"{name}: {len(known)} of its {len(edits)} edits were refused in an earlier run, and nothing has changed")
+    ended, left = {it: (True, text) for it, text in known.items()}, [it for it in edits if it not in known]
     with tempfile.TemporaryDirectory(prefix="edits-kept-") as room:
-        trial = Trial(code, room, options)
-        if not trial.is_settled and "--beside-gate" not in options:
+        trial = Trial(code, room, options, refusals) if left or has_control else None
+        if trial and not trial.is_settled and "--beside-gate" not in options:
             say(f"{name} is not proved, so none of its {len(edits)} edits is tried")
             return 0, len(edits) + has_control
-        ended = trial.tried(edits)
+        ended.update(trial.tried(left) if left else {})
         for it, (well, text) in sorted(ended.items(), key=lambda it: it[0].name):
             say(f"edit {name}/{it.name}: {text}")
             count[well] += 1
@@ -403,12 +439,13 @@ def chosen(names):
 
 def main(words):
     options = {it for it in words if it.startswith("--")}
-    if options - {"--over-kept", "--beside-gate", "--all-counts"}:
+    if options - {"--over-kept", "--beside-gate", "--all-counts", "--anew"}:
         rtlib.stop(__doc__)
     os.chdir(os.path.dirname(TOOLS))
     # (its first call sets a signal's handler, which only the main thread may)
     rtlib.guarded()
     found, counts = chosen({*words} - options), {}
+    refusals = Refusals({it for crate in found for it in [crate, *crate.below()]}, options)
     # (two more than processors: the last crates have the most edits, and would wait for all before them)
     lane_count = rt.processors() + 2
     with tempfile.TemporaryDirectory(prefix="edits-libraries-") as room, ThreadPoolExecutor(lane_count) as lanes:
@@ -418,7 +455,7 @@ def main(words):
             make_libraries(found)
             crates = sorted(found, key=lambda it: -it.count(rb"\n") - 40 * len(found[it][1]))
         for crate in crates:
-            counts[crate] = lanes.submit(try_crate, *found[crate], options)
+            counts[crate] = lanes.submit(try_crate, *found[crate], options, refusals)
             share.trials.append(counts[crate])
         share.is_whole = True
     passed, failed = (sum(it.result()[i] for it in counts.values()) for i in (0, 1))

@@ -107,7 +107,7 @@ def prove_and_edit():
         edits = beside.submit(run, EDITS, told)
 
         def hear(line):
-            proved = re.fullmatch(r"rt: (\w+) proved", line.strip())
+            proved = re.fullmatch(r"rt: (\w+) (?:proved|is kept: .*)", line.strip())
             if proved and not edits.done():
                 print(proved[1], file=names, flush=True)
 
