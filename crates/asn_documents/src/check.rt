@@ -1,5 +1,5 @@
 //! Whether the octets of a value are its DER text.
-ghost use Rattle.std.specs.Prelude.{◌≡◌, MatchResult, false};
+ghost use Rattle.std.specs.Prelude.{◌≡◌, [], MatchResult, false};
 ghost use Rattle.x690.specs.Premises.{Lawful};
 ghost use Rattle.x690.specs.Values.{Value};
 ghost use Rattle.asn_elements.specs.Whole.{IsFailedRead};
@@ -15,6 +15,9 @@ use std::alloc::Global;
 use tlv_core::fault::ReadError;
 use tlv_core::limits::Limits;
 use tlv_core::source::Source;
+
+/// How many octets are kept before room is asked for again.
+const FIRST: usize = 256;
 
 /// Reads one value of a type, and answers the number of octets taken and the first place where they differ from its DER
 /// text: `None` where they are in DER. The octets are kept as they come; not one octet past the value is taken.
@@ -35,7 +38,7 @@ pub fn check_value<R: Source, T: Element>(
         (IsFailedRead (R.has_failed src.new)) }
     ensures frame { R.frame src.new ≡ R.frame src.old }
 {
-    let mut octets = Vec::new(alloc);
+    let mut octets = first_room(alloc);
     let mut keeping = Keeping::new(src, &mut octets);
     let answer = read_keeping::<R, T>(alloc, &mut keeping, limits);
     match answer {
@@ -46,6 +49,16 @@ pub fn check_value<R: Source, T: Element>(
             }
             Err(error)
         }
+    }
+}
+
+/// Room for as many octets as a short document has, where there is memory for them.
+fn first_room(alloc: Global) -> Vec<u8>
+    ensures { result.items ≡ [] }
+{
+    match Vec::with_capacity(alloc, FIRST) {
+        Ok(room) => room,
+        Err(_) => Vec::new(alloc),
     }
 }
 

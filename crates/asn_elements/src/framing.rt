@@ -34,7 +34,10 @@ pub fn element_size(tag: Tag, content: u64) -> u64
     requires { content < 2 ^ 63 }
     ensures { (constructed : Bool) → result ≡ length (der_header tag constructed content) + content }
 {
-    header(tag, false, content).octets().len() as u64 + content
+    match short_header(tag, false, content) {
+        Some(octets) => octets.len() as u64 + content,
+        None => header(tag, false, content).octets().len() as u64 + content,
+    }
 }
 
 /// Writes the header of an element with so many contents octets.

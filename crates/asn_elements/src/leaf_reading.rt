@@ -37,6 +37,7 @@ pub enum Kind {
 }
 
 /// The place of the element that is given, which has to have this tag: else `WrongTag`.
+#[inline(always)]
 pub fn expect_tag<R: Source>(pull: &mut Pull<'_, R>, own: Tag) -> Result<u64, ReadError>
     requires { (standing pull.old).error ≡ None → IsSome (standing pull.old).given }
     ensures same_source { SameSource pull.old pull.new }

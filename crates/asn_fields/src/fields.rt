@@ -42,6 +42,22 @@ pub fn ahead<R: Source>(pull: &mut Pull<'_, R>) -> Result<Next, ReadError>
     ensures onward { Onward pull.old pull.new }
     ensures memory { AsksNoMemory pull.old result }
 {
+    look_ahead(pull)
+}
+
+/// The same, within the function that calls it.
+#[inline(always)]
+fn look_ahead<R: Source>(pull: &mut Pull<'_, R>) -> Result<Next, ReadError>
+    requires fine { (standing pull.old).error ≡ None }
+    requires used { (standing pull.old).given ≡ None }
+    ensures same_source { SameSource pull.old pull.new }
+    ensures reads { AnswersAhead pull.old pull.new result }
+    ensures stands { IfOk result (StandsAhead pull.old pull.new) }
+    ensures keeps { Keeps pull.new result }
+    ensures read { ReadsFail pull.old pull.new result }
+    ensures onward { Onward pull.old pull.new }
+    ensures memory { AsksNoMemory pull.old result }
+{
     let at = pull.at();
     let tag = pull.next_tag()?;
     Ok(Next { at, tag })
@@ -63,7 +79,7 @@ pub fn begin<R: Source>(pull: &mut Pull<'_, R>, tag: Tag) -> Result<Next, ReadEr
 {
     expect_tag(pull, tag)?;
     pull.enter()?;
-    let next = ahead(pull)?;
+    let next = look_ahead(pull)?;
     Ok(next)
 }
 

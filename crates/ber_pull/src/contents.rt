@@ -146,6 +146,7 @@ impl<R: Source> Pull<'_, R> {
     }
 
     /// Some of the next octets, at least one and at most as many as the room, behind those that came before.
+    #[inline(always)]
     fn fill(&mut self, octets: &mut Vec<u8>, room: &mut [u8]) -> Result<(), ReadError>
         requires live { (standing self.old).error ≡ None }
         requires some { 0 < length room.old }

@@ -130,6 +130,7 @@ impl<'a, R: Source> Pull<'a, R> {
     /// Opens the constructed element that `next_tag` gave, behind its length.
     ///
     /// Faults, at the identifier: `WrongForm` of a primitive element, `BadLength`, `PastEnd`, `TooLong`, `Truncated`.
+    #[inline(always)]
     pub fn enter(&mut self) -> Result<(), ReadError>
         requires { (standing self.old).error ≡ None → IsSome (standing self.old).given }
         ensures same_source { SameSource self.old self.new }

@@ -200,6 +200,7 @@ impl<R: Source> Pull<'_, R> {
     }
 
     /// The segments of the string that was given.
+    #[inline(always)]
     fn joined(&mut self, alloc: Global, is_bits: bool) -> Result<Joined, ReadError>
         requires live { (standing self.old).error ≡ None }
         requires given { IsSome (standing self.old).given }
@@ -264,6 +265,7 @@ impl<R: Source> Pull<'_, R> {
     }
 
     /// The primitive segment whose identifier at `start` was given.
+    #[inline(always)]
     fn segment(&mut self, alloc: Global, start: u32, joined: &mut Joined) -> Result<(), ReadError>
         requires live { (standing self.old).error ≡ None }
         ensures same_source { SameSource self.old self.new }
