@@ -1,5 +1,5 @@
 -- The contents of BIT STRINGs that were read.
-use Rattle.std.proofs.Common.{◌≡◌, ◌∙◌, ◌+◌, ◌*◌, ◌/◌, ◌^◌, ◌<◌, ◌≤◌, ◌++◌, ◌∷◌, Bool, List, None, Option, Some, [], ap, append-nil, arith, false, get_or, length, refl, subst, sym, true, ℕ}
+use Rattle.std.proofs.Common.{◌≡◌, ◌∙◌, ◌+◌, ◌*◌, ◌/◌, ◌^◌, ◌<◌, ◌≤◌, ◌++◌, ◌∷◌, Bool, List, None, Option, Some, [], ap, append-nil, arith, false, get_or, length, refl, set, subst, suc, sym, true, zero, ℕ}
 use Rattle.std.proofs.lemmas.Nat.{div-mul-add, pow_pos}
 use Rattle.tlv_core.specs.Limits.{Limits}
 use Rattle.x690.specs.Contents.{AreBitSegments, bit_contents, bit_octets, clear_unused, unused_bits}
@@ -8,6 +8,9 @@ use Rattle.x690.specs.Reading.{Took, run}
 use Rattle.x690.specs.Reads.{Reads, Said}
 use Rattle.x690.proofs.Runs.{took_bind, took_done}
 use Rattle.x690_laws.proofs.ContentsFaulting.{all_stand, one_stands}
+use Rattle.x690.specs.ReadContents.{is_bit_segment}
+use Rattle.x690_laws.proofs.LeafSound.{segment_fits}
+use Rattle.ber_pull.proofs.Joining.{clear_at}
 use Rattle.ber_pull.specs.Calls.{read_bits, read_segments}
 use Rattle.ber_pull.specs.Hears.{Hears}
 use Rattle.ber_pull.specs.Standing.{Standing, enclosing}
@@ -66,6 +69,16 @@ der_bits segments h = (
   λ e. none_unused segments h (cleared_none (unused_bits segments) (bit_octets segments) e),
   cleared_twice (unused_bits segments) (bit_octets segments),
 )
+
+-- of a segment alone its last octet
+
+pub cleared : (contents : List ℕ) (last d e : ℕ) → length contents ≡ suc last → 0 < last → set contents last (get_or contents last d / 2 ^ get_or contents 0 e * 2 ^ get_or contents 0 e) ≡ bit_contents (contents ∷ [])
+cleared contents zero d e h some = absurd (omega arith)
+cleared [] (suc n) d e h some = absurd (omega arith)
+cleared (unused ∷ octets) (suc n) d e h some = ap (λ w. unused ∷ w) (clear_at octets unused n d (omega arith) ∙ ap (clear_unused unused) (sym (append-nil octets)))
+
+pub der_bits_alone : (contents : List ℕ) → is_bit_segment contents ≡ true → (0 < length (bit_contents (contents ∷ []))) × IsDerBits (bit_contents (contents ∷ []))
+der_bits_alone contents h = (omega arith, der_bits (contents ∷ []) (segment_fits contents h))
 
 -- ---- what was read
 

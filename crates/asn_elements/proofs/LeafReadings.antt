@@ -20,13 +20,13 @@ use Rattle.asn_elements.specs.Reading.{read_given_leaf, string_kind}
 abbrev pub judged : LeafKind → Tag → ℕ → List ℕ → Reading Value
 judged kind own place contents = require (is_contents kind contents) (fault place (bad_contents kind)) (Done (Leaf own (der_contents kind contents)))
 
-primitive_is : (kind : LeafKind) (own : Tag) (l : Limits) (c : Enclosing) (p : ℕ) (form : Bool) → segment_tag kind ≡ None → require (not form) (fault p WrongForm) (primitive_contents l c p) >>= judged kind own p ≡ read_leaf l c kind p own form
+primitive_is : (kind : LeafKind) (own : Tag) (l : Limits) (c : Enclosing) (p : ℕ) (form : Bool) → (form ≡ true → segment_tag kind ≡ None) → require (not form) (fault p WrongForm) (primitive_contents l c p) >>= judged kind own p ≡ read_leaf l c kind p own form
 unfolding read_leaf require ◌>>=◌
 primitive_is kind own l c p false h = refl
-primitive_is kind own l c p true h = rw (h, read_leaf) refl
+primitive_is kind own l c p true h = let always = h refl in rw (always, read_leaf) refl
 
--- of a kind that is always primitive
-pub leaf_is : (kind : LeafKind) (own : Tag) (s : Standing) (g : Given) → segment_tag kind ≡ None → read_primitive s g >>= judged kind own g.at ≡ read_given_leaf kind own s g
+-- of one that is primitive, or of a kind that always is
+pub leaf_is : (kind : LeafKind) (own : Tag) (s : Standing) (g : Given) → (g.constructed ≡ true → segment_tag kind ≡ None) → read_primitive s g >>= judged kind own g.at ≡ read_given_leaf kind own s g
 unfolding read_primitive
 leaf_is kind own s g h = primitive_is kind own s.limits (enclosing s) g.at g.constructed h
 

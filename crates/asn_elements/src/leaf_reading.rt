@@ -1,9 +1,9 @@
 // Reading leaves.
-ghost use Rattle.std.specs.Prelude.{◌≡◌, None, Some, IfOk, IfErr, IsSome, OnOk, ◌<◌, length, true};
+ghost use Rattle.std.specs.Prelude.{◌≡◌, ◌∷◌, [], None, Some, IfOk, IfErr, IsSome, OnOk, ◌<◌, length, true};
 ghost use Rattle.tlv_core.specs.Identifier.{Tag as Identified};
 ghost use Rattle.tlv_core.specs.declared.reason.Reason.TheVariants.{Inner, WrongTag};
 ghost use Rattle.x690.specs.ReadContents as reading;
-ghost use Rattle.x690.specs.Contents.{BitString};
+ghost use Rattle.x690.specs.Contents.{BitString, bit_contents};
 ghost use Rattle.x690.specs.Layouts.{same_tag};
 ghost use Rattle.x690.specs.Points.{fault};
 ghost use Rattle.x690.specs.Reading.{Done, Reading, require};
@@ -17,6 +17,7 @@ ghost use Rattle.asn_elements.specs.Reading.{AnswersValue, HasContents, kind_of,
 
 use crate::integer::is_integer;
 use crate::tags::is_same_tag;
+use ber_pull::bits::{is_bit_segment, without_last_bits};
 use ber_pull::pull::Pull;
 use simdutf8::is_utf8;
 use std::alloc::Global;
@@ -71,17 +72,25 @@ pub fn expect_tag<R: Source>(pull: &mut Pull<'_, R>, own: Tag) -> Result<u64, Re
     Ok(at)
 }
 
+/// Whether the octets are those of a string.
+fn is_string(utf8: bool, octets: &[u8]) -> bool
+    ensures { result ≡ reading.is_contents (string_kind utf8) octets.now }
+{
+    !utf8 || is_utf8(octets)
+}
+
 /// Whether the octets are the contents of a primitive leaf of the kind.
 #[inline(always)]
 fn is_contents(kind: Kind, contents: &[u8]) -> bool
-    requires { reading.segment_tag (kind_of kind) ≡ None }
     ensures { result ≡ reading.is_contents (kind_of kind) contents.now }
 {
     match kind {
         Kind::Boolean => contents.len() == 1,
         Kind::Integer => is_integer(contents),
         Kind::Null => contents.is_empty(),
-        _ => unreachable!(),
+        Kind::BitString => is_bit_segment(contents),
+        Kind::OctetString => is_string(false, contents),
+        Kind::Utf8String => is_string(true, contents),
     }
 }
 
@@ -99,25 +108,41 @@ fn bad_contents(kind: Kind) -> Reason
     }
 }
 
-/// Makes the contents those of DER: TRUE is FF (X.690 11.1).
-fn make_der(kind: Kind, contents: &mut Vec<u8>)
-    requires primitive { reading.segment_tag (kind_of kind) ≡ None }
-    requires fit { reading.is_contents (kind_of kind) contents.old.items ≡ true }
-    ensures { contents.new.items ≡ reading.der_contents (kind_of kind) contents.old.items }
+/// Sets the unused bits behind the contents of a BIT STRING to 0 (X.690 11.2.1).
+fn clear_bits(contents: &mut Vec<u8>)
+    requires { reading.is_bit_segment contents.old.items ≡ true }
+    ensures { contents.new.items ≡ bit_contents (contents.old.items ∷ []) }
 {
-    if matches!(kind, Kind::Boolean) && contents[0] != 0 {
-        contents[0] = 255;
+    let last = contents.len() - 1;
+    if last > 0 {
+        contents[last] = without_last_bits(contents[last], contents[0]);
     }
 }
 
-/// The DER contents of the leaf that is given, of a kind that is always primitive, in place of what the vector holds.
+/// Makes the contents those of DER: TRUE is FF, and unused bits are 0 (X.690 11.1, 11.2.1).
+#[inline(always)]
+fn make_der(kind: Kind, contents: &mut Vec<u8>)
+    requires fit { reading.is_contents (kind_of kind) contents.old.items ≡ true }
+    ensures der { contents.new.items ≡ reading.der_contents (kind_of kind) contents.old.items }
+    ensures contents { HasContents kind contents.new.items }
+{
+    match kind {
+        Kind::Boolean if contents[0] != 0 => contents[0] = 255,
+        Kind::BitString => clear_bits(contents),
+        _ => {}
+    }
+}
+
+/// The DER contents of the leaf that is given, which is primitive or of a kind that always is, in place of what the
+/// vector holds.
 #[inline(always)]
 fn read_primitive_leaf<R: Source>(
     pull: &mut Pull<'_, R>,
     kind: Kind,
     contents: &mut Vec<u8>,
 ) -> Result<(), ReadError>
-    requires primitive { reading.segment_tag (kind_of kind) ≡ None }
+    requires primitive { (g : Given) → (standing pull.old).given ≡ Some g → g.constructed ≡ true
+        → reading.segment_tag (kind_of kind) ≡ None }
     requires given { (standing pull.old).error ≡ None → IsSome (standing pull.old).given }
     ensures same_source { SameSource pull.old pull.new }
     ensures repeats { Repeats pull.old pull.new result }
@@ -161,13 +186,6 @@ fn read_bits_leaf<R: Source>(alloc: Global, pull: &mut Pull<'_, R>) -> Result<Ve
         Ok(()) => Ok(octets),
         Err(_) => Err(pull.no_memory()),
     }
-}
-
-/// Whether the octets are those of a string.
-fn is_string(utf8: bool, octets: &[u8]) -> bool
-    ensures { result ≡ reading.is_contents (string_kind utf8) octets.now }
-{
-    !utf8 || is_utf8(octets)
 }
 
 /// The octets of the string that is given, which are UTF-8 where they have to be, in place of what the vector holds.
@@ -221,6 +239,9 @@ pub fn read_leaf_into<R: Source>(
     ensures read { ReadsFail pull.old pull.new result }
     ensures onward { Onward pull.old pull.new }
 {
+    if pull.is_primitive() {
+        return read_primitive_leaf(pull, kind, contents);
+    }
     match kind {
         Kind::BitString => *contents = read_bits_leaf(alloc, pull)?,
         Kind::OctetString => read_octets_leaf(alloc, pull, false, contents)?,

@@ -1,5 +1,5 @@
 -- What a pull reader stands at.
-use Rattle.std.specs.Prelude.{Bool, List, None, Option, Some, [], false, length, nat_lt, true, ℕ, ◌+◌, ◌<◌, ◌||◌, ◌∷◌, ◌≤◌, IsSome, ◌≡◌, ◌↔◌}
+use Rattle.std.specs.Prelude.{Bool, List, None, Option, Some, [], false, length, nat_lt, not, true, ℕ, ◌+◌, ◌<◌, ◌||◌, ◌∷◌, ◌≤◌, IsSome, ◌≡◌, ◌↔◌}
 use Rattle.tlv_core.specs.Identifier.{IsTag, Tag}
 use Rattle.tlv_core.specs.Limits.{Limits}
 use Rattle.tlv_core.specs.declared.fault.Fault.{Fault}
@@ -40,6 +40,10 @@ started limits = record { limits = limits; taken = 0; given = None; containers =
 -- the place of the identifier that is given and not used yet, or else of the next octet
 abbrev pub place : Standing → ℕ
 place s = elim s.given [ Some g ↦ g.at | None ↦ s.taken ]
+
+-- the element whose identifier is given is primitive
+abbrev pub gives_primitive : Standing → Bool
+gives_primitive s = elim s.given [ Some g ↦ not g.constructed | None ↦ false ]
 
 abbrev pub first_of : List Container → Option Container
 first_of [] = None

@@ -6,6 +6,7 @@
 //! octet that the answer needed; a `Pull` that failed answers the same error for ever and takes nothing.
 #![tactic(auto)]
 
+pub mod bits;
 mod contents;
 mod header;
 pub mod pull;

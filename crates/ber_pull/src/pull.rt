@@ -7,7 +7,7 @@ ghost use Rattle.ber_pull.specs.Calls.{read_next, read_entering, read_leaving};
 ghost use Rattle.ber_pull.specs.Hears.{heard, next_at};
 ghost use Rattle.x690.specs.Points.{fault};
 ghost use Rattle.ber_pull.specs.declared.state.Given.{Given};
-ghost use Rattle.ber_pull.specs.Standing.{IsAtEnd, IsGiven, TellsInside, started, place, failed_with, enclosing, after_next, closing, moved, opening};
+ghost use Rattle.ber_pull.specs.Standing.{IsAtEnd, IsGiven, TellsInside, started, place, failed_with, gives_primitive, enclosing, after_next, closing, moved, opening};
 
 use crate::header::{LengthForm, tag_of};
 use crate::state::{Container, State};
@@ -58,6 +58,16 @@ impl<'a, R: Source> Pull<'a, R> {
         match self.state.given() {
             Some(given) => u64::from(given.at),
             None => u64::from(self.state.taken()),
+        }
+    }
+
+    /// Whether `next_tag` gave an element that is primitive and isn't used yet.
+    pub fn is_primitive(&self) -> bool
+        ensures { result ≡ gives_primitive (standing self.now) }
+    {
+        match self.state.given() {
+            Some(given) => !given.constructed,
+            None => false,
         }
     }
 

@@ -1,5 +1,5 @@
 //! Strings in one piece or in segments of any nesting (X.690 8.6, 8.7).
-ghost use Rattle.std.specs.Prelude.{◌≡◌, ◌<◌, ◌≤◌, ◌+◌, ◌*◌, ◌/◌, ◌^◌, ◌==◌, ◌||◌, ◌&&◌, ◌++◌, ◌∷◌, [], not, Bool, List, ℕ, None, Some, IfOk, IsSome, OnOk, length, false, true};
+ghost use Rattle.std.specs.Prelude.{◌≡◌, ◌<◌, ◌≤◌, ◌+◌, ◌*◌, ◌==◌, ◌||◌, ◌&&◌, ◌++◌, ◌∷◌, [], not, Bool, List, ℕ, None, Some, IfOk, IsSome, OnOk, length, false, true};
 ghost use Rattle.x690.specs.Contents as values;
 ghost use Rattle.x690.specs.Layouts.{same_tag, universal};
 ghost use Rattle.x690.specs.ReadContents as reading;
@@ -9,6 +9,7 @@ ghost use Rattle.ber_pull.specs.declared.state.Container.{Container};
 ghost use Rattle.ber_pull.specs.declared.state.Given.{Given};
 ghost use Rattle.ber_pull.specs.Standing.{among, enclosing};
 
+use crate::bits::{is_bit_segment, without_last_bits};
 use crate::pull::Pull;
 use std::alloc::{AllocError, Global};
 use tlv_core::fault::ReadError;
@@ -87,17 +88,6 @@ impl Joined {
     }
 }
 
-/// The contents are those of a primitive BIT STRING: the number of unused bits, 0 where no octet follows.
-fn is_bit_segment(contents: &[u8]) -> bool
-    ensures { result ≡ reading.is_bit_segment contents.now }
-{
-    match contents {
-        [] => false,
-        [unused] => *unused == 0,
-        [unused, ..] => *unused <= 7,
-    }
-}
-
 /// The octets with the last `unused` bits set to 0.
 fn clear_unused(mut octets: Vec<u8>, unused: u8) -> Vec<u8>
     requires { unused ≤ 7 }
@@ -109,14 +99,6 @@ fn clear_unused(mut octets: Vec<u8>, unused: u8) -> Vec<u8>
     let last = octets.len() - 1;
     octets[last] = without_last_bits(octets[last], unused);
     octets
-}
-
-/// The octet with its last `count` bits set to 0.
-fn without_last_bits(octet: u8, count: u8) -> u8
-    requires { count ≤ 7 }
-    ensures { result ≡ octet / 2 ^ count * 2 ^ count }
-{
-    octet >> count << count
 }
 
 impl<R: Source> Pull<'_, R> {
