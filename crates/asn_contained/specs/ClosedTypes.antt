@@ -15,14 +15,17 @@ use Rattle.x690.specs.TypeTerms.{ContainingType, Rule, TypeTerm}
 use Rattle.x690.specs.Values.{Leaf, Value, leaf_contents}
 
 -- as functions of what stands there: a function is what it gives
-pub reader_closed : (T : TypeTerm) → IsClosed T → (l : Limits) (earlier : List Value) (c : Enclosing) → read_type l T earlier c ≡ read_type l T [] c
+pub reader_closed : (T : TypeTerm) → IsClosed T → (l : Limits) (earlier : List Value) (c : Enclosing)
+    → read_type l T earlier c ≡ read_type l T [] c
 reader_closed T closed l earlier c = λ i place tag constructed. closed l earlier c place tag constructed i
 
 -- what an OCTET STRING contains, with a rule on that alone
-pub containing_closed : (own : Tag) (rule : Rule) (T : TypeTerm) → IsClosed T → ((earlier : List Value) → rule earlier ≡ rule []) → IsClosed (ContainingType own rule T)
+pub containing_closed : (own : Tag) (rule : Rule) (T : TypeTerm) → IsClosed T
+    → ((earlier : List Value) → rule earlier ≡ rule []) → IsClosed (ContainingType own rule T)
 unfolding read_type
 containing_closed own rule T closed alone l earlier c p tag constructed = λ i.
     require (same_tag own tag) (fault p WrongTag)
     (read_leaf l c OctetString p own constructed
-    >>= λ value. from_inside p (run (due_element l outermost (reader_closed T closed l earlier outermost i)) 0 (leaf_contents value))
+    >>= λ value.
+    from_inside p (run (due_element l outermost (reader_closed T closed l earlier outermost i)) 0 (leaf_contents value))
     >>= λ contained. apply_rule p (alone earlier i contained) (Leaf own (der contained)))

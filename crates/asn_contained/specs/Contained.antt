@@ -22,12 +22,17 @@ use Rattle.asn_elements.specs.Whole.{read_inside}
 abbrev pub read_contained : Limits → Tag → TypeTerm → List Value → Enclosing → ℕ → Tag → Bool → Reading Value
 read_contained limits own type earlier enclosing place tag constructed =
     require (same_tag own tag) (fault place WrongTag)
-    (read_leaf limits enclosing OctetString place own constructed >>= λ value. read_inside limits type earlier place (leaf_contents value))
+    (read_leaf limits enclosing OctetString place own constructed
+    >>= λ value. read_inside limits type earlier place (leaf_contents value))
 
 abbrev pub read_given_contained : Tag → TypeTerm → List Value → Standing → Given → Reading Value
-read_given_contained own type earlier s g = read_contained s.limits own type earlier (enclosing s) g.at g.tag g.constructed
+read_given_contained own type earlier s g =
+    read_contained s.limits own type earlier (enclosing s) g.at g.tag g.constructed
 
--- What a reader answered of the OCTET STRING of this tag that is given is the value that it contains, whatever the earlier fields of the container.
-abbrev pub AnswersContained : {R A : Type 0} {s : Ghosts R} → Pull R s → Pull R s → Tag → TypeTerm → (A → Value) → Result A ReadError → Type 0
+-- What a reader answered of the OCTET STRING of this tag that is given is the value that it contains, whatever the
+-- earlier fields of the container.
+abbrev pub AnswersContained : {R A : Type 0} {s : Ghosts R} → Pull R s → Pull R s → Tag → TypeTerm → (A → Value)
+    → Result A ReadError → Type 0
 AnswersContained old new own type value result =
-    (earlier : List Value) (g : Given) → old.state.error ≡ None → old.state.given ≡ Some g → AnswersValue old new (read_given_contained own type earlier old.state g) value result
+    (earlier : List Value) (g : Given) → old.state.error ≡ None → old.state.given ≡ Some g
+    → AnswersValue old new (read_given_contained own type earlier old.state g) value result

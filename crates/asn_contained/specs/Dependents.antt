@@ -26,29 +26,43 @@ use Rattle.asn_fields.specs.declared.fields.Next as code
 abbrev pub read_given_behind : TypeTerm → List Value → Standing → Given → Reading Value
 read_given_behind type fields s g = read_type s.limits type fields (enclosing s) g.at g.tag g.constructed
 
--- What a reader answered of the element that is given is what the reading gives behind any fields that are the same as these.
-abbrev pub AnswersBehind : {R A : Type 0} {s : Ghosts R} → Pull R s → Pull R s → TypeTerm → List Value → (A → Value) → Result A ReadError → Type 0
+-- What a reader answered of the element that is given is what the reading gives behind any fields
+-- that are the same as these.
+abbrev pub AnswersBehind : {R A : Type 0} {s : Ghosts R} → Pull R s → Pull R s → TypeTerm → List Value → (A → Value)
+    → Result A ReadError → Type 0
 AnswersBehind old new type earlier value result =
-    (fields : List Value) (g : Given) → Each Same fields earlier → old.state.error ≡ None → old.state.given ≡ Some g → AnswersValue old new (read_given_behind type fields old.state g) value result
+    (fields : List Value) (g : Given) → Each Same fields earlier → old.state.error ≡ None → old.state.given ≡ Some g
+    → AnswersValue old new (read_given_behind type fields old.state g) value result
 
 -- So it is of a field that is due, by itself, wherever the container was opened,
-abbrev pub TakesBehind : {R A : Type 0} {s : Ghosts R} → Pull R s → Pull R s → code.Next → TypeTerm → List Value → (A → Value) → Result A ReadError → Type 0
+abbrev pub TakesBehind : {R A : Type 0} {s : Ghosts R} → Pull R s → Pull R s → code.Next → TypeTerm → List Value
+    → (A → Value) → Result A ReadError → Type 0
 TakesBehind old new next type earlier value result =
-    (fields : List Value) → Each Same fields earlier → (outer : Standing) (inside : Enclosing) → Inside outer inside old.state (next_of next) → AnswersValue old new (read_take outer.limits type fields inside (next_of next)) value result
+    (fields : List Value) → Each Same fields earlier → (outer : Standing) (inside : Enclosing)
+    → Inside outer inside old.state (next_of next)
+    → AnswersValue old new (read_take outer.limits type fields inside (next_of next)) value result
 
 -- with what stands behind it,
-abbrev pub DueBehind : {R A : Type 0} {s : Ghosts R} → Pull R s → Pull R s → code.Next → code.Next → TypeTerm → List Value → (A → Value) → Result A ReadError → Type 0
+abbrev pub DueBehind : {R A : Type 0} {s : Ghosts R} → Pull R s → Pull R s → code.Next → code.Next → TypeTerm
+    → List Value → (A → Value) → Result A ReadError → Type 0
 DueBehind old new next next' type earlier value result =
-    (fields : List Value) → Each Same fields earlier → AnswersField old new next (λ outer inside. read_due outer.limits type fields inside (next_of next)) Same value (next_of next') result
+    (fields : List Value) → Each Same fields earlier
+    → AnswersField old new next (λ outer inside. read_due outer.limits type fields inside (next_of next)) Same value
+    (next_of next') result
 
 -- and of one that may be absent.
-abbrev pub OptionalBehind : {R A : Type 0} {s : Ghosts R} → Pull R s → Pull R s → code.Next → code.Next → TypeTerm → List Value → (A → Value) → Result (Option A) ReadError → Type 0
+abbrev pub OptionalBehind : {R A : Type 0} {s : Ghosts R} → Pull R s → Pull R s → code.Next → code.Next → TypeTerm
+    → List Value → (A → Value) → Result (Option A) ReadError → Type 0
 OptionalBehind old new next next' type earlier value result =
-    (fields : List Value) → Each Same fields earlier → AnswersField old new next (λ outer inside. read_optional outer.limits type fields inside (next_of next)) SameField (option_map value) (next_of next') result
+    (fields : List Value) → Each Same fields earlier
+    → AnswersField old new next (λ outer inside. read_optional outer.limits type fields inside (next_of next)) SameField
+    (option_map value) (next_of next') result
 
 -- Of values that suit the fields before them, two with one text are the same.
 abbrev pub OneTextBehind : {A : Type 0} → (A → Value) → (List Value → A → Bool) → Type 0
-OneTextBehind {A} value suits = (vs ws : List Value) (x y : A) → Each Same vs ws → suits vs x ≡ true → suits ws y ≡ true → der (value x) ≡ der (value y) → Same (value x) (value y)
+OneTextBehind {A} value suits =
+    (vs ws : List Value) (x y : A) → Each Same vs ws → suits vs x ≡ true → suits ws y ≡ true
+    → der (value x) ≡ der (value y) → Same (value x) (value y)
 
 -- a rule lets it pass
 abbrev pub passes : Option Reason → Bool

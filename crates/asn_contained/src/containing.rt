@@ -96,7 +96,8 @@ impl<T: DerText> Containing<T> {
     }
 
     fn put_as<W: Target>(&self, sink: &mut Sink<'_, W>, tag: Tag) -> Result<(), WriteError>
-        requires { count sink.old + length (der (Leaf tag (der (T.value self.now.inner)))) < 2 ^ 64 }
+        requires { count sink.old + length (der (Leaf tag (der (T.value self.now.inner))))
+            < 2 ^ 64 }
         ensures { Puts (der (Leaf tag (der (T.value self.now.inner)))) sink.old sink.new result }
     {
         put_header(tag, false, self.inner.size(), sink)?;
@@ -135,7 +136,8 @@ impl<T: DerText> DerText for Containing<T> {
 impl<T: Element> Element for Containing<T> {
     ghost type_term = { ContainingType (universal 4) no_rule T.type_term };
 
-    ghost closed = { containing_closed (universal 4) no_rule T.type_term T.closed (λ earlier. refl) };
+    ghost closed = { containing_closed (universal 4) no_rule T.type_term T.closed
+        (λ earlier. refl) };
 
     #[tactic(auto, unfolding(x690::specs::TypeTerms::fits_tag))]
     fn fits(tag: Tag) -> bool {

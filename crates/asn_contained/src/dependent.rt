@@ -132,7 +132,8 @@ fn take_dependent<R: Source, A: FieldsText, F: DependentElement<A>>(
         (A.values earlier.now) F.value result }
     ensures suits { IfOk result (λ field. F.suits (A.values earlier.now) field ≡ true) }
     ensures short { IfOk result (λ field. length (der (F.value field)) < 2 ^ 32) }
-    ensures begins { IfOk result (λ field. may_begin F.type_term (value_tag (F.value field)) ≡ true) }
+    ensures begins { IfOk result (λ field.
+        may_begin F.type_term (value_tag (F.value field)) ≡ true) }
     ensures stands { OnOk result (LeavesWithin pull.old pull.new next) }
     ensures keeps { Keeps pull.new result }
     ensures read { ReadsFail pull.old pull.new result }
@@ -166,7 +167,8 @@ pub fn due_dependent<R: Source, A: FieldsText, F: DependentElement<A>>(
         (A.values earlier.now) F.value result }
     ensures suits { IfOk result (λ field. F.suits (A.values earlier.now) field ≡ true) }
     ensures short { IfOk result (λ field. length (der (F.value field)) < 2 ^ 32) }
-    ensures begins { IfOk result (λ field. may_begin F.type_term (value_tag (F.value field)) ≡ true) }
+    ensures begins { IfOk result (λ field.
+        may_begin F.type_term (value_tag (F.value field)) ≡ true) }
     ensures stands { OnOk result (StaysInside pull.old pull.new next.old next.new) }
     ensures keeps { Keeps pull.new result }
     ensures read { ReadsFail pull.old pull.new result }

@@ -25,29 +25,38 @@ spelled_count : (t t' : List ℕ) (n n' : ℕ) → Spelled t n ≡ Spelled t' n'
 spelled_count t t' n n' e = cc
 
 -- octets begin with one spelling, of one value
-pub one_spelling : (l : Limits) (T : TypeTerm) (v w : Value) (octets octets' rest rest' : List ℕ) → Lawful T → IsLimits l → Spells l T v octets → Spells l T w octets' → octets ++ rest ≡ octets' ++ rest' → (octets ≡ octets') × Same v w
+pub one_spelling : (l : Limits) (T : TypeTerm) (v w : Value) (octets octets' rest rest' : List ℕ) → Lawful T
+    → IsLimits l → Spells l T v octets → Spells l T w octets' → octets ++ rest ≡ octets' ++ rest'
+    → (octets ≡ octets') × Same v w
 one_spelling l T v w octets octets' rest rest' lawful fine s t e =
-    let a = sym (spelling_is_answered l T v octets rest lawful.fair s) ∙ ap (answer l T) e ∙ spelling_is_answered l T w octets' rest' lawful.fair t in
+    let a = sym (spelling_is_answered l T v octets rest lawful.fair s) ∙ ap (answer l T) e
+    ∙ spelling_is_answered l T w octets' rest' lawful.fair t in
     let many : length octets ≡ length octets' = spelled_count (der v) (der w) _ _ a in
     let most = fine.most_octets in (
       (split_alone octets octets' rest rest' many e).0,
-      texts_tell_values.one_value l l T v w octets octets' lawful (omega arith) s t (spelled_text (der v) (der w) _ _ a),
+      texts_tell_values.one_value l l T v w octets octets' lawful (omega arith) s t
+          (spelled_text (der v) (der w) _ _ a),
     )
 
-unfoldable pub took_as : (l : Limits) (T : TypeTerm) (w : Value) (before after : Option (List ℕ)) (taken : ℕ) → Lawful T → IsLimits l → (r : ReadsValue l T w before after taken) → Took l T r.spelled before after taken
+unfoldable pub took_as : (l : Limits) (T : TypeTerm) (w : Value) (before after : Option (List ℕ)) (taken : ℕ) → Lawful T
+    → IsLimits l → (r : ReadsValue l T w before after taken) → Took l T r.spelled before after taken
 took_as l T w before after taken lawful fine r = record {
   octets = r.octets;
   takes = r.takes;
   taken_are = r.taken_are;
   spells = r.spells;
-  one = λ other behind more rest e s. one_spelling l T other r.spelled more r.octets rest behind lawful fine s r.spells (sym e);
+  one = λ other behind more rest e s.
+      one_spelling l T other r.spelled more r.octets rest behind lawful fine s r.spells (sym e);
 }
 
 -- the octets that were taken are answered as what they spell
-pub took_answers : (l : Limits) (T : TypeTerm) (v : Value) (before after : Option (List ℕ)) (count : ℕ) → Lawful T → (t : Took l T v before after count) → (more : List ℕ) → answer l T (t.octets ++ more) ≡ Spelled (der v) (length t.octets)
+pub took_answers : (l : Limits) (T : TypeTerm) (v : Value) (before after : Option (List ℕ)) (count : ℕ) → Lawful T
+    → (t : Took l T v before after count) → (more : List ℕ)
+    → answer l T (t.octets ++ more) ≡ Spelled (der v) (length t.octets)
 took_answers l T v before after count lawful t more = spelling_is_answered l T v t.octets more lawful.fair t.spells
 
-pub normalised_as : (l : Limits) (T : TypeTerm) (w : Value) (before after old new : Option (List ℕ)) (taken written : ℕ) → Lawful T → IsLimits l → ReadsValue l T w before after taken → Appends old new (der w) → written ≡ length (der w)
+pub normalised_as : (l : Limits) (T : TypeTerm) (w : Value) (before after old new : Option (List ℕ)) (taken written : ℕ)
+    → Lawful T → IsLimits l → ReadsValue l T w before after taken → Appends old new (der w) → written ≡ length (der w)
     → (value : Value) × NormalisedAs l T value before after old new taken written
 normalised_as l T w before after old new taken written lawful fine r text count =
     let v = r.spelled in
@@ -65,13 +74,17 @@ normalised_as l T w before after old new taken written lawful fine r text count 
             let one = one_spelling l T other v more (der v) rest behind lawful fine s back (sym e) in
             (one.0, same_der other v one.1);
         same = λ l' other input s. (
-          λ e. equivalence.same_sym v other (texts_tell_values.one_value l l' T v other r.octets input lawful short r.spells s (sym e)),
+          λ e.
+              equivalence.same_sym v other
+              (texts_tell_values.one_value l l' T v other r.octets input lawful short r.spells s (sym e)),
           λ same. same_der other v same,
         );
       },
     )
 
-pub in_part : (l : Limits) (T : TypeTerm) (w : Value) (before after old new : Option (List ℕ)) (taken written : ℕ) → Lawful T → IsLimits l → ReadsValue l T w before after taken → written ≤ length (der w) → Appends old new (take written (der w))
+pub in_part : (l : Limits) (T : TypeTerm) (w : Value) (before after old new : Option (List ℕ)) (taken written : ℕ)
+    → Lawful T → IsLimits l → ReadsValue l T w before after taken → written ≤ length (der w)
+    → Appends old new (take written (der w))
     → (value : Value) × WrittenInPart l T value before after old new written
 in_part l T w before after old new taken written lawful fine r le out =
     let text_is : der w ≡ der r.spelled = sym (same_der r.spelled w r.same) in (
@@ -84,9 +97,13 @@ in_part l T w before after old new taken written lawful fine r le out =
       },
     )
 
-pub unread_as : (l : Limits) (T : TypeTerm) (e : ReadError) (before after : Option (List ℕ)) → Lawful T → StopsReading l T e before after → Unread l T e before
+pub unread_as : (l : Limits) (T : TypeTerm) (e : ReadError) (before after : Option (List ℕ)) → Lawful T
+    → StopsReading l T e before after → Unread l T e before
 unread_as l T (errors.Fault f) None after lawful s = tt
 unread_as l T (errors.Fault f) (Some before) None lawful s = absurd s
-unread_as l T (errors.Fault f) (Some before) (Some after) lawful s = (inside_of_answers l T before f lawful.honest s.2.answers, refused_is_spelled_by_none l T before f lawful.fair s.2.answers)
+unread_as l T (errors.Fault f) (Some before) (Some after) lawful s = (
+  inside_of_answers l T before f lawful.honest s.2.answers,
+  refused_is_spelled_by_none l T before f lawful.fair s.2.answers,
+)
 unread_as l T (errors.Read at) before after lawful s = tt
 unread_as l T errors.Memory before after lawful s = tt

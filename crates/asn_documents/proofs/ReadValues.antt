@@ -29,7 +29,8 @@ use Rattle.asn_documents.specs.ReadValues.{AnswersFault, ReadsValue, StopsReadin
 is_answer : (l : Limits) (T : TypeTerm) (octets : List ℕ) (a : Answer) → answer l T octets ≡ a → IsAnswer l T octets a
 is_answer l T octets a e = subst (IsAnswer l T octets) e (one_answer.is_answer l T octets)
 
-answers_fault : (l : Limits) (T : TypeTerm) (octets : List ℕ) (f : Fault) → answer l T octets ≡ Refused f → AnswersFault l T octets f
+answers_fault : (l : Limits) (T : TypeTerm) (octets : List ℕ) (f : Fault) → answer l T octets ≡ Refused f
+    → AnswersFault l T octets f
 answers_fault l T octets f e = record { is_answer = is_answer l T octets (Refused f) e; answers = e }
 
 -- These octets go on behind what is spelled by the first ones of them.
@@ -42,11 +43,13 @@ record GoesOn (l : Limits) (T : TypeTerm) (octets text : List ℕ) (n : ℕ) : T
   pub took : (y : List ℕ) → run (read_element l T [] outermost) 0 (spelling ++ y) ≡ Took value n y
   pub spelled : (y : List ℕ) → judged l (Took value n y) ≡ Spelled text n
 
-goes_on : (l : Limits) (T : TypeTerm) (before octets after text : List ℕ) (n : ℕ) → before ≡ octets ++ after → answer l T before ≡ Spelled text n → n < length octets → GoesOn l T octets text n
+goes_on : (l : Limits) (T : TypeTerm) (before octets after text : List ℕ) (n : ℕ) → before ≡ octets ++ after
+    → answer l T before ≡ Spelled text n → n < length octets → GoesOn l T octets text n
 goes_on l T before octets after text n is a past = go (run (read_element l T [] outermost) 0 before) refl
   where
     go : (o : Outcome Value) → run (read_element l T [] outermost) 0 before ≡ o → GoesOn l T octets text n
-    go (Halted f) e = let turned : Refused f ≡ Spelled text n = sym (halted_is l f) ∙ sym (answered l T before (Halted f) e) ∙ a in cc
+    go (Halted f) e =
+        let turned : Refused f ≡ Spelled text n = sym (halted_is l f) ∙ sym (answered l T before (Halted f) e) ∙ a in cc
     go (Took v q r) e =
         let said = sym (answered l T before (Took v q r) e) ∙ a in
         let place : q ≡ n = spelled_place l v q r text n said in
@@ -64,8 +67,10 @@ goes_on l T before octets after text n is a past = go (run (read_element l T [] 
         }
 
 -- What is asked for doesn't go on so,
-needed_within : (l : Limits) (T : TypeTerm) (before octets after text : List ℕ) (n : ℕ) → before ≡ octets ++ after → Needs (read_element l T [] outermost) 0 octets → answer l T before ≡ Spelled text n → length octets ≤ n
-needed_within l T before octets after text n is needs a = ⊎_elim (λ past. absurd (never past)) (λ within. within) (cases_lt n (length octets))
+needed_within : (l : Limits) (T : TypeTerm) (before octets after text : List ℕ) (n : ℕ) → before ≡ octets ++ after
+    → Needs (read_element l T [] outermost) 0 octets → answer l T before ≡ Spelled text n → length octets ≤ n
+needed_within l T before octets after text n is needs a =
+    ⊎_elim (λ past. absurd (never past)) (λ within. within) (cases_lt n (length octets))
   where
     never : n < length octets → ⊥
     never past =
@@ -76,29 +81,43 @@ needed_within l T before octets after text n is needs a = ⊎_elim (λ past. abs
         cc
 
 -- nor octets to which the answer is a fault.
-pub refused_within : (l : Limits) (T : TypeTerm) (before octets after text : List ℕ) (n : ℕ) (f : Fault) → before ≡ octets ++ after → answer l T octets ≡ Refused f → answer l T before ≡ Spelled text n → length octets ≤ n
-refused_within l T before octets after text n f is refused a = ⊎_elim (λ past. absurd (never past)) (λ within. within) (cases_lt n (length octets))
+pub refused_within : (l : Limits) (T : TypeTerm) (before octets after text : List ℕ) (n : ℕ) (f : Fault)
+    → before ≡ octets ++ after → answer l T octets ≡ Refused f → answer l T before ≡ Spelled text n → length octets ≤ n
+refused_within l T before octets after text n f is refused a =
+    ⊎_elim (λ past. absurd (never past)) (λ within. within) (cases_lt n (length octets))
   where
     never : n < length octets → ⊥
     never past =
         let g = goes_on l T before octets after text n is a past in
         let took = ap (run (read_element l T [] outermost) 0) g.is ∙ g.took (g.octet ∷ g.more) in
-        let turned : Refused f ≡ Spelled text n = sym refused ∙ answered l T octets (Took g.value n (g.octet ∷ g.more)) took ∙ g.spelled (g.octet ∷ g.more) in
+        let turned : Refused f ≡ Spelled text n =
+        sym refused ∙ answered l T octets (Took g.value n (g.octet ∷ g.more)) took ∙ g.spelled (g.octet ∷ g.more) in
         cc
 
-pub stopped : (l : Limits) (T : TypeTerm) (e : ReadError) (k : ℕ) (s u : Option (List ℕ)) → Hears (read_element l T [] outermost) 0 s (heard_error e) k u → StopsReading l T e s u
+pub stopped : (l : Limits) (T : TypeTerm) (e : ReadError) (k : ℕ) (s u : Option (List ℕ))
+    → Hears (read_element l T [] outermost) 0 s (heard_error e) k u → StopsReading l T e s u
 unfolding Hears Reads
 stopped l T e k None u x = tt
 stopped l T e k (Some s) None x = absurd x
-stopped l T (errors.Fault f) k (Some s) (Some u) x = (x.0.0, x.0.1, answers_fault l T s f (answered l T s (Halted f) x.1 ∙ halted_is l f))
+stopped l T (errors.Fault f) k (Some s) (Some u) x =
+    (x.0.0, x.0.1, answers_fault l T s f (answered l T s (Halted f) x.1 ∙ halted_is l f))
 stopped l T (errors.Read at) k (Some s) (Some u) x =
     let y = x.1 in
-    let e : at ≡ 0 + length y.0 = y.2 in
-    (y.0, y.1, (omega arith, answers_fault l T y.0 (fault at Truncated) (answered l T y.0 (Halted (fault at Truncated)) y.3 ∙ halted_is l (fault at Truncated))))
-stopped l T errors.Memory k (Some s) (Some u) x = let y = x.1 in (y.0, y.1, λ text n a. needed_within l T s y.0 u text n y.1 y.2 a)
+    let e : at ≡ 0 + length y.0 = y.2 in (
+      y.0,
+      y.1,
+      (
+        omega arith,
+        answers_fault l T y.0 (fault at Truncated)
+            (answered l T y.0 (Halted (fault at Truncated)) y.3 ∙ halted_is l (fault at Truncated)),
+      ),
+    )
+stopped l T errors.Memory k (Some s) (Some u) x =
+    let y = x.1 in (y.0, y.1, λ text n a. needed_within l T s y.0 u text n y.1 y.2 a)
 
 -- octets that the reading takes whole spell the value
-spells_all : (l : Limits) (T : TypeTerm) (v : Value) (octets : List ℕ) (k : ℕ) → run (read_element l T [] outermost) 0 octets ≡ Took v k [] → length (der v) ≤ l.octets → Spells l T v octets
+spells_all : (l : Limits) (T : TypeTerm) (v : Value) (octets : List ℕ) (k : ℕ)
+    → run (read_element l T [] outermost) 0 octets ≡ Took v k [] → length (der v) ≤ l.octets → Spells l T v octets
 spells_all l T v octets k h le =
     let s = sound l T [] outermost 0 octets v k [] h in
     let t = s.2 in
@@ -107,27 +126,39 @@ spells_all l T v octets k h le =
     let n : length octets ≡ length t.octets = ap length all in
     let i : 0 + s.0 ≤ l.octets = t.in_limit in
     let d = t.depth_fits in
-    record { tree = t.tree; depth_fits = omega arith; laid_out = subst (LaidOut t.tree) (sym all) t.laid_out; fits = t.fits; octets_fit = omega arith; text_fits = le }
+    record {
+      tree = t.tree;
+      depth_fits = omega arith;
+      laid_out = subst (LaidOut t.tree) (sym all) t.laid_out;
+      fits = t.fits;
+      octets_fit = omega arith;
+      text_fits = le;
+    }
 
-whole : (l : Limits) (T : TypeTerm) (v w : Value) (s u : Option (List ℕ)) (octets : List ℕ) (k : ℕ) → Same v w → length (der w) ≤ l.octets → Consumes s u octets → k ≡ 0 + length octets
-    → ((more : List ℕ) → run (read_element l T [] outermost) 0 (octets ++ more) ≡ Took v k more) → ReadsValue l T w s u k
+whole : (l : Limits) (T : TypeTerm) (v w : Value) (s u : Option (List ℕ)) (octets : List ℕ) (k : ℕ) → Same v w
+    → length (der w) ≤ l.octets → Consumes s u octets → k ≡ 0 + length octets
+    → ((more : List ℕ) → run (read_element l T [] outermost) 0 (octets ++ more) ≡ Took v k more)
+    → ReadsValue l T w s u k
 whole l T v w s u octets k same le takes count any =
     let text : der v ≡ der w = same_der v w same in
     let le' : length (der v) ≤ l.octets = subst (λ z. length z ≤ l.octets) (sym text) le in
     let all : (more : List ℕ) → answer l T (octets ++ more) ≡ Spelled (der w) k =
-    λ more. answered l T (octets ++ more) (Took v k more) (any more) ∙ fits_text l v k more le' ∙ ap (λ z. Spelled z k) text in
+    λ more.
+    answered l T (octets ++ more) (Took v k more) (any more) ∙ fits_text l v k more le' ∙ ap (λ z. Spelled z k) text in
     record {
       octets = octets;
       takes = takes;
       taken_are = omega (arith, count);
       spelled = v;
-      spells = spells_all l T v octets k (ap (run (read_element l T [] outermost) 0) (sym (append-nil octets)) ∙ any []) le';
+      spells =
+          spells_all l T v octets k (ap (run (read_element l T [] outermost) 0) (sym (append-nil octets)) ∙ any []) le';
       same = same;
       is_answer = λ more. is_answer l T (octets ++ more) (Spelled (der w) k) (all more);
       answers = all;
     }
 
-pub said : (l : Limits) (T : TypeTerm) (v w : Value) (k : ℕ) (s u : Option (List ℕ)) → Same v w → length (der w) ≤ l.octets → Hears (read_element l T [] outermost) 0 s (Said v) k u → ReadsValue l T w s u k
+pub said : (l : Limits) (T : TypeTerm) (v w : Value) (k : ℕ) (s u : Option (List ℕ)) → Same v w
+    → length (der w) ≤ l.octets → Hears (read_element l T [] outermost) 0 s (Said v) k u → ReadsValue l T w s u k
 unfolding Hears Reads
 said l T v w k None u same le x =
     let t = taken (read_element l T [] outermost) 0 x.0 v k [] x.2 in
@@ -138,10 +169,16 @@ said l T v w k (Some s) (Some u) same le x =
     whole l T v w (Some s) (Some u) t.octets k same le t.is t.place t.any_rest
 
 -- its text is too long
-pub too_long : (l : Limits) (T : TypeTerm) (v w : Value) (k : ℕ) (s u : Option (List ℕ)) → Same v w → l.octets < length (der w) → Hears (read_element l T [] outermost) 0 s (Said v) k u → StopsReading l T (errors.Fault (fault 0 TextTooLong)) s u
+pub too_long : (l : Limits) (T : TypeTerm) (v w : Value) (k : ℕ) (s u : Option (List ℕ)) → Same v w
+    → l.octets < length (der w) → Hears (read_element l T [] outermost) 0 s (Said v) k u
+    → StopsReading l T (errors.Fault (fault 0 TextTooLong)) s u
 unfolding Hears Reads
 too_long l T v w k None u same lt x = tt
 too_long l T v w k (Some s) None same lt x = absurd x
 too_long l T v w k (Some s) (Some u) same lt x =
-    let text : der w ≡ der v = sym (same_der v w same) in
-    (x.0.0, x.0.1, answers_fault l T s (fault 0 TextTooLong) (answered l T s (Took v k u) x.1 ∙ long_text l v k u (subst (λ z. l.octets < length z) text lt)))
+    let text : der w ≡ der v = sym (same_der v w same) in (
+      x.0.0,
+      x.0.1,
+      answers_fault l T s (fault 0 TextTooLong)
+          (answered l T s (Took v k u) x.1 ∙ long_text l v k u (subst (λ z. l.octets < length z) text lt)),
+    )

@@ -20,7 +20,8 @@ kept_none (Some xs) None kept = absurd kept
 kept_none (Some xs) (Some ys) kept = sym kept
 
 -- an octet stands behind it, or the source failed there
-pub followed : (l : Limits) (T : TypeTerm) (e : ReadError) (w : Value) (before mid after : Option (List ℕ)) (taken : ℕ) → ReadsValue l T w before mid taken → (behind : List ℕ) × Consumes mid after behind × EndsBadly e behind taken
+pub followed : (l : Limits) (T : TypeTerm) (e : ReadError) (w : Value) (before mid after : Option (List ℕ)) (taken : ℕ)
+    → ReadsValue l T w before mid taken → (behind : List ℕ) × Consumes mid after behind × EndsBadly e behind taken
     → StopsWhole l T e before after
 followed l T e w before mid after taken r more = inr (record {
   value = r.spelled;
@@ -32,10 +33,12 @@ followed l T e w before mid after taken r more = inr (record {
 })
 
 -- the source told no more, and reading nothing changes nothing
-pub ended : (l : Limits) (T : TypeTerm) (w : Value) (before mid after : Option (List ℕ)) (taken : ℕ) → ReadsValue l T w before mid taken → Consumes mid after [] → ReadsValue l T w before after taken
+pub ended : (l : Limits) (T : TypeTerm) (w : Value) (before mid after : Option (List ℕ)) (taken : ℕ)
+    → ReadsValue l T w before mid taken → Consumes mid after [] → ReadsValue l T w before after taken
 ended l T w before mid after taken r none = record {
   octets = r.octets;
-  takes = subst (Consumes before after) (append-nil r.octets) (Consumes-trans before mid after r.octets [] r.takes none);
+  takes =
+      subst (Consumes before after) (append-nil r.octets) (Consumes-trans before mid after r.octets [] r.takes none);
   taken_are = r.taken_are;
   spelled = r.spelled;
   spells = r.spells;
@@ -44,14 +47,18 @@ ended l T w before mid after taken r none = record {
   answers = r.answers;
 }
 
-pub unread_whole : (l : Limits) (T : TypeTerm) (e : ReadError) (before after : Option (List ℕ)) → Lawful T → StopsWhole l T e before after → (StopsReading l T e before after × Unread l T e before) ⊎ Followed l T e before after
+pub unread_whole : (l : Limits) (T : TypeTerm) (e : ReadError) (before after : Option (List ℕ)) → Lawful T
+    → StopsWhole l T e before after
+    → (StopsReading l T e before after × Unread l T e before) ⊎ Followed l T e before after
 unread_whole l T e before after lawful (inl s) = inl (s, unread_as l T e before after lawful s)
 unread_whole l T e before after lawful (inr f) = inr f
 
-unfoldable took_ended : (l : Limits) (T : TypeTerm) (v : Value) (before mid after : Option (List ℕ)) (taken : ℕ) → Took l T v before mid taken → Consumes mid after [] → Took l T v before after taken
+unfoldable took_ended : (l : Limits) (T : TypeTerm) (v : Value) (before mid after : Option (List ℕ)) (taken : ℕ)
+    → Took l T v before mid taken → Consumes mid after [] → Took l T v before after taken
 took_ended l T v before mid after taken t none = record {
   octets = t.octets;
-  takes = subst (Consumes before after) (append-nil t.octets) (Consumes-trans before mid after t.octets [] t.takes none);
+  takes =
+      subst (Consumes before after) (append-nil t.octets) (Consumes-trans before mid after t.octets [] t.takes none);
   taken_are = t.taken_are;
   spells = t.spells;
   one = t.one;
@@ -59,7 +66,9 @@ took_ended l T v before mid after taken t none = record {
 
 -- the same of a value that was checked
 
-pub checked_ended : (l : Limits) (T : TypeTerm) (before mid after : Option (List ℕ)) (taken : ℕ) (place : Option ℕ) → (value : Value) × CheckedAs l T value before mid taken place → Consumes mid after [] → (value : Value) × CheckedAs l T value before after taken place
+pub checked_ended : (l : Limits) (T : TypeTerm) (before mid after : Option (List ℕ)) (taken : ℕ) (place : Option ℕ)
+    → (value : Value) × CheckedAs l T value before mid taken place → Consumes mid after []
+    → (value : Value) × CheckedAs l T value before after taken place
 unfolding took_ended
 checked_ended l T before mid after taken place c none = (
   c.0,
@@ -70,7 +79,10 @@ checked_ended l T before mid after taken place c none = (
   },
 )
 
-pub checked_followed : (l : Limits) (T : TypeTerm) (e : ReadError) (before mid after : Option (List ℕ)) (taken : ℕ) (place : Option ℕ) → (value : Value) × CheckedAs l T value before mid taken place → (behind : List ℕ) × Consumes mid after behind × EndsBadly e behind taken
+pub checked_followed : (l : Limits) (T : TypeTerm) (e : ReadError) (before mid after : Option (List ℕ)) (taken : ℕ)
+    (place : Option ℕ)
+    → (value : Value) × CheckedAs l T value before mid taken place
+    → (behind : List ℕ) × Consumes mid after behind × EndsBadly e behind taken
     → Followed l T e before after
 checked_followed l T e before mid after taken place c more = record {
   value = c.0;

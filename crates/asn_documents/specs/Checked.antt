@@ -19,8 +19,10 @@ abbrev pub InBoth : List ℕ → List ℕ → Option ℕ → Type 0
 InBoth octets text None = Unit {0}
 InBoth octets text (Some place) = (place < length octets) × (place < length text)
 
--- The octets of a value were taken, and where the source tells them, `place` is where they differ first from its DER text.
-pub record CheckedAs (limits : Limits) (type : TypeTerm) (value : Value) (before after : Option (List ℕ)) (taken : ℕ) (place : Option ℕ) : Type 0 where
+-- The octets of a value were taken, and where the source tells them, `place` is where they
+-- differ first from its DER text.
+pub record CheckedAs (limits : Limits) (type : TypeTerm) (value : Value) (before after : Option (List ℕ)) (taken : ℕ)
+    (place : Option ℕ) : Type 0 where
   pub took : Took limits type value before after taken
   pub differs : WhereTold before (Differs took.octets (der value) place)
   pub in_both : WhereTold before (InBoth took.octets (der value) place)

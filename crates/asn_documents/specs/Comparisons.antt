@@ -13,7 +13,8 @@ written target = take target.at target.octets.now ++ the_octet target.other
 abbrev pub compared_with : Comparing → List ℕ
 compared_with target = target.octets.now
 
--- The octets stand before what was written, and their number before them: so whoever knows the contents knows that the octets are still the same.
+-- The octets stand before what was written, and their number before them: so whoever knows the contents knows that the
+-- octets are still the same.
 abbrev pub told : Comparing → List ℕ
 told target = length target.octets.now ∷ (target.octets.now ++ written target)
 

@@ -24,6 +24,8 @@ whole kept (Some left) = kept ++ left
 abbrev pub framed : ℕ → List ℕ → List ℕ → List ℕ
 framed name numbers behind = name ∷ (length numbers ∷ (numbers ++ behind))
 
--- No read changes which source it reads, nor what is kept and still told together, nor what no read of that source changes.
+-- No read changes which source it reads, nor what is kept and still told together, nor what no
+-- read of that source changes.
 abbrev pub frame : {R : Type 0} {s : Ghosts R} → Keeping R s → List ℕ
-frame {R} {s} keeping = framed keeping.src.ghost_name (whole keeping.kept.now.items (s.remaining keeping.src.now)) (s.frame keeping.src.now)
+frame {R} {s} keeping =
+    framed keeping.src.ghost_name (whole keeping.kept.now.items (s.remaining keeping.src.now)) (s.frame keeping.src.now)

@@ -28,7 +28,8 @@ EndsAfter place before after result =
     (λ error. (behind : List ℕ) × Consumes before after behind × EndsBadly error behind place)
 
 -- A value was taken, and the input doesn't end behind it.
-pub record Followed (limits : Limits) (type : TypeTerm) (error : ReadError) (before after : Option (List ℕ)) : Type 0 where
+pub record Followed (limits : Limits) (type : TypeTerm) (error : ReadError)
+    (before after : Option (List ℕ)) : Type 0 where
   pub value : Value
   pub octets : List ℕ
   pub behind : List ℕ
@@ -38,9 +39,14 @@ pub record Followed (limits : Limits) (type : TypeTerm) (error : ReadError) (bef
 
 -- why no document was read that is all of the input
 abbrev pub StopsWhole : Limits → TypeTerm → ReadError → Option (List ℕ) → Option (List ℕ) → Type 0
-StopsWhole limits type error before after = StopsReading limits type error before after ⊎ Followed limits type error before after
+StopsWhole limits type error before after =
+    StopsReading limits type error before after ⊎ Followed limits type error before after
 
 -- why none was normalised
-abbrev pub RefusedWhole : Limits → TypeTerm → NormaliseError → Option (List ℕ) → Option (List ℕ) → Option (List ℕ) → Option (List ℕ) → Type 0
-RefusedWhole limits type (Read error) before after old new = (StopsReading limits type error before after × Unread limits type error before) ⊎ Followed limits type error before after
-RefusedWhole limits type (Write error) before after old new = ((value : Value) × WrittenInPart limits type value before after old new error.written) × IsAtEnd after
+abbrev pub RefusedWhole : Limits → TypeTerm → NormaliseError → Option (List ℕ) → Option (List ℕ) → Option (List ℕ)
+    → Option (List ℕ) → Type 0
+RefusedWhole limits type (Read error) before after old new =
+    (StopsReading limits type error before after × Unread limits type error before)
+    ⊎ Followed limits type error before after
+RefusedWhole limits type (Write error) before after old new =
+    ((value : Value) × WrittenInPart limits type value before after old new error.written) × IsAtEnd after

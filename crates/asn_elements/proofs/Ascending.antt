@@ -21,4 +21,5 @@ not_and false q h = (refl, h)
 pub ascends_is : (texts : List (List ℕ)) → ascends texts ≡ true → Ascends texts
 ascends_is [] h = tt
 ascends_is (text ∷ []) h = tt
-ascends_is (text ∷ next ∷ texts) h = let both = not_and (padded_less next text) (ascends (next ∷ texts)) h in (both.0, ascends_is (next ∷ texts) both.1)
+ascends_is (text ∷ next ∷ texts) h =
+    let both = not_and (padded_less next text) (ascends (next ∷ texts)) h in (both.0, ascends_is (next ∷ texts) both.1)

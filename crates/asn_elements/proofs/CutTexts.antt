@@ -14,7 +14,8 @@ pub record Between (vs : List Value) (os : List ℕ) (i s e : ℕ) : Type 0 wher
   pub within : e ≤ length os
   pub text : take (e - s) (drop s os) ≡ get_or (map der vs) i []
 
-between : (vs : List Value) (i s e : ℕ) → i < length vs → s ≡ length (texts_of (take i vs)) → e ≡ length (texts_of (take (suc i) vs)) → Between vs (texts_of vs) i s e
+between : (vs : List Value) (i s e : ℕ) → i < length vs → s ≡ length (texts_of (take i vs))
+    → e ≡ length (texts_of (take (suc i) vs)) → Between vs (texts_of vs) i s e
 between [] i s e h p q = absurd (omega arith)
 between (v ∷ vs) zero s e h p q =
     let n : e ≡ length (der v) = q ∙ ap length (append-nil (der v)) in
@@ -22,7 +23,9 @@ between (v ∷ vs) zero s e h p q =
     record {
       rises = omega arith;
       within = omega arith;
-      text = ap (λ z. take (e - z) (drop z (der v ++ texts_of vs))) p ∙ take_at (der v) (texts_of vs) (e - 0) (omega arith);
+      text =
+          ap (λ z. take (e - z) (drop z (der v ++ texts_of vs))) p
+          ∙ take_at (der v) (texts_of vs) (e - 0) (omega arith);
     }
 between (v ∷ vs) (suc i) s e h p q =
     let k = length (der v) in
@@ -49,7 +52,8 @@ between (v ∷ vs) (suc i) s e h p q =
 abbrev pub EndsAt : List ℕ → List ℕ → ℕ → ℕ → Type 0
 EndsAt os ss i e = ((i + 1 < length ss) × (e ≡ get_or ss (i + 1) 0)) ⊎ ((length ss ≤ i + 1) × (e ≡ length os))
 
-pub stands_between : (vs : List Value) (os ss : List ℕ) (i e : ℕ) → StandIn vs os ss → i < length ss → EndsAt os ss i e → Between vs os i (get_or ss i 0) e
+pub stands_between : (vs : List Value) (os ss : List ℕ) (i e : ℕ) → StandIn vs os ss → i < length ss → EndsAt os ss i e
+    → Between vs os i (get_or ss i 0) e
 stands_between vs os ss i e stand h ends =
     let n : length ss ≡ length vs = ap length stand.1 ∙ starts_length 0 vs in
     let inside : i < length vs = omega arith in
@@ -58,10 +62,17 @@ stands_between vs os ss i e stand h ends =
     let more : suc i ≡ i + 1 = omega arith in
     let m = ap (λ z. length (texts_of (take z vs))) more in
     let e' : e ≡ length (texts_of (take (i + 1) vs)) = ⊎_elim
-    (λ next. let p = ap (λ z. get_or z (i + 1) 0) stand.1 in let q = starts_at 0 vs (i + 1) (let l = next.0 in omega arith) in let r = next.1 in omega arith)
-    (λ last. last.1 ∙ (ap length stand.0 ∙ ap (λ z. length (texts_of z)) (sym (take_all (i + 1) vs (let l = last.0 in omega arith)))))
+    (λ next.
+    let p = ap (λ z. get_or z (i + 1) 0) stand.1 in
+    let q = starts_at 0 vs (i + 1) (let l = next.0 in omega arith) in
+    let r = next.1 in
+    omega arith)
+    (λ last.
+    last.1
+    ∙ (ap length stand.0 ∙ ap (λ z. length (texts_of z)) (sym (take_all (i + 1) vs (let l = last.0 in omega arith)))))
     ends in
-    subst (λ z. Between vs z i (get_or ss i 0) e) (sym stand.0) (between vs i (get_or ss i 0) e inside (omega arith) (omega arith))
+    subst (λ z. Between vs z i (get_or ss i 0) e) (sym stand.0)
+    (between vs i (get_or ss i 0) e inside (omega arith) (omega arith))
 
 -- the first text of several, and the others
 pub record First {A : Type 0} (f : A → Value) (x : A) (more : List A) (os : List ℕ) (n : ℕ) : Type 0 where
@@ -69,7 +80,8 @@ pub record First {A : Type 0} (f : A → Value) (x : A) (more : List A) (os : Li
   pub text : take n os ≡ der (f x)
   pub others : drop n os ≡ texts_of (map f more)
 
-pub first_text : {A : Type 0} (f : A → Value) (xs more : List A) (x : A) (os : List ℕ) (n : ℕ) → os ≡ texts_of (map f xs) → xs ≡ x ∷ more → n ≡ length (der (f x)) → First f x more os n
+pub first_text : {A : Type 0} (f : A → Value) (xs more : List A) (x : A) (os : List ℕ) (n : ℕ)
+    → os ≡ texts_of (map f xs) → xs ≡ x ∷ more → n ≡ length (der (f x)) → First f x more os n
 first_text f xs more x os n are is size =
     let e : os ≡ der (f x) ++ texts_of (map f more) = are ∙ ap (λ z. texts_of (map f z)) is in
     let k = ap length e in
@@ -81,14 +93,17 @@ first_text f xs more x os n are is size =
     }
 
 -- one text more
-pub cut_more : {A : Type 0} (g : A → List ℕ) (xs : List A) (x : A) (ts : List (List ℕ)) (i : ℕ) → i < length ts → map g xs ≡ take i ts → g x ≡ get_or ts i [] → map g (xs ++ x ∷ []) ≡ take (i + 1) ts
-cut_more g xs x ts i h e f = map_last g xs x ∙ (ap (λ z. z ++ g x ∷ []) e ∙ (ap (λ z. take i ts ++ z ∷ []) f ∙ sym (take_more ts i [] h)))
+pub cut_more : {A : Type 0} (g : A → List ℕ) (xs : List A) (x : A) (ts : List (List ℕ)) (i : ℕ) → i < length ts
+    → map g xs ≡ take i ts → g x ≡ get_or ts i [] → map g (xs ++ x ∷ []) ≡ take (i + 1) ts
+cut_more g xs x ts i h e f =
+    map_last g xs x ∙ (ap (λ z. z ++ g x ∷ []) e ∙ (ap (λ z. take i ts ++ z ∷ []) f ∙ sym (take_more ts i [] h)))
 
 join_last : (xs : List (List ℕ)) (x : List ℕ) → join (xs ++ x ∷ []) ≡ join xs ++ x
 join_last [] x = append-nil x
 join_last (y ∷ xs) x = ap (λ z. y ++ z) (join_last xs x) ∙ sym (append_assoc y (join xs) x)
 
-pub joined_more : {A : Type 0} (g : A → List ℕ) (xs : List A) (i : ℕ) (d : A) → i < length xs → join (map g (take (i + 1) xs)) ≡ join (map g (take i xs)) ++ g (get_or xs i d)
+pub joined_more : {A : Type 0} (g : A → List ℕ) (xs : List A) (i : ℕ) (d : A) → i < length xs
+    → join (map g (take (i + 1) xs)) ≡ join (map g (take i xs)) ++ g (get_or xs i d)
 joined_more g xs i d h =
     ap (λ z. join (map g z)) (take_more xs i d h)
     ∙ (ap join (map_last g (take i xs) (get_or xs i d))

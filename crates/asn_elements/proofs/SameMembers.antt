@@ -6,7 +6,8 @@ use Rattle.x690.specs.Lists.{Each}
 use Rattle.x690.specs.Values.{Same, SameInPlace, Sequence, Value, values_of}
 use Rattle.x690_laws.proofs.Texts.{canonical}
 
-pub each_last : (vs ws : List Value) (v w : Value) → Each Same vs ws → Same v w → Each Same (vs ++ v ∷ []) (ws ++ w ∷ [])
+pub each_last : (vs ws : List Value) (v w : Value) → Each Same vs ws → Same v w
+    → Each Same (vs ++ v ∷ []) (ws ++ w ∷ [])
 each_last [] [] v w h s = (s, tt)
 each_last [] (y ∷ ws) v w h s = absurd h
 each_last (x ∷ vs) [] v w h s = absurd h
@@ -26,6 +27,7 @@ in_place (x ∷ vs) [] h = absurd h
 in_place (x ∷ vs) (y ∷ ws) h = (h.0, in_place vs ws h.1)
 
 -- lists of such members are the same
-pub same_lists : (own : Tag) (vs ws : List Value) → Each Same vs ws → Same (Sequence own (values_of vs)) (Sequence own (values_of ws))
+pub same_lists : (own : Tag) (vs ws : List Value) → Each Same vs ws
+    → Same (Sequence own (values_of vs)) (Sequence own (values_of ws))
 unfolding Same
 same_lists own vs ws h = (refl, in_place vs ws h)

@@ -14,22 +14,30 @@ use Rattle.ber_pull.specs.Standing.{Standing}
 use Rattle.ber_pull.specs.declared.state.Given.{Given}
 use Rattle.asn_elements.specs.Reading.{read_given, read_given_leaf, read_given_members}
 
-pub leaf_type_is : (own : Tag) (kind : LeafKind) (s : Standing) (g : Given) → require (same_tag own g.tag) (fault g.at WrongTag) (read_given_leaf kind own s g) ≡ read_given (LeafType own kind) s g
+pub leaf_type_is : (own : Tag) (kind : LeafKind) (s : Standing) (g : Given)
+    → require (same_tag own g.tag) (fault g.at WrongTag) (read_given_leaf kind own s g)
+    ≡ read_given (LeafType own kind) s g
 unfolding read_type
 leaf_type_is own kind s g = refl
 
 -- SEQUENCE OF with at least so many members
 abbrev pub list_of : Tag → ℕ → Ended (List Value) → Reading Value
-list_of own least members = require (nat_le least (length members.all)) (fault members.at Missing) (Done (Sequence own (values_of members.all)))
+list_of own least members =
+    require (nat_le least (length members.all)) (fault members.at Missing) (Done (Sequence own (values_of members.all)))
 
-pub list_type_is : (own : Tag) (least : ℕ) (type : TypeTerm) (s : Standing) (g : Given) → require (same_tag own g.tag) (fault g.at WrongTag) (read_given_members type s g >>= list_of own least) ≡ read_given (SequenceOfType own least type) s g
+pub list_type_is : (own : Tag) (least : ℕ) (type : TypeTerm) (s : Standing) (g : Given)
+    → require (same_tag own g.tag) (fault g.at WrongTag) (read_given_members type s g >>= list_of own least)
+    ≡ read_given (SequenceOfType own least type) s g
 unfolding read_type
 list_type_is own least type s g = refl
 
 -- SET OF with at least so many members
 abbrev pub set_of : Tag → ℕ → ℕ → Ended (List Value) → Reading Value
-set_of own least place members = require (nat_le least (length members.all)) (fault place EmptySet) (Done (SetOf own (values_of members.all)))
+set_of own least place members =
+    require (nat_le least (length members.all)) (fault place EmptySet) (Done (SetOf own (values_of members.all)))
 
-pub set_type_is : (own : Tag) (least : ℕ) (type : TypeTerm) (s : Standing) (g : Given) → require (same_tag own g.tag) (fault g.at WrongTag) (read_given_members type s g >>= set_of own least g.at) ≡ read_given (SetOfType own least type) s g
+pub set_type_is : (own : Tag) (least : ℕ) (type : TypeTerm) (s : Standing) (g : Given)
+    → require (same_tag own g.tag) (fault g.at WrongTag) (read_given_members type s g >>= set_of own least g.at)
+    ≡ read_given (SetOfType own least type) s g
 unfolding read_type
 set_type_is own least type s g = refl

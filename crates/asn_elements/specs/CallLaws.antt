@@ -11,13 +11,21 @@ use Rattle.ber_pull.specs.declared.state.Given.{Given}
 
 pub record CallSteps : Type 0 where
   -- `next_tag`, where no identifier is given and something may come
-  pub next : (s : Standing) (place : ℕ) (octets : List ℕ) → s.given ≡ None → is_over s ≡ false → run (read_next s) place octets ≡ run (next_tag s.limits (enclosing s)) place octets
+  pub next : (s : Standing) (place : ℕ) (octets : List ℕ) → s.given ≡ None → is_over s ≡ false
+      → run (read_next s) place octets ≡ run (next_tag s.limits (enclosing s)) place octets
   -- `enter`
-  pub enter : (s : Standing) (g : Given) (place : ℕ) (octets : List ℕ) → run (read_entering s g) place octets ≡ run (in_container s.limits (enclosing s) g.at g.constructed Done) place octets
+  pub enter : (s : Standing) (g : Given) (place : ℕ) (octets : List ℕ)
+      → run (read_entering s g) place octets
+      ≡ run (in_container s.limits (enclosing s) g.at g.constructed Done) place octets
   -- `primitive`
-  pub primitive : (s : Standing) (g : Given) (place : ℕ) (octets : List ℕ) → g.constructed ≡ false → run (read_primitive s g) place octets ≡ run (primitive_contents s.limits (enclosing s) g.at) place octets
-  pub not_primitive : (s : Standing) (g : Given) (place : ℕ) (octets : List ℕ) → g.constructed ≡ true → run (read_primitive s g) place octets ≡ Halted (fault g.at WrongForm)
+  pub primitive : (s : Standing) (g : Given) (place : ℕ) (octets : List ℕ) → g.constructed ≡ false
+      → run (read_primitive s g) place octets ≡ run (primitive_contents s.limits (enclosing s) g.at) place octets
+  pub not_primitive : (s : Standing) (g : Given) (place : ℕ) (octets : List ℕ) → g.constructed ≡ true
+      → run (read_primitive s g) place octets ≡ Halted (fault g.at WrongForm)
   -- the segments of `octets`, of universal tag 4, and of `bits`, of universal tag 3
-  pub one_segment : (number : ℕ) (s : Standing) (g : Given) (place : ℕ) (octets : List ℕ) → g.constructed ≡ false → run (read_segments number s g) place octets ≡ run (read_only_segment number s.limits (enclosing s) g.at) place octets
+  pub one_segment : (number : ℕ) (s : Standing) (g : Given) (place : ℕ) (octets : List ℕ) → g.constructed ≡ false
+      → run (read_segments number s g) place octets
+      ≡ run (read_only_segment number s.limits (enclosing s) g.at) place octets
   pub segments : (number : ℕ) (s : Standing) (g : Given) (place : ℕ) (octets : List ℕ) → g.constructed ≡ true
-      → run (read_segments number s g) place octets ≡ run (read_all_segments number s.limits (enclosing s) g.at >>= λ ended. Done ended.all) place octets
+      → run (read_segments number s g) place octets
+      ≡ run (read_all_segments number s.limits (enclosing s) g.at >>= λ ended. Done ended.all) place octets

@@ -61,10 +61,17 @@ ended values at = record { all = values; at = at }
 abbrev pub read_given_members : TypeTerm → Standing → Given → Reading (Ended (List Value))
 read_given_members type s g = all_members s.limits (enclosing s) g.at g.constructed (read_type s.limits type [])
 
--- What a reader answered is what the reading gives, up to the order of what stands in a SET OF: a value that is the same, or that error.
-abbrev pub AnswersValue : {R : Type 0} {s : Ghosts R} {A : Type 0} → Pull R s → Pull R s → Reading Value → (A → Value) → Result A ReadError → Type 0
-AnswersValue old new p value result = MatchResult result (λ x. (v : Value) × Same v (value x) × Answers old new p (Said v)) (λ e. Answers old new p (heard_error e))
+-- What a reader answered is what the reading gives, up to the order of what stands in a SET OF: a value that
+-- is the same, or that error.
+abbrev pub AnswersValue : {R : Type 0} {s : Ghosts R} {A : Type 0} → Pull R s → Pull R s → Reading Value → (A → Value)
+    → Result A ReadError → Type 0
+AnswersValue old new p value result =
+    MatchResult result (λ x. (v : Value) × Same v (value x) × Answers old new p (Said v))
+    (λ e. Answers old new p (heard_error e))
 
 -- the same of members and the place where their container ends
-abbrev pub AnswersMembers : {R : Type 0} {s : Ghosts R} {A : Type 0} → Pull R s → Pull R s → Reading (Ended (List Value)) → (A → List Value) → (A → ℕ) → Result A ReadError → Type 0
-AnswersMembers old new p values at result = MatchResult result (λ x. (vs : List Value) × Each Same vs (values x) × Answers old new p (Said (ended vs (at x)))) (λ e. Answers old new p (heard_error e))
+abbrev pub AnswersMembers : {R : Type 0} {s : Ghosts R} {A : Type 0} → Pull R s → Pull R s
+    → Reading (Ended (List Value)) → (A → List Value) → (A → ℕ) → Result A ReadError → Type 0
+AnswersMembers old new p values at result =
+    MatchResult result (λ x. (vs : List Value) × Each Same vs (values x) × Answers old new p (Said (ended vs (at x))))
+    (λ e. Answers old new p (heard_error e))

@@ -15,11 +15,13 @@ use Rattle.ber_pull.specs.Hears.{Hears, heard_error}
 
 -- the value that the octets are, as an element of the type and nothing else
 abbrev pub read_inside : Limits → TypeTerm → List Value → ℕ → List ℕ → Reading Value
-read_inside limits type earlier place octets = from_inside place (run (read_element limits type earlier outermost) 0 octets)
+read_inside limits type earlier place octets =
+    from_inside place (run (read_element limits type earlier outermost) 0 octets)
 
 -- the octets are this value, up to the order of what stands in a SET OF
 abbrev pub IsValueInside : Limits → TypeTerm → List ℕ → Value → Type 0
-IsValueInside limits type octets value = (v : Value) × Same v value × ((place : ℕ) → read_inside limits type [] place octets ≡ Done v)
+IsValueInside limits type octets value =
+    (v : Value) × Same v value × ((place : ℕ) → read_inside limits type [] place octets ≡ Done v)
 
 -- the fault of octets that aren't one element and nothing else, by what reading one at their start comes to
 abbrev pub fault_inside : Outcome Value → Option Fault
@@ -29,7 +31,8 @@ fault_inside (Took value taken (octet ∷ more)) = Some (fault taken Trailing)
 
 -- the octets have this fault; want of memory says nothing
 abbrev pub HaltsInside : Limits → TypeTerm → List ℕ → ReadError → Type 0
-HaltsInside limits type octets (errors.Fault found) = fault_inside (run (read_element limits type [] outermost) 0 octets) ≡ Some found
+HaltsInside limits type octets (errors.Fault found) =
+    fault_inside (run (read_element limits type [] outermost) 0 octets) ≡ Some found
 HaltsInside limits type octets (errors.Read at) = ⊥
 HaltsInside limits type octets errors.Memory = Unit {0}
 
@@ -40,8 +43,10 @@ IsFailedRead failed (errors.Read at) = failed ≡ true
 IsFailedRead failed errors.Memory = failed ≡ false
 
 -- One element was read from the start of what was told, and so many octets were taken; or the reading of one stops.
-abbrev pub ReadsElement : {A : Type 0} → Limits → TypeTerm → (A → Value) → Option (List ℕ) → Option (List ℕ) → Result (A × ℕ) ReadError → Type 0
+abbrev pub ReadsElement : {A : Type 0} → Limits → TypeTerm → (A → Value) → Option (List ℕ) → Option (List ℕ)
+    → Result (A × ℕ) ReadError → Type 0
 ReadsElement limits type value before after result =
     MatchResult result
-    (λ read. (v : Value) × Same v (value read.0) × Hears (read_element limits type [] outermost) 0 before (Said v) read.1 after)
+    (λ read.
+    (v : Value) × Same v (value read.0) × Hears (read_element limits type [] outermost) 0 before (Said v) read.1 after)
     (λ error. (k : ℕ) × Hears (read_element limits type [] outermost) 0 before (heard_error error) k after)

@@ -48,7 +48,8 @@ impl Bits {
     /// The octets of the bits, the first bit leading; unused bits are 0 (X.690 8.6.2.1, 11.2.1).
     pub fn octets(&self) -> &[u8]
         ensures octets { result.now ≡ drop 1 (bit_string_of self.now) }
-        ensures contents { bit_string_of self.now ≡ get_or (bit_string_of self.now) 0 0 ∷ result.now }
+        ensures contents { bit_string_of self.now
+            ≡ get_or (bit_string_of self.now) 0 0 ∷ result.now }
         ensures whole { IsDerBits (bit_string_of self.now) }
     {
         &self.content[1..]

@@ -32,7 +32,8 @@ pub fn find_octet(tag: Tag, constructed: bool, content: u64, i: u64) -> Stands
 /// The length of the text of an element with so many contents octets.
 pub fn element_size(tag: Tag, content: u64) -> u64
     requires { content < 2 ^ 63 }
-    ensures { (constructed : Bool) → result ≡ length (der_header tag constructed content) + content }
+    ensures { (constructed : Bool)
+        → result ≡ length (der_header tag constructed content) + content }
 {
     match short_header(tag, false, content) {
         Some(octets) => octets.len() as u64 + content,

@@ -68,7 +68,8 @@ impl DerText for Octets {
 
     ghost value = { λ o. Leaf (universal 4) (octets_of o) };
 
-    ghost one_text = { λ x y. leaf_one_text (universal 4) (universal 4) (octets_of x) (octets_of y) };
+    ghost one_text = { λ x y.
+        leaf_one_text (universal 4) (universal 4) (octets_of x) (octets_of y) };
 
     fn size(&self) -> u64 {
         leaf_size(universal_tag(4), &self.octets)

@@ -14,10 +14,15 @@ use Rattle.x690.specs.Values.{Value}
 use Rattle.ber_pull.specs.Hears.{Hears}
 use Rattle.ber_pull.proofs.Hearing.{hears_fail, hears_on}
 
-module _ (l : Limits) (own : Tag) (why : Reason) (earlier : List Value) (c : Enclosing) (p : ℕ) (tag : Tag) (form : Bool) where
-  pub refused_as : (h : Heard Value) (k i : ℕ) (s u : Option (List ℕ)) → Hears (require (same_tag own tag) (fault p WrongTag) (Fail (fault p why))) k s h i u → Hears (read_type l (RefusedType own why) earlier c p tag form) k s h i u
+module _ (l : Limits) (own : Tag) (why : Reason) (earlier : List Value) (c : Enclosing) (p : ℕ) (tag : Tag)
+    (form : Bool) where
+  pub refused_as : (h : Heard Value) (k i : ℕ) (s u : Option (List ℕ))
+      → Hears (require (same_tag own tag) (fault p WrongTag) (Fail (fault p why))) k s h i u
+      → Hears (read_type l (RefusedType own why) earlier c p tag form) k s h i u
   unfolding read_type
   refused_as h k i s u x = x
 
-  pub refused_here : (k : ℕ) (s : Option (List ℕ)) → same_tag own tag ≡ true → Hears (read_type l (RefusedType own why) earlier c p tag form) k s (Refused (fault p why)) k s
-  refused_here k s on = refused_as (Refused (fault p why)) k k s s (hears_on _ _ _ _ _ _ _ _ on (hears_fail Value (fault p why) k s))
+  pub refused_here : (k : ℕ) (s : Option (List ℕ)) → same_tag own tag ≡ true
+      → Hears (read_type l (RefusedType own why) earlier c p tag form) k s (Refused (fault p why)) k s
+  refused_here k s on =
+      refused_as (Refused (fault p why)) k k s s (hears_on _ _ _ _ _ _ _ _ on (hears_fail Value (fault p why) k s))

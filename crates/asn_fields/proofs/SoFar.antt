@@ -1,6 +1,7 @@
 -- A SEQUENCE that is read field by field: what was read so far, and what is left to read.
--- The proof of a reader is a list of these rules: `after_begin`, then `after_` each call that gave a value, then `answered`, or `stopped_at_` the
--- call that failed. A rule on a field goes between `take` and `ahead`, one on the whole behind `end`.
+-- The proof of a reader is a list of these rules: `after_begin`, then `after_` each call that gave a value,
+-- then `answered`, or `stopped_at_` the call that failed. A rule on a field goes between `take` and `ahead`,
+-- one on the whole behind `end`.
 use Rattle.std.proofs.Common.{◌≡◌, ◌∙◌, ◌++◌, ℕ, Bool, true, false, List, [], ◌∷◌, Option, Some, None, ap, ap₂, append_assoc, append-nil, refl, subst, sym}
 use Rattle.tlv_core.specs.Identifier.{Tag}
 use Rattle.tlv_core.specs.Limits.{Limits}
@@ -36,24 +37,47 @@ as_sequence own values = Done (Sequence own (values_of values))
 
 -- Into the SEQUENCE.
 
-pub after_begin : {own own' : Tag} {fields : Fields} {outer new : Standing} {inside : Enclosing} {next : Next} {u : Option (List ℕ)} (earlier : List Value) (p : ℕ) (tag : Tag) (constructed : Bool) (s : Option (List ℕ)) → own' ≡ own → Hears (read_begin outer.limits own' (enclosing outer) p tag constructed) outer.taken s (Said (inside, next)) new.taken u → Inside outer inside new next → SoFar outer.taken s (read_type outer.limits (SequenceType own fields) earlier (enclosing outer) p tag constructed) (as_sequence own) fields [] next new u
+pub after_begin : {own own' : Tag} {fields : Fields} {outer new : Standing} {inside : Enclosing} {next : Next}
+    {u : Option (List ℕ)} (earlier : List Value) (p : ℕ) (tag : Tag) (constructed : Bool) (s : Option (List ℕ))
+    → own' ≡ own
+    → Hears (read_begin outer.limits own' (enclosing outer) p tag constructed) outer.taken s
+    (Said (inside, next)) new.taken u
+    → Inside outer inside new next
+    → SoFar outer.taken s (read_type outer.limits (SequenceType own fields) earlier (enclosing outer) p tag constructed)
+    (as_sequence own) fields [] next new u
 after_begin {own} {own'} {fields} {outer} {new} {inside} {next} {u} earlier p tag constructed s is x stands = record {
   values = [];
   same = tt;
   outer = outer;
   inside = inside;
   stands = stands;
-  onward = record { rest = λ h i u' y. rules.begins outer.limits own own' fields earlier (enclosing outer) p tag constructed inside next h _ _ _ _ _ _ is x y };
+  onward = record {
+    rest = λ h i u' y.
+        rules.begins outer.limits own own' fields earlier
+        (enclosing outer) p tag constructed inside next h _ _ _ _ _ _ is x y;
+  };
 }
 
-pub stopped_at_begin : {own own' : Tag} (fields : Fields) (earlier : List Value) (l : Limits) (c : Enclosing) (p : ℕ) (tag : Tag) (constructed : Bool) (e : ReadError) (k i : ℕ) (s u : Option (List ℕ)) → own' ≡ own → Hears (read_begin l own' c p tag constructed) k s (heard_error e) i u → Hears (read_type l (SequenceType own fields) earlier c p tag constructed) k s (heard_error e) i u
-stopped_at_begin {own} {own'} fields earlier l c p tag constructed e k i s u is x = rules.begins_error l own own' fields earlier c p tag constructed e k i s u is x
+pub stopped_at_begin : {own own' : Tag} (fields : Fields) (earlier : List Value) (l : Limits) (c : Enclosing) (p : ℕ)
+    (tag : Tag) (constructed : Bool) (e : ReadError) (k i : ℕ) (s u : Option (List ℕ))
+    → own' ≡ own → Hears (read_begin l own' c p tag constructed) k s (heard_error e) i u
+    → Hears (read_type l (SequenceType own fields) earlier c p tag constructed) k s (heard_error e) i u
+stopped_at_begin {own} {own'} fields earlier l c p tag constructed e k i s u is x =
+    rules.begins_error l own own' fields earlier c p tag constructed e k i s u is x
 
 -- A field that is due.
 
-module _ {k : ℕ} {s : Option (List ℕ)} {whole : Reading Value} {finish : List Value → Reading Value} {rest : Fields} {T : TypeTerm} {ws : List Value} {next : Next} {now : Standing} {t : Option (List ℕ)} (a : SoFar k s whole finish (Required T rest) ws next now t) where
+module _ {k : ℕ} {s : Option (List ℕ)} {whole : Reading Value} {finish : List Value → Reading Value} {rest : Fields}
+    {T : TypeTerm} {ws : List Value} {next : Next} {now : Standing} {t : Option (List ℕ)}
+    (a : SoFar k s whole finish (Required T rest) ws next now t) where
   -- which looks at the earlier fields
-  pub after_due_behind : {next' : Next} {new : Standing} {u : Option (List ℕ)} (w : Value) → ((fields : List Value) → Each Same fields ws → (outer : Standing) (inside : Enclosing) → Inside outer inside now next → (v : Value) × Same v w × Hears (read_due outer.limits T fields inside next) now.taken t (Said (v, next')) new.taken u) → ((outer : Standing) (inside : Enclosing) → Inside outer inside now next → Inside outer inside new next') → SoFar k s whole finish rest (ws ++ (w ∷ [])) next' new u
+  pub after_due_behind : {next' : Next} {new : Standing} {u : Option (List ℕ)} (w : Value)
+      → ((fields : List Value) → Each Same fields ws → (outer : Standing) (inside : Enclosing)
+      → Inside outer inside now next
+      → (v : Value) × Same v w
+      × Hears (read_due outer.limits T fields inside next) now.taken t (Said (v, next')) new.taken u)
+      → ((outer : Standing) (inside : Enclosing) → Inside outer inside now next → Inside outer inside new next')
+      → SoFar k s whole finish rest (ws ++ (w ∷ [])) next' new u
   after_due_behind {next'} {new} {u} w reads stands =
       let f = reads a.values a.same a.outer a.inside a.stands in record {
         values = a.values ++ (f.0 ∷ []);
@@ -64,28 +88,52 @@ module _ {k : ℕ} {s : Option (List ℕ)} {whole : Reading Value} {finish : Lis
         onward = record {
           rest = λ h i u' y. a.onward.rest h i u'
               (rules.due a.outer.limits T rest a.values a.inside next _ f.0 next' h _ _ i _ _ u' f.2
-              (hears_same _ _ h new.taken i u u' (bind_same (read_fields a.outer.limits rest (a.values ++ (f.0 ∷ [])) a.inside next') _ _ (λ more j o. ap (λ z. run (finish z) j o) (append_assoc a.values (f.0 ∷ []) more))) y));
+              (hears_same _ _ h new.taken i u u'
+              (bind_same (read_fields a.outer.limits rest (a.values ++ (f.0 ∷ [])) a.inside next') _ _
+              (λ more j o. ap (λ z. run (finish z) j o) (append_assoc a.values (f.0 ∷ []) more))) y));
         };
       }
 
-  pub stopped_at_due_behind : (e : ReadError) (i : ℕ) (u : Option (List ℕ)) → ((fields : List Value) → Each Same fields ws → (outer : Standing) (inside : Enclosing) → Inside outer inside now next → Hears (read_due outer.limits T fields inside next) now.taken t (heard_error e) i u) → Hears whole k s (heard_error e) i u
-  stopped_at_due_behind e i u reads = a.onward.rest (heard_error e) i u (rules.due_error a.outer.limits T rest a.values a.inside next _ e _ i _ u (reads a.values a.same a.outer a.inside a.stands))
+  pub stopped_at_due_behind : (e : ReadError) (i : ℕ) (u : Option (List ℕ))
+      → ((fields : List Value) → Each Same fields ws → (outer : Standing) (inside : Enclosing)
+      → Inside outer inside now next
+      → Hears (read_due outer.limits T fields inside next) now.taken t (heard_error e) i u)
+      → Hears whole k s (heard_error e) i u
+  stopped_at_due_behind e i u reads =
+      a.onward.rest (heard_error e) i u
+      (rules.due_error a.outer.limits T rest a.values a.inside next _ e _ i _ u
+      (reads a.values a.same a.outer a.inside a.stands))
 
   -- or doesn't
-  pub after_due : {next' : Next} {new : Standing} {u : Option (List ℕ)} (w : Value) → ((earlier : List Value) (outer : Standing) (inside : Enclosing) → Inside outer inside now next → (v : Value) × Same v w × Hears (read_due outer.limits T earlier inside next) now.taken t (Said (v, next')) new.taken u) → ((outer : Standing) (inside : Enclosing) → Inside outer inside now next → Inside outer inside new next') → SoFar k s whole finish rest (ws ++ (w ∷ [])) next' new u
+  pub after_due : {next' : Next} {new : Standing} {u : Option (List ℕ)} (w : Value)
+      → ((earlier : List Value) (outer : Standing) (inside : Enclosing) → Inside outer inside now next
+      → (v : Value) × Same v w
+      × Hears (read_due outer.limits T earlier inside next) now.taken t (Said (v, next')) new.taken u)
+      → ((outer : Standing) (inside : Enclosing) → Inside outer inside now next → Inside outer inside new next')
+      → SoFar k s whole finish rest (ws ++ (w ∷ [])) next' new u
   after_due w reads stands = after_due_behind w (λ fields same. reads fields) stands
 
-  pub stopped_at_due : (e : ReadError) (i : ℕ) (u : Option (List ℕ)) → ((earlier : List Value) (outer : Standing) (inside : Enclosing) → Inside outer inside now next → Hears (read_due outer.limits T earlier inside next) now.taken t (heard_error e) i u) → Hears whole k s (heard_error e) i u
+  pub stopped_at_due : (e : ReadError) (i : ℕ) (u : Option (List ℕ))
+      → ((earlier : List Value) (outer : Standing) (inside : Enclosing) → Inside outer inside now next
+      → Hears (read_due outer.limits T earlier inside next) now.taken t (heard_error e) i u)
+      → Hears whole k s (heard_error e) i u
   stopped_at_due e i u reads = stopped_at_due_behind e i u (λ fields same. reads fields)
 
 -- the values of fields, and of those behind them
-pub behind_both : {k : ℕ} {s : Option (List ℕ)} {whole : Reading Value} {finish : List Value → Reading Value} {rest : Fields} {next : Next} {now : Standing} {t : Option (List ℕ)} (ws vs vs' : List Value) → SoFar k s whole finish rest ((ws ++ vs) ++ vs') next now t → SoFar k s whole finish rest (ws ++ (vs ++ vs')) next now t
-behind_both {k} {s} {whole} {finish} {rest} {next} {now} {t} ws vs vs' a = subst (λ z. SoFar k s whole finish rest z next now t) (append_assoc ws vs vs') a
+pub behind_both : {k : ℕ} {s : Option (List ℕ)} {whole : Reading Value} {finish : List Value → Reading Value}
+    {rest : Fields} {next : Next} {now : Standing} {t : Option (List ℕ)} (ws vs vs' : List Value)
+    → SoFar k s whole finish rest ((ws ++ vs) ++ vs') next now t
+    → SoFar k s whole finish rest (ws ++ (vs ++ vs')) next now t
+behind_both {k} {s} {whole} {finish} {rest} {next} {now} {t} ws vs vs' a =
+    subst (λ z. SoFar k s whole finish rest z next now t) (append_assoc ws vs vs') a
 
 -- A field that is due, by itself: a rule on it is tested before what stands behind it is looked at.
 
--- An element was read for a field that is due: `w`. Nothing behind it was looked at; `judge` of it, and what is left, answer the whole.
-pub record InHand (k : ℕ) (s : Option (List ℕ)) (whole : Reading Value) (finish : List Value → Reading Value) (judge : List Value → Value → Reading Value) (rest : Fields) (ws : List Value) (w : Value) (now : Standing) (t : Option (List ℕ)) : Type 0 where
+-- An element was read for a field that is due: `w`. Nothing behind it was looked at; `judge` of it, and what
+-- is left, answer the whole.
+pub record InHand (k : ℕ) (s : Option (List ℕ)) (whole : Reading Value) (finish : List Value → Reading Value)
+    (judge : List Value → Value → Reading Value) (rest : Fields) (ws : List Value) (w : Value) (now : Standing)
+    (t : Option (List ℕ)) : Type 0 where
   pub values : List Value
   pub same : Each Same values ws
   pub value : Value
@@ -93,7 +141,9 @@ pub record InHand (k : ℕ) (s : Option (List ℕ)) (whole : Reading Value) (fin
   pub outer : Standing
   pub inside : Enclosing
   pub stands : Within outer inside now
-  pub onward : Continues whole k s (judge values value >>= rules.then_take outer.limits rest values inside (λ more. finish (values ++ more))) now.taken t
+  pub onward : Continues whole k s
+      (judge values value >>= rules.then_take outer.limits rest values inside (λ more. finish (values ++ more)))
+      now.taken t
 
 -- no rule
 abbrev pub unjudged : List Value → Value → Reading Value
@@ -103,8 +153,14 @@ unjudged earlier value = Done value
 abbrev pub judged : ℕ → Rule → List Value → Value → Reading Value
 judged p rule earlier value = apply_rule p (rule earlier value) value
 
-module _ {k : ℕ} {s : Option (List ℕ)} {whole : Reading Value} {finish : List Value → Reading Value} {rest : Fields} {T : TypeTerm} {ws : List Value} {next : Next} {now : Standing} {t : Option (List ℕ)} (a : SoFar k s whole finish (Required T rest) ws next now t) where
-  pub after_take : {new : Standing} {u : Option (List ℕ)} (w : Value) → ((earlier : List Value) (outer : Standing) (inside : Enclosing) → Inside outer inside now next → (v : Value) × Same v w × Hears (read_take outer.limits T earlier inside next) now.taken t (Said v) new.taken u) → ((outer : Standing) (inside : Enclosing) → Inside outer inside now next → Within outer inside new) → InHand k s whole finish unjudged rest ws w new u
+module _ {k : ℕ} {s : Option (List ℕ)} {whole : Reading Value} {finish : List Value → Reading Value} {rest : Fields}
+    {T : TypeTerm} {ws : List Value} {next : Next} {now : Standing} {t : Option (List ℕ)}
+    (a : SoFar k s whole finish (Required T rest) ws next now t) where
+  pub after_take : {new : Standing} {u : Option (List ℕ)} (w : Value)
+      → ((earlier : List Value) (outer : Standing) (inside : Enclosing) → Inside outer inside now next
+      → (v : Value) × Same v w × Hears (read_take outer.limits T earlier inside next) now.taken t (Said v) new.taken u)
+      → ((outer : Standing) (inside : Enclosing) → Inside outer inside now next → Within outer inside new)
+      → InHand k s whole finish unjudged rest ws w new u
   unfolding ◌>>=◌
   after_take {new} {u} w reads stands =
       let f = reads a.values a.outer a.inside a.stands in record {
@@ -115,14 +171,31 @@ module _ {k : ℕ} {s : Option (List ℕ)} {whole : Reading Value} {finish : Lis
         outer = a.outer;
         inside = a.inside;
         stands = stands a.outer a.inside a.stands;
-        onward = record { rest = λ h i u' y. a.onward.rest h i u' (rules.take a.outer.limits T rest a.values a.inside next _ f.0 h _ _ i _ _ u' f.2 y) };
+        onward = record {
+          rest = λ h i u' y.
+              a.onward.rest h i u' (rules.take a.outer.limits T rest a.values a.inside next _ f.0 h _ _ i _ _ u' f.2 y);
+        };
       }
 
-  pub stopped_at_take : (e : ReadError) (i : ℕ) (u : Option (List ℕ)) → ((earlier : List Value) (outer : Standing) (inside : Enclosing) → Inside outer inside now next → Hears (read_take outer.limits T earlier inside next) now.taken t (heard_error e) i u) → Hears whole k s (heard_error e) i u
-  stopped_at_take e i u reads = a.onward.rest (heard_error e) i u (rules.take_error a.outer.limits T rest a.values a.inside next _ e _ i _ u (reads a.values a.outer a.inside a.stands))
+  pub stopped_at_take : (e : ReadError) (i : ℕ) (u : Option (List ℕ))
+      → ((earlier : List Value) (outer : Standing) (inside : Enclosing) → Inside outer inside now next
+      → Hears (read_take outer.limits T earlier inside next) now.taken t (heard_error e) i u)
+      → Hears whole k s (heard_error e) i u
+  stopped_at_take e i u reads =
+      a.onward.rest (heard_error e) i u
+      (rules.take_error a.outer.limits T rest a.values a.inside next _ e _ i _ u
+      (reads a.values a.outer a.inside a.stands))
 
-module _ {k : ℕ} {s : Option (List ℕ)} {whole : Reading Value} {finish : List Value → Reading Value} {rule : Rule} {rest : Fields} {T : TypeTerm} {ws : List Value} {now : Standing} {t : Option (List ℕ)} (p : ℕ) (n : Option (Tag × Bool)) (a : SoFar k s whole finish (Required (RuledType rule T) rest) ws (next_at p n) now t) where
-  pub after_take_to_judge : {new : Standing} {u : Option (List ℕ)} (w : Value) → ((earlier : List Value) (outer : Standing) (inside : Enclosing) → Inside outer inside now (next_at p n) → (v : Value) × Same v w × Hears (read_take outer.limits T earlier inside (next_at p n)) now.taken t (Said v) new.taken u) → ((outer : Standing) (inside : Enclosing) → Inside outer inside now (next_at p n) → Within outer inside new) → InHand k s whole finish (judged p rule) rest ws w new u
+module _ {k : ℕ} {s : Option (List ℕ)} {whole : Reading Value} {finish : List Value → Reading Value} {rule : Rule}
+    {rest : Fields} {T : TypeTerm} {ws : List Value} {now : Standing} {t : Option (List ℕ)} (p : ℕ)
+    (n : Option (Tag × Bool))
+    (a : SoFar k s whole finish (Required (RuledType rule T) rest) ws (next_at p n) now t) where
+  pub after_take_to_judge : {new : Standing} {u : Option (List ℕ)} (w : Value)
+      → ((earlier : List Value) (outer : Standing) (inside : Enclosing) → Inside outer inside now (next_at p n)
+      → (v : Value) × Same v w
+      × Hears (read_take outer.limits T earlier inside (next_at p n)) now.taken t (Said v) new.taken u)
+      → ((outer : Standing) (inside : Enclosing) → Inside outer inside now (next_at p n) → Within outer inside new)
+      → InHand k s whole finish (judged p rule) rest ws w new u
   after_take_to_judge {new} {u} w reads stands =
       let f = reads a.values a.outer a.inside a.stands in record {
         values = a.values;
@@ -132,13 +205,25 @@ module _ {k : ℕ} {s : Option (List ℕ)} {whole : Reading Value} {finish : Lis
         outer = a.outer;
         inside = a.inside;
         stands = stands a.outer a.inside a.stands;
-        onward = record { rest = λ h i u' y. a.onward.rest h i u' (rules.take_ruled a.outer.limits rule T rest a.values a.inside p n _ f.0 h _ _ i _ _ u' f.2 y) };
+        onward = record {
+          rest = λ h i u' y.
+              a.onward.rest h i u'
+              (rules.take_ruled a.outer.limits rule T rest a.values a.inside p n _ f.0 h _ _ i _ _ u' f.2 y);
+        };
       }
 
-  pub stopped_at_take_to_judge : (e : ReadError) (i : ℕ) (u : Option (List ℕ)) → ((earlier : List Value) (outer : Standing) (inside : Enclosing) → Inside outer inside now (next_at p n) → Hears (read_take outer.limits T earlier inside (next_at p n)) now.taken t (heard_error e) i u) → Hears whole k s (heard_error e) i u
-  stopped_at_take_to_judge e i u reads = a.onward.rest (heard_error e) i u (rules.take_ruled_error a.outer.limits rule T rest a.values a.inside p n _ e _ i _ u (reads a.values a.outer a.inside a.stands))
+  pub stopped_at_take_to_judge : (e : ReadError) (i : ℕ) (u : Option (List ℕ))
+      → ((earlier : List Value) (outer : Standing) (inside : Enclosing) → Inside outer inside now (next_at p n)
+      → Hears (read_take outer.limits T earlier inside (next_at p n)) now.taken t (heard_error e) i u)
+      → Hears whole k s (heard_error e) i u
+  stopped_at_take_to_judge e i u reads =
+      a.onward.rest (heard_error e) i u
+      (rules.take_ruled_error a.outer.limits rule T rest a.values a.inside p n _ e _ i _ u
+      (reads a.values a.outer a.inside a.stands))
 
-module _ {k : ℕ} {s : Option (List ℕ)} {whole : Reading Value} {finish : List Value → Reading Value} {rest : Fields} {ws : List Value} {w : Value} {now : Standing} {t : Option (List ℕ)} (p : ℕ) (rule : Rule) (fair : FairRule rule) (a : InHand k s whole finish (judged p rule) rest ws w now t) where
+module _ {k : ℕ} {s : Option (List ℕ)} {whole : Reading Value} {finish : List Value → Reading Value} {rest : Fields}
+    {ws : List Value} {w : Value} {now : Standing} {t : Option (List ℕ)} (p : ℕ) (rule : Rule) (fair : FairRule rule)
+    (a : InHand k s whole finish (judged p rule) rest ws w now t) where
   -- the rule lets it pass
   pub passed : rule ws w ≡ None → InHand k s whole finish unjudged rest ws w now t
   unfolding apply_rule
@@ -152,18 +237,30 @@ module _ {k : ℕ} {s : Option (List ℕ)} {whole : Reading Value} {finish : Lis
     stands = a.stands;
     onward = record {
       rest = λ h i u y. a.onward.rest h i u
-          (subst (λ o. Hears (apply_rule p o a.value >>= rules.then_take a.outer.limits rest a.values a.inside (λ more. finish (a.values ++ more))) now.taken t h i u) (sym (fair a.values ws a.value w a.same a.alike ∙ e)) y);
+          (subst (λ o.
+          Hears (apply_rule p o a.value
+          >>= rules.then_take a.outer.limits rest a.values a.inside (λ more. finish (a.values ++ more)))
+          now.taken t h i u)
+          (sym (fair a.values ws a.value w a.same a.alike ∙ e)) y);
     };
   }
 
   -- or doesn't
   pub turned_down : (why : Reason) → rule ws w ≡ Some why → Hears whole k s (Refused (fault p why)) now.taken t
   turned_down why e = a.onward.rest _ now.taken t
-      (hears_error (judged p rule a.values a.value) (rules.then_take a.outer.limits rest a.values a.inside (λ more. finish (a.values ++ more))) (errors.Fault (fault p why)) now.taken now.taken t t
+      (hears_error (judged p rule a.values a.value)
+      (rules.then_take a.outer.limits rest a.values a.inside (λ more. finish (a.values ++ more)))
+      (errors.Fault (fault p why)) now.taken now.taken t t
       (rule_refuses p (rule a.values a.value) why a.value now.taken t (fair a.values ws a.value w a.same a.alike ∙ e)))
 
-module _ {k : ℕ} {s : Option (List ℕ)} {whole : Reading Value} {finish : List Value → Reading Value} {rest : Fields} {ws : List Value} {w : Value} {now : Standing} {t : Option (List ℕ)} (a : InHand k s whole finish unjudged rest ws w now t) where
-  pub after_ahead : {next : Next} {new : Standing} {u : Option (List ℕ)} → ((outer : Standing) (inside : Enclosing) → Within outer inside now → Hears (next_tag outer.limits inside) now.taken t (Said next) new.taken u) → ((outer : Standing) (inside : Enclosing) → Within outer inside now → Inside outer inside new next) → SoFar k s whole finish rest (ws ++ (w ∷ [])) next new u
+module _ {k : ℕ} {s : Option (List ℕ)} {whole : Reading Value} {finish : List Value → Reading Value} {rest : Fields}
+    {ws : List Value} {w : Value} {now : Standing} {t : Option (List ℕ)}
+    (a : InHand k s whole finish unjudged rest ws w now t) where
+  pub after_ahead : {next : Next} {new : Standing} {u : Option (List ℕ)}
+      → ((outer : Standing) (inside : Enclosing) → Within outer inside now
+      → Hears (next_tag outer.limits inside) now.taken t (Said next) new.taken u)
+      → ((outer : Standing) (inside : Enclosing) → Within outer inside now → Inside outer inside new next)
+      → SoFar k s whole finish rest (ws ++ (w ∷ [])) next new u
   unfolding ◌>>=◌
   after_ahead {next} {new} {u} reads stands = record {
     values = a.values ++ (a.value ∷ []);
@@ -173,19 +270,33 @@ module _ {k : ℕ} {s : Option (List ℕ)} {whole : Reading Value} {finish : Lis
     stands = stands a.outer a.inside a.stands;
     onward = record {
       rest = λ h i u' y. a.onward.rest h i u'
-          (hears_then (next_tag a.outer.limits a.inside) (λ n. read_fields a.outer.limits rest (a.values ++ (a.value ∷ [])) a.inside n >>= λ more. finish (a.values ++ (a.value ∷ more))) next h _ _ i _ _ u' (reads a.outer a.inside a.stands)
-          (hears_same _ _ h new.taken i u u' (bind_same (read_fields a.outer.limits rest (a.values ++ (a.value ∷ [])) a.inside next) _ _ (λ more j o. ap (λ z. run (finish z) j o) (append_assoc a.values (a.value ∷ []) more))) y));
+          (hears_then (next_tag a.outer.limits a.inside)
+          (λ n. read_fields a.outer.limits rest (a.values ++ (a.value ∷ [])) a.inside n
+          >>= λ more. finish (a.values ++ (a.value ∷ more))) next h _ _ i _ _ u'
+          (reads a.outer a.inside a.stands)
+          (hears_same _ _ h new.taken i u u'
+          (bind_same (read_fields a.outer.limits rest (a.values ++ (a.value ∷ [])) a.inside next) _ _
+          (λ more j o. ap (λ z. run (finish z) j o) (append_assoc a.values (a.value ∷ []) more))) y));
     };
   }
 
-  pub stopped_at_ahead : (e : ReadError) (i : ℕ) (u : Option (List ℕ)) → ((outer : Standing) (inside : Enclosing) → Within outer inside now → Hears (next_tag outer.limits inside) now.taken t (heard_error e) i u) → Hears whole k s (heard_error e) i u
+  pub stopped_at_ahead : (e : ReadError) (i : ℕ) (u : Option (List ℕ))
+      → ((outer : Standing) (inside : Enclosing) → Within outer inside now
+      → Hears (next_tag outer.limits inside) now.taken t (heard_error e) i u)
+      → Hears whole k s (heard_error e) i u
   unfolding ◌>>=◌
   stopped_at_ahead e i u reads = a.onward.rest (heard_error e) i u
-      (hears_error (next_tag a.outer.limits a.inside) (λ n. read_fields a.outer.limits rest (a.values ++ (a.value ∷ [])) a.inside n >>= λ more. finish (a.values ++ (a.value ∷ more))) e _ i _ u (reads a.outer a.inside a.stands))
+      (hears_error (next_tag a.outer.limits a.inside)
+      (λ n. read_fields a.outer.limits rest (a.values ++ (a.value ∷ [])) a.inside n
+      >>= λ more. finish (a.values ++ (a.value ∷ more))) e _ i _ u
+      (reads a.outer a.inside a.stands))
 
 -- A choice by an earlier field, between types that begin alike.
 
-module _ {k : ℕ} {s : Option (List ℕ)} {whole : Reading Value} {finish : List Value → Reading Value} {path : List ℕ} {octets : List (List ℕ)} {first second : TypeTerm} {rest : Fields} {ws : List Value} {next : Next} {now : Standing} {t : Option (List ℕ)} (alike : (tag : Tag) → fits_tag second tag ≡ fits_tag first tag) (a : SoFar k s whole finish (Required (DefinedByType path octets first second) rest) ws next now t) where
+module _ {k : ℕ} {s : Option (List ℕ)} {whole : Reading Value} {finish : List Value → Reading Value} {path : List ℕ}
+    {octets : List (List ℕ)} {first second : TypeTerm} {rest : Fields} {ws : List Value} {next : Next} {now : Standing}
+    {t : Option (List ℕ)} (alike : (tag : Tag) → fits_tag second tag ≡ fits_tag first tag)
+    (a : SoFar k s whole finish (Required (DefinedByType path octets first second) rest) ws next now t) where
   pub as_first : one_of (leaf_at path ws) octets ≡ true → SoFar k s whole finish (Required first rest) ws next now t
   as_first e = record {
     values = a.values;
@@ -195,7 +306,8 @@ module _ {k : ℕ} {s : Option (List ℕ)} {whole : Reading Value} {finish : Lis
     stands = a.stands;
     onward = record {
       rest = λ h i u y. a.onward.rest h i u
-          (rules.due_first a.outer.limits path octets first second rest a.values a.inside next _ h _ i _ u (ap (λ o. one_of o octets) (leaf_at_same path a.values ws a.same) ∙ e) alike y);
+          (rules.due_first a.outer.limits path octets first second rest a.values a.inside next _ h _ i _ u
+          (ap (λ o. one_of o octets) (leaf_at_same path a.values ws a.same) ∙ e) alike y);
     };
   }
 
@@ -208,15 +320,18 @@ module _ {k : ℕ} {s : Option (List ℕ)} {whole : Reading Value} {finish : Lis
     stands = a.stands;
     onward = record {
       rest = λ h i u y. a.onward.rest h i u
-          (rules.due_second a.outer.limits path octets first second rest a.values a.inside next _ h _ i _ u (ap (λ o. one_of o octets) (leaf_at_same path a.values ws a.same) ∙ e) alike y);
+          (rules.due_second a.outer.limits path octets first second rest a.values a.inside next _ h _ i _ u
+          (ap (λ o. one_of o octets) (leaf_at_same path a.values ws a.same) ∙ e) alike y);
     };
   }
 
 -- A field that may be absent.
 
 -- fields that are the same behind others that are
-each_field : (vs ws : List Value) (o o' : Option Value) → Each Same vs ws → SameField o o' → Each Same (vs ++ with_field o []) (ws ++ with_field o' [])
-each_field vs ws None None h s = subst (Each Same (vs ++ [])) (sym (append-nil ws)) (subst (λ z. Each Same z ws) (sym (append-nil vs)) h)
+each_field : (vs ws : List Value) (o o' : Option Value) → Each Same vs ws → SameField o o'
+    → Each Same (vs ++ with_field o []) (ws ++ with_field o' [])
+each_field vs ws None None h s =
+    subst (Each Same (vs ++ [])) (sym (append-nil ws)) (subst (λ z. Each Same z ws) (sym (append-nil vs)) h)
 each_field vs ws None (Some w) h s = absurd s
 each_field vs ws (Some v) None h s = absurd s
 each_field vs ws (Some v) (Some w) h s = each_last vs ws v w h s
@@ -226,9 +341,17 @@ field_first : (vs more : List Value) (o : Option Value) → (vs ++ with_field o 
 field_first vs more None = ap (λ z. z ++ more) (append-nil vs)
 field_first vs more (Some v) = append_assoc vs (v ∷ []) more
 
-module _ {k : ℕ} {s : Option (List ℕ)} {whole : Reading Value} {finish : List Value → Reading Value} {rest : Fields} {T : TypeTerm} {ws : List Value} {next : Next} {now : Standing} {t : Option (List ℕ)} (a : SoFar k s whole finish (Optional T rest) ws next now t) where
+module _ {k : ℕ} {s : Option (List ℕ)} {whole : Reading Value} {finish : List Value → Reading Value} {rest : Fields}
+    {T : TypeTerm} {ws : List Value} {next : Next} {now : Standing} {t : Option (List ℕ)}
+    (a : SoFar k s whole finish (Optional T rest) ws next now t) where
   -- which looks at the earlier fields
-  pub after_optional_behind : {next' : Next} {new : Standing} {u : Option (List ℕ)} (w : Option Value) → ((fields : List Value) → Each Same fields ws → (outer : Standing) (inside : Enclosing) → Inside outer inside now next → (v : Option Value) × SameField v w × Hears (read_optional outer.limits T fields inside next) now.taken t (Said (v, next')) new.taken u) → ((outer : Standing) (inside : Enclosing) → Inside outer inside now next → Inside outer inside new next') → SoFar k s whole finish rest (ws ++ with_field w []) next' new u
+  pub after_optional_behind : {next' : Next} {new : Standing} {u : Option (List ℕ)} (w : Option Value)
+      → ((fields : List Value) → Each Same fields ws → (outer : Standing) (inside : Enclosing)
+      → Inside outer inside now next
+      → (v : Option Value) × SameField v w
+      × Hears (read_optional outer.limits T fields inside next) now.taken t (Said (v, next')) new.taken u)
+      → ((outer : Standing) (inside : Enclosing) → Inside outer inside now next → Inside outer inside new next')
+      → SoFar k s whole finish rest (ws ++ with_field w []) next' new u
   after_optional_behind {next'} {new} {u} w reads stands =
       let f = reads a.values a.same a.outer a.inside a.stands in record {
         values = a.values ++ with_field f.0 [];
@@ -239,28 +362,50 @@ module _ {k : ℕ} {s : Option (List ℕ)} {whole : Reading Value} {finish : Lis
         onward = record {
           rest = λ h i u' y. a.onward.rest h i u'
               (rules.optional a.outer.limits T rest a.values a.inside next _ f.0 next' h _ _ i _ _ u' f.2
-              (hears_same _ _ h new.taken i u u' (bind_same (read_fields a.outer.limits rest (a.values ++ with_field f.0 []) a.inside next') _ _ (λ more j o. ap (λ z. run (finish z) j o) (field_first a.values more f.0))) y));
+              (hears_same _ _ h new.taken i u u'
+              (bind_same (read_fields a.outer.limits rest (a.values ++ with_field f.0 []) a.inside next') _ _
+              (λ more j o. ap (λ z. run (finish z) j o) (field_first a.values more f.0))) y));
         };
       }
 
-  pub stopped_at_optional_behind : (e : ReadError) (i : ℕ) (u : Option (List ℕ)) → ((fields : List Value) → Each Same fields ws → (outer : Standing) (inside : Enclosing) → Inside outer inside now next → Hears (read_optional outer.limits T fields inside next) now.taken t (heard_error e) i u) → Hears whole k s (heard_error e) i u
-  stopped_at_optional_behind e i u reads = a.onward.rest (heard_error e) i u (rules.optional_error a.outer.limits T rest a.values a.inside next _ e _ i _ u (reads a.values a.same a.outer a.inside a.stands))
+  pub stopped_at_optional_behind : (e : ReadError) (i : ℕ) (u : Option (List ℕ))
+      → ((fields : List Value) → Each Same fields ws → (outer : Standing) (inside : Enclosing)
+      → Inside outer inside now next
+      → Hears (read_optional outer.limits T fields inside next) now.taken t (heard_error e) i u)
+      → Hears whole k s (heard_error e) i u
+  stopped_at_optional_behind e i u reads =
+      a.onward.rest (heard_error e) i u
+      (rules.optional_error a.outer.limits T rest a.values a.inside next _ e _ i _ u
+      (reads a.values a.same a.outer a.inside a.stands))
 
   -- or doesn't
-  pub after_optional : {next' : Next} {new : Standing} {u : Option (List ℕ)} (w : Option Value) → ((earlier : List Value) (outer : Standing) (inside : Enclosing) → Inside outer inside now next → (v : Option Value) × SameField v w × Hears (read_optional outer.limits T earlier inside next) now.taken t (Said (v, next')) new.taken u) → ((outer : Standing) (inside : Enclosing) → Inside outer inside now next → Inside outer inside new next') → SoFar k s whole finish rest (ws ++ with_field w []) next' new u
+  pub after_optional : {next' : Next} {new : Standing} {u : Option (List ℕ)} (w : Option Value)
+      → ((earlier : List Value) (outer : Standing) (inside : Enclosing) → Inside outer inside now next
+      → (v : Option Value) × SameField v w
+      × Hears (read_optional outer.limits T earlier inside next) now.taken t (Said (v, next')) new.taken u)
+      → ((outer : Standing) (inside : Enclosing) → Inside outer inside now next → Inside outer inside new next')
+      → SoFar k s whole finish rest (ws ++ with_field w []) next' new u
   after_optional w reads stands = after_optional_behind w (λ fields same. reads fields) stands
 
-  pub stopped_at_optional : (e : ReadError) (i : ℕ) (u : Option (List ℕ)) → ((earlier : List Value) (outer : Standing) (inside : Enclosing) → Inside outer inside now next → Hears (read_optional outer.limits T earlier inside next) now.taken t (heard_error e) i u) → Hears whole k s (heard_error e) i u
+  pub stopped_at_optional : (e : ReadError) (i : ℕ) (u : Option (List ℕ))
+      → ((earlier : List Value) (outer : Standing) (inside : Enclosing) → Inside outer inside now next
+      → Hears (read_optional outer.limits T earlier inside next) now.taken t (heard_error e) i u)
+      → Hears whole k s (heard_error e) i u
   stopped_at_optional e i u reads = stopped_at_optional_behind e i u (λ fields same. reads fields)
 
 -- a field that may be absent, and is said in another way
-pub fields_as : {k : ℕ} {s : Option (List ℕ)} {whole : Reading Value} {finish : List Value → Reading Value} {rest : Fields} {next : Next} {now : Standing} {t : Option (List ℕ)} {o o' : Option Value} (ws : List Value) → o ≡ o' → SoFar k s whole finish rest (ws ++ with_field o' []) next now t → SoFar k s whole finish rest (ws ++ with_field o []) next now t
-fields_as {k} {s} {whole} {finish} {rest} {next} {now} {t} ws e a = subst (λ z. SoFar k s whole finish rest (ws ++ with_field z []) next now t) (sym e) a
+pub fields_as : {k : ℕ} {s : Option (List ℕ)} {whole : Reading Value} {finish : List Value → Reading Value}
+    {rest : Fields} {next : Next} {now : Standing} {t : Option (List ℕ)} {o o' : Option Value} (ws : List Value)
+    → o ≡ o' → SoFar k s whole finish rest (ws ++ with_field o' []) next now t
+    → SoFar k s whole finish rest (ws ++ with_field o []) next now t
+fields_as {k} {s} {whole} {finish} {rest} {next} {now} {t} ws e a =
+    subst (λ z. SoFar k s whole finish rest (ws ++ with_field z []) next now t) (sym e) a
 
 -- A field with a DEFAULT.
 
 -- values that are the same are the default or not alike
-default_alike : (own : Tag) (octets : List ℕ) (v w : Value) → Same v w → is_this_leaf own octets v ≡ is_this_leaf own octets w
+default_alike : (own : Tag) (octets : List ℕ) (v w : Value) → Same v w
+    → is_this_leaf own octets v ≡ is_this_leaf own octets w
 unfolding Same
 default_alike own octets (Leaf t o) (Leaf t' o') h = ap₂ (λ x y. is_this_leaf own octets (Leaf x y)) h.0 h.1
 default_alike own octets (Leaf t o) (Sequence t' vs) h = absurd h
@@ -272,18 +417,30 @@ default_alike own octets (SetOf t vs) (Leaf t' o) h = absurd h
 default_alike own octets (SetOf t vs) (Sequence t' ws) h = absurd h
 default_alike own octets (SetOf t vs) (SetOf t' ws) h = refl
 
-default_same : (own : Tag) (octets : List ℕ) (o o' : Option Value) → SameField o o' → SameField (but_default own octets o) (but_default own octets o')
+default_same : (own : Tag) (octets : List ℕ) (o o' : Option Value) → SameField o o'
+    → SameField (but_default own octets o) (but_default own octets o')
 default_same own octets None None h = tt
 default_same own octets None (Some w) h = absurd h
 default_same own octets (Some v) None h = absurd h
-default_same own octets (Some v) (Some w) h = subst (λ b. SameField (elim (is_this_leaf own octets v) [ true ↦ None | false ↦ Some v ]) (elim b [ true ↦ None | false ↦ Some w ])) (default_alike own octets v w h) (go (is_this_leaf own octets v))
+default_same own octets (Some v) (Some w) h =
+    subst (λ b.
+    SameField (elim (is_this_leaf own octets v) [ true ↦ None | false ↦ Some v ])
+    (elim b [ true ↦ None | false ↦ Some w ]))
+    (default_alike own octets v w h) (go (is_this_leaf own octets v))
   where
     go : (b : Bool) → SameField (elim b [ true ↦ None | false ↦ Some v ]) (elim b [ true ↦ None | false ↦ Some w ])
     go true = tt
     go false = h
 
-module _ {k : ℕ} {s : Option (List ℕ)} {whole : Reading Value} {finish : List Value → Reading Value} {own : Tag} {octets : List ℕ} {rest : Fields} {T : TypeTerm} {ws : List Value} {next : Next} {now : Standing} {t : Option (List ℕ)} (a : SoFar k s whole finish (Default own octets T rest) ws next now t) where
-  pub after_default : {next' : Next} {new : Standing} {u : Option (List ℕ)} (w : Option Value) → ((earlier : List Value) (outer : Standing) (inside : Enclosing) → Inside outer inside now next → (v : Option Value) × SameField v w × Hears (read_optional outer.limits T earlier inside next) now.taken t (Said (v, next')) new.taken u) → ((outer : Standing) (inside : Enclosing) → Inside outer inside now next → Inside outer inside new next') → SoFar k s whole finish rest (ws ++ with_field (but_default own octets w) []) next' new u
+module _ {k : ℕ} {s : Option (List ℕ)} {whole : Reading Value} {finish : List Value → Reading Value} {own : Tag}
+    {octets : List ℕ} {rest : Fields} {T : TypeTerm} {ws : List Value} {next : Next} {now : Standing}
+    {t : Option (List ℕ)} (a : SoFar k s whole finish (Default own octets T rest) ws next now t) where
+  pub after_default : {next' : Next} {new : Standing} {u : Option (List ℕ)} (w : Option Value)
+      → ((earlier : List Value) (outer : Standing) (inside : Enclosing) → Inside outer inside now next
+      → (v : Option Value) × SameField v w
+      × Hears (read_optional outer.limits T earlier inside next) now.taken t (Said (v, next')) new.taken u)
+      → ((outer : Standing) (inside : Enclosing) → Inside outer inside now next → Inside outer inside new next')
+      → SoFar k s whole finish rest (ws ++ with_field (but_default own octets w) []) next' new u
   after_default {next'} {new} {u} w reads stands =
       let f = reads a.values a.outer a.inside a.stands in
       let kept = but_default own octets f.0 in record {
@@ -295,23 +452,36 @@ module _ {k : ℕ} {s : Option (List ℕ)} {whole : Reading Value} {finish : Lis
         onward = record {
           rest = λ h i u' y. a.onward.rest h i u'
               (rules.default a.outer.limits own octets T rest a.values a.inside next _ f.0 next' h _ _ i _ _ u' f.2
-              (hears_same _ _ h new.taken i u u' (bind_same (read_fields a.outer.limits rest (a.values ++ with_field kept []) a.inside next') _ _ (λ more j o. ap (λ z. run (finish z) j o) (field_first a.values more kept))) y));
+              (hears_same _ _ h new.taken i u u'
+              (bind_same (read_fields a.outer.limits rest (a.values ++ with_field kept []) a.inside next') _ _
+              (λ more j o. ap (λ z. run (finish z) j o) (field_first a.values more kept))) y));
         };
       }
 
-  pub stopped_at_default : (e : ReadError) (i : ℕ) (u : Option (List ℕ)) → ((earlier : List Value) (outer : Standing) (inside : Enclosing) → Inside outer inside now next → Hears (read_optional outer.limits T earlier inside next) now.taken t (heard_error e) i u) → Hears whole k s (heard_error e) i u
-  stopped_at_default e i u reads = a.onward.rest (heard_error e) i u (rules.default_error a.outer.limits own octets T rest a.values a.inside next _ e _ i _ u (reads a.values a.outer a.inside a.stands))
+  pub stopped_at_default : (e : ReadError) (i : ℕ) (u : Option (List ℕ))
+      → ((earlier : List Value) (outer : Standing) (inside : Enclosing) → Inside outer inside now next
+      → Hears (read_optional outer.limits T earlier inside next) now.taken t (heard_error e) i u)
+      → Hears whole k s (heard_error e) i u
+  stopped_at_default e i u reads =
+      a.onward.rest (heard_error e) i u
+      (rules.default_error a.outer.limits own octets T rest a.values a.inside next _ e _ i _ u
+      (reads a.values a.outer a.inside a.stands))
 
 -- The end.
 
 -- All values were read, and `finish` of them answers the whole.
-pub record AllRead (k : ℕ) (s : Option (List ℕ)) (whole : Reading Value) (finish : List Value → Reading Value) (ws : List Value) (j : ℕ) (t : Option (List ℕ)) : Type 0 where
+pub record AllRead (k : ℕ) (s : Option (List ℕ)) (whole : Reading Value) (finish : List Value → Reading Value)
+    (ws : List Value) (j : ℕ) (t : Option (List ℕ)) : Type 0 where
   pub values : List Value
   pub same : Each Same values ws
   pub onward : Continues whole k s (finish values) j t
 
-module _ {k : ℕ} {s : Option (List ℕ)} {whole : Reading Value} {finish : List Value → Reading Value} {ws : List Value} {next : Next} {now : Standing} {t : Option (List ℕ)} (a : SoFar k s whole finish EndOfFields ws next now t) where
-  pub after_end : {j : ℕ} {u : Option (List ℕ)} → ((outer : Standing) (inside : Enclosing) → Inside outer inside now next → Hears (read_end next) now.taken t (Said tt) j u) → AllRead k s whole finish ws j u
+module _ {k : ℕ} {s : Option (List ℕ)} {whole : Reading Value} {finish : List Value → Reading Value} {ws : List Value}
+    {next : Next} {now : Standing} {t : Option (List ℕ)} (a : SoFar k s whole finish EndOfFields ws next now t) where
+  pub after_end : {j : ℕ} {u : Option (List ℕ)}
+      → ((outer : Standing) (inside : Enclosing) → Inside outer inside now next
+      → Hears (read_end next) now.taken t (Said tt) j u)
+      → AllRead k s whole finish ws j u
   after_end {j} {u} reads = record {
     values = a.values;
     same = a.same;
@@ -322,9 +492,18 @@ module _ {k : ℕ} {s : Option (List ℕ)} {whole : Reading Value} {finish : Lis
     };
   }
 
-  pub stopped_at_end : (e : ReadError) (i : ℕ) (u : Option (List ℕ)) → ((outer : Standing) (inside : Enclosing) → Inside outer inside now next → Hears (read_end next) now.taken t (heard_error e) i u) → Hears whole k s (heard_error e) i u
-  stopped_at_end e i u reads = a.onward.rest (heard_error e) i u (rules.ends_error a.outer.limits a.values a.inside next _ e _ i _ u (reads a.outer a.inside a.stands))
+  pub stopped_at_end : (e : ReadError) (i : ℕ) (u : Option (List ℕ))
+      → ((outer : Standing) (inside : Enclosing) → Inside outer inside now next
+      → Hears (read_end next) now.taken t (heard_error e) i u)
+      → Hears whole k s (heard_error e) i u
+  stopped_at_end e i u reads =
+      a.onward.rest (heard_error e) i u
+      (rules.ends_error a.outer.limits a.values a.inside next _ e _ i _ u (reads a.outer a.inside a.stands))
 
 -- the value of the SEQUENCE is the answer
-pub answered : {k : ℕ} {s : Option (List ℕ)} {whole : Reading Value} {own : Tag} {ws : List Value} {j : ℕ} {t : Option (List ℕ)} → AllRead k s whole (as_sequence own) ws j t → (v : Value) × Same v (Sequence own (values_of ws)) × Hears whole k s (Said v) j t
-answered {k} {s} {whole} {own} {ws} {j} {t} a = (Sequence own (values_of a.values), same_lists own a.values ws a.same, a.onward.rest _ j t (hears_done _ j t))
+pub answered : {k : ℕ} {s : Option (List ℕ)} {whole : Reading Value} {own : Tag} {ws : List Value} {j : ℕ}
+    {t : Option (List ℕ)}
+    → AllRead k s whole (as_sequence own) ws j t
+    → (v : Value) × Same v (Sequence own (values_of ws)) × Hears whole k s (Said v) j t
+answered {k} {s} {whole} {own} {ws} {j} {t} a =
+    (Sequence own (values_of a.values), same_lists own a.values ws a.same, a.onward.rest _ j t (hears_done _ j t))

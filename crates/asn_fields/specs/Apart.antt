@@ -59,12 +59,14 @@ Begins fields (value ∷ values) = fields_may_begin fields (value_tag value) ≡
 
 -- Fields in front of others begin as their types may,
 abbrev pub BeginsAsTyped : {A : Type 0} → (A → Bool) → (Fields → Fields) → (A → List Value) → Type 0
-BeginsAsTyped {A} known types values = (x : A) (rest : Fields) (vs : List Value) → known x ≡ true → Begins rest vs → Begins (types rest) (values x ++ vs)
+BeginsAsTyped {A} known types values =
+    (x : A) (rest : Fields) (vs : List Value) → known x ≡ true → Begins rest vs → Begins (types rest) (values x ++ vs)
 
 -- and are told by their texts, and so are those behind them.
 abbrev pub Tells : {A : Type 0} → (A → Bool) → (Fields → Fields) → (A → List Value) → Type 0
 Tells {A} known types values =
-    (x y : A) (rest : Fields) (vs ws : List Value) → known x ≡ true → known y ≡ true → apart (types rest) ≡ true → Begins rest vs → Begins rest ws → map der (values x ++ vs) ≡ map der (values y ++ ws)
+    (x y : A) (rest : Fields) (vs ws : List Value) → known x ≡ true → known y ≡ true → apart (types rest) ≡ true
+    → Begins rest vs → Begins rest ws → map der (values x ++ vs) ≡ map der (values y ++ ws)
     → Each Same (values x) (values y) × (map der vs ≡ map der ws) × (apart rest ≡ true)
 
 -- the value that is there, if one is, has a tag of the type

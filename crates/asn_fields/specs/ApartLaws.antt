@@ -35,7 +35,8 @@ pub text_tag : (v w : Value) → der v ≡ der w → value_tag v ≡ value_tag w
 text_tag v w e =
     let f = framed v in
     let g = framed w in
-    (element_alone (value_tag v) (value_tag w) f.form g.form f.contents g.contents [] [] (ap (λ z. z ++ []) (sym f.is ∙ e ∙ g.is))).tags
+    (element_alone (value_tag v) (value_tag w) f.form g.form f.contents g.contents [] []
+    (ap (λ z. z ++ []) (sym f.is ∙ e ∙ g.is))).tags
 
 -- with one text they are the same
 abbrev pub OneText : Value → Value → Type 0
@@ -48,7 +49,8 @@ OneField None (Some w) = Unit {0}
 OneField (Some v) None = Unit {0}
 OneField (Some v) (Some w) = OneText v w
 
-pub field_one_text : {A : Type 0} (value : A → Value) (one : (x y : A) → OneText (value x) (value y)) (o o' : Option A) → OneField (option_map value o) (option_map value o')
+pub field_one_text : {A : Type 0} (value : A → Value) (one : (x y : A) → OneText (value x) (value y)) (o o' : Option A)
+    → OneField (option_map value o) (option_map value o')
 field_one_text value one None None = tt
 field_one_text value one None (Some y) = tt
 field_one_text value one (Some x) None = tt
@@ -74,7 +76,8 @@ or_cases true b e f g = f refl
 or_cases false b e f g = g e
 
 -- one own tag
-own_none : (own : Tag) (test : Tag → Bool) (tag : Tag) → not (test own) ≡ true → same_tag own tag ≡ true → test tag ≡ false
+own_none : (own : Tag) (test : Tag → Bool) (tag : Tag) → not (test own) ≡ true → same_tag own tag ≡ true
+    → test tag ≡ false
 own_none own test tag n m = subst (λ t. test t ≡ false) (same_tag_is own tag m) (not_true (test own) n)
   where
     not_true : (b : Bool) → not b ≡ true → b ≡ false
@@ -91,14 +94,18 @@ or_second false b e = e
 
 -- one that is due
 
-pub due_begins : (T : TypeTerm) (v : Value) (rest : Fields) (vs : List Value) → may_begin T (value_tag v) ≡ true → Begins (Required T rest) (v ∷ vs)
+pub due_begins : (T : TypeTerm) (v : Value) (rest : Fields) (vs : List Value) → may_begin T (value_tag v) ≡ true
+    → Begins (Required T rest) (v ∷ vs)
 due_begins T v rest vs h = h
 
-pub due_tells : (T : TypeTerm) (v w : Value) (rest : Fields) (vs ws : List Value) → OneText v w → apart (Required T rest) ≡ true → map der (v ∷ vs) ≡ map der (w ∷ ws) → Each Same (v ∷ []) (w ∷ []) × (map der vs ≡ map der ws) × (apart rest ≡ true)
+pub due_tells : (T : TypeTerm) (v w : Value) (rest : Fields) (vs ws : List Value) → OneText v w
+    → apart (Required T rest) ≡ true → map der (v ∷ vs) ≡ map der (w ∷ ws)
+    → Each Same (v ∷ []) (w ∷ []) × (map der vs ≡ map der ws) × (apart rest ≡ true)
 due_tells T v w rest vs ws one d e = ((one cc, tt), cc, d)
 
 -- One that may be absent, with or without a DEFAULT: `fits` is what may begin here.
-none_of_is : (T : TypeTerm) (test : Tag → Bool) (tag : Tag) → none_of T test ≡ true → may_begin T tag ≡ true → test tag ≡ false
+none_of_is : (T : TypeTerm) (test : Tag → Bool) (tag : Tag) → none_of T test ≡ true → may_begin T tag ≡ true
+    → test tag ≡ false
 none_of_is (LeafType own kind) test tag n m = own_none own test tag n m
 none_of_is OpenType test tag n m = cc
 none_of_is (SequenceOfType own least T) test tag n m = own_none own test tag n m
@@ -107,17 +114,25 @@ none_of_is (SequenceType own fields) test tag n m = own_none own test tag n m
 none_of_is (ContainingType own rule T) test tag n m = own_none own test tag n m
 none_of_is (RefusedType own why) test tag n m = own_none own test tag n m
 none_of_is (RuledType rule T) test tag n m = none_of_is T test tag n m
-none_of_is (DefinedByType path octets A B) test tag n m = or_cases (may_begin A tag) (may_begin B tag) m (none_of_is A test tag (and_first _ _ n)) (none_of_is B test tag (and_second _ _ n))
-none_of_is (ChoiceType A B) test tag n m = or_cases (may_begin A tag) (may_begin B tag) m (none_of_is A test tag (and_first _ _ n)) (none_of_is B test tag (and_second _ _ n))
+none_of_is (DefinedByType path octets A B) test tag n m =
+    or_cases (may_begin A tag) (may_begin B tag) m (none_of_is A test tag (and_first _ _ n))
+    (none_of_is B test tag (and_second _ _ n))
+none_of_is (ChoiceType A B) test tag n m =
+    or_cases (may_begin A tag) (may_begin B tag) m (none_of_is A test tag (and_first _ _ n))
+    (none_of_is B test tag (and_second _ _ n))
 
-none_behind : (T : TypeTerm) (rest : Fields) → (is_end rest || none_of T (fields_may_begin rest)) ≡ true → (tag : Tag) → may_begin T tag ≡ true → fields_may_begin rest tag ≡ false
+none_behind : (T : TypeTerm) (rest : Fields) → (is_end rest || none_of T (fields_may_begin rest)) ≡ true → (tag : Tag)
+    → may_begin T tag ≡ true → fields_may_begin rest tag ≡ false
 none_behind T EndOfFields h tag m = refl
 none_behind T (Required T' rest) h tag m = none_of_is T (fields_may_begin (Required T' rest)) tag h m
 none_behind T (Optional T' rest) h tag m = none_of_is T (fields_may_begin (Optional T' rest)) tag h m
-none_behind T (Default own octets T' rest) h tag m = none_of_is T (fields_may_begin (Default own octets T' rest)) tag h m
+none_behind T (Default own octets T' rest) h tag m =
+    none_of_is T (fields_may_begin (Default own octets T' rest)) tag h m
 
-module _ (T : TypeTerm) (rest : Fields) (parted : (tag : Tag) → may_begin T tag ≡ true → fields_may_begin rest tag ≡ false) where
-  one_absent : (w : Value) (vs ws : List Value) → may_begin T (value_tag w) ≡ true → Begins rest vs → map der vs ≡ map der (w ∷ ws) → ⊥
+module _ (T : TypeTerm) (rest : Fields)
+    (parted : (tag : Tag) → may_begin T tag ≡ true → fields_may_begin rest tag ≡ false) where
+  one_absent : (w : Value) (vs ws : List Value) → may_begin T (value_tag w) ≡ true → Begins rest vs
+      → map der vs ≡ map der (w ∷ ws) → ⊥
   one_absent w [] ws h b e = cc
   one_absent w (v ∷ vs) ws h b e =
       let same : der v ≡ der w = cc in
@@ -125,27 +140,45 @@ module _ (T : TypeTerm) (rest : Fields) (parted : (tag : Tag) → may_begin T ta
       let on = subst (λ t. fields_may_begin rest t ≡ true) (text_tag v w same) b in
       cc
 
-  pub absent_tells : (o o' : Option Value) (vs ws : List Value) → OneField o o' → fits_one T o ≡ true → fits_one T o' ≡ true → Begins rest vs → Begins rest ws → map der (with_field o [] ++ vs) ≡ map der (with_field o' [] ++ ws) → Each Same (with_field o []) (with_field o' []) × (map der vs ≡ map der ws)
+  pub absent_tells : (o o' : Option Value) (vs ws : List Value) → OneField o o' → fits_one T o ≡ true
+      → fits_one T o' ≡ true → Begins rest vs → Begins rest ws
+      → map der (with_field o [] ++ vs) ≡ map der (with_field o' [] ++ ws)
+      → Each Same (with_field o []) (with_field o' []) × (map der vs ≡ map der ws)
   absent_tells None None vs ws one f g b c e = (tt, e)
   absent_tells None (Some w) vs ws one f g b c e = absurd (one_absent w vs ws g b e)
   absent_tells (Some v) None vs ws one f g b c e = absurd (one_absent v ws vs f c (sym e))
   absent_tells (Some v) (Some w) vs ws one f g b c e = ((one cc, tt), cc)
 
-pub optional_begins : (T : TypeTerm) (o : Option Value) (rest : Fields) (vs : List Value) → fits_one T o ≡ true → Begins rest vs → Begins (Optional T rest) (with_field o [] ++ vs)
+pub optional_begins : (T : TypeTerm) (o : Option Value) (rest : Fields) (vs : List Value) → fits_one T o ≡ true
+    → Begins rest vs → Begins (Optional T rest) (with_field o [] ++ vs)
 optional_begins T None rest [] f b = tt
 optional_begins T None rest (v ∷ vs) f b = or_second (may_begin T (value_tag v)) (fields_may_begin rest (value_tag v)) b
 optional_begins T (Some w) rest vs f b = or_first (may_begin T (value_tag w)) (fields_may_begin rest (value_tag w)) f
 
-pub optional_tells : (T : TypeTerm) (o o' : Option Value) (rest : Fields) (vs ws : List Value) → OneField o o' → fits_one T o ≡ true → fits_one T o' ≡ true → apart (Optional T rest) ≡ true → Begins rest vs → Begins rest ws → map der (with_field o [] ++ vs) ≡ map der (with_field o' [] ++ ws) → Each Same (with_field o []) (with_field o' []) × (map der vs ≡ map der ws) × (apart rest ≡ true)
-optional_tells T o o' rest vs ws one f g d b c e = let t = absent_tells T rest (none_behind T rest (and_first _ _ d)) o o' vs ws one f g b c e in (t.0, t.1, and_second _ _ d)
+pub optional_tells : (T : TypeTerm) (o o' : Option Value) (rest : Fields) (vs ws : List Value) → OneField o o'
+    → fits_one T o ≡ true → fits_one T o' ≡ true → apart (Optional T rest) ≡ true → Begins rest vs → Begins rest ws
+    → map der (with_field o [] ++ vs) ≡ map der (with_field o' [] ++ ws)
+    → Each Same (with_field o []) (with_field o' []) × (map der vs ≡ map der ws) × (apart rest ≡ true)
+optional_tells T o o' rest vs ws one f g d b c e =
+    let t = absent_tells T rest (none_behind T rest (and_first _ _ d)) o o' vs ws one f g b c e in
+    (t.0, t.1, and_second _ _ d)
 
-pub default_begins : (own : Tag) (octets : List ℕ) (T : TypeTerm) (o : Option Value) (rest : Fields) (vs : List Value) → fits_one T o ≡ true → Begins rest vs → Begins (Default own octets T rest) (with_field o [] ++ vs)
+pub default_begins : (own : Tag) (octets : List ℕ) (T : TypeTerm) (o : Option Value) (rest : Fields) (vs : List Value)
+    → fits_one T o ≡ true → Begins rest vs → Begins (Default own octets T rest) (with_field o [] ++ vs)
 default_begins own octets T None rest [] f b = tt
-default_begins own octets T None rest (v ∷ vs) f b = or_second (may_begin T (value_tag v)) (fields_may_begin rest (value_tag v)) b
-default_begins own octets T (Some w) rest vs f b = or_first (may_begin T (value_tag w)) (fields_may_begin rest (value_tag w)) f
+default_begins own octets T None rest (v ∷ vs) f b =
+    or_second (may_begin T (value_tag v)) (fields_may_begin rest (value_tag v)) b
+default_begins own octets T (Some w) rest vs f b =
+    or_first (may_begin T (value_tag w)) (fields_may_begin rest (value_tag w)) f
 
-pub default_tells : (own : Tag) (octets : List ℕ) (T : TypeTerm) (o o' : Option Value) (rest : Fields) (vs ws : List Value) → OneField o o' → fits_one T o ≡ true → fits_one T o' ≡ true → apart (Default own octets T rest) ≡ true → Begins rest vs → Begins rest ws → map der (with_field o [] ++ vs) ≡ map der (with_field o' [] ++ ws) → Each Same (with_field o []) (with_field o' []) × (map der vs ≡ map der ws) × (apart rest ≡ true)
-default_tells own octets T o o' rest vs ws one f g d b c e = let t = absent_tells T rest (none_behind T rest (and_first _ _ d)) o o' vs ws one f g b c e in (t.0, t.1, and_second _ _ d)
+pub default_tells : (own : Tag) (octets : List ℕ) (T : TypeTerm) (o o' : Option Value) (rest : Fields)
+    (vs ws : List Value)
+    → OneField o o' → fits_one T o ≡ true → fits_one T o' ≡ true → apart (Default own octets T rest) ≡ true
+    → Begins rest vs → Begins rest ws → map der (with_field o [] ++ vs) ≡ map der (with_field o' [] ++ ws)
+    → Each Same (with_field o []) (with_field o' []) × (map der vs ≡ map der ws) × (apart rest ≡ true)
+default_tells own octets T o o' rest vs ws one f g d b c e =
+    let t = absent_tells T rest (none_behind T rest (and_first _ _ d)) o o' vs ws one f g b c e in
+    (t.0, t.1, and_second _ _ d)
 
 each_both : (vs vs' ws ws' : List Value) → Each Same vs ws → Each Same vs' ws' → Each Same (vs ++ vs') (ws ++ ws')
 each_both [] vs' [] ws' h k = k
@@ -154,17 +187,25 @@ each_both (v ∷ vs) vs' [] ws' h k = absurd h
 each_both (v ∷ vs) vs' (w ∷ ws) ws' h k = (h.0, each_both vs vs' ws ws' h.1 k)
 
 -- fields and those behind them
-module _ {A B : Type 0} (known : A → Bool) (types : Fields → Fields) (values : A → List Value) (known' : B → Bool) (types' : Fields → Fields) (values' : B → List Value) where
-  pub both_begin : BeginsAsTyped known types values → BeginsAsTyped known' types' values' → BeginsAsTyped {A = A × B} (λ both. known both.0 && known' both.1) (λ rest. types (types' rest)) (λ both. values both.0 ++ values' both.1)
+module _ {A B : Type 0} (known : A → Bool) (types : Fields → Fields) (values : A → List Value) (known' : B → Bool)
+    (types' : Fields → Fields) (values' : B → List Value) where
+  pub both_begin : BeginsAsTyped known types values → BeginsAsTyped known' types' values'
+      → BeginsAsTyped {A = A × B} (λ both. known both.0 && known' both.1) (λ rest. types (types' rest))
+      (λ both. values both.0 ++ values' both.1)
   both_begin f g x rest vs h b =
-      subst (Begins (types (types' rest))) (sym (append_assoc (values x.0) (values' x.1) vs)) (f x.0 (types' rest) (values' x.1 ++ vs) (and_first _ _ h) (g x.1 rest vs (and_second _ _ h) b))
+      subst (Begins (types (types' rest))) (sym (append_assoc (values x.0) (values' x.1) vs))
+      (f x.0 (types' rest) (values' x.1 ++ vs) (and_first _ _ h) (g x.1 rest vs (and_second _ _ h) b))
 
-  pub both_tell : BeginsAsTyped known' types' values' → Tells known types values → Tells known' types' values' → Tells {A = A × B} (λ both. known both.0 && known' both.1) (λ rest. types (types' rest)) (λ both. values both.0 ++ values' both.1)
+  pub both_tell : BeginsAsTyped known' types' values' → Tells known types values → Tells known' types' values'
+      → Tells {A = A × B} (λ both. known both.0 && known' both.1) (λ rest. types (types' rest))
+      (λ both. values both.0 ++ values' both.1)
   both_tell b f g x y rest vs ws h k d begins begins' e =
       let h' = and_second (known x.0) (known' x.1) h in
       let k' = and_second (known y.0) (known' y.1) k in
-      let e' = ap (map der) (sym (append_assoc (values x.0) (values' x.1) vs)) ∙ e ∙ ap (map der) (append_assoc (values y.0) (values' y.1) ws) in
-      let t = f x.0 y.0 (types' rest) (values' x.1 ++ vs) (values' y.1 ++ ws) (and_first _ _ h) (and_first _ _ k) d (b x.1 rest vs h' begins) (b y.1 rest ws k' begins') e' in
+      let e' = ap (map der) (sym (append_assoc (values x.0) (values' x.1) vs)) ∙ e
+      ∙ ap (map der) (append_assoc (values y.0) (values' y.1) ws) in
+      let t = f x.0 y.0 (types' rest) (values' x.1 ++ vs) (values' y.1 ++ ws) (and_first _ _ h) (and_first _ _ k) d
+      (b x.1 rest vs h' begins) (b y.1 rest ws k' begins') e' in
       let u = g x.1 y.1 rest vs ws h' k' t.2 begins begins' t.1 in
       (each_both (values x.0) (values' x.1) (values y.0) (values' y.1) t.0 u.0, u.1, u.2)
 
@@ -174,24 +215,38 @@ flag_fits true = refl
 flag_fits false = refl
 
 -- and so of the SEQUENCE
-pub record_one_text : {A : Type 0} (known : A → Bool) (types : Fields → Fields) (values : A → List Value) → Tells known types values → apart (types EndOfFields) ≡ true → (t : Tag) (x y : A) → known x ≡ true → known y ≡ true → OneText (Sequence t (values_of (values x))) (Sequence t (values_of (values y)))
+pub record_one_text : {A : Type 0} (known : A → Bool) (types : Fields → Fields) (values : A → List Value)
+    → Tells known types values → apart (types EndOfFields) ≡ true → (t : Tag) (x y : A) → known x ≡ true
+    → known y ≡ true → OneText (Sequence t (values_of (values x))) (Sequence t (values_of (values y)))
 record_one_text known types values tells parted t x y k k' e =
-    let alike = ap (map der) (append-nil (values x)) ∙ sequence_texts t (values x) (values y) e ∙ ap (map der) (sym (append-nil (values y))) in
+    let alike = ap (map der) (append-nil (values x)) ∙ sequence_texts t (values x) (values y) e
+    ∙ ap (map der) (sym (append-nil (values y))) in
     each_sequence t (values x) (values y) (tells x y EndOfFields [] [] k k' parted tt tt alike).0
 
 -- fields, and one behind them with a rule on it
-module _ {A B : Type 0} (known : A → Bool) (types : Fields → Fields) (values : A → List Value) (value : B → Value) (one : (x y : B) → OneText (value x) (value y)) (T : TypeTerm) (rule : Rule) where
-  last_begins : BeginsAsTyped (λ b. may_begin T (value_tag (value b))) (λ rest. Required (RuledType rule T) rest) (λ b. value b ∷ [])
+module _ {A B : Type 0} (known : A → Bool) (types : Fields → Fields) (values : A → List Value) (value : B → Value)
+    (one : (x y : B) → OneText (value x) (value y)) (T : TypeTerm) (rule : Rule) where
+  last_begins : BeginsAsTyped (λ b. may_begin T (value_tag (value b))) (λ rest. Required (RuledType rule T) rest)
+      (λ b. value b ∷ [])
   last_begins x rest vs h b = h
 
-  last_tells : Tells (λ b. may_begin T (value_tag (value b))) (λ rest. Required (RuledType rule T) rest) (λ b. value b ∷ [])
+  last_tells : Tells (λ b. may_begin T (value_tag (value b))) (λ rest. Required (RuledType rule T) rest)
+      (λ b. value b ∷ [])
   last_tells x y rest vs ws h k d b c e = due_tells (RuledType rule T) (value x) (value y) rest vs ws (one x y) d e
 
-  pub judged_begin : BeginsAsTyped known types values → BeginsAsTyped {A = A × B} (λ both. known both.0 && may_begin T (value_tag (value both.1))) (λ rest. types (Required (RuledType rule T) rest)) (λ both. values both.0 ++ (value both.1 ∷ []))
-  judged_begin f = both_begin known types values (λ b. may_begin T (value_tag (value b))) (λ rest. Required (RuledType rule T) rest) (λ b. value b ∷ []) f last_begins
+  pub judged_begin : BeginsAsTyped known types values
+      → BeginsAsTyped {A = A × B} (λ both. known both.0 && may_begin T (value_tag (value both.1)))
+      (λ rest. types (Required (RuledType rule T) rest)) (λ both. values both.0 ++ (value both.1 ∷ []))
+  judged_begin f =
+      both_begin known types values (λ b. may_begin T (value_tag (value b))) (λ rest. Required (RuledType rule T) rest)
+      (λ b. value b ∷ []) f last_begins
 
-  pub judged_tell : Tells known types values → Tells {A = A × B} (λ both. known both.0 && may_begin T (value_tag (value both.1))) (λ rest. types (Required (RuledType rule T) rest)) (λ both. values both.0 ++ (value both.1 ∷ []))
-  judged_tell f = both_tell known types values (λ b. may_begin T (value_tag (value b))) (λ rest. Required (RuledType rule T) rest) (λ b. value b ∷ []) last_begins f last_tells
+  pub judged_tell : Tells known types values
+      → Tells {A = A × B} (λ both. known both.0 && may_begin T (value_tag (value both.1)))
+      (λ rest. types (Required (RuledType rule T) rest)) (λ both. values both.0 ++ (value both.1 ∷ []))
+  judged_tell f =
+      both_tell known types values (λ b. may_begin T (value_tag (value b))) (λ rest. Required (RuledType rule T) rest)
+      (λ b. value b ∷ []) last_begins f last_tells
 
 one_by_one : {A : Type 0} (a b : A) (as' bs : List A) → a ∷ as' ≡ b ∷ bs → (a ≡ b) × (as' ≡ bs)
 one_by_one a b as' bs e = (cc, cc)
@@ -206,35 +261,55 @@ is_first (First a) = true
 is_first (Second b) = false
 
 -- fields, and one behind them whose type goes by them
-module _ {A B C : Type 0} (known : A → Bool) (types : Fields → Fields) (values : A → List Value) (first : B → Value) (second : C → Value) (one : (x y : B) → OneText (first x) (first y)) (other : (x y : C) → OneText (second x) (second y)) (T U : TypeTerm) (path : List ℕ) (octets : List (List ℕ)) where
+module _ {A B C : Type 0} (known : A → Bool) (types : Fields → Fields) (values : A → List Value) (first : B → Value)
+    (second : C → Value) (one : (x y : B) → OneText (first x) (first y))
+    (other : (x y : C) → OneText (second x) (second y)) (T U : TypeTerm) (path : List ℕ) (octets : List (List ℕ)) where
   abbrev pub known_either : Either B C → Bool
   known_either e = either_of (λ b. may_begin T (value_tag (first b))) (λ c. may_begin U (value_tag (second c))) e
 
-  either_begins : (x : Either B C) (rest : Fields) (vs : List Value) → known_either x ≡ true → Begins (Required (DefinedByType path octets T U) rest) (either_of first second x ∷ vs)
+  either_begins : (x : Either B C) (rest : Fields) (vs : List Value) → known_either x ≡ true
+      → Begins (Required (DefinedByType path octets T U) rest) (either_of first second x ∷ vs)
   either_begins (First b) rest vs h = or_first (may_begin T (value_tag (first b))) (may_begin U (value_tag (first b))) h
-  either_begins (Second c) rest vs h = or_second (may_begin T (value_tag (second c))) (may_begin U (value_tag (second c))) h
+  either_begins (Second c) rest vs h =
+      or_second (may_begin T (value_tag (second c))) (may_begin U (value_tag (second c))) h
 
-  either_same : (x y : Either B C) → is_first x ≡ is_first y → der (either_of first second x) ≡ der (either_of first second y) → Same (either_of first second x) (either_of first second y)
+  either_same : (x y : Either B C) → is_first x ≡ is_first y
+      → der (either_of first second x) ≡ der (either_of first second y)
+      → Same (either_of first second x) (either_of first second y)
   either_same (First x) (First y) s e = one x y e
   either_same (First x) (Second y) s e = cc
   either_same (Second x) (First y) s e = cc
   either_same (Second x) (Second y) s e = other x y e
 
-  pub chosen_begin : BeginsAsTyped known types values → BeginsAsTyped {A = A × Either B C} (λ both. known both.0 && known_either both.1) (λ rest. types (Required (DefinedByType path octets T U) rest)) (λ both. values both.0 ++ (either_of first second both.1 ∷ []))
+  pub chosen_begin : BeginsAsTyped known types values
+      → BeginsAsTyped {A = A × Either B C} (λ both. known both.0 && known_either both.1)
+      (λ rest. types (Required (DefinedByType path octets T U) rest))
+      (λ both. values both.0 ++ (either_of first second both.1 ∷ []))
   chosen_begin f x rest vs h b =
-      subst (Begins (types (Required (DefinedByType path octets T U) rest))) (sym (append_assoc (values x.0) (either_of first second x.1 ∷ []) vs))
-      (f x.0 (Required (DefinedByType path octets T U) rest) (either_of first second x.1 ∷ vs) (and_first _ _ h) (either_begins x.1 rest vs (and_second _ _ h)))
+      subst (Begins (types (Required (DefinedByType path octets T U) rest)))
+      (sym (append_assoc (values x.0) (either_of first second x.1 ∷ []) vs))
+      (f x.0 (Required (DefinedByType path octets T U) rest) (either_of first second x.1 ∷ vs) (and_first _ _ h)
+      (either_begins x.1 rest vs (and_second _ _ h)))
 
-  pub chosen_tell : Tells known types values → (x y : A × Either B C) → is_first x.1 ≡ one_of (leaf_at path (values x.0)) octets → is_first y.1 ≡ one_of (leaf_at path (values y.0)) octets
-      → (rest : Fields) (vs ws : List Value) → (known x.0 && known_either x.1) ≡ true → (known y.0 && known_either y.1) ≡ true → apart (types (Required (DefinedByType path octets T U) rest)) ≡ true → Begins rest vs → Begins rest ws
-      → map der ((values x.0 ++ (either_of first second x.1 ∷ [])) ++ vs) ≡ map der ((values y.0 ++ (either_of first second y.1 ∷ [])) ++ ws)
-      → Each Same (values x.0 ++ (either_of first second x.1 ∷ [])) (values y.0 ++ (either_of first second y.1 ∷ [])) × (map der vs ≡ map der ws) × (apart rest ≡ true)
+  pub chosen_tell : Tells known types values → (x y : A × Either B C)
+      → is_first x.1 ≡ one_of (leaf_at path (values x.0)) octets
+      → is_first y.1 ≡ one_of (leaf_at path (values y.0)) octets
+      → (rest : Fields) (vs ws : List Value) → (known x.0 && known_either x.1) ≡ true
+      → (known y.0 && known_either y.1) ≡ true → apart (types (Required (DefinedByType path octets T U) rest)) ≡ true
+      → Begins rest vs → Begins rest ws
+      → map der ((values x.0 ++ (either_of first second x.1 ∷ [])) ++ vs)
+      ≡ map der ((values y.0 ++ (either_of first second y.1 ∷ [])) ++ ws)
+      → Each Same (values x.0 ++ (either_of first second x.1 ∷ [])) (values y.0 ++ (either_of first second y.1 ∷ []))
+      × (map der vs ≡ map der ws)
+      × (apart rest ≡ true)
   chosen_tell f x y p q rest vs ws h k d b c e =
       let v = either_of first second x.1 in
       let w = either_of first second y.1 in
       let own = Required (DefinedByType path octets T U) rest in
-      let e' = ap (map der) (sym (append_assoc (values x.0) (v ∷ []) vs)) ∙ e ∙ ap (map der) (append_assoc (values y.0) (w ∷ []) ws) in
-      let t = f x.0 y.0 own (v ∷ vs) (w ∷ ws) (and_first _ _ h) (and_first _ _ k) d (either_begins x.1 rest vs (and_second _ _ h)) (either_begins y.1 rest ws (and_second _ _ k)) e' in
+      let e' = ap (map der) (sym (append_assoc (values x.0) (v ∷ []) vs)) ∙ e
+      ∙ ap (map der) (append_assoc (values y.0) (w ∷ []) ws) in
+      let t = f x.0 y.0 own (v ∷ vs) (w ∷ ws) (and_first _ _ h) (and_first _ _ k) d
+      (either_begins x.1 rest vs (and_second _ _ h)) (either_begins y.1 rest ws (and_second _ _ k)) e' in
       let e'' : map der (v ∷ vs) ≡ map der (w ∷ ws) = t.1 in
       let same = one_by_one (der v) (der w) (map der vs) (map der ws) e'' in
       let branch = p ∙ ap (λ o. one_of o octets) (leaf_at_same path (values x.0) (values y.0) t.0) ∙ sym q in

@@ -15,7 +15,8 @@ use Rattle.x690.specs.Values.{Value}
 unfoldable pub read_begin : Limits → Tag → Enclosing → ℕ → Tag → Bool → Reading (Enclosing × Next)
 read_begin limits own enclosing place tag constructed =
     require (same_tag own tag) (fault place WrongTag)
-    (in_container limits enclosing place constructed Done >>= λ inside. next_tag limits inside >>= λ next. Done (inside, next))
+    (in_container limits enclosing place constructed Done
+    >>= λ inside. next_tag limits inside >>= λ next. Done (inside, next))
 
 -- a field that is due, by itself: what stands behind it isn't looked at
 unfoldable pub read_take : Limits → TypeTerm → List Value → Enclosing → Next → Reading Value
@@ -28,14 +29,16 @@ unfoldable pub read_due : Limits → TypeTerm → List Value → Enclosing → N
 read_due limits type earlier enclosing (ContainerEnds place) = Fail (fault place Missing)
 read_due limits type earlier enclosing (ElementStands place tag constructed) =
     require (fits_tag type tag) (fault place WrongTag)
-    (read_type limits type earlier enclosing place tag constructed >>= λ value. next_tag limits enclosing >>= λ next. Done (value, next))
+    (read_type limits type earlier enclosing place tag constructed
+    >>= λ value. next_tag limits enclosing >>= λ next. Done (value, next))
 
 -- a field that may be absent
 unfoldable pub read_optional : Limits → TypeTerm → List Value → Enclosing → Next → Reading (Option Value × Next)
 read_optional limits type earlier enclosing (ContainerEnds place) = Done (None, ContainerEnds place)
 read_optional limits type earlier enclosing (ElementStands place tag constructed) =
     choose (fits_tag type tag)
-    (read_type limits type earlier enclosing place tag constructed >>= λ value. next_tag limits enclosing >>= λ next. Done (Some value, next))
+    (read_type limits type earlier enclosing place tag constructed
+    >>= λ value. next_tag limits enclosing >>= λ next. Done (Some value, next))
     (Done (None, ElementStands place tag constructed))
 
 -- no further field

@@ -22,7 +22,8 @@ pub record Within (outer : Standing) (inside : Enclosing) (now : Standing) : Typ
 -- the identifier of the element that stands next ends here, and the element may stand there
 abbrev pub BeginsBefore : Standing → Next → Type 0
 BeginsBefore now (ContainerEnds place) = Unit {0}
-BeginsBefore now (ElementStands place tag constructed) = IsGiven tag now × (place + length (identifier tag constructed) ≡ now.taken)
+BeginsBefore now (ElementStands place tag constructed) =
+    IsGiven tag now × (place + length (identifier tag constructed) ≡ now.taken)
 
 -- The same, with `next` standing next.
 pub record Inside (outer : Standing) (inside : Enclosing) (now : Standing) (next : Next) : Type 0 where

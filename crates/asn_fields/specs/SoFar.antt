@@ -17,25 +17,35 @@ use Rattle.ber_pull.specs.declared.pull.Pull.{Pull}
 use Rattle.asn_fields.specs.Fields.{next_of}
 use Rattle.asn_fields.specs.declared.fields.Next as code
 
--- `whole` was begun at place `k`, with the octets `s` told. It stands inside, before `next`, with `t` told; `ws` were read, and these
--- fields are left: what is answered of them from here on, with `finish` of all values, answers the whole.
-pub record SoFar (k : ℕ) (s : Option (List ℕ)) (whole : Reading Value) (finish : List Value → Reading Value) (fields : Fields) (ws : List Value) (next : Next) (now : Standing) (t : Option (List ℕ)) : Type 0 where
+-- `whole` was begun at place `k`, with the octets `s` told. It stands inside, before `next`, with `t` told;
+-- `ws` were read, and these fields are left: what is answered of them from here on, with `finish` of all
+-- values, answers the whole.
+pub record SoFar (k : ℕ) (s : Option (List ℕ)) (whole : Reading Value) (finish : List Value → Reading Value)
+    (fields : Fields) (ws : List Value) (next : Next) (now : Standing) (t : Option (List ℕ)) : Type 0 where
   pub values : List Value
   pub same : Each Same values ws
   pub outer : Standing
   pub inside : Enclosing
   pub stands : Inside outer inside now next
-  pub onward : Continues whole k s (read_fields outer.limits fields values inside next >>= λ more. finish (values ++ more)) now.taken t
+  pub onward : Continues whole k s
+      (read_fields outer.limits fields values inside next >>= λ more. finish (values ++ more)) now.taken t
 
--- Wherever these fields are the first that are left, they are read: their values stand behind those that were read before, and the others are left; or what
--- is answered is the error of the whole.
-abbrev pub ReadsFields : {R A : Type 0} {s : Ghosts R} → Pull R s → Pull R s → code.Next → code.Next → (Fields → Fields) → (A → List Value) → Result A ReadError → Type 0
+-- Wherever these fields are the first that are left, they are read: their values stand behind those that were read
+-- before, and the others are left; or what is answered is the error of the whole.
+abbrev pub ReadsFields : {R A : Type 0} {s : Ghosts R} → Pull R s → Pull R s → code.Next → code.Next → (Fields → Fields)
+    → (A → List Value) → Result A ReadError → Type 0
 ReadsFields old new next next' fields values result =
-    (k : ℕ) (s : Option (List ℕ)) (whole : Reading Value) (finish : List Value → Reading Value) (rest : Fields) (ws : List Value) → SoFar k s whole finish (fields rest) ws (next_of next) old.state (told old)
-    → MatchResult result (λ x. SoFar k s whole finish rest (ws ++ values x) (next_of next') new.state (told new)) (λ e. Hears whole k s (heard_error e) new.state.taken (told new))
+    (k : ℕ) (s : Option (List ℕ)) (whole : Reading Value) (finish : List Value → Reading Value) (rest : Fields)
+    (ws : List Value)
+    → SoFar k s whole finish (fields rest) ws (next_of next) old.state (told old)
+    → MatchResult result (λ x. SoFar k s whole finish rest (ws ++ values x) (next_of next') new.state (told new))
+    (λ e. Hears whole k s (heard_error e) new.state.taken (told new))
 
 -- The same of the first fields of the container.
-abbrev pub ReadsFirst : {R A : Type 0} {s : Ghosts R} → Pull R s → Pull R s → code.Next → code.Next → (Fields → Fields) → (A → List Value) → Result A ReadError → Type 0
+abbrev pub ReadsFirst : {R A : Type 0} {s : Ghosts R} → Pull R s → Pull R s → code.Next → code.Next → (Fields → Fields)
+    → (A → List Value) → Result A ReadError → Type 0
 ReadsFirst old new next next' fields values result =
-    (k : ℕ) (s : Option (List ℕ)) (whole : Reading Value) (finish : List Value → Reading Value) (rest : Fields) → SoFar k s whole finish (fields rest) [] (next_of next) old.state (told old)
-    → MatchResult result (λ x. SoFar k s whole finish rest (values x) (next_of next') new.state (told new)) (λ e. Hears whole k s (heard_error e) new.state.taken (told new))
+    (k : ℕ) (s : Option (List ℕ)) (whole : Reading Value) (finish : List Value → Reading Value) (rest : Fields)
+    → SoFar k s whole finish (fields rest) [] (next_of next) old.state (told old)
+    → MatchResult result (λ x. SoFar k s whole finish rest (values x) (next_of next') new.state (told new))
+    (λ e. Hears whole k s (heard_error e) new.state.taken (told new))

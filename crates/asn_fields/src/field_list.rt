@@ -88,7 +88,8 @@ pub trait FirstFields: FieldsText {
         requires fine { (standing pull.old).error ≡ None }
         requires inside { IsInside pull.old next.old }
         ensures same_source { SameSource pull.old pull.new }
-        ensures reads { ReadsFirst pull.old pull.new next.old next.new Self.types Self.values result }
+        ensures reads { ReadsFirst pull.old pull.new next.old next.new Self.types Self.values
+            result }
         ensures short { IfOk result (λ fields. length (texts_of (Self.values fields))
             ≤ Self.most * 2 ^ 32) }
         ensures known { IfOk result (λ fields. Self.known fields ≡ true) }
@@ -107,7 +108,8 @@ impl<A: FieldsText, B: FieldsText> FieldsText for (A, B) {
 
     ghost known = { λ both. A.known both.0 && B.known both.1 };
 
-    ghost begins = { both_begin A.known A.types A.values B.known B.types B.values A.begins B.begins };
+    ghost begins = { both_begin A.known A.types A.values B.known B.types B.values
+        A.begins B.begins };
 
     ghost tells = { both_tell A.known A.types A.values B.known B.types B.values B.begins A.tells
         B.tells };

@@ -52,8 +52,8 @@ pub trait Refusal: Drop {
 #[derive(Drop)]
 pub enum Never {}
 
-/// An element that is refused by its tag, whatever stands in it: no value of this type is ever read. `Optional<Refused<K>>`
-/// is a field that may not stand.
+/// An element that is refused by its tag, whatever stands in it: no value of this type is ever read.
+/// `Optional<Refused<K>>` is a field that may not stand.
 #[derive(Drop)]
 pub struct Refused<K: Refusal> {
     refusal: PhantomData<K>,

@@ -74,7 +74,8 @@ impl<const N: u8, T: DerText> Tagged<N, T> {
 }
 
 impl<const N: u8, T: DerText> DerText for Tagged<N, T> {
-    ghost value = { λ tagged. Sequence (context_specific N) (values_of (T.value tagged.inner ∷ [])) };
+    ghost value = { λ tagged.
+        Sequence (context_specific N) (values_of (T.value tagged.inner ∷ [])) };
 
     ghost one_text = { λ x y. single_one_text T.value T.one_text
         (context_specific N) x.inner y.inner };

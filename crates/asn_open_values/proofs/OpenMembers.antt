@@ -27,25 +27,46 @@ member deep start inside = read_open deep start.state.limits inside
 abbrev pub Members : {R : Type 0} {s : Ghosts R} → ℕ → Pull R s → Given → Pull R s → List Value → Type 0
 Members deep start g now vs = Inside (member deep start) (read_given_open_members deep start.state g) start now vs
 
-module _ {R : Type 0} {s : Ghosts R} (deep : ℕ) (start now mid new : Pull R s) (g : Given) (vs : List Value) (i : Members deep start g now vs) (tag : Tag) (form : Bool) (next : Answers now mid (read_next now.state) (Said (ElementStands (place now.state) tag form)))
+module _ {R : Type 0} {s : Ghosts R} (deep : ℕ) (start now mid new : Pull R s) (g : Given) (vs : List Value)
+    (i : Members deep start g now vs) (tag : Tag) (form : Bool)
+    (next : Answers now mid (read_next now.state) (Said (ElementStands (place now.state) tag form)))
     (stands : mid.state ≡ after_next mid.state.taken (Some (tag, form)) now.state) where
   -- the member that is given now
   abbrev pub given_now : Given
   given_now = record { at = now.state.taken; tag = tag; constructed = form }
 
-  reads_member : (h : Heard Value) → Answers mid new (read_given_open deep mid.state given_now) h → Answers mid new (member deep start (enclosing now.state) (place now.state) tag form) h
-  reads_member h x = member_reads (λ l. read_open deep l) start.state.limits now mid new tag form h i.none_given i.limits stands x
+  reads_member : (h : Heard Value) → Answers mid new (read_given_open deep mid.state given_now) h
+      → Answers mid new (member deep start (enclosing now.state) (place now.state) tag form) h
+  reads_member h x =
+      member_reads (λ l. read_open deep l) start.state.limits now mid new tag form h i.none_given i.limits stands x
 
-  pub room_now : start.state.limits.depth ≤ suc deep + length start.state.containers → mid.state.limits.depth ≤ deep + length mid.state.containers
-  room_now bound = omega (arith, bound, ap (λ z. z.limits.depth) stands, ap (λ z. length z.containers) stands, ap (λ z. z.depth) i.limits, ap length i.containers)
+  pub room_now : start.state.limits.depth ≤ suc deep + length start.state.containers
+      → mid.state.limits.depth ≤ deep + length mid.state.containers
+  room_now bound = omega (
+    arith,
+    bound,
+    ap (λ z. z.limits.depth) stands,
+    ap (λ z. length z.containers) stands,
+    ap (λ z. z.depth) i.limits,
+    ap length i.containers,
+  )
 
-  pub member_stops : (e : ReadError) → Answers mid new (read_given_open deep mid.state given_now) (heard_error e) → Answers start new (read_given_open_members deep start.state g) (heard_error e)
-  member_stops e x = inside_stops (member deep start) (read_given_open_members deep start.state g) start now vs i mid new (place now.state) tag form e next (reads_member (heard_error e) x)
+  pub member_stops : (e : ReadError) → Answers mid new (read_given_open deep mid.state given_now) (heard_error e)
+      → Answers start new (read_given_open_members deep start.state g) (heard_error e)
+  member_stops e x =
+      inside_stops (member deep start) (read_given_open_members deep start.state g) start now vs i mid new
+      (place now.state) tag form e next (reads_member (heard_error e) x)
 
-  pub member_more : (v : Value) → Answers mid new (read_given_open deep mid.state given_now) (Said v) → SameSource now mid → SameSource mid new → Uses mid new → new.state.error ≡ None → mid.state.taken ≤ new.state.taken → now.state.taken < mid.state.taken → IsGiven tag mid.state → Members deep start g new (vs ++ v ∷ [])
+  pub member_more : (v : Value) → Answers mid new (read_given_open deep mid.state given_now) (Said v)
+      → SameSource now mid → SameSource mid new → Uses mid new → new.state.error ≡ None
+      → mid.state.taken ≤ new.state.taken → now.state.taken < mid.state.taken → IsGiven tag mid.state
+      → Members deep start g new (vs ++ v ∷ [])
   member_more v x same same' uses fine on moves fits =
       let l = start.state.limits in
       let y = reads_member (Said v) x in
-      let most : l.octets ≤ 2147483647 = omega (arith, fits.octets_fit, ap (λ z. z.limits.octets) stands, ap (λ z. z.octets) i.limits) in
-      let short = open_short deep l (enclosing now.state) (place now.state) tag form v _ _ _ _ _ _ most (inside_here (member deep start) _ start now vs i mid _ next) y in
-      inside_more (member deep start) _ start now vs i mid new (place now.state) tag form v next same stands moves y same' uses fine on short most
+      let most : l.octets ≤ 2147483647 =
+      omega (arith, fits.octets_fit, ap (λ z. z.limits.octets) stands, ap (λ z. z.octets) i.limits) in
+      let short = open_short deep l (enclosing now.state) (place now.state) tag form v _ _ _ _ _ _ most
+      (inside_here (member deep start) _ start now vs i mid _ next) y in
+      inside_more (member deep start) _ start now vs i mid new
+      (place now.state) tag form v next same stands moves y same' uses fine on short most

@@ -54,20 +54,31 @@ container false tag values = Sequence tag values
 
 -- the members of the container that is given, each as an open value at most `deep` deep
 abbrev pub read_given_open_members : ℕ → Standing → Given → Reading (Ended (List Value))
-read_given_open_members deep s g = all_members s.limits (enclosing s) g.at g.constructed (λ inside. read_open deep s.limits inside)
+read_given_open_members deep s g =
+    all_members s.limits (enclosing s) g.at g.constructed (λ inside. read_open deep s.limits inside)
 
 -- the container itself, as one of this tag
 abbrev pub read_given_container : ℕ → Bool → Tag → Standing → Given → Reading Value
-read_given_container deep is_set own s g = read_given_open_members deep s g >>= λ ended. Done (container is_set own (values_of ended.all))
+read_given_container deep is_set own s g =
+    read_given_open_members deep s g >>= λ ended. Done (container is_set own (values_of ended.all))
 
 -- the open value that is given, at most `deep` deep
 abbrev pub read_given_open : ℕ → Standing → Given → Reading Value
 read_given_open deep s g = read_open deep s.limits (enclosing s) g.at g.tag g.constructed
 
 -- The text of the value that the reading gives was put behind what stood there, or the error is what it gives.
-abbrev pub AnswersText : {R : Type 0} {s : Ghosts R} → Pull R s → Pull R s → Reading Value → List ℕ → List ℕ → Result (Unit {0}) ReadError → Type 0
-AnswersText old new p before after result = MatchResult result (λ _. (v : Value) × (after ≡ before ++ der v) × Answers old new p (Said v)) (λ e. Answers old new p (heard_error e))
+abbrev pub AnswersText : {R : Type 0} {s : Ghosts R} → Pull R s → Pull R s → Reading Value → List ℕ → List ℕ
+    → Result (Unit {0}) ReadError → Type 0
+AnswersText old new p before after result =
+    MatchResult result (λ _. (v : Value) × (after ≡ before ++ der v) × Answers old new p (Said v))
+    (λ e. Answers old new p (heard_error e))
 
 -- the texts of the members that the reading gives, and where each begins, or the error is what it gives
-abbrev pub AnswersTexts : {R A : Type 0} {s : Ghosts R} → Pull R s → Pull R s → Reading (Ended (List Value)) → (A → List ℕ) → (A → List ℕ) → Result A ReadError → Type 0
-AnswersTexts old new p octets starts result = MatchResult result (λ x. (values : List Value) × (place : ℕ) × StandIn values (octets x) (starts x) × Answers old new p (Said (ended values place))) (λ e. Answers old new p (heard_error e))
+abbrev pub AnswersTexts : {R A : Type 0} {s : Ghosts R} → Pull R s → Pull R s → Reading (Ended (List Value))
+    → (A → List ℕ) → (A → List ℕ) → Result A ReadError → Type 0
+AnswersTexts old new p octets starts result =
+    MatchResult result
+    (λ x.
+    (values : List Value) × (place : ℕ) × StandIn values (octets x) (starts x)
+    × Answers old new p (Said (ended values place)))
+    (λ e. Answers old new p (heard_error e))

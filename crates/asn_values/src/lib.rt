@@ -3,8 +3,8 @@
 //! `DerText` is what has a text, `Element` what can be read as well, from any source and in any layout of BER. There
 //! are the leaves `Bool`, `Int`, `Null`, `Bits`, `Octets`, `Text` and `tlv_core`'s `Oid`, the containers `List`,
 //! `ListOfSome` and `SetOf`, `Tagged` for explicit tags, `Implicit` for implicit ones, and `Any`, an open value.
-//! `record` keeps a SEQUENCE as the list of its fields, `ruled`, `judged` and `chosen` put rules on it; `sequence` reads
-//! one by that list and `parts` writes it; `fields` reads one field by field.
+//! `record` keeps a SEQUENCE as the list of its fields, `ruled`, `judged` and `chosen` put rules on it; `sequence`
+//! reads one by that list and `parts` writes it; `fields` reads one field by field.
 //!
 //! This crate is the table of contents: what stands here is proved in `asn_elements` (the traits and the leaves),
 //! `asn_fields`, `asn_containers` and `asn_open_values`, each of which says what. `tests/library_rows/values.tsv` has

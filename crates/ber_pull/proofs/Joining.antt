@@ -29,21 +29,33 @@ unused_more (x ∷ []) u o = refl
 unused_more (x ∷ y ∷ s) u o = unused_more (y ∷ s) u o
 
 -- the octets of one segment more
-pub joins_bits : (old new : Joined) (o : List ℕ) (s : List (List ℕ)) → old.is_bits ≡ true → new.is_bits ≡ true → is_bit_segment o ≡ true → new.unused ≡ get_or o 0 new.unused → new.octets.items ≡ old.octets.items ++ drop 1 o → Joins old s → Joins new (s ++ (o ∷ []))
+pub joins_bits : (old new : Joined) (o : List ℕ) (s : List (List ℕ)) → old.is_bits ≡ true → new.is_bits ≡ true
+    → is_bit_segment o ≡ true → new.unused ≡ get_or o 0 new.unused → new.octets.items ≡ old.octets.items ++ drop 1 o
+    → Joins old s → Joins new (s ++ (o ∷ []))
 joins_bits old new [] s b b' h u x j = cc
 joins_bits old new (y ∷ o) s b b' h u x j = record {
-  octets = x ∙ ap (λ w. w ++ o) (j.octets ∙ ap (λ w. joined_octets w s) b) ∙ sym (bits_more s y o) ∙ ap (λ w. joined_octets w (s ++ ((y ∷ o) ∷ []))) (sym b');
+  octets =
+      x
+      ∙ ap (λ w. w ++ o) (j.octets ∙ ap (λ w. joined_octets w s) b)
+      ∙ sym (bits_more s y o)
+      ∙ ap (λ w. joined_octets w (s ++ ((y ∷ o) ∷ []))) (sym b');
   unused = u ∙ sym (unused_more s y o) ∙ ap (λ w. joined_unused w (s ++ ((y ∷ o) ∷ []))) (sym b');
 }
 
-pub joins_octets : (old new : Joined) (o : List ℕ) (s : List (List ℕ)) → old.is_bits ≡ false → new.is_bits ≡ false → new.unused ≡ old.unused → new.octets.items ≡ old.octets.items ++ o → Joins old s → Joins new (s ++ (o ∷ []))
+pub joins_octets : (old new : Joined) (o : List ℕ) (s : List (List ℕ)) → old.is_bits ≡ false → new.is_bits ≡ false
+    → new.unused ≡ old.unused → new.octets.items ≡ old.octets.items ++ o → Joins old s → Joins new (s ++ (o ∷ []))
 joins_octets old new o s b b' u x j = record {
-  octets = x ∙ ap (λ w. w ++ o) (j.octets ∙ ap (λ w. joined_octets w s) b) ∙ sym (join_more s o) ∙ ap (λ w. joined_octets w (s ++ (o ∷ []))) (sym b');
+  octets =
+      x
+      ∙ ap (λ w. w ++ o) (j.octets ∙ ap (λ w. joined_octets w s) b)
+      ∙ sym (join_more s o)
+      ∙ ap (λ w. joined_octets w (s ++ (o ∷ []))) (sym b');
   unused = u ∙ j.unused ∙ ap (λ w. joined_unused w s) b ∙ ap (λ w. joined_unused w (s ++ (o ∷ []))) (sym b');
 }
 
 -- what may follow, by what is kept of the segments so far
-pub follows : (b : Bool) (u : ℕ) (s : List (List ℕ)) (o : List ℕ) → u ≡ joined_unused b s → (not b || (is_bit_segment o && (u == 0))) ≡ is_next_segment (segment_number b) s o
+pub follows : (b : Bool) (u : ℕ) (s : List (List ℕ)) (o : List ℕ) → u ≡ joined_unused b s
+    → (not b || (is_bit_segment o && (u == 0))) ≡ is_next_segment (segment_number b) s o
 follows true u s o h = ap (λ w. is_bit_segment o && (w == 0)) h
 follows false u s o h = refl
 
@@ -61,11 +73,17 @@ pub bits_fit : (x n : ℕ) → x < 256 → x / n * n % 256 ≡ x / n * n
 bits_fit x n b = let small : x / n * n < 256 = omega (arith, div-mul-le_self x n) in mod-eq_of_lt small
 
 -- an error is the answer, whatever was joined
-pub added_error : {R : Type 0} {s : Ghosts R} (old new : Pull R s) (p : Reading (List (List ℕ))) (joined : Joined) (r : Result (Unit {0}) ReadError) (e : ReadError) → r ≡ Err e → Answers old new p (heard_error e) → AddsSegment old new p joined r
+pub added_error : {R : Type 0} {s : Ghosts R} (old new : Pull R s) (p : Reading (List (List ℕ))) (joined : Joined)
+    (r : Result (Unit {0}) ReadError) (e : ReadError)
+    → r ≡ Err e → Answers old new p (heard_error e) → AddsSegment old new p joined r
 added_error old new p joined r e h x = subst (λ w. AddsSegment old new p joined w) (sym h) x
 
-pub joined_error : {R : Type 0} {s : Ghosts R} (old new : Pull R s) (p : Reading (List (List ℕ))) (r : Result Joined ReadError) (e : ReadError) → r ≡ Err e → Answers old new p (heard_error e) → AnswersJoined old new p r
+pub joined_error : {R : Type 0} {s : Ghosts R} (old new : Pull R s) (p : Reading (List (List ℕ)))
+    (r : Result Joined ReadError) (e : ReadError)
+    → r ≡ Err e → Answers old new p (heard_error e) → AnswersJoined old new p r
 joined_error old new p r e h x = subst (λ w. AnswersJoined old new p w) (sym h) x
 
-pub step_error : {R : Type 0} {s : Ghosts R} (old new : Pull R s) (around : List Container) (n : ℕ) (p : Reading (List (List ℕ))) (joined : Joined) (r : Result (Unit {0}) ReadError) (e : ReadError) → r ≡ Err e → Answers old new p (heard_error e) → Steps old new around n p joined r
+pub step_error : {R : Type 0} {s : Ghosts R} (old new : Pull R s) (around : List Container) (n : ℕ)
+    (p : Reading (List (List ℕ))) (joined : Joined) (r : Result (Unit {0}) ReadError) (e : ReadError)
+    → r ≡ Err e → Answers old new p (heard_error e) → Steps old new around n p joined r
 step_error old new around n p joined r e h x = subst (λ w. Steps old new around n p joined w) (sym h) x

@@ -18,25 +18,33 @@ use Rattle.ber_pull.proofs.Hearing.{hears_done, hears_error, hears_first, hears_
 
 -- what stands behind the first octet of an identifier or of end-of-contents octets
 abbrev behind_tag : Standing → ℕ → ℕ → Reading Next
-behind_tag s x n = require (nat_lt (length s.containers) s.limits.depth) (fault s.taken TooDeep) (Done (ElementStands s.taken (record { class = x / 64; number = n }) (nat_le 32 (x % 64))))
+behind_tag s x n =
+    require (nat_lt (length s.containers) s.limits.depth) (fault s.taken TooDeep)
+    (Done (ElementStands s.taken (record { class = x / 64; number = n }) (nat_le 32 (x % 64))))
 
 abbrev behind_first : Standing → ℕ → Reading Next
 behind_first s x =
     choose (x == 0) (read_end_of_contents s.limits (enclosing s) s.taken)
-    (require (not (x == 32) && nat_lt x 256) (fault s.taken BadTag) (read_tag_number s.limits (enclosing s).nearest_end s.taken x >>= behind_tag s x))
+    (require (not (x == 32) && nat_lt x 256) (fault s.taken BadTag)
+    (read_tag_number s.limits (enclosing s).nearest_end s.taken x >>= behind_tag s x))
 
 -- an identifier that was given is given again
-pub next_given : (s : Standing) (g : Given) (t : Option (List ℕ)) → s.given ≡ Some g → Hears (read_next s) s.taken t (Said (ElementStands (place s) g.tag g.constructed)) s.taken t
+pub next_given : (s : Standing) (g : Given) (t : Option (List ℕ)) → s.given ≡ Some g
+    → Hears (read_next s) s.taken t (Said (ElementStands (place s) g.tag g.constructed)) s.taken t
 unfolding read_next
 next_given s g t h = rw h (hears_done _ _ _)
 
-pub next_over : (s : Standing) (t : Option (List ℕ)) → s.given ≡ None → is_over s ≡ true → Hears (read_next s) s.taken t (Said (ContainerEnds (place s))) s.taken t
+pub next_over : (s : Standing) (t : Option (List ℕ)) → s.given ≡ None → is_over s ≡ true
+    → Hears (read_next s) s.taken t (Said (ContainerEnds (place s))) s.taken t
 unfolding read_next
 next_over s t h o = rw h (hears_first _ _ _ _ _ _ _ _ o (hears_done _ _ _))
 
-pub next_at_end : (s : Standing) (t : Option (List ℕ)) → s.given ≡ None → is_over s ≡ false → stands_at_end (enclosing s).innermost s.taken ≡ true → Hears (read_next s) s.taken t (Said (ContainerEnds (place s))) s.taken t
+pub next_at_end : (s : Standing) (t : Option (List ℕ)) → s.given ≡ None → is_over s ≡ false
+    → stands_at_end (enclosing s).innermost s.taken ≡ true
+    → Hears (read_next s) s.taken t (Said (ContainerEnds (place s))) s.taken t
 unfolding read_next next_tag
-next_at_end s t h o e = rw h (hears_second _ _ _ _ _ _ _ _ o (hears_where _ _ _ _ _ _ (hears_first _ _ _ _ _ _ _ _ e (hears_done _ _ _))))
+next_at_end s t h o e =
+    rw h (hears_second _ _ _ _ _ _ _ _ o (hears_where _ _ _ _ _ _ (hears_first _ _ _ _ _ _ _ _ e (hears_done _ _ _))))
 
 -- else the first octet is asked for
 pub record Asks (s : Standing) : Type 0 where
@@ -44,12 +52,18 @@ pub record Asks (s : Standing) : Type 0 where
   pub not_over : is_over s ≡ false
   pub not_at_end : stands_at_end (enclosing s).innermost s.taken ≡ false
 
-asked : (s : Standing) (t u : Option (List ℕ)) (h : Heard Next) (i : ℕ) → Asks s → Hears (header_octet s.limits (enclosing s).nearest_end s.taken >>= behind_first s) s.taken t h i u → Hears (read_next s) s.taken t h i u
+asked : (s : Standing) (t u : Option (List ℕ)) (h : Heard Next) (i : ℕ) → Asks s
+    → Hears (header_octet s.limits (enclosing s).nearest_end s.taken >>= behind_first s) s.taken t h i u
+    → Hears (read_next s) s.taken t h i u
 unfolding read_next next_tag
 asked s t u h i a x =
-    let e = a.none_given in rw e (hears_second _ _ _ _ _ _ _ _ a.not_over (hears_where _ _ _ _ _ _ (hears_second _ _ _ _ _ _ _ _ a.not_at_end x)))
+    let e = a.none_given in
+    rw e
+    (hears_second _ _ _ _ _ _ _ _ a.not_over (hears_where _ _ _ _ _ _ (hears_second _ _ _ _ _ _ _ _ a.not_at_end x)))
 
-pub next_error : (s : Standing) (t u : Option (List ℕ)) (e : ReadError) (i : ℕ) → Asks s → Hears (header_octet s.limits (enclosing s).nearest_end s.taken) s.taken t (heard_error e) i u → Hears (read_next s) s.taken t (heard_error e) i u
+pub next_error : (s : Standing) (t u : Option (List ℕ)) (e : ReadError) (i : ℕ) → Asks s
+    → Hears (header_octet s.limits (enclosing s).nearest_end s.taken) s.taken t (heard_error e) i u
+    → Hears (read_next s) s.taken t (heard_error e) i u
 next_error s t u e i a x = asked s t u (heard_error e) i a (hears_error _ _ _ _ _ _ _ x)
 
 -- the first octet came
@@ -57,16 +71,20 @@ pub record Came (s : Standing) (t : Option (List ℕ)) (x j : ℕ) (u : Option (
   pub asks : Asks s
   pub first : Hears (header_octet s.limits (enclosing s).nearest_end s.taken) s.taken t (Said x) j u
 
-came : (s : Standing) (t u v : Option (List ℕ)) (x j i : ℕ) (h : Heard Next) → Came s t x j u → Hears (behind_first s x) j u h i v → Hears (read_next s) s.taken t h i v
+came : (s : Standing) (t u v : Option (List ℕ)) (x j i : ℕ) (h : Heard Next) → Came s t x j u
+    → Hears (behind_first s x) j u h i v → Hears (read_next s) s.taken t h i v
 came s t u v x j i h c y = asked s t v h i c.asks (hears_then _ (behind_first s) x _ _ _ _ _ _ _ c.first y)
 
-pub next_end : (s : Standing) (t u v : Option (List ℕ)) (x j i : ℕ) (h : Heard Next) → Came s t x j u → x ≡ 0 → Hears (read_end_of_contents s.limits (enclosing s) s.taken) j u h i v → Hears (read_next s) s.taken t h i v
-next_end s t u v x j i h c z y = let e : (x == 0) ≡ true = rw z refl in came s t u v x j i h c (hears_first _ _ _ _ _ _ _ _ e y)
+pub next_end : (s : Standing) (t u v : Option (List ℕ)) (x j i : ℕ) (h : Heard Next) → Came s t x j u → x ≡ 0
+    → Hears (read_end_of_contents s.limits (enclosing s) s.taken) j u h i v → Hears (read_next s) s.taken t h i v
+next_end s t u v x j i h c z y =
+    let e : (x == 0) ≡ true = rw z refl in came s t u v x j i h c (hears_first _ _ _ _ _ _ _ _ e y)
 
 pub place_taken : (s : Standing) → s.given ≡ None → place s ≡ s.taken
 place_taken s h = rw h refl
 
-pub next_bad_tag : (s : Standing) (t u : Option (List ℕ)) (x j : ℕ) → Came s t x j u → x ≡ 32 → Hears (read_next s) s.taken t (Refused (fault s.taken BadTag)) j u
+pub next_bad_tag : (s : Standing) (t u : Option (List ℕ)) (x j : ℕ) → Came s t x j u → x ≡ 32
+    → Hears (read_next s) s.taken t (Refused (fault s.taken BadTag)) j u
 next_bad_tag s t u x j c z =
     let e : (x == 0) ≡ false = rw z refl in let e' : (not (x == 32) && nat_lt x 256) ≡ false = rw z refl in
     came s t u u x j j _ c (hears_second _ _ _ _ _ _ _ _ e (hears_off _ _ _ _ _ e'))
@@ -78,7 +96,9 @@ pub record Begins (s : Standing) (t : Option (List ℕ)) (x j : ℕ) (u : Option
   pub no_end : x ≡ 0 → ⊥
   pub no_bad_tag : x ≡ 32 → ⊥
 
-begins : (s : Standing) (t u v : Option (List ℕ)) (x j i : ℕ) (h : Heard Next) → Begins s t x j u → Hears (read_tag_number s.limits (enclosing s).nearest_end s.taken x >>= behind_tag s x) j u h i v → Hears (read_next s) s.taken t h i v
+begins : (s : Standing) (t u v : Option (List ℕ)) (x j i : ℕ) (h : Heard Next) → Begins s t x j u
+    → Hears (read_tag_number s.limits (enclosing s).nearest_end s.taken x >>= behind_tag s x) j u h i v
+    → Hears (read_next s) s.taken t h i v
 begins s t u v x j i h b y =
     let o = b.octet in let z = b.no_end in let w = b.no_bad_tag in
     let e : (x == 0) ≡ false = grind (arith, nat_tests) in
@@ -87,26 +107,39 @@ begins s t u v x j i h b y =
     let fine : (not (x == 32) && nat_lt x 256) ≡ true = rw (e', e'') refl in
     came s t u v x j i h b.came (hears_second _ _ _ _ _ _ _ _ e (hears_on _ _ _ _ _ _ _ _ fine y))
 
-pub next_number_error : (s : Standing) (t u v : Option (List ℕ)) (x j i : ℕ) (e : ReadError) → Begins s t x j u → Hears (read_tag_number s.limits (enclosing s).nearest_end s.taken x) j u (heard_error e) i v → Hears (read_next s) s.taken t (heard_error e) i v
+pub next_number_error : (s : Standing) (t u v : Option (List ℕ)) (x j i : ℕ) (e : ReadError) → Begins s t x j u
+    → Hears (read_tag_number s.limits (enclosing s).nearest_end s.taken x) j u (heard_error e) i v
+    → Hears (read_next s) s.taken t (heard_error e) i v
 next_number_error s t u v x j i e b y = begins s t u v x j i (heard_error e) b (hears_error _ _ _ _ _ _ _ y)
 
-pub next_deep : (s : Standing) (t u v : Option (List ℕ)) (x j i n : ℕ) → Begins s t x j u → Hears (read_tag_number s.limits (enclosing s).nearest_end s.taken x) j u (Said n) i v → nat_lt (length s.containers) s.limits.depth ≡ false → Hears (read_next s) s.taken t (Refused (fault s.taken TooDeep)) i v
-next_deep s t u v x j i n b y d = begins s t u v x j i _ b (hears_then _ (behind_tag s x) n _ _ _ _ _ _ _ y (hears_off _ _ _ _ _ d))
+pub next_deep : (s : Standing) (t u v : Option (List ℕ)) (x j i n : ℕ) → Begins s t x j u
+    → Hears (read_tag_number s.limits (enclosing s).nearest_end s.taken x) j u (Said n) i v
+    → nat_lt (length s.containers) s.limits.depth ≡ false
+    → Hears (read_next s) s.taken t (Refused (fault s.taken TooDeep)) i v
+next_deep s t u v x j i n b y d =
+    begins s t u v x j i _ b (hears_then _ (behind_tag s x) n _ _ _ _ _ _ _ y (hears_off _ _ _ _ _ d))
 
-pub next_element : (s : Standing) (t u v : Option (List ℕ)) (x j i n : ℕ) (tag : Tag) → Begins s t x j u → Hears (read_tag_number s.limits (enclosing s).nearest_end s.taken x) j u (Said n) i v → nat_lt (length s.containers) s.limits.depth ≡ true → tag ≡ record { class = x / 64; number = n } → Hears (read_next s) s.taken t (Said (ElementStands (place s) tag (nat_le 32 (x % 64)))) i v
+pub next_element : (s : Standing) (t u v : Option (List ℕ)) (x j i n : ℕ) (tag : Tag) → Begins s t x j u
+    → Hears (read_tag_number s.limits (enclosing s).nearest_end s.taken x) j u (Said n) i v
+    → nat_lt (length s.containers) s.limits.depth ≡ true → tag ≡ record { class = x / 64; number = n }
+    → Hears (read_next s) s.taken t (Said (ElementStands (place s) tag (nat_le 32 (x % 64)))) i v
 next_element s t u v x j i n tag b y d e =
-    subst (λ w. Hears (read_next s) s.taken t (Said (ElementStands w tag (nat_le 32 (x % 64)))) i v) (sym (place_taken s b.came.asks.none_given))
+    subst (λ w. Hears (read_next s) s.taken t (Said (ElementStands w tag (nat_le 32 (x % 64)))) i v)
+    (sym (place_taken s b.came.asks.none_given))
     (subst (λ w. Hears (read_next s) s.taken t (Said (ElementStands s.taken w (nat_le 32 (x % 64)))) i v) (sym e)
-    (begins s t u v x j i _ b (hears_then _ (behind_tag s x) n _ _ _ _ _ _ _ y (hears_on _ _ _ _ _ _ _ _ d (hears_done _ _ _)))))
+    (begins s t u v x j i _ b
+    (hears_then _ (behind_tag s x) n _ _ _ _ _ _ _ y (hears_on _ _ _ _ _ _ _ _ d (hears_done _ _ _)))))
 
-ended_in : (k : ℕ) (cs : List Container) → ends_with_zeros (innermost_in (first_of cs)) ≡ true → is_over_in k (first_of (with_ended (first_of cs) cs)) ≡ true
+ended_in : (k : ℕ) (cs : List Container) → ends_with_zeros (innermost_in (first_of cs)) ≡ true
+    → is_over_in k (first_of (with_ended (first_of cs) cs)) ≡ true
 ended_in k [] h = cc
 ended_in k (open'.Definite end ∷ cs) h = cc
 ended_in k (open'.Indefinite around ∷ cs) h = refl
 ended_in k (open'.Ended around ∷ cs) h = refl
 
 -- where the end-of-contents octets of the innermost container are taken, nothing is left
-pub ended_over : (s : Standing) (k : ℕ) → ends_with_zeros (enclosing s).innermost ≡ true → is_over (ending (moved k s)) ≡ true
+pub ended_over : (s : Standing) (k : ℕ) → ends_with_zeros (enclosing s).innermost ≡ true
+    → is_over (ending (moved k s)) ≡ true
 ended_over s k h = ended_in k s.containers h
 
 pub or_true : (a b : Bool) → a ≡ true → a || b ≡ true

@@ -13,7 +13,10 @@ use Rattle.ber_pull.specs.declared.state.Given.{Given}
 
 -- what stands at the point: the element that is given, the end that is known, or what the octets say
 unfoldable pub read_next : Standing → Reading Next
-read_next s = elim s.given [ Some g ↦ Done (ElementStands g.at g.tag g.constructed) | None ↦ choose (is_over s) (Done (ContainerEnds s.taken)) (next_tag s.limits (enclosing s)) ]
+read_next s = elim s.given [
+  | Some g ↦ Done (ElementStands g.at g.tag g.constructed)
+  | None ↦ choose (is_over s) (Done (ContainerEnds s.taken)) (next_tag s.limits (enclosing s))
+]
 
 -- the end-of-contents octets of the innermost container, behind the first one
 abbrev pub read_end_of_contents : Limits → Enclosing → ℕ → Reading Next
@@ -27,18 +30,25 @@ read_entering s g = in_container s.limits (enclosing s) g.at g.constructed Done
 
 -- the end of the container, where no element stands
 unfoldable pub read_leaving : Standing → Reading (Unit {0})
-read_leaving s = read_next s >>= λ d. elim d [ ContainerEnds p ↦ Done tt | ElementStands p tag constructed ↦ Fail (fault p Extra) ]
+read_leaving s =
+    read_next s >>= λ d. elim d [ ContainerEnds p ↦ Done tt | ElementStands p tag constructed ↦ Fail (fault p Extra) ]
 
 -- the contents of the primitive element that is given
 unfoldable pub read_primitive : Standing → Given → Reading (List ℕ)
 read_primitive s g = require (not g.constructed) (fault g.at WrongForm) (primitive_contents s.limits (enclosing s) g.at)
 
--- the contents of the primitive segments of the string that is given, its segments having the universal tag `n` (X.690 8.6, 8.7)
+-- the contents of the primitive segments of the string that is given, its segments having the
+-- universal tag `n` (X.690 8.6, 8.7)
 unfoldable pub read_segments : ℕ → Standing → Given → Reading (List (List ℕ))
 read_segments n s g =
     elim g.constructed [
-      | false ↦ primitive_contents s.limits (enclosing s) g.at >>= λ o. require (is_next_segment n [] o) (fault g.at BadBits) (Done (o ∷ []))
-      | true ↦ in_container s.limits (enclosing s) g.at true (λ c. each_member (read_segment s.limits.depth s.limits n c) s.limits.octets s.limits c []) >>= λ e. Done e.all
+      | false ↦
+          primitive_contents s.limits (enclosing s) g.at
+          >>= λ o. require (is_next_segment n [] o) (fault g.at BadBits) (Done (o ∷ []))
+      | true ↦
+          in_container s.limits (enclosing s) g.at true
+          (λ c. each_member (read_segment s.limits.depth s.limits n c) s.limits.octets s.limits c [])
+          >>= λ e. Done e.all
     ]
 
 -- the octets of the string that is given

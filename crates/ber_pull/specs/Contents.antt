@@ -18,6 +18,8 @@ pub record PieceCame {R : Type 0} {s : Ghosts R} (old new : Pull R s) (before af
   pub most_of_them : length octets ≤ most
 
 -- a piece came, or the error is what the reading of all of them gives
-abbrev pub AddsPiece : {R : Type 0} {s : Ghosts R} → Pull R s → Pull R s → List ℕ → List ℕ → ℕ → Result (Unit {0}) ReadError → Type 0
+abbrev pub AddsPiece : {R : Type 0} {s : Ghosts R} → Pull R s → Pull R s → List ℕ → List ℕ → ℕ
+    → Result (Unit {0}) ReadError → Type 0
 AddsPiece old new before after most result =
-    MatchResult result (λ _. PieceCame old new before after most) (λ e. Answers old new (next_octets most) (heard_error e))
+    MatchResult result (λ _. PieceCame old new before after most)
+    (λ e. Answers old new (next_octets most) (heard_error e))

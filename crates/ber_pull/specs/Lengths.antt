@@ -27,4 +27,6 @@ IsClipped n m = (m ≡ n) ⊎ ((2 ^ 32 ≤ n) × (2 ^ 32 ≤ m))
 
 -- the number that the reading gives is answered, or another one where both are past every place
 abbrev pub AnswersClipped : {R : Type 0} {s : Ghosts R} → Pull R s → Pull R s → Reading ℕ → Result ℕ ReadError → Type 0
-AnswersClipped old new p result = MatchResult result (λ m. (n : ℕ) × IsClipped n m × Answers old new p (Said n)) (λ e. Answers old new p (heard_error e))
+AnswersClipped old new p result =
+    MatchResult result (λ m. (n : ℕ) × IsClipped n m × Answers old new p (Said n))
+    (λ e. Answers old new p (heard_error e))

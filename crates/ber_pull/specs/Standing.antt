@@ -64,7 +64,11 @@ innermost_in (Some (Ended around)) = EndsWithZeros
 
 -- the point inside these containers, the place apart
 abbrev pub enclosing_of : List Container → Enclosing
-enclosing_of cs = record { nearest_end = nearest_end_in (first_of cs); innermost = innermost_in (first_of cs); open_containers = length cs }
+enclosing_of cs = record {
+  nearest_end = nearest_end_in (first_of cs);
+  innermost = innermost_in (first_of cs);
+  open_containers = length cs;
+}
 
 abbrev pub enclosing : Standing → Enclosing
 enclosing s = enclosing_of s.containers
@@ -75,8 +79,8 @@ is_ended (Definite end) = false
 is_ended (Indefinite around) = false
 is_ended (Ended around) = true
 
--- Nothing more is to come here, and no octet is needed to know it: the end-of-contents octets of the innermost container are taken,
--- or no container is open and the outermost element is complete.
+-- Nothing more is to come here, and no octet is needed to know it: the end-of-contents octets of the innermost
+-- container are taken, or no container is open and the outermost element is complete.
 abbrev pub is_over_in : ℕ → Option Container → Bool
 is_over_in taken None = nat_lt 0 taken
 is_over_in taken (Some c) = is_ended c

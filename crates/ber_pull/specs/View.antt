@@ -40,7 +40,8 @@ Repeats old new result = (e : ReadError) → old.state.error ≡ Some e → (res
 
 -- an error is kept, and `Ok` leaves none
 abbrev pub Keeps : {R : Type 0} {s : Ghosts R} {A : Type 0} → Pull R s → Result A ReadError → Type 0
-Keeps new result = MatchResult result (λ _. (new.state.error ≡ None) × (source_failed new ≡ false)) (λ e. new.state.error ≡ Some e)
+Keeps new result =
+    MatchResult result (λ _. (new.state.error ≡ None) × (source_failed new ≡ false)) (λ e. new.state.error ≡ Some e)
 
 -- a failed read at this place is answered where the source failed, and nowhere else
 abbrev pub IsReadFailure : Bool → ℕ → ReadError → Type 0
@@ -58,7 +59,8 @@ IsNotMemory errors.Memory = ⊥
 abbrev pub AsksNoMemory : {R : Type 0} {s : Ghosts R} {A : Type 0} → Pull R s → Result A ReadError → Type 0
 AsksNoMemory old result = old.state.error ≡ None → IfErr result IsNotMemory
 
--- of one that hadn't failed: `Read` is answered where the source failed in this call, at the octet that was needed next, and nowhere else
+-- of one that hadn't failed: `Read` is answered where the source failed in this call, at the octet that was
+-- needed next, and nowhere else
 abbrev pub ReadsFail : {R : Type 0} {s : Ghosts R} {A : Type 0} → Pull R s → Pull R s → Result A ReadError → Type 0
 ReadsFail old new result = old.state.error ≡ None → IfErr result (IsReadFailure (source_failed new) new.state.taken)
 
@@ -74,11 +76,14 @@ Answers old new p h = Hears p old.state.taken (told old) h new.state.taken (told
 -- octets were taken, and on an error it has failed with it; nothing else of the standing changed
 abbrev pub Moves : {R : Type 0} {s : Ghosts R} {A : Type 0} → Pull R s → Pull R s → Result A ReadError → Type 0
 Moves old new result =
-    MatchResult result (λ _. new.state ≡ moved new.state.taken old.state) (λ e. new.state ≡ failed_with e (moved new.state.taken old.state))
+    MatchResult result (λ _. new.state ≡ moved new.state.taken old.state)
+    (λ e. new.state ≡ failed_with e (moved new.state.taken old.state))
 
--- of one that hadn't failed: on an error it has failed with it, and but for octets that were taken all is as it was, what is given and what is open
+-- of one that hadn't failed: on an error it has failed with it, and but for octets that were taken all is as it was,
+-- what is given and what is open
 abbrev pub FailsThere : {R : Type 0} {s : Ghosts R} {A : Type 0} → Pull R s → Pull R s → Result A ReadError → Type 0
-FailsThere old new result = old.state.error ≡ None → IfErr result (λ e. new.state ≡ failed_with e (moved new.state.taken old.state))
+FailsThere old new result =
+    old.state.error ≡ None → IfErr result (λ e. new.state ≡ failed_with e (moved new.state.taken old.state))
 
 -- the element that was given is read
 abbrev pub Uses : {R : Type 0} {s : Ghosts R} → Pull R s → Pull R s → Type 0

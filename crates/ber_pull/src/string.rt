@@ -128,8 +128,8 @@ impl<R: Source> Pull<'_, R> {
         Ok(joined.octets)
     }
 
-    /// The same, in place of what the vector holds: for a primitive string its room is used again. What the vector holds
-    /// after an error isn't said.
+    /// The same, in place of what the vector holds: for a primitive string its room is used again. What the vector
+    /// holds after an error isn't said.
     pub fn octets_into(&mut self, alloc: Global, octets: &mut Vec<u8>) -> Result<(), ReadError>
         requires { (standing self.old).error ≡ None → IsSome (standing self.old).given }
         ensures same_source { SameSource self.old self.new }
@@ -217,8 +217,12 @@ impl<R: Source> Pull<'_, R> {
         requires inside { 0 < length (standing self.old).containers }
         requires depth { length (standing self.old).containers ≤ (standing self.old).limits.depth }
         ensures same_source { SameSource self.old self.new }
-        ensures reads { (around : List Container) (v : Level) (vs : List Level) (s : List (List ℕ)) → Stacked (standing self.old) around (v ∷ vs) (standing self.old).containers → Joins joined.old s →
-            Steps self.old self.new around (segment_number joined.old.is_bits) (read_rest (segment_number joined.old.is_bits) (standing self.old).limits (v ∷ vs) s) joined.new result }
+        ensures reads { (around : List Container) (v : Level) (vs : List Level) (s : List (List ℕ))
+            → Stacked (standing self.old) around (v ∷ vs) (standing self.old).containers
+            → Joins joined.old s
+            → Steps self.old self.new around (segment_number joined.old.is_bits)
+            (read_rest (segment_number joined.old.is_bits) (standing self.old).limits (v ∷ vs) s)
+            joined.new result }
         ensures kind { joined.new.is_bits ≡ joined.old.is_bits }
         ensures stands { OnOk result (standing self.new
             ≡ among (standing self.new) (standing self.old)) }

@@ -47,7 +47,8 @@ abbrev there : List Value → Bool
 there vs = not (length {A = Value} (with_tag one vs) == 0)
 
 passed : (v : Value) (vs : List Value) → same_tag one (value_tag v) ≡ false → there (v ∷ vs) ≡ there vs
-passed v vs e = ap (λ b. not (length {A = Value} (elim b [ true ↦ v ∷ with_tag one vs | false ↦ with_tag one vs ]) == 0)) e
+passed v vs e =
+    ap (λ b. not (length {A = Value} (elim b [ true ↦ v ∷ with_tag one vs | false ↦ with_tag one vs ]) == 0)) e
 
 met : (v : Value) → same_tag one (value_tag v) ≡ true → there (v ∷ []) ≡ true
 met v e = ap (λ b. not (length {A = Value} (elim b [ true ↦ v ∷ [] | false ↦ [] ]) == 0)) e
@@ -58,41 +59,57 @@ key_elsewhere t e = subst (λ u. same_tag one u ≡ false) (same_tag_is (univers
 
 module _ {A P : Type 0} (f : A → Value) (g : P → Value) (number : ℕ) (algorithm : Values) (k : Value) where
   abbrev fields : Option A → Option P → List Value
-  fields a p = (((Leaf (universal 2) (number ∷ []) ∷ Sequence (universal 16) algorithm ∷ []) ++ (k ∷ [])) ++ with_field (option_map f a) []) ++ with_field (option_map g p) []
+  fields a p =
+      (((Leaf (universal 2) (number ∷ []) ∷ Sequence (universal 16) algorithm ∷ []) ++ (k ∷ []))
+      ++ with_field (option_map f a) [])
+      ++ with_field (option_map g p) []
 
   abbrev is_0 : Bool
   is_0 = one_of (number ∷ []) ((0 ∷ []) ∷ [])
 
-  there_is : ((x : A) → same_tag one (value_tag (f x)) ≡ false) → same_tag one (value_tag k) ≡ false → (a : Option A) (p : Option P) → fits_one public_key (option_map g p) ≡ true → there (k ∷ (with_field (option_map f a) [] ++ with_field (option_map g p) [])) ≡ is_some p
+  there_is : ((x : A) → same_tag one (value_tag (f x)) ≡ false) → same_tag one (value_tag k) ≡ false
+      → (a : Option A) (p : Option P) → fits_one public_key (option_map g p) ≡ true
+      → there (k ∷ (with_field (option_map f a) [] ++ with_field (option_map g p) [])) ≡ is_some p
   there_is off e None None h = passed k [] e
   there_is off e None (Some y) h = passed k (g y ∷ []) e ∙ met (g y) (any_of_two _ h)
   there_is off e (Some x) None h = passed k (f x ∷ []) e ∙ passed (f x) [] (off x)
-  there_is off e (Some x) (Some y) h = passed k (f x ∷ g y ∷ []) e ∙ passed (f x) (g y ∷ []) (off x) ∙ met (g y) (any_of_two _ h)
+  there_is off e (Some x) (Some y) h =
+      passed k (f x ∷ g y ∷ []) e ∙ passed (f x) (g y ∷ []) (off x) ∙ met (g y) (any_of_two _ h)
 
-  rule_is : (a : Option A) (p : Option P) → key_version_rule [] (Sequence (universal 16) (values_of (fields a p))) ≡ else_refused (is_0 || there (k ∷ (with_field (option_map f a) [] ++ with_field (option_map g p) []))) VersionRule
+  rule_is : (a : Option A) (p : Option P)
+      → key_version_rule [] (Sequence (universal 16) (values_of (fields a p)))
+      ≡ else_refused
+      (is_0 || there (k ∷ (with_field (option_map f a) [] ++ with_field (option_map g p) []))) VersionRule
   unfolding leaf_at
   rule_is None None = refl
   rule_is None (Some y) = refl
   rule_is (Some x) None = refl
   rule_is (Some x) (Some y) = refl
 
-  pub version_judged : ((x : A) → same_tag one (value_tag (f x)) ≡ false) → (head others : Bool) (a : Option A) (p : Option P) (b c : Bool)
+  pub version_judged : ((x : A) → same_tag one (value_tag (f x)) ≡ false)
+      → (head others : Bool) (a : Option A) (p : Option P) (b c : Bool)
       → (((head && may_begin private_key (value_tag k)) && others) && fits_one public_key (option_map g p)) ≡ true
-      → one_of (number ∷ []) ((0 ∷ []) ∷ []) ≡ b → is_some p ≡ c → key_version_rule [] (Sequence (universal 16) (values_of (fields a p))) ≡ else_refused (b || c) VersionRule
+      → one_of (number ∷ []) ((0 ∷ []) ∷ []) ≡ b → is_some p ≡ c
+      → key_version_rule [] (Sequence (universal 16) (values_of (fields a p))) ≡ else_refused (b || c) VersionRule
   version_judged off head others a p b c known e h =
       let first : ((head && may_begin private_key (value_tag k)) && others) ≡ true = both_first _ _ known in
       let begins : may_begin private_key (value_tag k) ≡ true = both_second head _ (both_first _ _ first) in
       let elsewhere = key_elsewhere (value_tag k) (any_of_four _ begins) in
-      rule_is a p ∙ ap (λ z. else_refused (is_0 || z) VersionRule) (there_is off elsewhere a p (both_second ((head && may_begin private_key (value_tag k)) && others) _ known))
+      rule_is a p
+      ∙ ap (λ z. else_refused (is_0 || z) VersionRule)
+      (there_is off elsewhere a p (both_second ((head && may_begin private_key (value_tag k)) && others) _ known))
       ∙ ap (λ z. else_refused (z || is_some p) VersionRule) e ∙ ap (λ z. else_refused (b || z) VersionRule) h
 
-  pub version_passes : ((x : A) → same_tag one (value_tag (f x)) ≡ false) → (head others : Bool) (a : Option A) (p : Option P)
+  pub version_passes : ((x : A) → same_tag one (value_tag (f x)) ≡ false)
+      → (head others : Bool) (a : Option A) (p : Option P)
       → (((head && may_begin private_key (value_tag k)) && others) && fits_one public_key (option_map g p)) ≡ true
       → key_version_rule [] (Sequence (universal 16) (values_of (fields a p))) ≡ None → (is_0 || is_some p) ≡ true
-  version_passes off head others a p known judged = passes_where _ (sym (version_judged off head others a p is_0 (is_some p) known refl refl) ∙ judged)
+  version_passes off head others a p known judged =
+      passes_where _ (sym (version_judged off head others a p is_0 (is_some p) known refl refl) ∙ judged)
 
 -- a number that is 0 or 1, by whether it is 0
-pub is_1 : (number : ℕ) → one_of (number ∷ []) ((0 ∷ []) ∷ (1 ∷ []) ∷ []) ≡ true → not (one_of (number ∷ []) ((0 ∷ []) ∷ [])) ≡ (number == 1)
+pub is_1 : (number : ℕ) → one_of (number ∷ []) ((0 ∷ []) ∷ (1 ∷ []) ∷ []) ≡ true
+    → not (one_of (number ∷ []) ((0 ∷ []) ∷ [])) ≡ (number == 1)
 is_1 number e = grind (arith, nat_tests)
 
 absent : (b : Bool) → (b || false) ≡ true → false ≡ not b
@@ -108,13 +125,16 @@ module _ {X Y : Type 0} (first : X → Bool) (second : Y → Bool) (bits : Y →
   abbrev pub seen : Either X Y → Option Bits
   seen e = elim e [ First x ↦ None | Second y ↦ Some (bits y) ]
 
-  pub seen_by_version : (is_0 : Bool) (e : Either X Y) → suits_as is_0 first second e ≡ true → is_some (seen e) ≡ not is_0
+  pub seen_by_version : (is_0 : Bool) (e : Either X Y) → suits_as is_0 first second e ≡ true
+      → is_some (seen e) ≡ not is_0
   seen_by_version true (First x) h = refl
   seen_by_version false (First x) h = cc
   seen_by_version true (Second y) h = cc
   seen_by_version false (Second y) h = refl
 
-pub stands_by : (is_0 : Bool) (suits : PublicKey → Bool) (field : Option PublicKey) → suits_where_there suits field ≡ true → ((key : PublicKey) → suits key ≡ true → is_some (bits_in key) ≡ not is_0) → (is_0 || is_some field) ≡ true
+pub stands_by : (is_0 : Bool) (suits : PublicKey → Bool) (field : Option PublicKey)
+    → suits_where_there suits field ≡ true → ((key : PublicKey) → suits key ≡ true → is_some (bits_in key) ≡ not is_0)
+    → (is_0 || is_some field) ≡ true
     → is_some (bits_of field) ≡ not is_0
 stands_by first suits None h tells passes = absent first passes
 stands_by first suits (Some key) h tells passes = tells key h

@@ -130,7 +130,8 @@ impl FieldsText for KeyHead {
 
     ghost begins = { λ x. ⟦<(Due<Version<0, 1>>, Due<KeyAlgorithm>) as FieldsText>⟧.begins x.0 };
 
-    ghost tells = { λ x y. ⟦<(Due<Version<0, 1>>, Due<KeyAlgorithm>) as FieldsText>⟧.tells x.0 y.0 };
+    ghost tells = { λ x y.
+        ⟦<(Due<Version<0, 1>>, Due<KeyAlgorithm>) as FieldsText>⟧.tells x.0 y.0 };
 
     fn size(&self) -> u64 {
         self.0.size()

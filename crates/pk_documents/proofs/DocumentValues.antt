@@ -11,9 +11,13 @@ use Rattle.pk_documents.specs.Documents.{value_by}
 use Rattle.pk_documents.specs.declared.document.Document.{Document}
 
 abbrev pub valued : Document → Value
-valued document = value_by key_text.value-value.it ec_text.value-value.it request_text.value-value.it public_text.value-value.it encrypted_text.value-value.it package_text.value-value.it document
+valued document =
+    value_by key_text.value-value.it ec_text.value-value.it request_text.value-value.it public_text.value-value.it
+    encrypted_text.value-value.it package_text.value-value.it document
 
-pub same_as : {D K : Type 0} (kind : D → K) (value : D → Value) (x y x' y' : D) (b : Bool) → x ≡ x' → y ≡ y' → kind x' ≡ kind y' → IsTrue b ↔ Same (value x') (value y') → IsTrue b ↔ ((kind x ≡ kind y) × Same (value x) (value y))
+pub same_as : {D K : Type 0} (kind : D → K) (value : D → Value) (x y x' y' : D) (b : Bool) → x ≡ x' → y ≡ y'
+    → kind x' ≡ kind y' → IsTrue b ↔ Same (value x') (value y')
+    → IsTrue b ↔ ((kind x ≡ kind y) × Same (value x) (value y))
 same_as kind value x y x' y' b e f k h =
     subst (λ z. IsTrue b ↔ ((kind z ≡ kind y) × Same (value z) (value y))) (sym e)
     (subst (λ z. IsTrue b ↔ ((kind x' ≡ kind z) × Same (value x') (value z))) (sym f) (λ t. (k, h.0 t), λ p. h.1 p.1))

@@ -14,7 +14,8 @@ nothing_stands : (text : List ℕ) → StandsIn [] text
 nothing_stands text = ([], text, refl)
 
 -- What stands in a middle part stands in the whole.
-stands_inside : (part mid text front back : List ℕ) → StandsIn part mid → text ≡ front ++ (mid ++ back) → StandsIn part text
+stands_inside : (part mid text front back : List ℕ) → StandsIn part mid → text ≡ front ++ (mid ++ back)
+    → StandsIn part text
 stands_inside part mid text front back s is = (
   front ++ s.0,
   s.1 ++ back,
@@ -25,26 +26,32 @@ stands_inside part mid text front back s is = (
 )
 
 -- the contents of an element
-contents_stand : (part contents : List ℕ) (tag : Tag) (b : _) → StandsIn part contents → StandsIn part (der_element tag b contents)
+contents_stand : (part contents : List ℕ) (tag : Tag) (b : _) → StandsIn part contents
+    → StandsIn part (der_element tag b contents)
 unfolding der_element
 contents_stand part contents tag b s =
     stands_inside part contents _ (identifier tag b ++ shortest_length (length contents)) [] s
-    (ap (λ c. identifier tag b ++ (shortest_length (length contents) ++ c)) (sym (append-nil contents)) ∙ sym (append_assoc (identifier tag b) (shortest_length (length contents)) (contents ++ [])))
+    (ap (λ c. identifier tag b ++ (shortest_length (length contents) ++ c)) (sym (append-nil contents))
+    ∙ sym (append_assoc (identifier tag b) (shortest_length (length contents)) (contents ++ [])))
 
 -- a part of a member, where that stands
-member_stands : (f : Value → List ℕ) → ((v : Value) → StandsIn (f v) (der v)) → (i : ℕ) (values : Values) → StandsIn (option_map_or f (slice_get (members values) i) []) (join (der_texts values))
+member_stands : (f : Value → List ℕ) → ((v : Value) → StandsIn (f v) (der v)) → (i : ℕ) (values : Values)
+    → StandsIn (option_map_or f (slice_get (members values) i) []) (join (der_texts values))
 unfolding der
 member_stands f stand i NoMembers = nothing_stands _
-member_stands f stand zero (FirstMember v values) = stands_inside (f v) (der v) _ [] (join (der_texts values)) (stand v) refl
+member_stands f stand zero (FirstMember v values) =
+    stands_inside (f v) (der v) _ [] (join (der_texts values)) (stand v) refl
 member_stands f stand (suc i) (FirstMember v values) =
-    stands_inside _ (join (der_texts values)) _ (der v) [] (member_stands f stand i values) (ap (λ t. der v ++ t) (sym (append-nil (join (der_texts values)))))
+    stands_inside _ (join (der_texts values)) _ (der v) [] (member_stands f stand i values)
+    (ap (λ t. der v ++ t) (sym (append-nil (join (der_texts values)))))
 
 text_stands : (path : List ℕ) (v : Value) → StandsIn (text_at path v) (der v)
 unfolding der
 text_stands [] v = ([], [], sym (append-nil (der v)))
 text_stands (i ∷ path) (Leaf tag contents) = nothing_stands _
 text_stands (i ∷ path) (SetOf tag values) = nothing_stands _
-text_stands (i ∷ path) (Sequence tag values) = contents_stand _ (join (der_texts values)) tag true (member_stands (text_at path) (text_stands path) i values)
+text_stands (i ∷ path) (Sequence tag values) =
+    contents_stand _ (join (der_texts values)) tag true (member_stands (text_at path) (text_stands path) i values)
 
 -- contents without their first octet
 behind_first : (contents : List ℕ) → StandsIn (drop 1 contents) contents
@@ -57,7 +64,8 @@ octets_stand (Leaf tag contents) = contents_stand _ contents tag _ (behind_first
 octets_stand (Sequence tag values) = nothing_stands _
 octets_stand (SetOf tag values) = nothing_stands _
 
-leaf_octets : (i : ℕ) (values : List Value) → option_map_or (λ v. drop 1 (leaf_contents v)) (slice_get values i) [] ≡ drop 1 (leaf_at (i ∷ []) values)
+leaf_octets : (i : ℕ) (values : List Value)
+    → option_map_or (λ v. drop 1 (leaf_contents v)) (slice_get values i) [] ≡ drop 1 (leaf_at (i ∷ []) values)
 unfolding leaf_at
 leaf_octets i [] = refl
 leaf_octets zero (v ∷ values) = refl
@@ -65,11 +73,14 @@ leaf_octets (suc i) (v ∷ values) = leaf_octets i values
 
 signature_stands : (v : Value) → StandsIn (drop 1 (leaf_at (2 ∷ []) (sequence_members v))) (der v)
 unfolding der
-signature_stands (Leaf tag contents) = subst (λ p. StandsIn p (der (Leaf tag contents))) (leaf_octets 2 []) (nothing_stands _)
-signature_stands (SetOf tag values) = subst (λ p. StandsIn p (der (SetOf tag values))) (leaf_octets 2 []) (nothing_stands _)
+signature_stands (Leaf tag contents) =
+    subst (λ p. StandsIn p (der (Leaf tag contents))) (leaf_octets 2 []) (nothing_stands _)
+signature_stands (SetOf tag values) =
+    subst (λ p. StandsIn p (der (SetOf tag values))) (leaf_octets 2 []) (nothing_stands _)
 signature_stands (Sequence tag values) =
     subst (λ p. StandsIn p (der (Sequence tag values))) (leaf_octets 2 (members values))
-    (contents_stand _ (join (der_texts values)) tag true (member_stands (λ v. drop 1 (leaf_contents v)) octets_stand 2 values))
+    (contents_stand _ (join (der_texts values)) tag true
+    (member_stands (λ v. drop 1 (leaf_contents v)) octets_stand 2 values))
 
 pub part_stands : (part : Part) (v : Value) → StandsIn (part_of part v) (der v)
 part_stands Info v = text_stands (0 ∷ []) v

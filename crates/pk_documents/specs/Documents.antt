@@ -20,7 +20,8 @@ kind_of (documents.Encrypted key) = kinds.Encrypted
 kind_of (documents.Package keys) = kinds.Package
 
 -- by the values of what stands in it
-abbrev pub value_by : (OneAsymmetricKey → Value) → (EcPrivateKey → Value) → (CertificationRequest → Value) → (SubjectPublicKeyInfo → Value) → (EncryptedKey → Value) → (KeyPackage → Value) → Document → Value
+abbrev pub value_by : (OneAsymmetricKey → Value) → (EcPrivateKey → Value) → (CertificationRequest → Value)
+    → (SubjectPublicKeyInfo → Value) → (EncryptedKey → Value) → (KeyPackage → Value) → Document → Value
 value_by key ec request public encrypted keys (documents.Key it) = key it
 value_by key ec request public encrypted keys (documents.Ec it) = ec it
 value_by key ec request public encrypted keys (documents.Request it) = request it

@@ -14,19 +14,23 @@ module _ {A B : Type 0} (f : A → List ℕ) (g : B → List ℕ) (number key : 
   ec_key o p =
       Sequence (universal 16) (values_of (Leaf (universal 2) number ∷ Leaf (universal 4) key
       ∷ (with_field (option_map (λ a. Sequence (context_specific 0) (values_of (Leaf (universal 6) (f a) ∷ []))) o) []
-      ++ with_field (option_map (λ b. Sequence (context_specific 1) (values_of (Leaf (universal 3) (g b) ∷ []))) p) [])))
+      ++ with_field
+      (option_map (λ b. Sequence (context_specific 1) (values_of (Leaf (universal 3) (g b) ∷ []))) p) [])))
 
-  pub ec_rule_is : (o : Option A) (p : Option B) → ec_rule [] (ec_key o p) ≡ else_refused (has_length (named_length (option_map f o)) (length key)) KeyLength
+  pub ec_rule_is : (o : Option A) (p : Option B)
+      → ec_rule [] (ec_key o p) ≡ else_refused (has_length (named_length (option_map f o)) (length key)) KeyLength
   unfolding leaf_at
   ec_rule_is None None = refl
   ec_rule_is None (Some b) = refl
   ec_rule_is (Some a) None = refl
   ec_rule_is (Some a) (Some b) = refl
 
-  pub ec_judged : (o : Option A) (p : Option B) (b : Bool) → has_length (named_length (option_map f o)) (length key) ≡ b → ec_rule [] (ec_key o p) ≡ else_refused b KeyLength
+  pub ec_judged : (o : Option A) (p : Option B) (b : Bool) → has_length (named_length (option_map f o)) (length key) ≡ b
+      → ec_rule [] (ec_key o p) ≡ else_refused b KeyLength
   ec_judged o p b e = ec_rule_is o p ∙ ap (λ b. else_refused b KeyLength) e
 
-  pub ec_fits : (o : Option A) (p : Option B) → ec_rule [] (ec_key o p) ≡ None → has_length (named_length (option_map f o)) (length key) ≡ true
+  pub ec_fits : (o : Option A) (p : Option B) → ec_rule [] (ec_key o p) ≡ None
+      → has_length (named_length (option_map f o)) (length key) ≡ true
   ec_fits o p e = go (has_length (named_length (option_map f o)) (length key)) (sym (ec_rule_is o p) ∙ e)
     where
       go : (b : Bool) → else_refused b KeyLength ≡ None → b ≡ true

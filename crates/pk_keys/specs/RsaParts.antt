@@ -18,4 +18,5 @@ rsa_numbers_of it = numbers_of it.0.value.fields.0.earlier.1
 
 -- otherPrimeInfos, none where they aren't there
 abbrev pub other_primes_of : RsaPrivateKey → List OtherPrimeInfo
-other_primes_of it = other_primes (λ list. list_items list.0.items) (option_map (λ others. others.0.value) it.0.value.fields.0.field)
+other_primes_of it =
+    other_primes (λ list. list_items list.0.items) (option_map (λ others. others.0.value) it.0.value.fields.0.field)

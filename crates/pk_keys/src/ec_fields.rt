@@ -54,7 +54,8 @@ impl EcFields {
 
 impl FieldsText for EcFields {
     ghost types = { λ rest. Required (version_type ((1 ∷ []) ∷ [])) (Required octet_string
-        (OptionalType (explicit 0 object_identifier) (OptionalType (explicit 1 bit_string) rest))) };
+        (OptionalType (explicit 0 object_identifier)
+        (OptionalType (explicit 1 bit_string) rest))) };
 
     ghost most = { 4 };
 

@@ -78,16 +78,17 @@ impl FieldsText for RsaFields {
 
     ghost most = { 10 };
 
-    ghost values = { λ fields. ⟦<OptionalDependent<VersionAndNumbers, OtherPrimes> as FieldsText>⟧.values
-        fields.0 };
+    ghost values = { λ fields.
+        ⟦<OptionalDependent<VersionAndNumbers, OtherPrimes> as FieldsText>⟧.values fields.0 };
 
-    ghost known = { λ fields. ⟦<OptionalDependent<VersionAndNumbers, OtherPrimes> as FieldsText>⟧.known
-        fields.0 };
+    ghost known = { λ fields.
+        ⟦<OptionalDependent<VersionAndNumbers, OtherPrimes> as FieldsText>⟧.known fields.0 };
 
-    ghost begins = { λ x. ⟦<OptionalDependent<VersionAndNumbers, OtherPrimes> as FieldsText>⟧.begins x.0 };
+    ghost begins = { λ x.
+        ⟦<OptionalDependent<VersionAndNumbers, OtherPrimes> as FieldsText>⟧.begins x.0 };
 
-    ghost tells = { λ x y. ⟦<OptionalDependent<VersionAndNumbers, OtherPrimes> as FieldsText>⟧.tells x.0
-        y.0 };
+    ghost tells = { λ x y.
+        ⟦<OptionalDependent<VersionAndNumbers, OtherPrimes> as FieldsText>⟧.tells x.0 y.0 };
 
     fn size(&self) -> u64 {
         self.0.size()

@@ -62,7 +62,8 @@ impl Fields for Two {
 pub struct Four(pub (Two, Two));
 
 impl FieldsText for Four {
-    ghost types = { λ rest. Required integer (Required integer (Required integer (Required integer rest))) };
+    ghost types = { λ rest.
+        Required integer (Required integer (Required integer (Required integer rest))) };
 
     ghost most = { 4 };
 

@@ -91,7 +91,8 @@ impl RsaPrivateKey {
 impl DerText for RsaPrivateKey {
     ghost value = { λ x. ⟦<Ruled<Record<RsaKeyForm>, RsaKeyForm> as DerText>⟧.value x.0 };
 
-    ghost one_text = { λ x y. ⟦<Ruled<Record<RsaKeyForm>, RsaKeyForm> as DerText>⟧.one_text x.0 y.0 };
+    ghost one_text = { λ x y.
+        ⟦<Ruled<Record<RsaKeyForm>, RsaKeyForm> as DerText>⟧.one_text x.0 y.0 };
 
     fn size(&self) -> u64 {
         self.0.size()

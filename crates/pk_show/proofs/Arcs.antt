@@ -7,7 +7,8 @@ use Rattle.tlv_core.proofs.Base128.{IsRun, base128_run, base128_value, run_value
 use Rattle.pk_show.specs.Texts.{arcs_by, arcs_of, dotted, subidentifiers}
 
 -- a run of octets that bit 8 joins is one subidentifier
-run_first : (high : ℕ) (run rest : List ℕ) → IsRun run → subidentifiers high (run ++ rest) ≡ run_value high run ∷ subidentifiers 0 rest
+run_first : (high : ℕ) (run rest : List ℕ) → IsRun run
+    → subidentifiers high (run ++ rest) ≡ run_value high run ∷ subidentifiers 0 rest
 run_first high [] rest h = absurd h
 run_first high (x ∷ []) rest h =
     let t : nat_lt x 128 ≡ true = grind (arith, nat_tests) in
@@ -17,7 +18,9 @@ run_first high (x ∷ []) rest h =
 run_first high (x ∷ y ∷ run) rest h =
     let t : nat_lt x 128 ≡ false = let l : 128 ≤ x = h.0 in grind (arith, nat_tests) in
     let e : x - 128 ≡ x % 128 = let l : 128 ≤ x = h.0 in let m : x < 256 = h.1 in omega arith in
-    ap (λ b. cond b ((high * 128 + x) ∷ subidentifiers 0 ((y ∷ run) ++ rest)) (subidentifiers (high * 128 + (x - 128)) ((y ∷ run) ++ rest))) t
+    ap (λ b.
+    cond b ((high * 128 + x) ∷ subidentifiers 0 ((y ∷ run) ++ rest))
+    (subidentifiers (high * 128 + (x - 128)) ((y ∷ run) ++ rest))) t
     ∙ ap (λ n. subidentifiers (high * 128 + n) ((y ∷ run) ++ rest)) e
     ∙ run_first (high * 128 + x % 128) (y ∷ run) rest h.2
 
@@ -52,12 +55,15 @@ abbrev pub behind_stops : List ℕ → List ℕ
 behind_stops arcs = flat_map (λ next. codes "." ++ decimal next) arcs
 
 -- the text so far, and the next arc behind it
-pub next_arc_text : (old arcs : List ℕ) (n : ℕ) → (old ++ (codes "." ++ decimal n)) ++ behind_stops arcs ≡ old ++ behind_stops (n ∷ arcs)
+pub next_arc_text : (old arcs : List ℕ) (n : ℕ)
+    → (old ++ (codes "." ++ decimal n)) ++ behind_stops arcs ≡ old ++ behind_stops (n ∷ arcs)
 next_arc_text old arcs n = append_assoc old (codes "." ++ decimal n) (behind_stops arcs)
 
 -- the first two arcs and those behind them
-pub first_arcs_text : (old arcs : List ℕ) (x y : ℕ) → ((old ++ decimal x) ++ (codes "." ++ decimal y)) ++ behind_stops arcs ≡ old ++ dotted (x ∷ y ∷ arcs)
-first_arcs_text old arcs x y = next_arc_text (old ++ decimal x) arcs y ∙ append_assoc old (decimal x) (behind_stops (y ∷ arcs))
+pub first_arcs_text : (old arcs : List ℕ) (x y : ℕ)
+    → ((old ++ decimal x) ++ (codes "." ++ decimal y)) ++ behind_stops arcs ≡ old ++ dotted (x ∷ y ∷ arcs)
+first_arcs_text old arcs x y =
+    next_arc_text (old ++ decimal x) arcs y ∙ append_assoc old (decimal x) (behind_stops (y ∷ arcs))
 
 not_some : (n : ℕ) → None ≡ Some n → ⊥
 not_some n h = cc

@@ -41,7 +41,8 @@ use Rattle.pk_show.specs.Texts.{hex_text, oid_text}
 
 -- An AlgorithmIdentifier, by these labels.
 unfoldable pub algorithm_lines : List ℕ → List ℕ → AlgorithmIdentifier → List ℕ
-algorithm_lines label parameters_label it = line label (oid_text (algorithm_of it)) ++ line parameters_label (parameters_text (parameters_of it))
+algorithm_lines label parameters_label it =
+    line label (oid_text (algorithm_of it)) ++ line parameters_label (parameters_text (parameters_of it))
 
 -- one value of an attribute
 unfoldable pub value_line : Any → List ℕ
@@ -65,7 +66,8 @@ extension_line it =
 
 -- one value of extensionRequest
 unfoldable pub extensions_lines : List Extension → List ℕ
-extensions_lines extensions = line (codes "  extensions: ") (decimal (length extensions)) ++ flat_map extension_line extensions
+extensions_lines extensions =
+    line (codes "  extensions: ") (decimal (length extensions)) ++ flat_map extension_line extensions
 
 -- an attribute of this type by its values
 unfoldable pub values_lines : List ℕ → Either (List (List Extension)) (List Any) → List ℕ
@@ -79,7 +81,8 @@ request_attribute_lines it = values_lines (request_attribute_type_of it) (values
 -- attributes in the order of their texts, each by its lines
 unfoldable pub attributes_lines : {A : Type 0} → (A → List ℕ) → Option (List A) → List ℕ
 attributes_lines lines None = line (codes "attributes: ") (codes "absent")
-attributes_lines lines (Some attributes) = line (codes "attributes: ") (decimal (length attributes)) ++ flat_map lines attributes
+attributes_lines lines (Some attributes) =
+    line (codes "attributes: ") (decimal (length attributes)) ++ flat_map lines attributes
 
 -- An AttributeTypeAndValue.
 unfoldable pub item_line : NameItem → List ℕ
@@ -107,10 +110,13 @@ ec_lines key_label curve_label public_key_label it =
 
 -- what a privateKey contains: an ECPrivateKey, a CurvePrivateKey, an RSAPrivateKey, or carried octets
 unfoldable pub private_key_lines : AnyKey → List ℕ
-private_key_lines (First key) = ec_lines (codes "private key: ec, ") (codes "inner curve: ") (codes "inner public key: ") key
-private_key_lines (Second (First key)) = octets_line (codes "private key: curve, ") (length (octets_of (curve_key_of key)))
+private_key_lines (First key) =
+    ec_lines (codes "private key: ec, ") (codes "inner curve: ") (codes "inner public key: ") key
+private_key_lines (Second (First key)) =
+    octets_line (codes "private key: curve, ") (length (octets_of (curve_key_of key)))
 private_key_lines (Second (Second (First key))) = octets_line (codes "private key: rsa, ") (length (rsa_key_text key))
-private_key_lines (Second (Second (Second octets))) = octets_line (codes "private key: carried, ") (length (octets_of octets))
+private_key_lines (Second (Second (Second octets))) =
+    octets_line (codes "private key: carried, ") (length (octets_of octets))
 
 -- A OneAsymmetricKey.
 unfoldable pub key_lines : OneAsymmetricKey → List ℕ
@@ -143,7 +149,8 @@ encrypted_lines it =
 
 -- An AsymmetricKeyPackage.
 unfoldable pub package_lines : KeyPackage → List ℕ
-package_lines it = line (codes "keys: ") (decimal (length (list_items (keys_of it)))) ++ flat_map key_lines (list_items (keys_of it))
+package_lines it =
+    line (codes "keys: ") (decimal (length (list_items (keys_of it)))) ++ flat_map key_lines (list_items (keys_of it))
 
 -- A document: its kind, and the lines of what it is.
 abbrev pub document_lines : Document → List ℕ

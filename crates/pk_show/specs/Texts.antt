@@ -10,11 +10,13 @@ abbrev pub hex_text : List ℕ → List ℕ
 hex_text [] = codes "-"
 hex_text (octet ∷ octets) = encode_lower (octet ∷ octets)
 
--- The numbers of subidentifiers: each octet tells 7 bits more, and bit 8 is set on all but the last one of each (X.690 8.19.2).
+-- The numbers of subidentifiers: each octet tells 7 bits more, and bit 8 is set on all but the last
+-- one of each (X.690 8.19.2).
 abbrev pub subidentifiers : ℕ → List ℕ → List ℕ
 subidentifiers high [] = []
 subidentifiers high (octet ∷ octets) =
-    cond (nat_lt octet 128) ((high * 128 + octet) ∷ subidentifiers 0 octets) (subidentifiers (high * 128 + (octet - 128)) octets)
+    cond (nat_lt octet 128) ((high * 128 + octet) ∷ subidentifiers 0 octets)
+    (subidentifiers (high * 128 + (octet - 128)) octets)
 
 -- The first subidentifier tells two arcs, 40 times the first one, which is at most 2, and the second one (8.19.4).
 abbrev pub arcs_by : List ℕ → List ℕ

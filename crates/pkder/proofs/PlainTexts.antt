@@ -21,10 +21,12 @@ pub plain_none : (text : Text) → AppendsPlain text text
 plain_none text = ([], sym (append-nil text), All-nil Printable)
 
 pub plain_then : (a b c : Text) → AppendsPlain a b → AppendsPlain b c → AppendsPlain a c
-plain_then a b c h k = (h.0 ++ k.0, k.1 ∙ ap (λ t. t ++ k.0) h.1 ∙ append_assoc a h.0 k.0, All-append Printable h.0 k.0 h.2 k.2)
+plain_then a b c h k =
+    (h.0 ++ k.0, k.1 ∙ ap (λ t. t ++ k.0) h.1 ∙ append_assoc a h.0 k.0, All-append Printable h.0 k.0 h.2 k.2)
 
 pub plain_char : (a b : Text) (c : ℕ) → Printable c → b ≡ a ++ encode_utf8 c → AppendsPlain a b
-plain_char a b c h e = (c ∷ [], e ∙ ap (λ t. a ++ t) (encode_ascii c (omega (arith, h.1))), All-cons Printable c [] h (All-nil Printable))
+plain_char a b c h e =
+    (c ∷ [], e ∙ ap (λ t. a ++ t) (encode_ascii c (omega (arith, h.1))), All-cons Printable c [] h (All-nil Printable))
 
 -- the first of what is still to come, and the others
 pub plain_first : (xs ys : Text) (x : ℕ) → xs ≡ x ∷ ys → IsPlain xs → Printable x
@@ -43,16 +45,21 @@ both : {X : Type 0} (P : X → Type 0) (b : Bool) (x y : X) → P x → P y → 
 both P b x y h k = either P b x y (λ e. h) (λ e. k)
 
 digit_plain : (d : ℕ) → d < 16 → Printable (digit_char d)
-digit_plain d small = both Printable (nat_lt d 10) (48 + d) (87 + d) (omega arith, omega arith) (omega arith, omega arith)
+digit_plain d small =
+    both Printable (nat_lt d 10) (48 + d) (87 + d) (omega arith, omega arith) (omega arith, omega arith)
 
 hexes_plain : (places : List ℕ) (c : ℕ) → IsPlain (map (λ p. hex_digit_at p c) places ++ (125 ∷ []))
 hexes_plain [] c = All-cons Printable 125 [] (omega arith, omega arith) (All-nil Printable)
-hexes_plain (p ∷ places) c = All-cons Printable (hex_digit_at p c) _ (digit_plain _ (mod_below _ 16 (omega arith))) (hexes_plain places c)
+hexes_plain (p ∷ places) c =
+    All-cons Printable (hex_digit_at p c) _ (digit_plain _ (mod_below _ 16 (omega arith))) (hexes_plain places c)
 
-code_plain : (places : List ℕ) (c : ℕ) → IsPlain (backslash ∷ 117 ∷ 123 ∷ (map (λ p. hex_digit_at p c) places ++ (125 ∷ [])))
+code_plain : (places : List ℕ) (c : ℕ)
+    → IsPlain (backslash ∷ 117 ∷ 123 ∷ (map (λ p. hex_digit_at p c) places ++ (125 ∷ [])))
 code_plain places c =
     let hexes : List ℕ = map (λ p. hex_digit_at p c) places ++ (125 ∷ []) in
-    All-cons Printable 92 (117 ∷ 123 ∷ hexes) (omega arith, omega arith) (All-cons Printable 117 (123 ∷ hexes) (omega arith, omega arith) (All-cons Printable 123 hexes (omega arith, omega arith) (hexes_plain places c)))
+    All-cons Printable 92 (117 ∷ 123 ∷ hexes) (omega arith, omega arith)
+    (All-cons Printable 117 (123 ∷ hexes) (omega arith, omega arith)
+    (All-cons Printable 123 hexes (omega arith, omega arith) (hexes_plain places c)))
 
 unicode_plain : (c : ℕ) → IsPlain (escape_unicode c)
 unicode_plain c =
@@ -78,7 +85,8 @@ letter c =
 
 lettered : (n : ℕ) → nat_lt 0 n ≡ true → Letter n → IsPlain (backslash ∷ n ∷ [])
 lettered n some (inl none) = let turned : nat_lt 0 0 ≡ true = subst (λ m. nat_lt 0 m ≡ true) none some in absurd cc
-lettered n some (inr h) = All-cons Printable 92 (n ∷ []) (omega arith, omega arith) (All-cons Printable n [] h (All-nil Printable))
+lettered n some (inr h) =
+    All-cons Printable 92 (n ∷ []) (omega arith, omega arith) (All-cons Printable n [] h (All-nil Printable))
 
 as_it_is : (c : ℕ) → nat_lt c 32 ≡ false → nat_lt c 127 ≡ true → Printable c
 as_it_is c least most = (grind (arith, nat_tests), grind (arith, nat_tests))
@@ -87,7 +95,8 @@ pub escape_plain : (c : ℕ) → IsPlain (escape_default c)
 escape_plain c =
     either IsPlain (nat_lt 0 (short_escape c)) _ _ (λ some. lettered (short_escape c) some (letter c))
     (λ none. either IsPlain (nat_lt c 32) _ _ (λ low. unicode_plain c) (λ least.
-    either IsPlain (nat_lt c 127) _ _ (λ most. All-cons Printable c [] (as_it_is c least most) (All-nil Printable)) (λ high. unicode_plain c)))
+    either IsPlain (nat_lt c 127) _ _ (λ most. All-cons Printable c [] (as_it_is c least most) (All-nil Printable))
+    (λ high. unicode_plain c)))
 
 -- ---- a text that is there
 
@@ -96,7 +105,8 @@ abbrev pub are_plain : List ℕ → Bool
 are_plain [] = true
 are_plain (x ∷ xs) = cond (nat_lt x 32) false (cond (nat_lt x 127) (are_plain xs) false)
 
-plain_before : (x : ℕ) (xs : Text) (low high : Bool) → nat_lt x 32 ≡ low → nat_lt x 127 ≡ high → (are_plain xs ≡ true → IsPlain xs) → cond low false (cond high (are_plain xs) false) ≡ true → IsPlain (x ∷ xs)
+plain_before : (x : ℕ) (xs : Text) (low high : Bool) → nat_lt x 32 ≡ low → nat_lt x 127 ≡ high
+    → (are_plain xs ≡ true → IsPlain xs) → cond low false (cond high (are_plain xs) false) ≡ true → IsPlain (x ∷ xs)
 plain_before x xs true high l h others e = absurd cc
 plain_before x xs false false l h others e = absurd cc
 plain_before x xs false true l h others e = All-cons Printable x xs (as_it_is x l h) (others e)
@@ -112,6 +122,7 @@ pub plain_on : (a b : Text) → IsPlain a → AppendsPlain a b → IsPlain b
 plain_on a b before h = subst IsPlain (sym h.1) (All-append Printable a h.0 before h.2)
 
 -- what holds where it was appended
-pub where_ok : {T E : Type 0} {P : Type 0} (r : Result T E) (new whole old : Text) → new ≡ (if is_ok r then whole else old) → (new ≡ whole → P) → OnOk r P
+pub where_ok : {T E : Type 0} {P : Type 0} (r : Result T E) (new whole old : Text)
+    → new ≡ (if is_ok r then whole else old) → (new ≡ whole → P) → OnOk r P
 where_ok (Ok t) new whole old is holds = holds is
 where_ok (Err e) new whole old is holds = tt

@@ -24,56 +24,77 @@ use Rattle.pkder.specs.Replies.{DueOfCheck, DueOfValue, FailedBy, IsSilent, Repl
 
 -- ---- what was not normalised
 
-replies : (limits : Limits) (type : TypeTerm) (error : NormaliseError) (before after old new : Option (List ℕ)) → RefusedWhole limits type error before after old new → RepliedTo limits type (refusal_of error) before after old new
+replies : (limits : Limits) (type : TypeTerm) (error : NormaliseError) (before after old new : Option (List ℕ))
+    → RefusedWhole limits type error before after old new
+    → RepliedTo limits type (refusal_of error) before after old new
 replies limits type (Read (FaultRead found)) before after old new h = h
 replies limits type (Read (ReadAt at)) before after old new h = h
 replies limits type (Read MemoryRead) before after old new h = h
 replies limits type (Write error) before after old new h = h
 
-pub refusal_replies : (limits : Limits) (type : TypeTerm) (error : NormaliseError) (outcome : Outcome) (before after old new : Option (List ℕ)) → outcome ≡ refusal_of error → RefusedWhole limits type error before after old new
+pub refusal_replies : (limits : Limits) (type : TypeTerm) (error : NormaliseError) (outcome : Outcome)
+    (before after old new : Option (List ℕ))
+    → outcome ≡ refusal_of error → RefusedWhole limits type error before after old new
     → RepliedTo limits type outcome before after old new
-refusal_replies limits type error outcome before after old new is h = subst (λ o. RepliedTo limits type o before after old new) (sym is) (replies limits type error before after old new h)
+refusal_replies limits type error outcome before after old new is h =
+    subst (λ o. RepliedTo limits type o before after old new) (sym is)
+    (replies limits type error before after old new h)
 
 silent : (error : NormaliseError) → IsSilent (refusal_of error) → IsRead error
 silent (Read error) h = tt
 silent (Write error) h = absurd h
 
-pub refusal_silent : (error : NormaliseError) (outcome : Outcome) → outcome ≡ refusal_of error → IsSilent outcome → IsRead error
+pub refusal_silent : (error : NormaliseError) (outcome : Outcome) → outcome ≡ refusal_of error → IsSilent outcome
+    → IsRead error
 refusal_silent error outcome is h = silent error (subst IsSilent is h)
 
-fails : (error : NormaliseError) (source target : Bool) → FailedAs error source target → FailedBy (refusal_of error) source target
+fails : (error : NormaliseError) (source target : Bool) → FailedAs error source target
+    → FailedBy (refusal_of error) source target
 fails (Read (FaultRead found)) source target h = h
 fails (Read (ReadAt at)) source target h = h
 fails (Read MemoryRead) source target h = h
 fails (Write error) source target h = h
 
-pub refusal_fails : (error : NormaliseError) (outcome : Outcome) (source target : Bool) → outcome ≡ refusal_of error → FailedAs error source target → FailedBy outcome source target
-refusal_fails error outcome source target is h = subst (λ o. FailedBy o source target) (sym is) (fails error source target h)
+pub refusal_fails : (error : NormaliseError) (outcome : Outcome) (source target : Bool) → outcome ≡ refusal_of error
+    → FailedAs error source target → FailedBy outcome source target
+refusal_fails error outcome source target is h =
+    subst (λ o. FailedBy o source target) (sym is) (fails error source target h)
 
 -- ---- what was not read
 
-module _ (limits : Limits) (type : TypeTerm) (Due : Outcome → List ℕ → Type 0) (before after old new : Option (List ℕ)) where
-  unreadable : (error : ReadError) → Unreadable limits type error before after → RepliedWith limits type Due (unread_outcome error) before after old new
+module _ (limits : Limits) (type : TypeTerm) (Due : Outcome → List ℕ → Type 0)
+    (before after old new : Option (List ℕ)) where
+  unreadable : (error : ReadError) → Unreadable limits type error before after
+      → RepliedWith limits type Due (unread_outcome error) before after old new
   unreadable (FaultRead found) h = h
   unreadable (ReadAt at) h = h
   unreadable MemoryRead h = h
 
-  pub unread_replies : (error : ReadError) (outcome : Outcome) → outcome ≡ unread_outcome error → Unreadable limits type error before after → RepliedWith limits type Due outcome before after old new
-  unread_replies error outcome is h = subst (λ o. RepliedWith limits type Due o before after old new) (sym is) (unreadable error h)
+  pub unread_replies : (error : ReadError) (outcome : Outcome) → outcome ≡ unread_outcome error
+      → Unreadable limits type error before after → RepliedWith limits type Due outcome before after old new
+  unread_replies error outcome is h =
+      subst (λ o. RepliedWith limits type Due o before after old new) (sym is) (unreadable error h)
 
-unread_failed : (error : ReadError) (source target : Bool) → FailedAs (Read error) source target → FailedBy (unread_outcome error) source target
+unread_failed : (error : ReadError) (source target : Bool) → FailedAs (Read error) source target
+    → FailedBy (unread_outcome error) source target
 unread_failed (FaultRead found) source target h = h
 unread_failed (ReadAt at) source target h = h
 unread_failed MemoryRead source target h = h
 
-pub unread_fails : (error : ReadError) (outcome : Outcome) (source target : Bool) → outcome ≡ unread_outcome error → FailedAs (Read error) source target → FailedBy outcome source target
-unread_fails error outcome source target is h = subst (λ o. FailedBy o source target) (sym is) (unread_failed error source target h)
+pub unread_fails : (error : ReadError) (outcome : Outcome) (source target : Bool) → outcome ≡ unread_outcome error
+    → FailedAs (Read error) source target → FailedBy outcome source target
+unread_fails error outcome source target is h =
+    subst (λ o. FailedBy o source target) (sym is) (unread_failed error source target h)
 
 -- memory ran out behind a value that was taken
-pub no_memory : (limits : Limits) (type : TypeTerm) (before after : Option (List ℕ)) (octets text : List ℕ) → Consumes before after octets → ((more : List ℕ) → answer limits type (octets ++ more) ≡ Spelled text (length octets)) → Unreadable limits type MemoryRead before after
+pub no_memory : (limits : Limits) (type : TypeTerm) (before after : Option (List ℕ)) (octets text : List ℕ)
+    → Consumes before after octets
+    → ((more : List ℕ) → answer limits type (octets ++ more) ≡ Spelled text (length octets))
+    → Unreadable limits type MemoryRead before after
 no_memory limits type None after octets text takes spells = inl (tt, tt)
 no_memory limits type (Some before) None octets text takes spells = absurd takes
-no_memory limits type (Some before) (Some after) octets text takes spells = inl ((octets, takes, λ other n a. within other n (sym (spells after) ∙ sym (ap (answer limits type) takes) ∙ a)), tt)
+no_memory limits type (Some before) (Some after) octets text takes spells = inl
+    ((octets, takes, λ other n a. within other n (sym (spells after) ∙ sym (ap (answer limits type) takes) ∙ a)), tt)
   where
     within : (other : List ℕ) (n : ℕ) → Spelled text (length octets) ≡ Spelled other n → length octets ≤ n
     within other n e = let count : length octets ≡ n = cc in omega (arith, count)
@@ -81,55 +102,95 @@ no_memory limits type (Some before) (Some after) octets text takes spells = inl 
 -- ---- what is written
 
 -- all of what is due, or its first octets
-pub written_replies : (limits : Limits) (type : TypeTerm) (Due : Outcome → List ℕ → Type 0) (before after old new : Option (List ℕ)) (place : Option ℕ) (text : List ℕ) (count : Result ℕ WriteError) (failed : Bool) (outcome whole : Outcome)
-    → outcome ≡ written_outcome count whole → whole ≡ checked_outcome place → WritesText text old new failed count → Due (checked_outcome place) text → RepliedWith limits type Due outcome before after old new
+pub written_replies : (limits : Limits) (type : TypeTerm) (Due : Outcome → List ℕ → Type 0)
+    (before after old new : Option (List ℕ)) (place : Option ℕ) (text : List ℕ) (count : Result ℕ WriteError)
+    (failed : Bool) (outcome whole : Outcome)
+    → outcome ≡ written_outcome count whole → whole ≡ checked_outcome place → WritesText text old new failed count
+    → Due (checked_outcome place) text → RepliedWith limits type Due outcome before after old new
 written_replies limits type Due before after old new place text count failed outcome whole is whole_is writes due =
-    subst (λ o. RepliedWith limits type Due o before after old new) (sym (is ∙ ap (written_outcome count) whole_is)) (go count place writes due)
+    subst (λ o. RepliedWith limits type Due o before after old new) (sym (is ∙ ap (written_outcome count) whole_is))
+    (go count place writes due)
   where
-    go : (count : Result ℕ WriteError) (place : Option ℕ) → WritesText text old new failed count → Due (checked_outcome place) text → RepliedWith limits type Due (written_outcome count (checked_outcome place)) before after old new
+    go : (count : Result ℕ WriteError) (place : Option ℕ) → WritesText text old new failed count
+        → Due (checked_outcome place) text
+        → RepliedWith limits type Due (written_outcome count (checked_outcome place)) before after old new
     go (Ok n) None writes due = (text, due, writes.1)
     go (Ok n) (Some at) writes due = (text, due, writes.1)
     go (Err error) place writes due = (text, checked_outcome place, due, writes.0, writes.1)
 
-pub written_speaks : (place : Option ℕ) (count : Result ℕ WriteError) (outcome whole : Outcome) → outcome ≡ written_outcome count whole → whole ≡ checked_outcome place → IsSilent outcome → ⊥
-written_speaks place count outcome whole is whole_is silent = go count place (subst IsSilent (is ∙ ap (written_outcome count) whole_is) silent)
+pub written_speaks : (place : Option ℕ) (count : Result ℕ WriteError) (outcome whole : Outcome)
+    → outcome ≡ written_outcome count whole → whole ≡ checked_outcome place → IsSilent outcome → ⊥
+written_speaks place count outcome whole is whole_is silent =
+    go count place (subst IsSilent (is ∙ ap (written_outcome count) whole_is) silent)
   where
     go : (count : Result ℕ WriteError) (place : Option ℕ) → IsSilent (written_outcome count (checked_outcome place)) → ⊥
     go (Ok n) None h = h
     go (Ok n) (Some at) h = h
     go (Err error) place h = h
 
-pub written_fails : (text : List ℕ) (old new : Option (List ℕ)) (place : Option ℕ) (count : Result ℕ WriteError) (outcome whole : Outcome) (source target : Bool) → outcome ≡ written_outcome count whole → whole ≡ checked_outcome place → WritesText text old new target count → source ≡ false
+pub written_fails : (text : List ℕ) (old new : Option (List ℕ)) (place : Option ℕ) (count : Result ℕ WriteError)
+    (outcome whole : Outcome) (source target : Bool)
+    → outcome ≡ written_outcome count whole → whole ≡ checked_outcome place → WritesText text old new target count
+    → source ≡ false
     → FailedBy outcome source target
-written_fails text old new place count outcome whole source target is whole_is writes fine = subst (λ o. FailedBy o source target) (sym (is ∙ ap (written_outcome count) whole_is)) (go count place writes)
+written_fails text old new place count outcome whole source target is whole_is writes fine =
+    subst (λ o. FailedBy o source target) (sym (is ∙ ap (written_outcome count) whole_is)) (go count place writes)
   where
-    go : (count : Result ℕ WriteError) (place : Option ℕ) → WritesText text old new target count → FailedBy (written_outcome count (checked_outcome place)) source target
+    go : (count : Result ℕ WriteError) (place : Option ℕ) → WritesText text old new target count
+        → FailedBy (written_outcome count (checked_outcome place)) source target
     go (Ok n) None writes = (fine, writes.2)
     go (Ok n) (Some at) writes = (fine, writes.2)
     go (Err error) place writes = (fine, writes.2)
 
 -- a text, or nothing where there was no memory for it
-module _ {S E W : Type 0} (octets_of : S → List ℕ) (first last : W) (contents : W → Option (List ℕ)) (has_failed : W → Bool) (place : Option ℕ) (outcome whole : Outcome) (whole_is : whole ≡ checked_outcome place) where
-  pub text_replies : (limits : Limits) (type : TypeTerm) (Due : Outcome → List ℕ → Type 0) (before after : Option (List ℕ)) (due : List ℕ) (text : Result S E) → IfOk text (λ t. octets_of t ≡ due) → Due (checked_outcome place) due → Unreadable limits type MemoryRead before after
-      → WroteText octets_of text whole outcome (contents first) (contents last) (has_failed last) (last ≡ first) → RepliedWith limits type Due outcome before after (contents first) (contents last)
+module _ {S E W : Type 0} (octets_of : S → List ℕ) (first last : W) (contents : W → Option (List ℕ))
+    (has_failed : W → Bool) (place : Option ℕ) (outcome whole : Outcome)
+    (whole_is : whole ≡ checked_outcome place) where
+  pub text_replies : (limits : Limits) (type : TypeTerm) (Due : Outcome → List ℕ → Type 0)
+      (before after : Option (List ℕ)) (due : List ℕ) (text : Result S E)
+      → IfOk text (λ t. octets_of t ≡ due) → Due (checked_outcome place) due
+      → Unreadable limits type MemoryRead before after
+      → WroteText octets_of text whole outcome (contents first) (contents last) (has_failed last) (last ≡ first)
+      → RepliedWith limits type Due outcome before after (contents first) (contents last)
   text_replies limits type Due before after due (Ok text) is owed none h =
-      written_replies limits type Due before after (contents first) (contents last) place (octets_of text) h.0 (has_failed last) outcome whole h.1 whole_is h.2 (subst (Due (checked_outcome place)) (sym is) owed)
-  text_replies limits type Due before after due (Err error) is owed none h = subst (λ o. RepliedWith limits type Due o before after (contents first) (contents last)) (sym h.0) none
+      written_replies limits type Due before after (contents first) (contents last) place (octets_of text) h.0
+      (has_failed last) outcome whole h.1 whole_is h.2 (subst (Due (checked_outcome place)) (sym is) owed)
+  text_replies limits type Due before after due (Err error) is owed none h =
+      subst (λ o. RepliedWith limits type Due o before after (contents first) (contents last)) (sym h.0) none
 
-  pub text_silent : (text : Result S E) → WroteText octets_of text whole outcome (contents first) (contents last) (has_failed last) (last ≡ first) → IsSilent outcome → last ≡ first
+  pub text_silent : (text : Result S E)
+      → WroteText octets_of text whole outcome (contents first) (contents last) (has_failed last) (last ≡ first)
+      → IsSilent outcome → last ≡ first
   text_silent (Ok text) h silent = absurd (written_speaks place h.0 outcome whole h.1 whole_is silent)
   text_silent (Err error) h silent = h.1
 
-  pub text_fails : (text : Result S E) (source : Bool) → source ≡ false → has_failed first ≡ false → WroteText octets_of text whole outcome (contents first) (contents last) (has_failed last) (last ≡ first) → FailedBy outcome source (has_failed last)
-  text_fails (Ok text) source fine writable h = written_fails (octets_of text) (contents first) (contents last) place h.0 outcome whole source (has_failed last) h.1 whole_is h.2 fine
-  text_fails (Err error) source fine writable h = subst (λ o. FailedBy o source (has_failed last)) (sym h.0) (fine, ap has_failed h.1 ∙ writable)
+  pub text_fails : (text : Result S E) (source : Bool) → source ≡ false → has_failed first ≡ false
+      → WroteText octets_of text whole outcome (contents first) (contents last) (has_failed last) (last ≡ first)
+      → FailedBy outcome source (has_failed last)
+  text_fails (Ok text) source fine writable h =
+      written_fails (octets_of text) (contents first) (contents last) place h.0 outcome whole source
+      (has_failed last) h.1 whole_is h.2 fine
+  text_fails (Err error) source fine writable h =
+      subst (λ o. FailedBy o source (has_failed last)) (sym h.0) (fine, ap has_failed h.1 ∙ writable)
 
 -- ---- what is due
 
-pub due_of_check : (limits : Limits) (type : TypeTerm) (before after : Option (List ℕ)) (taken : ℕ) (place : Option ℕ) (text : List ℕ) → (value : Value) × CheckedAs limits type value before after taken place → IsAtEnd after → text ≡ verdict_of place
+pub due_of_check : (limits : Limits) (type : TypeTerm) (before after : Option (List ℕ)) (taken : ℕ) (place : Option ℕ)
+    (text : List ℕ)
+    → (value : Value) × CheckedAs limits type value before after taken place → IsAtEnd after → text ≡ verdict_of place
     → DueOfCheck limits type before after (checked_outcome place) text
-due_of_check limits type before after taken place text checked ends is = (checked.0, taken, place, checked.1, ends, refl, is)
+due_of_check limits type before after taken place text checked ends is =
+    (checked.0, taken, place, checked.1, ends, refl, is)
 
-pub due_of_value : (limits : Limits) (type : TypeTerm) (text_of : Value → List ℕ) → ((v w : Value) → Same v w → text_of v ≡ text_of w) → (before after : Option (List ℕ)) (value : Value) (taken : ℕ) → Lawful type → IsLimits limits → ReadsValue limits type value before after taken → IsAtEnd after
+pub due_of_value : (limits : Limits) (type : TypeTerm) (text_of : Value → List ℕ)
+    → ((v w : Value) → Same v w → text_of v ≡ text_of w) → (before after : Option (List ℕ)) (value : Value) (taken : ℕ)
+    → Lawful type → IsLimits limits → ReadsValue limits type value before after taken → IsAtEnd after
     → DueOfValue limits type text_of before after outcomes.Done (text_of value)
-due_of_value limits type text_of one before after value taken lawful limited read ends = (read.spelled, taken, took_as limits type value before after taken lawful limited read, ends, refl, sym (one read.spelled value read.same))
+due_of_value limits type text_of one before after value taken lawful limited read ends = (
+  read.spelled,
+  taken,
+  took_as limits type value before after taken lawful limited read,
+  ends,
+  refl,
+  sym (one read.spelled value read.same),
+)

@@ -30,7 +30,9 @@ EndsAs outcome end = (end ≡ outcome) ⊎ ((IsSilent outcome → ⊥) × ((out 
 
 -- All of the octets that came are out, or the first ones, as many as the end tells.
 abbrev pub Closed : Outcome → List ℕ → Outcome → Option (List ℕ) → Type 0
-Closed outcome octets end known = ((end ≡ outcome) × Keeps (Some octets) known) ⊎ ((out : ℕ) × (end ≡ WriteFailed out) × (out ≤ length octets) × Keeps (Some (take out octets)) known)
+Closed outcome octets end known =
+    ((end ≡ outcome) × Keeps (Some octets) known)
+    ⊎ ((out : ℕ) × (end ≡ WriteFailed out) × (out ≤ length octets) × Keeps (Some (take out octets)) known)
 
 -- how a run ended, but for how many octets are out where a write failed
 abbrev pub without_count : Outcome → Outcome

@@ -1,4 +1,5 @@
--- The commands and options of the program, and what a command line asks for. What clap makes of the words of a command is `subcommand_of`.
+-- The commands and options of the program, and what a command line asks for. What clap makes of the words of a
+-- command is `subcommand_of`.
 use Rattle.std.specs.Prelude.{All, ◌≡◌, ◌≤◌, ◌⊎◌, ◌++◌, ℕ, Bool, List, [], ◌∷◌, None, Option, Some, codes, false, string_bytes, true, unwrap_or}
 use Rattle.std.specs.Char.{is_control}
 use Rattle.std.specs.Int.{IsInRange}
@@ -28,13 +29,16 @@ abbrev pub kind_rule : Rule
 kind_rule = record (new_rule (codes "kind")) { long = Some (codes "kind"); value_names = 1; required = true }
 
 abbrev pub part_rule : Rule
-part_rule = record (new_rule (codes "part")) { long = Some (codes "part"); value_names = 1; defaults = codes "info" ∷ [] }
+part_rule =
+    record (new_rule (codes "part")) { long = Some (codes "part"); value_names = 1; defaults = codes "info" ∷ [] }
 
 abbrev pub depth_rule : Rule
-depth_rule = record (new_rule (codes "depth")) { long = Some (codes "depth"); value_names = 1; defaults = codes "32" ∷ [] }
+depth_rule =
+    record (new_rule (codes "depth")) { long = Some (codes "depth"); value_names = 1; defaults = codes "32" ∷ [] }
 
 abbrev pub octets_rule : Rule
-octets_rule = record (new_rule (codes "octets")) { long = Some (codes "octets"); value_names = 1; defaults = codes "1048576" ∷ [] }
+octets_rule = record
+    (new_rule (codes "octets")) { long = Some (codes "octets"); value_names = 1; defaults = codes "1048576" ∷ [] }
 
 -- ---- the commands
 
@@ -48,10 +52,15 @@ abbrev pub signed_shape : Shape
 signed_shape = (with_limit_rules (with_rule (new_app (codes "signed")) part_rule)).top
 
 abbrev pub top : App
-top = on_top (λ s. record s { has_version = true; subcommand_required = true; disable_help_subcommand = true }) (new_app (codes "pkder"))
+top =
+    on_top (λ s. record s { has_version = true; subcommand_required = true; disable_help_subcommand = true })
+    (new_app (codes "pkder"))
 
 abbrev pub program : App
-program = with_subcommand (with_subcommand (with_subcommand (with_subcommand top (kind_shape (codes "show"))) (kind_shape (codes "check"))) (kind_shape (codes "normalise"))) signed_shape
+program =
+    with_subcommand
+    (with_subcommand (with_subcommand (with_subcommand top (kind_shape (codes "show"))) (kind_shape (codes "check")))
+    (kind_shape (codes "normalise"))) signed_shape
 
 -- ---- the words that are read
 
@@ -91,11 +100,15 @@ ReadsKind Normalise kind rows = value_of (codes "kind") rows ≡ kind_name kind
 ReadsKind (Signed part) kind rows = (value_of (codes "part") rows ≡ part_name part) × (kind ≡ kinds.Request)
 
 abbrev pub ReadsLimits : List Row → Limits → Type 0
-ReadsLimits rows limits = IsNumber (value_of (codes "depth") rows) limits.depth × IsNumber (value_of (codes "octets") rows) limits.octets × IsLimits limits
+ReadsLimits rows limits =
+    IsNumber (value_of (codes "depth") rows) limits.depth
+    × IsNumber (value_of (codes "octets") rows) limits.octets
+    × IsLimits limits
 
 -- The command of this name with these values of its options is the task.
 abbrev pub Means : Text → List Row → Task → Type 0
-Means name rows task = (name ≡ command_name task.action) × ReadsKind task.action task.kind rows × ReadsLimits rows task.limits
+Means name rows task =
+    (name ≡ command_name task.action) × ReadsKind task.action task.kind rows × ReadsLimits rows task.limits
 
 -- So is the subcommand that was met.
 abbrev pub MeansBy : Option (Text × List Row) → Task → Type 0
@@ -111,29 +124,46 @@ abbrev pub IsNoNumber : Text → ℕ → Type 0
 IsNoNumber text most = (n : ℕ) → IsNumber text n → 1 ≤ n → n ≤ most → ⊥
 
 abbrev pub BadDepth : List Row → BadValue → Type 0
-BadDepth rows bad = Names bad (codes "--depth <N>") (value_of (codes "depth") rows) (codes "a number from 1 to 64") × IsNoNumber (value_of (codes "depth") rows) 64
+BadDepth rows bad =
+    Names bad (codes "--depth <N>") (value_of (codes "depth") rows) (codes "a number from 1 to 64")
+    × IsNoNumber (value_of (codes "depth") rows) 64
 
 abbrev pub BadOctets : List Row → BadValue → Type 0
-BadOctets rows bad = Names bad (codes "--octets <N>") (value_of (codes "octets") rows) (codes "a number from 1 to 2147483647") × IsNoNumber (value_of (codes "octets") rows) 2147483647
+BadOctets rows bad =
+    Names bad (codes "--octets <N>") (value_of (codes "octets") rows) (codes "a number from 1 to 2147483647")
+    × IsNoNumber (value_of (codes "octets") rows) 2147483647
 
 abbrev pub BadLimit : List Row → BadValue → Type 0
 BadLimit rows bad = BadDepth rows bad ⊎ BadOctets rows bad
 
 abbrev pub BadKind : List Row → BadValue → Type 0
-BadKind rows bad = Names bad (codes "--kind <KIND>") (value_of (codes "kind") rows) (codes "key, ec, request, public, encrypted or package") × ((kind : Kind) → value_of (codes "kind") rows ≡ kind_name kind → ⊥)
+BadKind rows bad =
+    Names bad (codes "--kind <KIND>") (value_of (codes "kind") rows)
+    (codes "key, ec, request, public, encrypted or package")
+    × ((kind : Kind) → value_of (codes "kind") rows ≡ kind_name kind → ⊥)
 
 abbrev pub BadPart : List Row → BadValue → Type 0
-BadPart rows bad = Names bad (codes "--part <PART>") (value_of (codes "part") rows) (codes "info, algorithm, key or signature") × ((part : Part) → value_of (codes "part") rows ≡ part_name part → ⊥)
+BadPart rows bad =
+    Names bad (codes "--part <PART>") (value_of (codes "part") rows) (codes "info, algorithm, key or signature")
+    × ((part : Part) → value_of (codes "part") rows ≡ part_name part → ⊥)
 
 abbrev pub BadCommand : Text → BadValue → Type 0
-BadCommand name bad = Names bad (codes "COMMAND") name (codes "show, check, normalise or signed") × ((action : Action) → name ≡ command_name action → ⊥)
+BadCommand name bad =
+    Names bad (codes "COMMAND") name (codes "show, check, normalise or signed")
+    × ((action : Action) → name ≡ command_name action → ⊥)
 
 -- Why the command of this name has no task with these values of its options. Only `signed` has a part, and no kind.
 abbrev pub BadTask : Text → List Row → BadValue → Type 0
-BadTask name rows bad = BadLimit rows bad ⊎ (((name ≡ codes "signed") × BadPart rows bad) ⊎ ((name ≡ codes "signed" → ⊥) × (BadKind rows bad ⊎ BadCommand name bad)))
+BadTask name rows bad =
+    BadLimit rows bad
+    ⊎ (((name ≡ codes "signed") × BadPart rows bad)
+    ⊎ ((name ≡ codes "signed" → ⊥) × (BadKind rows bad ⊎ BadCommand name bad)))
 
 abbrev pub bad_value_line : BadValue → Text
-bad_value_line bad = codes "error: invalid value '" ++ bad.value.now ++ codes "' for '" ++ bad.option.now ++ codes "': " ++ bad.wanted.now ++ (codes " is wanted" ++ line_feed ++ line_feed ++ codes "For more information, try '--help'." ++ line_feed)
+bad_value_line bad =
+    codes "error: invalid value '" ++ bad.value.now ++ codes "' for '" ++ bad.option.now ++ codes "': "
+    ++ bad.wanted.now
+    ++ (codes " is wanted" ++ line_feed ++ line_feed ++ codes "For more information, try '--help'." ++ line_feed)
 
 -- why the subcommand that was met means no task
 abbrev pub TellsWhy : Option (Text × List Row) → Text → Type 0
@@ -162,9 +192,11 @@ AppendsPlain old new = (more : Text) × (new ≡ old ++ more) × IsPlain more
 abbrev pub IsPlainLine : Text → Type 0
 IsPlainLine text = (line : Text) × (text ≡ line ++ line_feed) × IsPlain line
 
--- The words ask for the task: none has a control character, clap takes them, and the subcommand that they name means it.
+-- The words ask for the task: none has a control character, clap takes them, and the subcommand
+-- that they name means it.
 abbrev pub Asks : List Text → Task → Type 0
-Asks words task = (list_any has_control words ≡ false) × (fault_of program words ≡ []) × MeansBy (subcommand_of program words) task
+Asks words task =
+    (list_any has_control words ≡ false) × (fault_of program words ≡ []) × MeansBy (subcommand_of program words) task
 
 -- an error of clap's that is neither help nor the version nor refused memory
 abbrev pub IsRefusal : ErrorKind → Type 0
@@ -174,14 +206,20 @@ IsRefusal kind = (kind ≡ errors.OutOfMemory → ⊥) × (kind ≡ errors.Displ
 abbrev pub IsRefused : List Text → Type 0
 IsRefused words = (kind : ErrorKind) × IsAmong kind (fault_of program words) × IsRefusal kind
 
--- Why words are refused: one has a control character, and none is told; or clap refuses them; or it takes them, and a value isn't one of its option.
+-- Why words are refused: one has a control character, and none is told; or clap refuses them; or it takes them, and a
+-- value isn't one of its option.
 abbrev pub TellsFault : List Text → Text → Type 0
-TellsFault words line = ((list_any has_control words ≡ true) × IsPlainLine line) ⊎ (IsRefused words ⊎ ((fault_of program words ≡ []) × TellsWhy (subcommand_of program words) line))
+TellsFault words line =
+    ((list_any has_control words ≡ true) × IsPlainLine line)
+    ⊎ (IsRefused words ⊎ ((fault_of program words ≡ []) × TellsWhy (subcommand_of program words) line))
 
--- Why words ask for nothing that can be done: they ask for no task and are refused, or they ask for help or the version.
+-- Why words ask for nothing that can be done: they ask for no task and are refused, or they ask
+-- for help or the version.
 abbrev pub AsksNothing : List Text → LineFault → Type 0
 AsksNothing words (faults.Line text) = ((task : Task) → Asks words task → ⊥) × TellsFault words (string_bytes text)
-AsksNothing words (faults.Help text) = (list_any has_control words ≡ false) × (IsAmong errors.DisplayHelp (fault_of program words) ⊎ IsAmong errors.DisplayVersion (fault_of program words))
+AsksNothing words (faults.Help text) =
+    (list_any has_control words ≡ false)
+    × (IsAmong errors.DisplayHelp (fault_of program words) ⊎ IsAmong errors.DisplayVersion (fault_of program words))
 AsksNothing words faults.Memory = Unit {0}
 
 -- what is answered by the kind of clap's error

@@ -1,4 +1,5 @@
--- What a run answers and writes. Octets are told before the call and after it, where the source or the target tells them.
+-- What a run answers and writes. Octets are told before the call and after it, where the source
+-- or the target tells them.
 use Rattle.std.specs.Prelude.{◌≡◌, ◌≤◌, ◌⊎◌, ℕ, Bool, Err, List, None, Ok, Option, Result, Some, false, length, take, true}
 use Rattle.std.specs.Io.KnownBytes.{Appends, IsAtEnd}
 use Rattle.tlv_core.specs.Limits.{Limits}
@@ -30,34 +31,53 @@ use Rattle.pkder.specs.declared.outcome.Outcome.TheVariants.{Done, NotDer, Fault
 
 -- A value was taken, all of the input, and its DER text appended.
 abbrev pub DoneWith : Limits → TypeTerm → Option (List ℕ) → Option (List ℕ) → Option (List ℕ) → Option (List ℕ) → Type 0
-DoneWith limits type before after old new = ((value : Value) × (taken : ℕ) × (written : ℕ) × NormalisedAs limits type value before after old new taken written) × IsAtEnd after
+DoneWith limits type before after old new =
+    ((value : Value) × (taken : ℕ) × (written : ℕ) × NormalisedAs limits type value before after old new taken written)
+    × IsAtEnd after
 
--- Done is the whole of normalising: all of the input was taken. A fault is the answer to the octets told, which begin with no spelling, or octets follow one;
--- where a read failed, the octets before are too few, or nothing is known of what follows a value; where a write failed, the first octets of the text are out, so many.
-abbrev pub RepliedTo : Limits → TypeTerm → Outcome → Option (List ℕ) → Option (List ℕ) → Option (List ℕ) → Option (List ℕ) → Type 0
+-- Done is the whole of normalising: all of the input was taken. A fault is the answer to the octets told, which begin
+-- with no spelling, or octets follow one; where a read failed, the octets before are too few, or nothing is known of
+-- what follows a value; where a write failed, the first octets of the text are out, so many.
+abbrev pub RepliedTo : Limits → TypeTerm → Outcome → Option (List ℕ) → Option (List ℕ) → Option (List ℕ)
+    → Option (List ℕ) → Type 0
 RepliedTo limits type Done before after old new = DoneWith limits type before after old new
-RepliedTo limits type (Fault found) before after old new = RefusedWhole limits type (Read (FaultRead found)) before after old new
-RepliedTo limits type (ReadFailed at) before after old new = RefusedWhole limits type (Read (ReadAt at)) before after old new
-RepliedTo limits type (WriteFailed count) before after old new = RefusedWhole limits type (Write (record { written = count })) before after old new
+RepliedTo limits type (Fault found) before after old new =
+    RefusedWhole limits type (Read (FaultRead found)) before after old new
+RepliedTo limits type (ReadFailed at) before after old new =
+    RefusedWhole limits type (Read (ReadAt at)) before after old new
+RepliedTo limits type (WriteFailed count) before after old new =
+    RefusedWhole limits type (Write (record { written = count })) before after old new
 RepliedTo limits type Memory before after old new = RefusedWhole limits type (Read MemoryRead) before after old new
 RepliedTo limits type (NotDer at) before after old new = ⊥
 
 -- Why nothing was read that is all of the input.
 abbrev pub Unreadable : Limits → TypeTerm → ReadError → Option (List ℕ) → Option (List ℕ) → Type 0
-Unreadable limits type error before after = Unchecked limits type error before after ⊎ Followed limits type error before after
+Unreadable limits type error before after =
+    Unchecked limits type error before after ⊎ Followed limits type error before after
 
--- What a run answers that writes a text which `Due` names, by the outcome where all of it is out: the text is out, or, where the writer failed, so many of its first octets.
-abbrev pub RepliedWith : Limits → TypeTerm → (Outcome → List ℕ → Type 0) → Outcome → Option (List ℕ) → Option (List ℕ) → Option (List ℕ) → Option (List ℕ) → Type 0
+-- What a run answers that writes a text which `Due` names, by the outcome where all of it is out: the text is out, or,
+-- where the writer failed, so many of its first octets.
+abbrev pub RepliedWith : Limits → TypeTerm → (Outcome → List ℕ → Type 0) → Outcome → Option (List ℕ) → Option (List ℕ)
+    → Option (List ℕ) → Option (List ℕ) → Type 0
 RepliedWith limits type Due Done before after old new = (text : List ℕ) × Due Done text × Appends old new text
-RepliedWith limits type Due (NotDer at) before after old new = (text : List ℕ) × Due (NotDer at) text × Appends old new text
-RepliedWith limits type Due (WriteFailed count) before after old new = (text : List ℕ) × (whole : Outcome) × Due whole text × (count ≤ length text) × Appends old new (take count text)
+RepliedWith limits type Due (NotDer at) before after old new =
+    (text : List ℕ) × Due (NotDer at) text × Appends old new text
+RepliedWith limits type Due (WriteFailed count) before after old new =
+    (text : List ℕ) × (whole : Outcome) × Due whole text × (count ≤ length text) × Appends old new (take count text)
 RepliedWith limits type Due (Fault found) before after old new = Unreadable limits type (FaultRead found) before after
 RepliedWith limits type Due (ReadFailed at) before after old new = Unreadable limits type (ReadAt at) before after
 RepliedWith limits type Due Memory before after old new = Unreadable limits type MemoryRead before after
 
 -- A value was taken, all of the input, and this is due of it.
-abbrev pub DueOfValue : Limits → TypeTerm → (Value → List ℕ) → Option (List ℕ) → Option (List ℕ) → Outcome → List ℕ → Type 0
-DueOfValue limits type text_of before after outcome text = (value : Value) × (taken : ℕ) × Took limits type value before after taken × IsAtEnd after × (outcome ≡ Done) × (text ≡ text_of value)
+abbrev pub DueOfValue : Limits → TypeTerm → (Value → List ℕ) → Option (List ℕ) → Option (List ℕ) → Outcome → List ℕ
+    → Type 0
+DueOfValue limits type text_of before after outcome text =
+    (value : Value)
+    × (taken : ℕ)
+    × Took limits type value before after taken
+    × IsAtEnd after
+    × (outcome ≡ Done)
+    × (text ≡ text_of value)
 
 -- how a check ends, by the place where the document isn't in DER
 abbrev pub checked_outcome : Option ℕ → Outcome
@@ -66,22 +86,44 @@ checked_outcome (Some at) = NotDer at
 
 -- A value was taken, all of the input, and it was checked.
 abbrev pub DueOfCheck : Limits → TypeTerm → Option (List ℕ) → Option (List ℕ) → Outcome → List ℕ → Type 0
-DueOfCheck limits type before after outcome text = (value : Value) × (taken : ℕ) × (place : Option ℕ) × CheckedAs limits type value before after taken place × IsAtEnd after × (outcome ≡ checked_outcome place) × (text ≡ verdict_of place)
+DueOfCheck limits type before after outcome text =
+    (value : Value)
+    × (taken : ℕ)
+    × (place : Option ℕ)
+    × CheckedAs limits type value before after taken place
+    × IsAtEnd after
+    × (outcome ≡ checked_outcome place)
+    × (text ≡ verdict_of place)
 
 -- A document was read, all of the input, and its lines are due.
-abbrev pub DueOfShow : (Document → Value) → Limits → Kind → Option (List ℕ) → Option (List ℕ) → Outcome → List ℕ → Type 0
+abbrev pub DueOfShow : (Document → Value) → Limits → Kind → Option (List ℕ) → Option (List ℕ) → Outcome → List ℕ
+    → Type 0
 DueOfShow value_of limits kind before after outcome text =
-    (document : Document) × (taken : ℕ) × (kind_of document ≡ kind) × ReadsValue limits (type_of kind) (value_of document) before after taken × IsAtEnd after × (outcome ≡ Done) × (text ≡ document_lines document)
+    (document : Document)
+    × (taken : ℕ)
+    × (kind_of document ≡ kind)
+    × ReadsValue limits (type_of kind) (value_of document) before after taken
+    × IsAtEnd after
+    × (outcome ≡ Done)
+    × (text ≡ document_lines document)
 
 -- by the action and the values of documents; `Signed` reads a request
-abbrev pub RepliedBy : (Document → Value) → Action → Kind → Limits → Outcome → Option (List ℕ) → Option (List ℕ) → Option (List ℕ) → Option (List ℕ) → Type 0
-RepliedBy value_of Normalise kind limits outcome before after old new = RepliedTo limits (type_of kind) outcome before after old new
-RepliedBy value_of Show kind limits outcome before after old new = RepliedWith limits (type_of kind) (DueOfShow value_of limits kind before after) outcome before after old new
-RepliedBy value_of Check kind limits outcome before after old new = RepliedWith limits (type_of kind) (DueOfCheck limits (type_of kind) before after) outcome before after old new
-RepliedBy value_of (Signed part) kind limits outcome before after old new = RepliedWith limits (type_of Request) (DueOfValue limits (type_of Request) (part_of part) before after) outcome before after old new
+abbrev pub RepliedBy : (Document → Value) → Action → Kind → Limits → Outcome → Option (List ℕ) → Option (List ℕ)
+    → Option (List ℕ) → Option (List ℕ) → Type 0
+RepliedBy value_of Normalise kind limits outcome before after old new =
+    RepliedTo limits (type_of kind) outcome before after old new
+RepliedBy value_of Show kind limits outcome before after old new =
+    RepliedWith limits (type_of kind) (DueOfShow value_of limits kind before after) outcome before after old new
+RepliedBy value_of Check kind limits outcome before after old new =
+    RepliedWith limits (type_of kind) (DueOfCheck limits (type_of kind) before after) outcome before after old new
+RepliedBy value_of (Signed part) kind limits outcome before after old new =
+    RepliedWith limits (type_of Request)
+    (DueOfValue limits (type_of Request) (part_of part) before after) outcome before after old new
 
-abbrev pub Replied : (Document → Value) → Task → Outcome → Option (List ℕ) → Option (List ℕ) → Option (List ℕ) → Option (List ℕ) → Type 0
-Replied value_of task outcome before after old new = RepliedBy value_of task.action task.kind task.limits outcome before after old new
+abbrev pub Replied : (Document → Value) → Task → Outcome → Option (List ℕ) → Option (List ℕ) → Option (List ℕ)
+    → Option (List ℕ) → Type 0
+Replied value_of task outcome before after old new =
+    RepliedBy value_of task.action task.kind task.limits outcome before after old new
 
 -- it says that nothing is written
 abbrev pub IsSilent : Outcome → Type 0
@@ -106,9 +148,14 @@ abbrev pub written_outcome : Result ℕ WriteError → Outcome → Outcome
 written_outcome (Ok count) whole = whole
 written_outcome (Err error) whole = WriteFailed error.written
 
--- What writing a text comes to, by the octets before and after: `whole` where all of it is out; want of memory where there was none for the text, and then nothing changes.
-abbrev pub WroteText : {S E : Type 0} → (S → List ℕ) → Result S E → Outcome → Outcome → Option (List ℕ) → Option (List ℕ) → Bool → Type 0 → Type 0
-WroteText octets_of (Ok text) whole outcome old new failed unchanged = (count : Result ℕ WriteError) × (outcome ≡ written_outcome count whole) × WritesText (octets_of text) old new failed count
+-- What writing a text comes to, by the octets before and after: `whole` where all of it is out; want of memory where
+-- there was none for the text, and then nothing changes.
+abbrev pub WroteText : {S E : Type 0} → (S → List ℕ) → Result S E → Outcome → Outcome → Option (List ℕ)
+    → Option (List ℕ) → Bool → Type 0 → Type 0
+WroteText octets_of (Ok text) whole outcome old new failed unchanged =
+    (count : Result ℕ WriteError)
+    × (outcome ≡ written_outcome count whole)
+    × WritesText (octets_of text) old new failed count
 WroteText octets_of (Err error) whole outcome old new failed unchanged = (outcome ≡ Memory) × unchanged
 
 -- the outcome of a document that was not read

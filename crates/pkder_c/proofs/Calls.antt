@@ -18,48 +18,72 @@ use Rattle.pkder_c.proofs.Wholes.{text_room}
 
 -- `made` are the limits that were made of the numbers, `limits` these numbers
 
-pub text_for : {V : Type 0} (r : Result V Refusal) (items : V → List ℕ) (number : ℕ) (kind : Kind) (made limits : Limits) (given : List ℕ) → kind_number kind ≡ number → made ≡ limits → IsLimits limits
+pub text_for : {V : Type 0} (r : Result V Refusal) (items : V → List ℕ) (number : ℕ) (kind : Kind)
+    (made limits : Limits) (given : List ℕ)
+    → kind_number kind ≡ number → made ≡ limits → IsLimits limits
     → IfOk r (λ v. WholeText made (type_of kind) given (items v)) → IfOk r (λ v. IsText number limits given (items v))
 text_for (Ok v) items number kind made limits given k e fine h =
-    let whole : WholeText limits (type_of kind) given (items v) = subst (λ z. WholeText z (type_of kind) given (items v)) e h in
+    let whole : WholeText limits (type_of kind) given (items v) =
+    subst (λ z. WholeText z (type_of kind) given (items v)) e h in
     (kind, k, fine, (whole, text_room limits (type_of kind) given (items v) fine whole))
 text_for (Err refusal) items number kind made limits given k e fine h = tt
 
-pub place_for : (r : Result (Option ℕ) Refusal) (number : ℕ) (kind : Kind) (made limits : Limits) (given : List ℕ) → kind_number kind ≡ number → made ≡ limits → IsLimits limits
+pub place_for : (r : Result (Option ℕ) Refusal) (number : ℕ) (kind : Kind) (made limits : Limits) (given : List ℕ)
+    → kind_number kind ≡ number → made ≡ limits → IsLimits limits
     → IfOk r (WholeChecked made (type_of kind) given) → IfOk r (IsPlace number limits given)
-place_for (Ok place) number kind made limits given k e fine h = (kind, k, fine, subst (λ z. WholeChecked z (type_of kind) given place) e h)
+place_for (Ok place) number kind made limits given k e fine h =
+    (kind, k, fine, subst (λ z. WholeChecked z (type_of kind) given place) e h)
 place_for (Err refusal) number kind made limits given k e fine h = tt
 
-pub lines_for : {V : Type 0} (r : Result V Refusal) (items : V → List ℕ) (value_of : Document → Value) (number : ℕ) (kind : Kind) (made limits : Limits) (given : List ℕ) → kind_number kind ≡ number → made ≡ limits → IsLimits limits
-    → IfOk r (λ v. WholeLines value_of made kind given (items v)) → IfOk r (λ v. AreLines value_of number limits given (items v))
-lines_for (Ok v) items value_of number kind made limits given k e fine h = (kind, k, fine, subst (λ z. WholeLines value_of z kind given (items v)) e h)
+pub lines_for : {V : Type 0} (r : Result V Refusal) (items : V → List ℕ) (value_of : Document → Value) (number : ℕ)
+    (kind : Kind) (made limits : Limits) (given : List ℕ)
+    → kind_number kind ≡ number → made ≡ limits → IsLimits limits
+    → IfOk r (λ v. WholeLines value_of made kind given (items v))
+    → IfOk r (λ v. AreLines value_of number limits given (items v))
+lines_for (Ok v) items value_of number kind made limits given k e fine h =
+    (kind, k, fine, subst (λ z. WholeLines value_of z kind given (items v)) e h)
 lines_for (Err refusal) items value_of number kind made limits given k e fine h = tt
 
-pub part_for : {V : Type 0} (r : Result V Refusal) (items : V → List ℕ) (number : ℕ) (part : Part) (made limits : Limits) (given : List ℕ) → part_number part ≡ number → made ≡ limits → IsLimits limits
+pub part_for : {V : Type 0} (r : Result V Refusal) (items : V → List ℕ) (number : ℕ) (part : Part)
+    (made limits : Limits) (given : List ℕ)
+    → part_number part ≡ number → made ≡ limits → IsLimits limits
     → IfOk r (λ v. WholePart made part given (items v)) → IfOk r (λ v. IsPartText number limits given (items v))
-part_for (Ok v) items number part made limits given k e fine h = (part, k, fine, subst (λ z. WholePart z part given (items v)) e h)
+part_for (Ok v) items number part made limits given k e fine h =
+    (part, k, fine, subst (λ z. WholePart z part given (items v)) e h)
 part_for (Err refusal) items number part made limits given k e fine h = tt
 
-pub kind_refused : {V : Type 0} (r : Result V Refusal) (number : ℕ) (kind : Kind) (made limits : Limits) (given : List ℕ) → kind_number kind ≡ number → made ≡ limits → IsLimits limits
+pub kind_refused : {V : Type 0} (r : Result V Refusal) (number : ℕ) (kind : Kind) (made limits : Limits)
+    (given : List ℕ)
+    → kind_number kind ≡ number → made ≡ limits → IsLimits limits
     → IfErr r (WholeRefused made (type_of kind) given) → IfErr r (KindRefused number limits given)
 kind_refused (Ok v) number kind made limits given k e fine h = tt
 kind_refused (Err refusals.Call) number kind made limits given k e fine h = absurd h
-kind_refused (Err (refusals.Fault found)) number kind made limits given k e fine h = (kind, k, fine, subst (λ z. WholeFault z (type_of kind) found given) e h)
+kind_refused (Err (refusals.Fault found)) number kind made limits given k e fine h =
+    (kind, k, fine, subst (λ z. WholeFault z (type_of kind) found given) e h)
 kind_refused (Err refusals.Memory) number kind made limits given k e fine h = (kind, k, fine, tt)
 
-pub part_refused : {V : Type 0} (r : Result V Refusal) (number : ℕ) (part : Part) (made limits : Limits) (given : List ℕ) → part_number part ≡ number → made ≡ limits → IsLimits limits
+pub part_refused : {V : Type 0} (r : Result V Refusal) (number : ℕ) (part : Part) (made limits : Limits)
+    (given : List ℕ)
+    → part_number part ≡ number → made ≡ limits → IsLimits limits
     → IfErr r (WholeRefused made (type_of Request) given) → IfErr r (PartRefused number limits given)
 part_refused (Ok v) number part made limits given k e fine h = tt
 part_refused (Err refusals.Call) number part made limits given k e fine h = absurd h
-part_refused (Err (refusals.Fault found)) number part made limits given k e fine h = (part, k, fine, subst (λ z. WholeFault z (type_of Request) found given) e h)
+part_refused (Err (refusals.Fault found)) number part made limits given k e fine h =
+    (part, k, fine, subst (λ z. WholeFault z (type_of Request) found given) e h)
 part_refused (Err refusals.Memory) number part made limits given k e fine h = (part, k, fine, tt)
 
-pub wrote : {V : Type 0} (r : Result V Refusal) (items : V → List ℕ) (Due : List ℕ → Type 0) (Refused : Refusal → Type 0) (taken : ℕ) (old new : List ℕ) (outcome : PkderOutcome) → IfOk r (λ v. Due (items v)) → IfErr r Refused
-    → IfOk r (λ v. Put (items v) taken old new outcome) → IfErr r (λ refusal. (outcome ≡ refused_outcome refusal) × (new ≡ old)) → Wrote Due Refused taken old new outcome
+pub wrote : {V : Type 0} (r : Result V Refusal) (items : V → List ℕ) (Due : List ℕ → Type 0)
+    (Refused : Refusal → Type 0) (taken : ℕ) (old new : List ℕ) (outcome : PkderOutcome)
+    → IfOk r (λ v. Due (items v)) → IfErr r Refused
+    → IfOk r (λ v. Put (items v) taken old new outcome)
+    → IfErr r (λ refusal. (outcome ≡ refused_outcome refusal) × (new ≡ old)) → Wrote Due Refused taken old new outcome
 wrote (Ok v) items Due Refused taken old new outcome due holds put told = inl (items v, due, put)
 wrote (Err refusal) items Due Refused taken old new outcome due holds put told = inr (refusal, holds, told.0, told.1)
 
-pub checked : (r : Result (Option ℕ) Refusal) (Found : Option ℕ → Type 0) (Refused : Refusal → Type 0) (taken : ℕ) (outcome : PkderOutcome) → IfOk r Found → IfErr r Refused
-    → IfOk r (λ place. outcome ≡ checked_outcome taken place) → IfErr r (λ refusal. outcome ≡ refused_outcome refusal) → Checked Found Refused taken outcome
+pub checked : (r : Result (Option ℕ) Refusal) (Found : Option ℕ → Type 0) (Refused : Refusal → Type 0) (taken : ℕ)
+    (outcome : PkderOutcome)
+    → IfOk r Found → IfErr r Refused
+    → IfOk r (λ place. outcome ≡ checked_outcome taken place) → IfErr r (λ refusal. outcome ≡ refused_outcome refusal)
+    → Checked Found Refused taken outcome
 checked (Ok place) Found Refused taken outcome found holds is told = inl (place, found, is)
 checked (Err refusal) Found Refused taken outcome found holds is told = inr (refusal, holds, told)

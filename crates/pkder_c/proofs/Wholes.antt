@@ -33,22 +33,30 @@ use Rattle.pkder_c.specs.declared.refusal.Refusal.TheVariants as refusals
 
 -- ---- what was taken is all
 
-count_all : (given rest octets : List ℕ) (taken : ℕ) → rest ≡ [] → given ≡ octets ++ rest → taken ≡ length octets → taken ≡ length given
-count_all given rest octets taken ends is count = count ∙ ap length (sym (is ∙ ap (λ z. octets ++ z) ends ∙ append-nil octets))
+count_all : (given rest octets : List ℕ) (taken : ℕ) → rest ≡ [] → given ≡ octets ++ rest → taken ≡ length octets
+    → taken ≡ length given
+count_all given rest octets taken ends is count =
+    count ∙ ap length (sym (is ∙ ap (λ z. octets ++ z) ends ∙ append-nil octets))
 
-took_all : (l : Limits) (T : TypeTerm) (v : Value) (given rest : List ℕ) (taken : ℕ) → rest ≡ [] → Took l T v (Some given) (Some rest) taken → Took l T v (Some given) (Some []) (length given)
+took_all : (l : Limits) (T : TypeTerm) (v : Value) (given rest : List ℕ) (taken : ℕ) → rest ≡ []
+    → Took l T v (Some given) (Some rest) taken → Took l T v (Some given) (Some []) (length given)
 took_all l T v given rest taken ends t =
     subst (λ z. Took l T v (Some given) (Some z) (length given)) ends
-    (subst (λ z. Took l T v (Some given) (Some rest) z) (count_all given rest t.octets taken ends t.takes t.taken_are) t)
+    (subst (λ z. Took l T v (Some given) (Some rest) z)
+    (count_all given rest t.octets taken ends t.takes t.taken_are) t)
 
-reads_all : (l : Limits) (T : TypeTerm) (v : Value) (given rest : List ℕ) (taken : ℕ) → rest ≡ [] → ReadsValue l T v (Some given) (Some rest) taken → ReadsValue l T v (Some given) (Some []) (length given)
+reads_all : (l : Limits) (T : TypeTerm) (v : Value) (given rest : List ℕ) (taken : ℕ) → rest ≡ []
+    → ReadsValue l T v (Some given) (Some rest) taken → ReadsValue l T v (Some given) (Some []) (length given)
 reads_all l T v given rest taken ends r =
     subst (λ z. ReadsValue l T v (Some given) (Some z) (length given)) ends
-    (subst (λ z. ReadsValue l T v (Some given) (Some rest) z) (count_all given rest r.octets taken ends r.takes r.taken_are) r)
+    (subst (λ z. ReadsValue l T v (Some given) (Some rest) z)
+    (count_all given rest r.octets taken ends r.takes r.taken_are) r)
 
 -- ---- what was normalised
 
-text_all : (l : Limits) (T : TypeTerm) (given rest old new : List ℕ) (taken written : ℕ) → rest ≡ [] → (value : Value) × NormalisedAs l T value (Some given) (Some rest) (Some old) (Some new) taken written → old ≡ [] → WholeText l T given new
+text_all : (l : Limits) (T : TypeTerm) (given rest old new : List ℕ) (taken written : ℕ) → rest ≡ []
+    → (value : Value) × NormalisedAs l T value (Some given) (Some rest) (Some old) (Some new) taken written → old ≡ []
+    → WholeText l T given new
 text_all l T given rest old new taken written ends n none =
     let v = n.0 in
     let m = n.1 in
@@ -62,51 +70,75 @@ text_all l T given rest old new taken written ends n none =
           (subst (λ z. NormalisedAs l T v (Some given) (Some rest) (Some old) (Some new) taken z) written_is m))),
     )
 
-pub text_made : {V : Type 0} (made written : V) (items : V → List ℕ) (l : Limits) (T : TypeTerm) (given rest old : List ℕ) (taken count : ℕ) → made ≡ written → rest ≡ []
-    → (value : Value) × NormalisedAs l T value (Some given) (Some rest) (Some old) (Some (items written)) taken count → old ≡ [] → WholeText l T given (items made)
-text_made made written items l T given rest old taken count same ends n none = subst (λ z. WholeText l T given (items z)) (sym same) (text_all l T given rest old (items written) taken count ends n none)
+pub text_made : {V : Type 0} (made written : V) (items : V → List ℕ) (l : Limits) (T : TypeTerm)
+    (given rest old : List ℕ) (taken count : ℕ)
+    → made ≡ written → rest ≡ []
+    → (value : Value) × NormalisedAs l T value (Some given) (Some rest) (Some old) (Some (items written)) taken count
+    → old ≡ [] → WholeText l T given (items made)
+text_made made written items l T given rest old taken count same ends n none =
+    subst (λ z. WholeText l T given (items z)) (sym same)
+    (text_all l T given rest old (items written) taken count ends n none)
 
-by_two : (l : Limits) (T : TypeTerm) (v : Value) (octets : List ℕ) → IsLimits l → Spells l T v octets → length (der v) ≤ 2 * length octets
-by_two l T v octets fine s = growth_by_two _ _ _ _ v octets (omega (arith, fine.most_octets, s.octets_fit)) s.laid_out s.fits
+by_two : (l : Limits) (T : TypeTerm) (v : Value) (octets : List ℕ) → IsLimits l → Spells l T v octets
+    → length (der v) ≤ 2 * length octets
+by_two l T v octets fine s =
+    growth_by_two _ _ _ _ v octets (omega (arith, fine.most_octets, s.octets_fit)) s.laid_out s.fits
 
-pub text_room : (l : Limits) (T : TypeTerm) (given text : List ℕ) → IsLimits l → WholeText l T given text → length text ≤ 2 * length given
+pub text_room : (l : Limits) (T : TypeTerm) (given text : List ℕ) → IsLimits l → WholeText l T given text
+    → length text ≤ 2 * length given
 text_room l T given text fine whole =
     let n = whole.1 in
     omega (arith, by_two l T whole.0 n.took.octets fine n.took.spells, n.took.taken_are, n.written_are)
 
 -- ---- what was checked
 
-pub place_made : (l : Limits) (T : TypeTerm) (given rest : List ℕ) (taken : ℕ) (place : Option ℕ) → rest ≡ [] → (value : Value) × CheckedAs l T value (Some given) (Some rest) taken place → WholeChecked l T given place
+pub place_made : (l : Limits) (T : TypeTerm) (given rest : List ℕ) (taken : ℕ) (place : Option ℕ) → rest ≡ []
+    → (value : Value) × CheckedAs l T value (Some given) (Some rest) taken place → WholeChecked l T given place
 place_made l T given rest taken place ends c =
     let v = c.0 in
     let t = c.1.took in (
       v,
       subst (λ z. CheckedAs l T v (Some given) (Some z) (length given) place) ends
-          (subst (λ z. CheckedAs l T v (Some given) (Some rest) z place) (count_all given rest t.octets taken ends t.takes t.taken_are) c.1),
+          (subst (λ z. CheckedAs l T v (Some given) (Some rest) z place)
+          (count_all given rest t.octets taken ends t.takes t.taken_are) c.1),
     )
 
 -- ---- what was shown, and parts
 
-pub lines_made : {V : Type 0} (made : Result V Refusal) (items : V → List ℕ) (value_of : Document → Value) (l : Limits) (kind : Kind) (given rest : List ℕ) (document : Document) (taken : ℕ) → kind_of document ≡ kind → rest ≡ []
-    → ReadsValue l (type_of kind) (value_of document) (Some given) (Some rest) taken → IfOk made (λ text. items text ≡ document_lines document) → IfOk made (λ text. WholeLines value_of l kind given (items text))
-lines_made (Ok text) items value_of l kind given rest document taken k ends r is = (document, k, reads_all l (type_of kind) (value_of document) given rest taken ends r, is)
+pub lines_made : {V : Type 0} (made : Result V Refusal) (items : V → List ℕ) (value_of : Document → Value) (l : Limits)
+    (kind : Kind) (given rest : List ℕ) (document : Document) (taken : ℕ)
+    → kind_of document ≡ kind → rest ≡ []
+    → ReadsValue l (type_of kind) (value_of document) (Some given) (Some rest) taken
+    → IfOk made (λ text. items text ≡ document_lines document)
+    → IfOk made (λ text. WholeLines value_of l kind given (items text))
+lines_made (Ok text) items value_of l kind given rest document taken k ends r is =
+    (document, k, reads_all l (type_of kind) (value_of document) given rest taken ends r, is)
 lines_made (Err refusal) items value_of l kind given rest document taken k ends r is = tt
 
-pub part_made : {V : Type 0} (made : Result V Refusal) (items : V → List ℕ) (l : Limits) (part : Part) (given rest : List ℕ) (value : Value) (taken : ℕ) → IsLimits l → rest ≡ []
-    → ReadsValue l (type_of Request) value (Some given) (Some rest) taken → IfOk made (λ text. items text ≡ part_of part value) → IfOk made (λ text. WholePart l part given (items text))
+pub part_made : {V : Type 0} (made : Result V Refusal) (items : V → List ℕ) (l : Limits) (part : Part)
+    (given rest : List ℕ) (value : Value) (taken : ℕ)
+    → IsLimits l → rest ≡ []
+    → ReadsValue l (type_of Request) value (Some given) (Some rest) taken
+    → IfOk made (λ text. items text ≡ part_of part value) → IfOk made (λ text. WholePart l part given (items text))
 part_made (Ok text) items l part given rest value taken fine ends r is =
-    let took = took_as l (type_of Request) value (Some given) (Some rest) taken (kinds_are_lawful Request) fine r in
-    (r.spelled, took_all l (type_of Request) r.spelled given rest taken ends took, is ∙ sym (part_same part r.spelled value r.same))
+    let took = took_as l (type_of Request) value (Some given) (Some rest) taken (kinds_are_lawful Request) fine r in (
+      r.spelled,
+      took_all l (type_of Request) r.spelled given rest taken ends took,
+      is ∙ sym (part_same part r.spelled value r.same),
+    )
 part_made (Err refusal) items l part given rest value taken fine ends r is = tt
 
 -- nothing but memory was wanting
-pub only_memory : {V : Type 0} (made : Result V Refusal) (l : Limits) (T : TypeTerm) (given : List ℕ) → IfErr made (λ refusal. refusal ≡ refusals.Memory) → IfErr made (WholeRefused l T given)
+pub only_memory : {V : Type 0} (made : Result V Refusal) (l : Limits) (T : TypeTerm) (given : List ℕ)
+    → IfErr made (λ refusal. refusal ≡ refusals.Memory) → IfErr made (WholeRefused l T given)
 only_memory (Ok text) l T given is = tt
 only_memory (Err refusal) l T given is = subst (WholeRefused l T given) (sym is) tt
 
 -- ---- what was not read
 
-unread : (l : Limits) (T : TypeTerm) (error : ReadError) (given after : List ℕ) → Unchecked l T error (Some given) (Some after) ⊎ Followed l T error (Some given) (Some after) → WholeRefused l T given (unread_refusal error)
+unread : (l : Limits) (T : TypeTerm) (error : ReadError) (given after : List ℕ)
+    → Unchecked l T error (Some given) (Some after) ⊎ Followed l T error (Some given) (Some after)
+    → WholeRefused l T given (unread_refusal error)
 unread l T (errors.Fault found) given after (inl h) = inl (h.0.2.answers, h.1.0, h.1.1)
 unread l T (errors.Fault found) given after (inr f) = inr (record {
   value = f.value;
@@ -120,12 +152,20 @@ unread l T (errors.Fault found) given after (inr f) = inr (record {
 unread l T (errors.Read at) given after h = tt
 unread l T errors.Memory given after h = tt
 
-pub unread_made : (l : Limits) (T : TypeTerm) (error : ReadError) (refusal : Refusal) (given rest : List ℕ) → refusal ≡ unread_refusal error → Unchecked l T error (Some given) (Some rest) ⊎ Followed l T error (Some given) (Some rest) → WholeRefused l T given refusal
+pub unread_made : (l : Limits) (T : TypeTerm) (error : ReadError) (refusal : Refusal) (given rest : List ℕ)
+    → refusal ≡ unread_refusal error
+    → Unchecked l T error (Some given) (Some rest) ⊎ Followed l T error (Some given) (Some rest)
+    → WholeRefused l T given refusal
 unread_made l T error refusal given rest is h = subst (WholeRefused l T given) (sym is) (unread l T error given rest h)
 
-unwritten : (l : Limits) (T : TypeTerm) (error : NormaliseError) (given rest : List ℕ) (old new : Option (List ℕ)) → RefusedWhole l T error (Some given) (Some rest) old new → WholeRefused l T given (unwritten_refusal error)
+unwritten : (l : Limits) (T : TypeTerm) (error : NormaliseError) (given rest : List ℕ) (old new : Option (List ℕ))
+    → RefusedWhole l T error (Some given) (Some rest) old new → WholeRefused l T given (unwritten_refusal error)
 unwritten l T (Read error) given rest old new h = unread l T error given rest h
 unwritten l T (Write error) given rest old new h = tt
 
-pub unwritten_made : (l : Limits) (T : TypeTerm) (error : NormaliseError) (refusal : Refusal) (given rest : List ℕ) (old new : Option (List ℕ)) → refusal ≡ unwritten_refusal error → RefusedWhole l T error (Some given) (Some rest) old new → WholeRefused l T given refusal
-unwritten_made l T error refusal given rest old new is h = subst (WholeRefused l T given) (sym is) (unwritten l T error given rest old new h)
+pub unwritten_made : (l : Limits) (T : TypeTerm) (error : NormaliseError) (refusal : Refusal) (given rest : List ℕ)
+    (old new : Option (List ℕ))
+    → refusal ≡ unwritten_refusal error → RefusedWhole l T error (Some given) (Some rest) old new
+    → WholeRefused l T given refusal
+unwritten_made l T error refusal given rest old new is h =
+    subst (WholeRefused l T given) (sym is) (unwritten l T error given rest old new h)

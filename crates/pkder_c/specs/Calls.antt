@@ -26,15 +26,19 @@ ForPart number limits P = (part : Part) × (part_number part ≡ number) × IsLi
 
 -- The octets are a document, and this is its DER text, which twice as much room always has room for.
 abbrev pub IsText : ℕ → Limits → List ℕ → List ℕ → Type 0
-IsText number limits given text = ForKind number limits (λ allowed kind. WholeText allowed (type_of kind) given text × (length text ≤ 2 * length given))
+IsText number limits given text =
+    ForKind number limits
+    (λ allowed kind. WholeText allowed (type_of kind) given text × (length text ≤ 2 * length given))
 
 -- They are one, and this is the first place where they aren't in DER.
 abbrev pub IsPlace : ℕ → Limits → List ℕ → Option ℕ → Type 0
-IsPlace number limits given place = ForKind number limits (λ allowed kind. WholeChecked allowed (type_of kind) given place)
+IsPlace number limits given place =
+    ForKind number limits (λ allowed kind. WholeChecked allowed (type_of kind) given place)
 
 -- They are one, and these are its lines.
 abbrev pub AreLines : (Document → Value) → ℕ → Limits → List ℕ → List ℕ → Type 0
-AreLines value_of number limits given text = ForKind number limits (λ allowed kind. WholeLines value_of allowed kind given text)
+AreLines value_of number limits given text =
+    ForKind number limits (λ allowed kind. WholeLines value_of allowed kind given text)
 
 -- They are a request, and this is the part of this number.
 abbrev pub IsPartText : ℕ → Limits → List ℕ → List ℕ → Type 0
@@ -43,20 +47,25 @@ IsPartText number limits given text = ForPart number limits (λ allowed part. Wh
 -- Why there is none: the call is bad exactly where no kind has the number or the limits are none.
 abbrev pub KindRefused : ℕ → Limits → List ℕ → Refusal → Type 0
 KindRefused number limits given refusals.Call = IsKindNumber number → IsLimits limits → ⊥
-KindRefused number limits given (refusals.Fault found) = ForKind number limits (λ allowed kind. WholeFault allowed (type_of kind) found given)
+KindRefused number limits given (refusals.Fault found) =
+    ForKind number limits (λ allowed kind. WholeFault allowed (type_of kind) found given)
 KindRefused number limits given refusals.Memory = ForKind number limits (λ allowed kind. Unit {0})
 
 abbrev pub PartRefused : ℕ → Limits → List ℕ → Refusal → Type 0
 PartRefused number limits given refusals.Call = IsPartNumber number → IsLimits limits → ⊥
-PartRefused number limits given (refusals.Fault found) = ForPart number limits (λ allowed part. WholeFault allowed (type_of Request) found given)
+PartRefused number limits given (refusals.Fault found) =
+    ForPart number limits (λ allowed part. WholeFault allowed (type_of Request) found given)
 PartRefused number limits given refusals.Memory = ForPart number limits (λ allowed part. Unit {0})
 
--- The text stands where the room `old` began, and the rest of the room is as it was; or there is too little room, which is told, and all of it is as it was.
+-- The text stands where the room `old` began, and the rest of the room is as it was; or there is too little room, which
+-- is told, and all of it is as it was.
 pub record Put (text : List ℕ) (taken : ℕ) (old new : List ℕ) (outcome : PkderOutcome) : Type 0 where
-  pub fits : length text ≤ length old → (outcome ≡ accepted_outcome taken (length text)) × (new ≡ text ++ drop (length text) old)
+  pub fits : length text ≤ length old
+      → (outcome ≡ accepted_outcome taken (length text)) × (new ≡ text ++ drop (length text) old)
   pub short : length old < length text → (outcome ≡ too_small_outcome taken (length text)) × (new ≡ old)
 
--- A text that is due was put; or the octets are refused, for a reason that holds and is told, and the room is as it was.
+-- A text that is due was put; or the octets are refused, for a reason that holds and is told,
+-- and the room is as it was.
 abbrev pub Wrote : (List ℕ → Type 0) → (Refusal → Type 0) → ℕ → List ℕ → List ℕ → PkderOutcome → Type 0
 Wrote Due Refused taken old new outcome =
     ((text : List ℕ) × Due text × Put text taken old new outcome)

@@ -7,15 +7,18 @@ use Rattle.pkder_c.specs.declared.refusal.Refusal.{Refusal}
 use Rattle.pkder_c.specs.declared.refusal.Refusal.TheVariants.{Call, Fault, Memory}
 
 abbrev pub accepted_outcome : ℕ → ℕ → PkderOutcome
-accepted_outcome taken size = record { status = 0; reason = 0; inside_reason = 0; spare = 0; at = 0; inside_at = 0; taken = taken; size = size }
+accepted_outcome taken size =
+    record { status = 0; reason = 0; inside_reason = 0; spare = 0; at = 0; inside_at = 0; taken = taken; size = size }
 
 abbrev pub too_small_outcome : ℕ → ℕ → PkderOutcome
-too_small_outcome taken size = record { status = 2; reason = 0; inside_reason = 0; spare = 0; at = 0; inside_at = 0; taken = taken; size = size }
+too_small_outcome taken size =
+    record { status = 2; reason = 0; inside_reason = 0; spare = 0; at = 0; inside_at = 0; taken = taken; size = size }
 
 -- by the place where a document isn't in DER
 abbrev pub checked_outcome : ℕ → Option ℕ → PkderOutcome
 checked_outcome taken None = accepted_outcome taken 0
-checked_outcome taken (Some place) = record { status = 5; reason = 0; inside_reason = 0; spare = 0; at = place; inside_at = 0; taken = taken; size = 0 }
+checked_outcome taken (Some place) =
+    record { status = 5; reason = 0; inside_reason = 0; spare = 0; at = place; inside_at = 0; taken = taken; size = 0 }
 
 -- the place and the number of the reason inside, 0 and 0 where there is none
 abbrev pub inside_of : Option (ℕ × Reason) → ℕ × ℕ
@@ -24,6 +27,17 @@ inside_of (Some inside) = (inside.0, number_of inside.1)
 
 abbrev pub refused_outcome : Refusal → PkderOutcome
 refused_outcome (Fault found) =
-    record { status = 1; reason = number_of found.why; inside_reason = (inside_of found.inside).1; spare = 0; at = found.at; inside_at = (inside_of found.inside).0; taken = 0; size = 0 }
-refused_outcome Memory = record { status = 3; reason = 0; inside_reason = 0; spare = 0; at = 0; inside_at = 0; taken = 0; size = 0 }
-refused_outcome Call = record { status = 4; reason = 0; inside_reason = 0; spare = 0; at = 0; inside_at = 0; taken = 0; size = 0 }
+    record {
+      status = 1;
+      reason = number_of found.why;
+      inside_reason = (inside_of found.inside).1;
+      spare = 0;
+      at = found.at;
+      inside_at = (inside_of found.inside).0;
+      taken = 0;
+      size = 0;
+    }
+refused_outcome Memory =
+    record { status = 3; reason = 0; inside_reason = 0; spare = 0; at = 0; inside_at = 0; taken = 0; size = 0 }
+refused_outcome Call =
+    record { status = 4; reason = 0; inside_reason = 0; spare = 0; at = 0; inside_at = 0; taken = 0; size = 0 }

@@ -23,26 +23,37 @@ use Rattle.pk_show.specs.Shown.{document_lines}
 use Rattle.pkder_c.specs.declared.refusal.Refusal.{Refusal}
 use Rattle.pkder_c.specs.declared.refusal.Refusal.TheVariants as refusals
 
--- All of the octets spell one value, and the text is its DER text; and so on, as `NormalisedAs` says of a source that ends there and a target that was empty.
+-- All of the octets spell one value, and the text is its DER text; and so on, as `NormalisedAs` says of a source that
+-- ends there and a target that was empty.
 abbrev pub WholeText : Limits → TypeTerm → List ℕ → List ℕ → Type 0
-WholeText limits type given text = (value : Value) × NormalisedAs limits type value (Some given) (Some []) (Some []) (Some text) (length given) (length text)
+WholeText limits type given text =
+    (value : Value)
+    × NormalisedAs limits type value (Some given) (Some []) (Some []) (Some text) (length given) (length text)
 
 -- They spell one value, and this is the first place where they differ from its DER text, if they do.
 abbrev pub WholeChecked : Limits → TypeTerm → List ℕ → Option ℕ → Type 0
-WholeChecked limits type given place = (value : Value) × CheckedAs limits type value (Some given) (Some []) (length given) place
+WholeChecked limits type given place =
+    (value : Value) × CheckedAs limits type value (Some given) (Some []) (length given) place
 
 -- They are read as a document of the kind, and the text is its lines.
 abbrev pub WholeLines : (Document → Value) → Limits → Kind → List ℕ → List ℕ → Type 0
 WholeLines value_of limits kind given text =
-    (document : Document) × (kind_of document ≡ kind) × ReadsValue limits (type_of kind) (value_of document) (Some given) (Some []) (length given) × (text ≡ document_lines document)
+    (document : Document)
+    × (kind_of document ≡ kind)
+    × ReadsValue limits (type_of kind) (value_of document) (Some given) (Some []) (length given)
+    × (text ≡ document_lines document)
 
 -- They spell one request, and the text is a part of it.
 abbrev pub WholePart : Limits → Part → List ℕ → List ℕ → Type 0
-WholePart limits part given text = (value : Value) × Took limits (type_of Request) value (Some given) (Some []) (length given) × (text ≡ part_of part value)
+WholePart limits part given text =
+    (value : Value)
+    × Took limits (type_of Request) value (Some given) (Some []) (length given)
+    × (text ≡ part_of part value)
 
 -- Nothing that the octets begin with spells a value, and this is the fault that the definitions give.
 abbrev pub FirstFault : Limits → TypeTerm → Fault → List ℕ → Type 0
-FirstFault limits type found given = (answer limits type given ≡ Refused found) × InsideMatches found × Unspelled limits type given
+FirstFault limits type found given =
+    (answer limits type given ≡ Refused found) × InsideMatches found × Unspelled limits type given
 
 -- Octets follow the first ones, which spell a value: a fault behind these.
 pub record FollowsValue (limits : Limits) (type : TypeTerm) (found : Fault) (given : List ℕ) : Type 0 where

@@ -7,5 +7,7 @@ use Rattle.x690_laws.proofs.Computed as laws
 use Rattle.pkix_types.specs.DocumentTypes.{AlgorithmIdentifier, AsymmetricKeyPackage, Attribute, CertificationRequest, CertificationRequestInfo, ECPrivateKey, EncryptedPrivateKeyInfo, Extension, Name, NameItem, OneAsymmetricKey, OtherPrimeInfo, RSAPrivateKey, RequestAttribute, SubjectPublicKeyInfo}
 
 unfoldable pub computed : Limits → TypeTerm → List ℕ → Answer
-unfolding laws.computed AlgorithmIdentifier Attribute CertificationRequest CertificationRequestInfo ECPrivateKey Extension Name NameItem OneAsymmetricKey RequestAttribute SubjectPublicKeyInfo AsymmetricKeyPackage EncryptedPrivateKeyInfo OtherPrimeInfo RSAPrivateKey
+unfolding laws.computed AlgorithmIdentifier Attribute CertificationRequest CertificationRequestInfo ECPrivateKey
+    Extension Name NameItem OneAsymmetricKey RequestAttribute SubjectPublicKeyInfo AsymmetricKeyPackage
+    EncryptedPrivateKeyInfo OtherPrimeInfo RSAPrivateKey
 computed limits type octets = answer limits type octets

@@ -55,7 +55,13 @@ honest_inner_curve earlier v why e = tested _ KeyLength why length_honest e
 pub honest_inner_ec : HonestRule inner_ec_rule
 honest_inner_ec earlier v why e = go (length (own_curve v) == 0) e
   where
-    go : (b : Bool) → elim b [ false ↦ else_refused (same_octets (own_curve v) (container_curve earlier)) Curve | true ↦ else_refused (ec_length (container_curve earlier) v) KeyLength ] ≡ Some why → HonestReason why
+    go : (b : Bool)
+        → elim b [
+          | false ↦ else_refused (same_octets (own_curve v) (container_curve earlier)) Curve
+          | true ↦ else_refused (ec_length (container_curve earlier) v) KeyLength
+        ]
+        ≡ Some why
+        → HonestReason why
     go false x = tested _ Curve why curve_honest x
     go true x = tested _ KeyLength why length_honest x
 
@@ -75,7 +81,11 @@ neither false b e f = f
 
 pub algorithm : Lawful AlgorithmIdentifier
 unfolding Fair Honest Distinct AlgorithmIdentifier fits_tag fields_fit_tag
-algorithm = record { fair = (fair_parameters, (tt, (tt, tt))); honest = (honest_parameters, (tt, (tt, tt))); distinct = (tt, (tt, tt, λ u h. refl)) }
+algorithm = record {
+  fair = (fair_parameters, (tt, (tt, tt)));
+  honest = (honest_parameters, (tt, (tt, tt)));
+  distinct = (tt, (tt, tt, λ u h. refl));
+}
 
 pub name_item : Lawful NameItem
 unfolding Fair Honest Distinct NameItem
@@ -121,18 +131,32 @@ ec_key = record {
   distinct = (tt, (tt, ((tt, tt), ((tt, tt), tt, λ u h. refl), λ u h. public_key_apart u h)));
 }
   where
-    public_key_apart : (u : Tag) → same_tag (context_specific 0) u ≡ true → (same_tag (context_specific 1) u || false) ≡ false
+    public_key_apart : (u : Tag) → same_tag (context_specific 0) u ≡ true
+        → (same_tag (context_specific 1) u || false) ≡ false
     public_key_apart u h = neither _ _ (apart (context_specific 0) (context_specific 1) u refl h) refl
 
 pub other_prime_info : Lawful OtherPrimeInfo
 unfolding Fair Honest Distinct OtherPrimeInfo
-other_prime_info = record { fair = (tt, (tt, (tt, tt))); honest = (tt, (tt, (tt, tt))); distinct = (tt, (tt, (tt, tt))) }
+other_prime_info =
+    record { fair = (tt, (tt, (tt, tt))); honest = (tt, (tt, (tt, tt))); distinct = (tt, (tt, (tt, tt))) }
 
 pub rsa : Lawful RSAPrivateKey
 unfolding Fair Honest Distinct RSAPrivateKey fits_tag fields_fit_tag
 rsa = record {
-  fair = (fair_rsa_version, ((fair_version ((0 ∷ []) ∷ (1 ∷ []) ∷ []), tt), (tt, (tt, (tt, (tt, (tt, (tt, (tt, (tt, ((tt, other_prime_info.fair), tt)))))))))));
-  honest = (honest_rsa_version, ((honest_version ((0 ∷ []) ∷ (1 ∷ []) ∷ []), tt), (tt, (tt, (tt, (tt, (tt, (tt, (tt, (tt, ((rule_honest, other_prime_info.honest), tt)))))))))));
+  fair = (
+    fair_rsa_version,
+    (
+      (fair_version ((0 ∷ []) ∷ (1 ∷ []) ∷ []), tt),
+      (tt, (tt, (tt, (tt, (tt, (tt, (tt, (tt, ((tt, other_prime_info.fair), tt))))))))),
+    ),
+  );
+  honest = (
+    honest_rsa_version,
+    (
+      (honest_version ((0 ∷ []) ∷ (1 ∷ []) ∷ []), tt),
+      (tt, (tt, (tt, (tt, (tt, (tt, (tt, (tt, ((rule_honest, other_prime_info.honest), tt))))))))),
+    ),
+  );
   distinct = (tt, (tt, (tt, (tt, (tt, (tt, (tt, (tt, (tt, ((tt, other_prime_info.distinct), tt, λ u h. refl))))))))));
 }
 
@@ -186,8 +210,10 @@ key = record {
   );
 }
   where
-    attributes_apart : (u : Tag) → same_tag (context_specific 0) u ≡ true → ((same_tag (context_specific 1) u || same_tag (context_specific 1) u) || false) ≡ false
-    attributes_apart u h = let z = apart (context_specific 0) (context_specific 1) u refl h in neither _ _ (neither _ _ z z) refl
+    attributes_apart : (u : Tag) → same_tag (context_specific 0) u ≡ true
+        → ((same_tag (context_specific 1) u || same_tag (context_specific 1) u) || false) ≡ false
+    attributes_apart u h =
+        let z = apart (context_specific 0) (context_specific 1) u refl h in neither _ _ (neither _ _ z z) refl
 
 pub key_package : Lawful AsymmetricKeyPackage
 unfolding Fair Honest Distinct AsymmetricKeyPackage
@@ -195,13 +221,18 @@ key_package = record { fair = key.fair; honest = key.honest; distinct = key.dist
 
 pub encrypted_key : Lawful EncryptedPrivateKeyInfo
 unfolding Fair Honest Distinct EncryptedPrivateKeyInfo
-encrypted_key = record { fair = (algorithm.fair, (tt, tt)); honest = (algorithm.honest, (tt, tt)); distinct = (algorithm.distinct, (tt, tt)) }
+encrypted_key = record {
+  fair = (algorithm.fair, (tt, tt));
+  honest = (algorithm.honest, (tt, tt));
+  distinct = (algorithm.distinct, (tt, tt));
+}
 
 pub request_info : Lawful CertificationRequestInfo
 unfolding Fair Honest Distinct CertificationRequestInfo fits_tag fields_fit_tag
 request_info = record {
   fair = ((fair_version ((0 ∷ []) ∷ []), tt), (name.fair, (public_key_info.fair, (request_attribute.fair, tt))));
-  honest = ((honest_version ((0 ∷ []) ∷ []), tt), (name.honest, (public_key_info.honest, (request_attribute.honest, tt))));
+  honest =
+      ((honest_version ((0 ∷ []) ∷ []), tt), (name.honest, (public_key_info.honest, (request_attribute.honest, tt))));
   distinct = (tt, (name.distinct, (public_key_info.distinct, (request_attribute.distinct, tt, λ u h. refl))));
 }
 

@@ -38,19 +38,27 @@ universal_0_constructed : answer usual OneAsymmetricKey (hex (codes "2000")) ≡
 unfolding computed
 universal_0_constructed = refl
 
-a_version_that_no_key_has : answer usual OneAsymmetricKey (hex (codes "302e020102300506032b657004220420000102030405060708090a0b0c0d0e0f101112131415161718191a1b1c1d1e1f")) ≡ refused 2 Version
+a_version_that_no_key_has : answer usual OneAsymmetricKey
+    (hex (codes "302e020102300506032b657004220420000102030405060708090a0b0c0d0e0f101112131415161718191a1b1c1d1e1f"))
+    ≡ refused 2 Version
 unfolding computed
 a_version_that_no_key_has = refl
 
-an_element_too_many : answer usual OneAsymmetricKey (hex (codes "3030020100300506032b657004220420000102030405060708090a0b0c0d0e0f101112131415161718191a1b1c1d1e1f0500")) ≡ refused 48 Extra
+an_element_too_many : answer usual OneAsymmetricKey
+    (hex (codes "3030020100300506032b657004220420000102030405060708090a0b0c0d0e0f101112131415161718191a1b1c1d1e1f0500"))
+    ≡ refused 48 Extra
 unfolding computed
 an_element_too_many = refl
 
-end_of_contents_in_a_definite_container : answer usual OneAsymmetricKey (hex (codes "3030020100300506032b657004220420000102030405060708090a0b0c0d0e0f101112131415161718191a1b1c1d1e1f0000")) ≡ refused 48 BadEnd
+end_of_contents_in_a_definite_container : answer usual OneAsymmetricKey
+    (hex (codes "3030020100300506032b657004220420000102030405060708090a0b0c0d0e0f101112131415161718191a1b1c1d1e1f0000"))
+    ≡ refused 48 BadEnd
 unfolding computed
 end_of_contents_in_a_definite_container = refl
 
-half_of_end_of_contents : answer usual OneAsymmetricKey (hex (codes "3080020100300506032b657004220420000102030405060708090a0b0c0d0e0f101112131415161718191a1b1c1d1e1f0001")) ≡ refused 48 BadEnd
+half_of_end_of_contents : answer usual OneAsymmetricKey
+    (hex (codes "3080020100300506032b657004220420000102030405060708090a0b0c0d0e0f101112131415161718191a1b1c1d1e1f0001"))
+    ≡ refused 48 BadEnd
 unfolding computed
 half_of_end_of_contents = refl
 
@@ -66,15 +74,20 @@ end_of_contents_past_the_container : answer usual OneAsymmetricKey (hex (codes "
 unfolding computed
 end_of_contents_past_the_container = refl
 
-no_end_of_contents_before_the_container_ends : answer usual OneAsymmetricKey (hex (codes "30050201003080")) ≡ refused 7 PastEnd
+no_end_of_contents_before_the_container_ends : answer usual OneAsymmetricKey (hex (codes "30050201003080"))
+    ≡ refused 7 PastEnd
 unfolding computed
 no_end_of_contents_before_the_container_ends = refl
 
-a_limit_of_depth_of_1 : answer (record { depth = 1; octets = 1048576 }) OneAsymmetricKey (hex (codes "302e020100300506032b657004220420000102030405060708090a0b0c0d0e0f101112131415161718191a1b1c1d1e1f")) ≡ refused 2 TooDeep
+a_limit_of_depth_of_1 : answer (record { depth = 1; octets = 1048576 }) OneAsymmetricKey
+    (hex (codes "302e020100300506032b657004220420000102030405060708090a0b0c0d0e0f101112131415161718191a1b1c1d1e1f"))
+    ≡ refused 2 TooDeep
 unfolding computed
 a_limit_of_depth_of_1 = refl
 
-a_limit_of_octets_of_1 : answer (record { depth = 32; octets = 1 }) OneAsymmetricKey (hex (codes "302e020100300506032b657004220420000102030405060708090a0b0c0d0e0f101112131415161718191a1b1c1d1e1f")) ≡ refused 0 TooLong
+a_limit_of_octets_of_1 : answer (record { depth = 32; octets = 1 }) OneAsymmetricKey
+    (hex (codes "302e020100300506032b657004220420000102030405060708090a0b0c0d0e0f101112131415161718191a1b1c1d1e1f"))
+    ≡ refused 0 TooLong
 unfolding computed
 a_limit_of_octets_of_1 = refl
 
@@ -86,11 +99,15 @@ a_length_that_is_cut : answer usual OneAsymmetricKey (hex (codes "3081")) ≡ re
 unfolding computed
 a_length_that_is_cut = refl
 
-parameters_come_before_the_length_of_the_key : answer usual OneAsymmetricKey (hex (codes "302f020100300706032b657005000421041f11111111111111111111111111111111111111111111111111111111111111")) ≡ refused 5 Parameters
+parameters_come_before_the_length_of_the_key : answer usual OneAsymmetricKey
+    (hex (codes "302f020100300706032b657005000421041f11111111111111111111111111111111111111111111111111111111111111"))
+    ≡ refused 5 Parameters
 unfolding computed
 parameters_come_before_the_length_of_the_key = refl
 
-end_of_contents_that_is_cut : answer usual OneAsymmetricKey (hex (codes "3080020100300506032b657004220420000102030405060708090a0b0c0d0e0f101112131415161718191a1b1c1d1e1f00")) ≡ refused 49 Truncated
+end_of_contents_that_is_cut : answer usual OneAsymmetricKey
+    (hex (codes "3080020100300506032b657004220420000102030405060708090a0b0c0d0e0f101112131415161718191a1b1c1d1e1f00"))
+    ≡ refused 49 Truncated
 unfolding computed
 end_of_contents_that_is_cut = refl
 

@@ -1,4 +1,5 @@
--- The types of private keys, alone, encrypted and in packages, of certification requests, and of their parts, each in the order of its ASN.1.
+-- The types of private keys, alone, encrypted and in packages, of certification requests, and of their parts, each
+-- in the order of its ASN.1.
 use Rattle.std.specs.Prelude.{List, [], ℕ, ◌∷◌}
 use Rattle.tlv_core.specs.declared.reason.Reason.TheVariants.{VersionRule}
 use Rattle.x690.specs.Contents.{BitString, Boolean}
@@ -15,7 +16,8 @@ version allowed = RuledType (version_rule allowed) integer
 
 -- RFC 5280 section 4.1.1.2; without parameters under the algorithms of RFC 8410 (its section 3).
 unfoldable pub AlgorithmIdentifier : TypeTerm
-AlgorithmIdentifier = RuledType parameters_rule (sequence (Required object_identifier ⨾ Optional OpenType ⨾ EndOfFields))
+AlgorithmIdentifier =
+    RuledType parameters_rule (sequence (Required object_identifier ⨾ Optional OpenType ⨾ EndOfFields))
 
 -- AttributeTypeAndValue of RFC 5280 section 4.1.2.4.
 unfoldable pub NameItem : TypeTerm
@@ -27,7 +29,9 @@ Name = sequence_of (set_of_some NameItem)
 
 -- RFC 5280 section 4.1.2.7; under the algorithms of RFC 8410 the key has the length that goes with it.
 unfoldable pub SubjectPublicKeyInfo : TypeTerm
-SubjectPublicKeyInfo = sequence (Required AlgorithmIdentifier ⨾ Required (RuledType (key_bits_rule algorithm_of_public_key) bit_string) ⨾ EndOfFields)
+SubjectPublicKeyInfo =
+    sequence (Required AlgorithmIdentifier ⨾ Required (RuledType (key_bits_rule algorithm_of_public_key) bit_string)
+    ⨾ EndOfFields)
 
 -- RFC 2986 section 4.1; at least one value (in keys: profile).
 unfoldable pub Attribute : TypeTerm
@@ -35,13 +39,17 @@ Attribute = sequence (Required object_identifier ⨾ Required (set_of_some OpenT
 
 -- RFC 5280 section 4.1: `critical` is FALSE by default.
 unfoldable pub Extension : TypeTerm
-Extension = sequence (Required object_identifier ⨾ Default (universal 1) (0 ∷ []) (LeafType (universal 1) Boolean) ⨾ Required octet_string ⨾ EndOfFields)
+Extension =
+    sequence (Required object_identifier ⨾ Default (universal 1) (0 ∷ []) (LeafType (universal 1) Boolean)
+    ⨾ Required octet_string ⨾ EndOfFields)
 
--- An attribute of a request: extensionRequest has lists of extensions (RFC 2985 section 5.4.2, which has one list of at least one; several of them and empty ones: profile), any other one open values.
+-- An attribute of a request: extensionRequest has lists of extensions (RFC 2985 section 5.4.2, which has one list of at
+-- least one; several of them and empty ones: profile), any other one open values.
 unfoldable pub RequestAttribute : TypeTerm
 RequestAttribute =
     sequence (Required object_identifier
-    ⨾ Required (DefinedByType first_field (extension_request ∷ []) (set_of_some (sequence_of Extension)) (set_of_some OpenType))
+    ⨾ Required
+    (DefinedByType first_field (extension_request ∷ []) (set_of_some (sequence_of Extension)) (set_of_some OpenType))
     ⨾ EndOfFields)
 
 -- RFC 5915 section 3. The parameters may be absent (profile), and are a named curve.
@@ -60,7 +68,9 @@ OtherPrimeInfo = sequence (Required integer ⨾ Required integer ⨾ Required in
 
 -- otherPrimeInfos of an RSAPrivateKey: at least one, and none under version 0 (RFC 8017 A.1.2).
 abbrev pub other_prime_infos : TypeTerm
-other_prime_infos = DefinedByType first_field (version_0 ∷ []) (RefusedType (universal 16) VersionRule) (SequenceOfType (universal 16) 1 OtherPrimeInfo)
+other_prime_infos =
+    DefinedByType first_field (version_0 ∷ []) (RefusedType (universal 16) VersionRule)
+    (SequenceOfType (universal 16) 1 OtherPrimeInfo)
 
 -- RFC 8017 A.1.2: version, modulus, both exponents, both primes, both exponents of these, coefficient, otherPrimeInfos.
 unfoldable pub RSAPrivateKey : TypeTerm
@@ -72,12 +82,14 @@ RSAPrivateKey =
     ⨾ Optional other_prime_infos
     ⨾ EndOfFields))
 
--- privateKey of a OneAsymmetricKey: what its octets contain goes by the algorithm, which stands second in the container (RFC 5915 section 3, RFC 8410 section 7, RFC 8017 A.1). Under all other algorithms the octets are carried.
+-- privateKey of a OneAsymmetricKey: what its octets contain goes by the algorithm, which stands second in the container
+-- (RFC 5915 section 3, RFC 8410 section 7, RFC 8017 A.1). Under all other algorithms the octets are carried.
 abbrev pub private_key : TypeTerm
 private_key =
     DefinedByType algorithm_of_key (ec_public_key ∷ []) (ContainingType (universal 4) inner_ec_rule ECPrivateKey)
     (DefinedByType algorithm_of_key rfc8410_algorithms (ContainingType (universal 4) inner_curve_rule octet_string)
-    (DefinedByType algorithm_of_key (rsa_encryption ∷ []) (ContainingType (universal 4) no_rule RSAPrivateKey) octet_string))
+    (DefinedByType algorithm_of_key (rsa_encryption ∷ [])
+    (ContainingType (universal 4) no_rule RSAPrivateKey) octet_string))
 
 -- publicKey of a OneAsymmetricKey: [1] may not stand in one of version 0 (RFC 5958 section 2).
 abbrev pub public_key : TypeTerm
@@ -115,4 +127,5 @@ CertificationRequestInfo =
 
 -- RFC 2986 section 4.2.
 unfoldable pub CertificationRequest : TypeTerm
-CertificationRequest = sequence (Required CertificationRequestInfo ⨾ Required AlgorithmIdentifier ⨾ Required bit_string ⨾ EndOfFields)
+CertificationRequest =
+    sequence (Required CertificationRequestInfo ⨾ Required AlgorithmIdentifier ⨾ Required bit_string ⨾ EndOfFields)

@@ -56,7 +56,8 @@ rfc8410_algorithms = x25519 ∷ x448 ∷ ed25519 ∷ ed448 ∷ []
 -- the number of octets of a key under an identifier, by a table
 abbrev pub length_under : List (List ℕ × ℕ) → List ℕ → Option ℕ
 length_under [] identifier = None
-length_under (row ∷ rows) identifier = elim (same_octets identifier row.0) [ true ↦ Some row.1 | false ↦ length_under rows identifier ]
+length_under (row ∷ rows) identifier =
+    elim (same_octets identifier row.0) [ true ↦ Some row.1 | false ↦ length_under rows identifier ]
 
 -- private and public keys (RFC 7748 section 5, RFC 8032 sections 5.1.5, 5.2.5)
 abbrev pub rfc8410_lengths : List (List ℕ × ℕ)

@@ -1,4 +1,5 @@
--- Where leaves stand in a container, by the numbers of its fields from 0 and on inside them; and the contents of versions.
+-- Where leaves stand in a container, by the numbers of its fields from 0 and on inside them; and
+-- the contents of versions.
 use Rattle.std.specs.Prelude.{List, [], ℕ, ◌∷◌}
 
 -- a version, the algorithm of an AlgorithmIdentifier, the type of an attribute

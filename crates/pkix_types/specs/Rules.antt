@@ -1,4 +1,5 @@
--- The rules over the types of documents: each says why a value is refused, by the earlier fields of its container and itself.
+-- The rules over the types of documents: each says why a value is refused, by the earlier fields of
+-- its container and itself.
 use Rattle.std.specs.Prelude.{Bool, List, None, Option, Some, [], false, length, not, suc, true, zero, ℕ, ◌&&◌, ◌-◌, ◌==◌, ◌||◌, ◌∷◌}
 use Rattle.tlv_core.specs.Identifier.{Tag}
 use Rattle.tlv_core.specs.declared.reason.Reason.TheVariants.{Curve, KeyLength, Parameters, Version, VersionRule}
@@ -25,7 +26,8 @@ leaf_is_one_of path octets values = one_of (leaf_at path values) octets
 -- the values with the tag
 abbrev pub with_tag : Tag → List Value → List Value
 with_tag tag [] = []
-with_tag tag (value ∷ values) = elim (same_tag tag (value_tag value)) [ true ↦ value ∷ with_tag tag values | false ↦ with_tag tag values ]
+with_tag tag (value ∷ values) =
+    elim (same_tag tag (value_tag value)) [ true ↦ value ∷ with_tag tag values | false ↦ with_tag tag values ]
 
 -- whether it is an OBJECT IDENTIFIER
 abbrev pub is_identifier : Value → Bool
@@ -46,12 +48,14 @@ version_rule allowed earlier value = else_refused (one_of (leaf_contents value) 
 -- An AlgorithmIdentifier with an algorithm of RFC 8410 has no parameters.
 abbrev pub parameters_rule : Rule
 parameters_rule earlier value =
-    else_refused (not (leaf_is_one_of first_field rfc8410_algorithms (sequence_members value)) || (length (sequence_members value) == 1)) Parameters
+    else_refused (not (leaf_is_one_of first_field rfc8410_algorithms (sequence_members value))
+    || (length (sequence_members value) == 1)) Parameters
 
 -- In a OneAsymmetricKey, id-ecPublicKey has parameters, and they are an OBJECT IDENTIFIER: the curve (profile).
 abbrev pub ec_parameters_rule : Rule
 ec_parameters_rule earlier value =
-    else_refused (not (leaf_is_one_of first_field (ec_public_key ∷ []) (sequence_members value)) || nth_is_identifier 1 (sequence_members value)) Parameters
+    else_refused (not (leaf_is_one_of first_field (ec_public_key ∷ []) (sequence_members value))
+    || nth_is_identifier 1 (sequence_members value)) Parameters
 
 -- the contents of a BIT STRING, without unused bits
 abbrev pub no_unused : List ℕ → Bool
@@ -62,11 +66,15 @@ no_unused (unused ∷ octets) = unused == 0
 abbrev pub key_bits_rule : List ℕ → Rule
 key_bits_rule path earlier value =
     else_refused (not (leaf_is_one_of path rfc8410_algorithms earlier)
-    || (has_length (length_under rfc8410_lengths (leaf_at path earlier)) (length (leaf_contents value) - 1) && no_unused (leaf_contents value))) KeyLength
+    || (has_length (length_under rfc8410_lengths (leaf_at path earlier)) (length (leaf_contents value) - 1)
+    && no_unused (leaf_contents value))) KeyLength
 
 -- Under an algorithm of RFC 8410, a private key has the table's length.
 abbrev pub inner_curve_rule : Rule
-inner_curve_rule earlier value = else_refused (has_length (length_under rfc8410_lengths (leaf_at algorithm_of_key earlier)) (length (leaf_contents value))) KeyLength
+inner_curve_rule earlier value =
+    else_refused
+    (has_length (length_under rfc8410_lengths (leaf_at algorithm_of_key earlier)) (length (leaf_contents value)))
+    KeyLength
 
 -- the curve that an ECPrivateKey names, no octets where it names none
 abbrev pub own_curve : Value → List ℕ
@@ -74,7 +82,8 @@ own_curve value = leaf_at under_tag (with_tag (context_specific 0) (sequence_mem
 
 -- On a curve of the table the private key has its length.
 abbrev pub ec_length : List ℕ → Value → Bool
-ec_length curve value = has_length (length_under curve_lengths curve) (length (leaf_at second_field (sequence_members value)))
+ec_length curve value =
+    has_length (length_under curve_lengths curve) (length (leaf_at second_field (sequence_members value)))
 
 -- An ECPrivateKey has the length of the curve that it names.
 abbrev pub ec_rule : Rule
@@ -82,9 +91,13 @@ ec_rule earlier value = else_refused (ec_length (own_curve value) value) KeyLeng
 
 -- the curve that a container names: under id-ecPublicKey its parameters, no octets under another algorithm
 abbrev pub container_curve : List Value → List ℕ
-container_curve earlier = elim (leaf_is_one_of algorithm_of_key (ec_public_key ∷ []) earlier) [ true ↦ leaf_at curve_of_key earlier | false ↦ [] ]
+container_curve earlier = elim (leaf_is_one_of algorithm_of_key (ec_public_key ∷ []) earlier) [
+  | true ↦ leaf_at curve_of_key earlier
+  | false ↦ []
+]
 
--- An ECPrivateKey in a container names the container's curve (profile), or none, and then has the length of the container's.
+-- An ECPrivateKey in a container names the container's curve (profile), or none, and then has the
+-- length of the container's.
 abbrev pub inner_ec_rule : Rule
 inner_ec_rule earlier value =
     elim (length (own_curve value) == 0) [
@@ -95,9 +108,12 @@ inner_ec_rule earlier value =
 -- A OneAsymmetricKey of version 1 has a public key.
 abbrev pub key_version_rule : Rule
 key_version_rule earlier value =
-    else_refused (leaf_is_one_of first_field (version_0 ∷ []) (sequence_members value) || not (length (with_tag (context_specific 1) (sequence_members value)) == 0)) VersionRule
+    else_refused (leaf_is_one_of first_field (version_0 ∷ []) (sequence_members value)
+    || not (length (with_tag (context_specific 1) (sequence_members value)) == 0)) VersionRule
 
 -- An RSAPrivateKey of version 1 has otherPrimeInfos, the tenth of its fields.
 abbrev pub rsa_version_rule : Rule
 rsa_version_rule earlier value =
-    else_refused (leaf_is_one_of first_field (version_0 ∷ []) (sequence_members value) || length (sequence_members value) == 10) VersionRule
+    else_refused
+    (leaf_is_one_of first_field (version_0 ∷ []) (sequence_members value) || length (sequence_members value) == 10)
+    VersionRule

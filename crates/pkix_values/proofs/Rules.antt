@@ -15,12 +15,16 @@ module _ {A : Type 0} (f : A → Value) (algorithm : List ℕ) (o : Option A) wh
   abbrev identifier : Value
   identifier = Sequence (universal 16) (values_of (Leaf (universal 6) algorithm ∷ with_field (option_map f o) []))
 
-  parameters_rule_is : (p : Option A) → parameters_rule [] (Sequence (universal 16) (values_of (Leaf (universal 6) algorithm ∷ with_field (option_map f p) []))) ≡ else_refused (not (one_of algorithm rfc8410_algorithms) || not (is_some p)) Parameters
+  parameters_rule_is : (p : Option A)
+      → parameters_rule []
+      (Sequence (universal 16) (values_of (Leaf (universal 6) algorithm ∷ with_field (option_map f p) [])))
+      ≡ else_refused (not (one_of algorithm rfc8410_algorithms) || not (is_some p)) Parameters
   unfolding leaf_at
   parameters_rule_is None = refl
   parameters_rule_is (Some x) = refl
 
-  pub parameters_allowed : (one_of algorithm rfc8410_algorithms ≡ true → o ≡ None) → parameters_rule [] identifier ≡ None
+  pub parameters_allowed : (one_of algorithm rfc8410_algorithms ≡ true → o ≡ None)
+      → parameters_rule [] identifier ≡ None
   parameters_allowed h = parameters_rule_is o ∙ go (one_of algorithm rfc8410_algorithms) o h
     where
       go : (b : Bool) (o : Option A) → (b ≡ true → o ≡ None) → else_refused (not b || not (is_some o)) Parameters ≡ None
@@ -28,7 +32,8 @@ module _ {A : Type 0} (f : A → Value) (algorithm : List ℕ) (o : Option A) wh
       go true (Some x) h = let none : Some x ≡ None = h refl in cc
       go false o h = refl
 
-  pub parameters_refused : one_of algorithm rfc8410_algorithms ≡ true → is_some o ≡ true → parameters_rule [] identifier ≡ Some Parameters
+  pub parameters_refused : one_of algorithm rfc8410_algorithms ≡ true → is_some o ≡ true
+      → parameters_rule [] identifier ≡ Some Parameters
   parameters_refused e h = parameters_rule_is o ∙ go (one_of algorithm rfc8410_algorithms) (is_some o) e h
     where
       go : (b c : Bool) → b ≡ true → c ≡ true → else_refused (not b || not c) Parameters ≡ Some Parameters
@@ -46,11 +51,16 @@ module _ {A : Type 0} (f : A → Value) (algorithm : List ℕ) (o : Option A) wh
 
 -- A key behind its algorithm.
 module _ (algorithm bits : List ℕ) (more : List Value) where
-  key_rule_is : key_bits_rule (0 ∷ 0 ∷ []) (Sequence (universal 16) (values_of (Leaf (universal 6) algorithm ∷ more)) ∷ []) (Leaf (universal 3) bits) ≡ else_refused (key_fits algorithm bits) KeyLength
+  key_rule_is : key_bits_rule (0 ∷ 0 ∷ [])
+      (Sequence (universal 16) (values_of (Leaf (universal 6) algorithm ∷ more)) ∷ []) (Leaf (universal 3) bits)
+      ≡ else_refused (key_fits algorithm bits) KeyLength
   unfolding leaf_at
   key_rule_is = refl
 
-  pub key_is_fit : key_bits_rule (0 ∷ 0 ∷ []) (Sequence (universal 16) (values_of (Leaf (universal 6) algorithm ∷ more)) ∷ []) (Leaf (universal 3) bits) ≡ None → key_fits algorithm bits ≡ true
+  pub key_is_fit : key_bits_rule (0 ∷ 0 ∷ [])
+      (Sequence (universal 16) (values_of (Leaf (universal 6) algorithm ∷ more)) ∷ []) (Leaf (universal 3) bits)
+      ≡ None
+      → key_fits algorithm bits ≡ true
   key_is_fit e = go (key_fits algorithm bits) (sym key_rule_is ∙ e)
     where
       go : (b : Bool) → else_refused b KeyLength ≡ None → b ≡ true

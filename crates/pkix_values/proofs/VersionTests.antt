@@ -23,18 +23,24 @@ from_0_to_1 : versions 0 1 ≡ (0 ∷ []) ∷ (1 ∷ []) ∷ []
 from_0_to_1 = refl
 
 -- a number is listed from the first one on, as many as there are, and below 128
-counted : (count start n : ℕ) → one_of (n ∷ []) (one_octets count start) ≡ nat_le start n && nat_lt n (start + count) && nat_lt n 128
+counted : (count start n : ℕ)
+    → one_of (n ∷ []) (one_octets count start) ≡ nat_le start n && nat_lt n (start + count) && nat_lt n 128
 counted zero start n = grind (arith, nat_tests)
 counted (suc count) start n = go (nat_lt start 128) refl (counted count (suc start) n)
   where
-    go : (b : Bool) → nat_lt start 128 ≡ b → one_of (n ∷ []) (one_octets count (suc start)) ≡ nat_le (suc start) n && nat_lt n (suc start + count) && nat_lt n 128 → one_of (n ∷ []) (cond b ((start ∷ []) ∷ one_octets count (suc start)) []) ≡ nat_le start n && nat_lt n (start + suc count) && nat_lt n 128
+    go : (b : Bool) → nat_lt start 128 ≡ b
+        → one_of (n ∷ []) (one_octets count (suc start))
+        ≡ nat_le (suc start) n && nat_lt n (suc start + count) && nat_lt n 128
+        → one_of (n ∷ []) (cond b ((start ∷ []) ∷ one_octets count (suc start)) [])
+        ≡ nat_le start n && nat_lt n (start + suc count) && nat_lt n 128
     go true e h = grind (arith, nat_tests)
     go false e h = grind (arith, nat_tests)
 
 pub within : (least most n : ℕ) → least ≤ n → n ≤ most → nat_lt n 128 ≡ one_of (n ∷ []) (versions least most)
 within least most n low high = let e = counted (suc most - least) least n in grind (arith, nat_tests)
 
-pub outside : (least most n : ℕ) → (n < least) ⊎ ((least ≤ n) × (most < n)) → false ≡ one_of (n ∷ []) (versions least most)
+pub outside : (least most n : ℕ) → (n < least) ⊎ ((least ≤ n) × (most < n))
+    → false ≡ one_of (n ∷ []) (versions least most)
 outside least most n h =
     let e = counted (suc most - least) least n in
     ⊎_elim (λ low. grind (arith, nat_tests)) (λ high. let past = high.1 in grind (arith, nat_tests)) h
@@ -49,7 +55,8 @@ none_empty : (count start : ℕ) → false ≡ one_of [] (one_octets count start
 none_empty zero start = refl
 none_empty (suc count) start = go (nat_lt start 128) (none_empty count (suc start))
   where
-    go : (b : Bool) → false ≡ one_of [] (one_octets count (suc start)) → false ≡ one_of [] (cond b ((start ∷ []) ∷ one_octets count (suc start)) [])
+    go : (b : Bool) → false ≡ one_of [] (one_octets count (suc start))
+        → false ≡ one_of [] (cond b ((start ∷ []) ∷ one_octets count (suc start)) [])
     go true h = h
     go false h = refl
 
@@ -60,17 +67,21 @@ no_single false d h = h
 
 none_longer : (count start x y : ℕ) (more : List ℕ) → false ≡ one_of (x ∷ y ∷ more) (one_octets count start)
 none_longer zero start x y more = refl
-none_longer (suc count) start x y more = go (nat_lt start 128) (no_single (x == start) _ (none_longer count (suc start) x y more))
+none_longer (suc count) start x y more =
+    go (nat_lt start 128) (no_single (x == start) _ (none_longer count (suc start) x y more))
   where
-    go : (b : Bool) → false ≡ one_of (x ∷ y ∷ more) ((start ∷ []) ∷ one_octets count (suc start)) → false ≡ one_of (x ∷ y ∷ more) (cond b ((start ∷ []) ∷ one_octets count (suc start)) [])
+    go : (b : Bool) → false ≡ one_of (x ∷ y ∷ more) ((start ∷ []) ∷ one_octets count (suc start))
+        → false ≡ one_of (x ∷ y ∷ more) (cond b ((start ∷ []) ∷ one_octets count (suc start)) [])
     go true h = h
     go false h = refl
 
-pub of_no_octets : (least most : ℕ) (contents : List ℕ) → length contents < 1 → false ≡ one_of contents (versions least most)
+pub of_no_octets : (least most : ℕ) (contents : List ℕ) → length contents < 1
+    → false ≡ one_of contents (versions least most)
 of_no_octets least most [] h = none_empty (suc most - least) least
 of_no_octets least most (x ∷ more) h = absurd (omega arith)
 
-pub of_more_octets : (least most : ℕ) (contents : List ℕ) → 2 ≤ length contents → false ≡ one_of contents (versions least most)
+pub of_more_octets : (least most : ℕ) (contents : List ℕ) → 2 ≤ length contents
+    → false ≡ one_of contents (versions least most)
 of_more_octets least most [] h = absurd (omega arith)
 of_more_octets least most (x ∷ []) h = absurd (omega arith)
 of_more_octets least most (x ∷ y ∷ more) h = none_longer (suc most - least) least x y more
@@ -78,10 +89,12 @@ of_more_octets least most (x ∷ y ∷ more) h = none_longer (suc most - least) 
 -- the rule, of an INTEGER with these contents
 module _ (allowed : List (List ℕ)) (contents : List ℕ) (v : Value) (same : Same v (Leaf (universal 2) contents)) where
   pub version_holds : true ≡ one_of contents allowed → version_rule allowed [] v ≡ None
-  version_holds h = fair_version allowed [] [] v (Leaf (universal 2) contents) tt same ∙ ap (λ b. else_refused b Version) (sym h)
+  version_holds h =
+      fair_version allowed [] [] v (Leaf (universal 2) contents) tt same ∙ ap (λ b. else_refused b Version) (sym h)
 
   pub version_refused : false ≡ one_of contents allowed → version_rule allowed [] v ≡ Some Version
-  version_refused h = fair_version allowed [] [] v (Leaf (universal 2) contents) tt same ∙ ap (λ b. else_refused b Version) (sym h)
+  version_refused h =
+      fair_version allowed [] [] v (Leaf (universal 2) contents) tt same ∙ ap (λ b. else_refused b Version) (sym h)
 
 pub version_text : (number : ℕ) → der (Leaf (universal 2) (number ∷ [])) ≡ 2 ∷ 1 ∷ number ∷ []
 unfolding der der_element identifier shortest_length

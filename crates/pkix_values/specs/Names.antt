@@ -22,5 +22,6 @@ abbrev pub Rdn : Type 0
 Rdn = SetOfSome NameItem item_text.ghosts
 
 -- RDNSequence
-abbrev pub rdns_of : Name → SequenceOf Rdn (some_text.ghosts item.the_row item_text.ghosts some_text.no_dict some_text.no_dict)
+abbrev pub rdns_of : Name
+    → SequenceOf Rdn (some_text.ghosts item.the_row item_text.ghosts some_text.no_dict some_text.no_dict)
 rdns_of it = it.rdns

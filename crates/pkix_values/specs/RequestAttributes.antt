@@ -28,7 +28,8 @@ abbrev pub extensions_text : Ghosts Extensions
 extensions_text = list_text.ghosts extension.the_row extension_text.ghosts list_text.no_dict list_text.no_dict
 
 -- values: Extensions under extensionRequest, else of any type
-abbrev pub request_attribute_values_of : RequestAttribute → Either (SetOfSome Extensions extensions_text) (SetOfSome Any any_text.ghosts)
+abbrev pub request_attribute_values_of : RequestAttribute
+    → Either (SetOfSome Extensions extensions_text) (SetOfSome Any any_text.ghosts)
 request_attribute_values_of it = it.0.fields.field
 
 -- values under extensionRequest

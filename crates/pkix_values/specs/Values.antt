@@ -4,7 +4,9 @@ use Rattle.pkix_types.specs.Identifiers.{length_under, rfc8410_algorithms, rfc84
 use Rattle.x690.specs.Lists.{one_of}
 use Rattle.pkix_types.specs.Rules.{has_length, no_unused}
 
--- the contents of a BIT STRING are those of a public key under the algorithm: under one of RFC 8410's of the table's length, without unused bits
+-- the contents of a BIT STRING are those of a public key under the algorithm: under one of RFC 8410's of the table's
+-- length, without unused bits
 abbrev pub key_fits : List ℕ → List ℕ → Bool
 key_fits algorithm contents =
-    not (one_of algorithm rfc8410_algorithms) || (has_length (length_under rfc8410_lengths algorithm) (length contents - 1) && no_unused contents)
+    not (one_of algorithm rfc8410_algorithms)
+    || (has_length (length_under rfc8410_lengths algorithm) (length contents - 1) && no_unused contents)

@@ -10,13 +10,16 @@ use Rattle.pkix_types.proofs.RuleLaws.{fair_leaves, honest_else}
 
 -- there are no octets where the flag isn't TRUE
 abbrev pub flag_rule : List Value → Value → Option Reason
-flag_rule earlier value = else_refused (one_of (leaf_at (0 ∷ []) earlier) ((255 ∷ []) ∷ []) || length (leaf_contents value) == 0) Extra
+flag_rule earlier value =
+    else_refused (one_of (leaf_at (0 ∷ []) earlier) ((255 ∷ []) ∷ []) || length (leaf_contents value) == 0) Extra
 
 pub fair_flag : FairRule flag_rule
 fair_flag = fair_leaves (λ flag octets. one_of flag ((255 ∷ []) ∷ []) || length octets == 0) (0 ∷ []) Extra
 
 pub honest_flag : HonestRule flag_rule
-honest_flag = honest_else (λ earlier value. one_of (leaf_at (0 ∷ []) earlier) ((255 ∷ []) ∷ []) || length (leaf_contents value) == 0) Extra (λ z. cc, λ z. cc)
+honest_flag = honest_else
+    (λ earlier value. one_of (leaf_at (0 ∷ []) earlier) ((255 ∷ []) ∷ []) || length (leaf_contents value) == 0) Extra
+    (λ z. cc, λ z. cc)
 
 -- there are as many octets as the number that stands first has
 abbrev pub length_rule : List Value → Value → Option Reason
@@ -26,7 +29,9 @@ pub fair_length : FairRule length_rule
 fair_length = fair_leaves (λ number octets. length number == length octets) (0 ∷ []) KeyLength
 
 pub honest_length : HonestRule length_rule
-honest_length = honest_else (λ earlier value. length (leaf_at (0 ∷ []) earlier) == length (leaf_contents value)) KeyLength (λ z. cc, λ z. cc)
+honest_length =
+    honest_else (λ earlier value. length (leaf_at (0 ∷ []) earlier) == length (leaf_contents value)) KeyLength
+    (λ z. cc, λ z. cc)
 
 pub honest_version : HonestReason VersionRule
 honest_version = (λ z. cc, λ z. cc)

@@ -32,7 +32,8 @@ run_longer x [] l m h = absurd h
 run_longer x (y ∷ s) l m h = (l, m, h)
 
 -- a run that begins with the octets before the last of another one goes on behind them with a run
-pub run_beyond : (h s d r : List ℕ) → IsRun (h ++ 0 ∷ []) → IsRun d → h ++ s ≡ d ++ r → (e : List ℕ) × (d ≡ h ++ e) × IsRun e × (s ≡ e ++ r)
+pub run_beyond : (h s d r : List ℕ) → IsRun (h ++ 0 ∷ []) → IsRun d → h ++ s ≡ d ++ r
+    → (e : List ℕ) × (d ≡ h ++ e) × IsRun e × (s ≡ e ++ r)
 run_beyond [] s d r g k q = (d, refl, k, q)
 run_beyond (a ∷ h) s [] r g k q = absurd k
 run_beyond (a ∷ []) s (b ∷ []) r g k q = let z : a ≡ b = cc in absurd (omega (arith, g.0, k))
@@ -55,9 +56,12 @@ run_value_more high (x ∷ y ∷ s) h = let i = run_value_more (high * 128 + x %
 leading_run : (k n : ℕ) (s : List ℕ) → IsRun s → IsRun (leading_base128 k n ++ s)
 unfolding leading_base128
 leading_run zero n s h = h
-leading_run (suc k) n s h = go (n == 0) refl (leading_run k (n / 128) ((128 + n % 128) ∷ s) (run_longer (128 + n % 128) s (omega arith) (omega arith) h))
+leading_run (suc k) n s h =
+    go (n == 0) refl
+    (leading_run k (n / 128) ((128 + n % 128) ∷ s) (run_longer (128 + n % 128) s (omega arith) (omega arith) h))
   where
-    go : (b : Bool) → (n == 0) ≡ b → IsRun (leading_base128 k (n / 128) ++ ((128 + n % 128) ∷ s)) → IsRun (leading_base128 (suc k) n ++ s)
+    go : (b : Bool) → (n == 0) ≡ b → IsRun (leading_base128 k (n / 128) ++ ((128 + n % 128) ∷ s))
+        → IsRun (leading_base128 (suc k) n ++ s)
     go true e i = subst (λ l. IsRun (l ++ s)) (sym (leading_none (suc k) n (grind (arith, nat_tests)))) h
     go false e i = subst (λ l. IsRun (l ++ s)) (sym (leading_more k n (grind (arith, nat_tests)))) (rw append_assoc i)
 
@@ -66,14 +70,18 @@ unfolding leading_base128
 leading_value zero n s h = let e : n ≡ 0 = omega arith in ap (λ m. run_value m s) (sym e)
 leading_value (suc k) n s h = go (n == 0) refl (leading_value k (n / 128) ((128 + n % 128) ∷ s) (omega arith))
   where
-    go : (b : Bool) → (n == 0) ≡ b → run_value 0 (leading_base128 k (n / 128) ++ ((128 + n % 128) ∷ s)) ≡ run_value (n / 128) ((128 + n % 128) ∷ s)
+    go : (b : Bool) → (n == 0) ≡ b
+        → run_value 0 (leading_base128 k (n / 128) ++ ((128 + n % 128) ∷ s)) ≡ run_value (n / 128) ((128 + n % 128) ∷ s)
         → run_value 0 (leading_base128 (suc k) n ++ s) ≡ run_value n s
     go true e i =
         let z : n ≡ 0 = grind (arith, nat_tests) in
         ap (λ l. run_value 0 (l ++ s)) (leading_none (suc k) n z) ∙ ap (λ m. run_value m s) (sym z)
     go false e i =
         let q : n / 128 * 128 + (128 + n % 128) % 128 ≡ n = omega arith in
-        ap (λ l. run_value 0 (l ++ s)) (leading_more k n (grind (arith, nat_tests))) ∙ ap (λ l. run_value 0 l) (append_assoc (leading_base128 k (n / 128)) ((128 + n % 128) ∷ []) s) ∙ i ∙ ap (λ m. run_value m s) q
+        ap (λ l. run_value 0 (l ++ s)) (leading_more k n (grind (arith, nat_tests)))
+        ∙ ap (λ l. run_value 0 l) (append_assoc (leading_base128 k (n / 128)) ((128 + n % 128) ∷ []) s)
+        ∙ i
+        ∙ ap (λ m. run_value m s) q
 
 -- the last digit apart
 pub base128_last : (n : ℕ) → base128 n ≡ leading_base128 (n / 128) (n / 128) ++ ((n % 128) ∷ [])
@@ -84,7 +92,9 @@ pub leading_open : (n : ℕ) → IsRun (leading_base128 n n ++ 0 ∷ [])
 leading_open n = let z : 0 < 128 = omega arith in leading_run n n (0 ∷ []) z
 
 pub base128_run : (n : ℕ) → IsRun (base128 n)
-base128_run n = let last : n % 128 < 128 = omega arith in subst IsRun (sym (base128_last n)) (leading_run (n / 128) (n / 128) ((n % 128) ∷ []) last)
+base128_run n =
+    let last : n % 128 < 128 = omega arith in
+    subst IsRun (sym (base128_last n)) (leading_run (n / 128) (n / 128) ((n % 128) ∷ []) last)
 
 pub base128_value : (n : ℕ) → run_value 0 (base128 n) ≡ n
 base128_value n =
@@ -98,7 +108,8 @@ base128_alone m n x y e =
     (sym (base128_value m) ∙ ap (λ s. run_value 0 s) both.0 ∙ base128_value n, both.1)
 
 -- one digit more, which others follow
-pub leading_next : (n x : ℕ) → 128 ≤ x → x < 256 → 0 < n * 128 + x % 128 → leading_base128 (n * 128 + x % 128) (n * 128 + x % 128) ≡ leading_base128 n n ++ (x ∷ [])
+pub leading_next : (n x : ℕ) → 128 ≤ x → x < 256 → 0 < n * 128 + x % 128
+    → leading_base128 (n * 128 + x % 128) (n * 128 + x % 128) ≡ leading_base128 n n ++ (x ∷ [])
 leading_next n x h g z =
     let m = n * 128 + x % 128 in
     let d : m / 128 ≡ n = omega arith in
@@ -122,12 +133,17 @@ leading_first zero n s h g z = omega arith
 leading_first (suc k) n s h g z = go (n / 128 == 0) refl (leading_first k (n / 128) ((128 + n % 128) ∷ s) (omega arith))
   where
     is : head (leading_base128 k (n / 128) ++ ((128 + n % 128) ∷ s)) ≡ 128
-    is = sym (ap head (append_assoc (leading_base128 k (n / 128)) ((128 + n % 128) ∷ []) s)) ∙ sym (ap (λ w. head (w ++ s)) (leading_more k n (omega arith))) ∙ z
+    is =
+        sym (ap head (append_assoc (leading_base128 k (n / 128)) ((128 + n % 128) ∷ []) s))
+        ∙ sym (ap (λ w. head (w ++ s)) (leading_more k n (omega arith)))
+        ∙ z
 
-    go : (b : Bool) → (n / 128 == 0) ≡ b → (0 < n / 128 → head (leading_base128 k (n / 128) ++ ((128 + n % 128) ∷ s)) ≢ 128) → ⊥
+    go : (b : Bool) → (n / 128 == 0) ≡ b
+        → (0 < n / 128 → head (leading_base128 k (n / 128) ++ ((128 + n % 128) ∷ s)) ≢ 128) → ⊥
     go true e i =
         let e0 : n / 128 ≡ 0 = grind (arith, nat_tests) in
-        let y : 128 + n % 128 ≡ 128 = sym (ap (λ w. head (w ++ ((128 + n % 128) ∷ s))) (leading_none k (n / 128) e0)) ∙ is in
+        let y : 128 + n % 128 ≡ 128 =
+        sym (ap (λ w. head (w ++ ((128 + n % 128) ∷ s))) (leading_none k (n / 128) e0)) ∙ is in
         omega arith
     go false e i = let e0 : n / 128 ≢ 0 = grind (arith, nat_tests) in i (omega arith) is
 
@@ -136,10 +152,17 @@ pub base128_first : (n : ℕ) (s t : List ℕ) → base128 n ++ s ≢ 128 ∷ t
 base128_first n s t z = go (n / 128 == 0) refl
   where
     is : head (leading_base128 (n / 128) (n / 128) ++ ((n % 128) ∷ s)) ≡ 128
-    is = sym (ap head (append_assoc (leading_base128 (n / 128) (n / 128)) ((n % 128) ∷ []) s)) ∙ sym (ap (λ w. head (w ++ s)) (base128_last n)) ∙ ap head z
+    is =
+        sym (ap head (append_assoc (leading_base128 (n / 128) (n / 128)) ((n % 128) ∷ []) s))
+        ∙ sym (ap (λ w. head (w ++ s)) (base128_last n))
+        ∙ ap head z
 
     go : (b : Bool) → (n / 128 == 0) ≡ b → ⊥
     go true e =
-        let y : n % 128 ≡ 128 = sym (ap (λ w. head (w ++ ((n % 128) ∷ s))) (leading_none (n / 128) (n / 128) (grind (arith, nat_tests)))) ∙ is in
+        let y : n % 128 ≡ 128 = sym
+        (ap (λ w. head (w ++ ((n % 128) ∷ s))) (leading_none (n / 128) (n / 128) (grind (arith, nat_tests))))
+        ∙ is in
         omega arith
-    go false e = let e0 : n / 128 ≢ 0 = grind (arith, nat_tests) in leading_first (n / 128) (n / 128) ((n % 128) ∷ s) (omega arith) (omega arith) is
+    go false e =
+        let e0 : n / 128 ≢ 0 = grind (arith, nat_tests) in
+        leading_first (n / 128) (n / 128) ((n % 128) ∷ s) (omega arith) (omega arith) is

@@ -18,4 +18,6 @@ class_of (suc (suc zero)) = Context
 class_of (suc (suc (suc bits))) = Private
 
 abbrev pub tag_code : Coded Tag
-tag_code = code_by (ℕ × ℕ) (coded× coded_ℕ coded_ℕ) (λ tag. (tag.class, tag.number)) (λ pair. record { class = pair.0; number = pair.1 }) (λ _. refl)
+tag_code =
+    code_by (ℕ × ℕ) (coded× coded_ℕ coded_ℕ) (λ tag. (tag.class, tag.number))
+    (λ pair. record { class = pair.0; number = pair.1 }) (λ _. refl)

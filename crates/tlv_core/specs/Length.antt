@@ -6,7 +6,8 @@ abbrev pub big_endian : ℕ → List ℕ → ℕ
 big_endian high [] = high
 big_endian high (x ∷ octets) = big_endian (high * 256 + x) octets
 
--- The octets spell the definite length `n`: one octet up to 127 (8.1.3.4), or 128 and the count of the octets that follow, 1 to 126 of them, which are `n` as a big-endian number (8.1.3.5).
+-- The octets spell the definite length `n`: one octet up to 127 (8.1.3.4), or 128 and the count of the octets that
+-- follow, 1 to 126 of them, which are `n` as a big-endian number (8.1.3.5).
 unfoldable pub SpellsLength : ℕ → List ℕ → Type 0
 SpellsLength n [] = ⊥
 SpellsLength n (x ∷ octets) =
@@ -20,4 +21,5 @@ number_octets (suc steps) n = elim (n == 0) [ true ↦ [] | false ↦ number_oct
 
 -- The shortest length octets of `n` (10.1).
 unfoldable pub shortest_length : ℕ → List ℕ
-shortest_length n = elim (nat_lt n 128) [ true ↦ n ∷ [] | false ↦ (128 + length (number_octets n n)) ∷ number_octets n n ]
+shortest_length n =
+    elim (nat_lt n 128) [ true ↦ n ∷ [] | false ↦ (128 + length (number_octets n n)) ∷ number_octets n n ]

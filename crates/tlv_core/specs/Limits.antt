@@ -14,4 +14,6 @@ pub record IsLimits (limits : Limits) : Type 0 where
   pub most_octets : limits.octets ≤ 2147483647
 
 abbrev pub limits_code : Coded Limits
-limits_code = code_by (ℕ × ℕ) (coded× coded_ℕ coded_ℕ) (λ limits. (limits.depth, limits.octets)) (λ pair. record { depth = pair.0; octets = pair.1 }) (λ _. refl)
+limits_code =
+    code_by (ℕ × ℕ) (coded× coded_ℕ coded_ℕ) (λ limits. (limits.depth, limits.octets))
+    (λ pair. record { depth = pair.0; octets = pair.1 }) (λ _. refl)

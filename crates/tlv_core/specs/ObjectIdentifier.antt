@@ -7,9 +7,10 @@ abbrev pub AllBelow : ℕ → List ℕ → Type 0
 AllBelow bound [] = Unit {0}
 AllBelow bound (x ∷ xs) = (x < bound) × AllBelow bound xs
 
--- The octets are the contents of the object identifier with these arcs. There are at least two arcs, the first 0, 1 or 2, the second at most 39
--- where the first is 0 or 1 (8.19.4). The first two stand in one subidentifier, each later arc in one of its own; the octets are their base-128 digits,
--- without leading zeros (8.19.2). Each subidentifier is below 2^128 (profile).
+-- The octets are the contents of the object identifier with these arcs. There are at least two arcs, the first 0, 1
+-- or 2, the second at most 39 where the first is 0 or 1 (8.19.4). The first two stand in one subidentifier, each
+-- later arc in one of its own; the octets are their base-128 digits, without leading zeros (8.19.2). Each
+-- subidentifier is below 2^128 (profile).
 abbrev pub ObjectIdentifierOctets : List ℕ → List ℕ → Type 0
 ObjectIdentifierOctets [] octets = ⊥
 ObjectIdentifierOctets (first ∷ []) octets = ⊥

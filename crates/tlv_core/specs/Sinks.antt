@@ -30,7 +30,8 @@ SameWriter old new = target_name new ≡ target_name old
 
 -- Of the octets that a call was handed the first are out, as many as the count rose by: all where it succeeded.
 -- An error tells the count. A sink that had failed is as it was.
-pub record Puts {W : Type 0} {t : Ghosts W} (octets : List ℕ) (old new : Sink W t) (result : Result (Unit {0}) WriteError) : Type 0 where
+pub record Puts {W : Type 0} {t : Ghosts W} (octets : List ℕ) (old new : Sink W t)
+    (result : Result (Unit {0}) WriteError) : Type 0 where
   pub same_writer : SameWriter old new
   pub no_less : count old ≤ count new
   pub no_more : count new ≤ count old + length octets

@@ -21,7 +21,8 @@ impl Model for Limits {
 
     ghost view = { λ limits. record { depth = limits.depth; octets = limits.octets } };
 
-    ghost invariant = { λ limits. IsLimits (record { depth = limits.depth; octets = limits.octets }) };
+    ghost invariant = { λ limits.
+        IsLimits (record { depth = limits.depth; octets = limits.octets }) };
 
     ghost inverse = { λ limits. record { depth = limits.depth; octets = limits.octets } };
 }

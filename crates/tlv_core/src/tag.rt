@@ -31,7 +31,8 @@ impl Model for Tag {
 
     ghost view = { λ tag. record { class = class_bits tag.class; number = tag.number } };
 
-    ghost invariant = { λ tag. IsTag (record { class = class_bits tag.class; number = tag.number }) };
+    ghost invariant = { λ tag.
+        IsTag (record { class = class_bits tag.class; number = tag.number }) };
 
     ghost inverse = { λ tag. record { class = class_of tag.class; number = tag.number } };
 }
@@ -39,8 +40,10 @@ impl Model for Tag {
 impl Tag {
     /// The tag, `None` for a number of 2^28 or more and for universal 0.
     pub fn new(class: Class, number: u32) -> Option<Tag>
-        ensures made { IfSome result (λ tag. (tag.class ≡ class_bits class) × (tag.number ≡ number)) }
-        ensures refused { IsNone result ↔ ((2 ^ 28 ≤ number) ⊎ ((class ≡ Universal) × (number ≡ 0))) }
+        ensures made { IfSome result (λ tag.
+            (tag.class ≡ class_bits class) × (tag.number ≡ number)) }
+        ensures refused { IsNone result
+            ↔ ((2 ^ 28 ≤ number) ⊎ ((class ≡ Universal) × (number ≡ 0))) }
     {
         if number >= 1 << 28 || (number == 0 && class == Class::Universal) {
             return None;

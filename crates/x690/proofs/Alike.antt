@@ -13,12 +13,14 @@ alike_both p q r x y k s = x k s ∙ sym (y k s)
 pub alike_then : {A : Type 0} (p q r : Reading A) → Alike p q → Alike q r → Alike p r
 alike_then p q r x y k s = x k s ∙ y k s
 
-pub require_then : {A B : Type 0} (b : Bool) (g : Fault) (p : Reading A) (f : A → Reading B) (q : Reading B) → Alike (p >>= f) q → Alike (require b g p >>= f) (require b g q)
+pub require_then : {A B : Type 0} (b : Bool) (g : Fault) (p : Reading A) (f : A → Reading B) (q : Reading B)
+    → Alike (p >>= f) q → Alike (require b g p >>= f) (require b g q)
 unfolding require ◌>>=◌
 require_then true g p f q e k s = e k s
 require_then false g p f q e k s = refl
 
-pub choose_then : {A B : Type 0} (b : Bool) (p p' : Reading A) (f : A → Reading B) (q q' : Reading B) → Alike (p >>= f) q → Alike (p' >>= f) q' → Alike (choose b p p' >>= f) (choose b q q')
+pub choose_then : {A B : Type 0} (b : Bool) (p p' : Reading A) (f : A → Reading B) (q q' : Reading B)
+    → Alike (p >>= f) q → Alike (p' >>= f) q' → Alike (choose b p p' >>= f) (choose b q q')
 unfolding choose
 choose_then true p p' f q q' e e' k s = e k s
 choose_then false p p' f q q' e e' k s = e' k s
@@ -36,10 +38,15 @@ bind_first {A} {B} p q f e k s = go (run q k s) refl
     go (Halted g) x = halt_bind p f k s g (e k s ∙ x) ∙ sym (halt_bind q f k s g x)
 
 -- one reading behind another, and then the rest
-pub behind : {A B X Z : Type 0} (p : Reading A) (q : A → Reading B) (w : A → B → Reading X) (f : X → Reading Z) → Alike ((p >>= λ a. q a >>= λ b. w a b) >>= f) (p >>= λ a. q a >>= λ b. w a b >>= f)
+pub behind : {A B X Z : Type 0} (p : Reading A) (q : A → Reading B) (w : A → B → Reading X) (f : X → Reading Z)
+    → Alike ((p >>= λ a. q a >>= λ b. w a b) >>= f) (p >>= λ a. q a >>= λ b. w a b >>= f)
 behind p q w f k s =
     bind_assoc p (λ a. q a >>= λ b. w a b) f k s
-    ∙ bind_same p (λ a. (q a >>= λ b. w a b) >>= f) (λ a. q a >>= λ b. w a b >>= f) (λ a j t. bind_assoc (q a) (λ b. w a b) f j t) k s
+    ∙ bind_same p (λ a. (q a >>= λ b. w a b) >>= f) (λ a. q a >>= λ b. w a b >>= f)
+    (λ a j t. bind_assoc (q a) (λ b. w a b) f j t) k s
 
-pub behind_same : {A B Z : Type 0} (p : Reading A) (q : Reading B) (w w' : A → B → Reading Z) → ((a : A) (b : B) → Alike (w a b) (w' a b)) → Alike (p >>= λ a. q >>= λ b. w a b) (p >>= λ a. q >>= λ b. w' a b)
-behind_same p q w w' e k s = bind_same p (λ a. q >>= λ b. w a b) (λ a. q >>= λ b. w' a b) (λ a j t. bind_same q (λ b. w a b) (λ b. w' a b) (e a) j t) k s
+pub behind_same : {A B Z : Type 0} (p : Reading A) (q : Reading B) (w w' : A → B → Reading Z)
+    → ((a : A) (b : B) → Alike (w a b) (w' a b)) → Alike (p >>= λ a. q >>= λ b. w a b) (p >>= λ a. q >>= λ b. w' a b)
+behind_same p q w w' e k s =
+    bind_same p (λ a. q >>= λ b. w a b) (λ a. q >>= λ b. w' a b)
+    (λ a j t. bind_same q (λ b. w a b) (λ b. w' a b) (e a) j t) k s

@@ -23,7 +23,10 @@ unfoldable pub answer : Limits → TypeTerm → List ℕ → Answer
 answer limits type octets =
     elim (read_document limits type octets) [
       | Halted fault ↦ Refused fault
-      | Took value taken rest ↦ elim (nat_le (length (der value)) limits.octets) [ true ↦ Spelled (der value) taken | false ↦ Refused (fault 0 TextTooLong) ]
+      | Took value taken rest ↦ elim (nat_le (length (der value)) limits.octets) [
+        | true ↦ Spelled (der value) taken
+        | false ↦ Refused (fault 0 TextTooLong)
+      ]
     ]
 
 -- The DER text of a value whose octets are taken is longer than the limit.
@@ -44,7 +47,9 @@ pub record SpelledBy (limits : Limits) (type : TypeTerm) (octets text : List ℕ
   pub spells : Spells limits type value first
   pub text_is : text ≡ der value
 
--- The answer that the definitions give, the plain reading apart: octets that spell a value, or the fault that stops the document.
+-- The answer that the definitions give, the plain reading apart: octets that spell a value, or the
+-- fault that stops the document.
 abbrev pub IsAnswer : Limits → TypeTerm → List ℕ → Answer → Type 0
 IsAnswer limits type octets (Spelled text taken) = SpelledBy limits type octets text taken
-IsAnswer limits type octets (Refused why) = Stops limits type [] outermost 0 octets why ⊎ (TextIsTooLong limits type octets × (why ≡ fault 0 TextTooLong))
+IsAnswer limits type octets (Refused why) =
+    Stops limits type [] outermost 0 octets why ⊎ (TextIsTooLong limits type octets × (why ≡ fault 0 TextTooLong))

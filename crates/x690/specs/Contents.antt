@@ -6,12 +6,14 @@ use Rattle.tlv_core.specs.declared.reason.Reason.TheVariants.{BadBits, BadBoolea
 use Rattle.x690.specs.Layouts.{Constructed, FirstTree, NoTrees, Primitive, RawTree, RawTrees, tree_tag, universal}
 use Rattle.x690.specs.Lists.{join}
 
--- What the contents of a leaf are. ENUMERATED has those of INTEGER (8.4), strings and times other than UTF8String those of OCTET STRING (8.23, 8.25).
+-- What the contents of a leaf are. ENUMERATED has those of INTEGER (8.4), strings and times other than UTF8String those
+-- of OCTET STRING (8.23, 8.25).
 pub data LeafKind : Type 0 where
   Boolean Integer Null ObjectIdentifier BitString OctetString Utf8String : LeafKind
 
 unfoldable mutual
-  -- the contents of the primitive segments of a string, in order: of the one that it is, or of those in it, however nested (8.6.4, 8.7.3)
+  -- the contents of the primitive segments of a string, in order: of the one that it is, or of those in it,
+  -- however nested (8.6.4, 8.7.3)
   pub segments : RawTree → List (List ℕ)
   segments (Primitive tag contents) = contents ∷ []
   segments (Constructed tag trees) = all_segments trees
@@ -28,7 +30,8 @@ unfoldable mutual
 
   pub AllSegmented : ℕ → RawTrees → Type 0
   AllSegmented number NoTrees = Unit {0}
-  AllSegmented number (FirstTree tree trees) = (tree_tag tree ≡ universal number) × Segmented number tree × AllSegmented number trees
+  AllSegmented number (FirstTree tree trees) =
+      (tree_tag tree ≡ universal number) × Segmented number tree × AllSegmented number trees
 
 -- The octets of a string: its segments are OCTET STRINGs, joined in order (8.7, 8.23).
 pub record StringContents (tree : RawTree) (octets : List ℕ) : Type 0 where
@@ -51,7 +54,8 @@ unused_bits (segment ∷ next ∷ more) = unused_bits (next ∷ more)
 abbrev pub AreBitSegments : List (List ℕ) → Type 0
 AreBitSegments [] = Unit {0}
 AreBitSegments (segment ∷ []) = IsBitSegment segment
-AreBitSegments (segment ∷ next ∷ more) = IsBitSegment segment × (unused_bits (segment ∷ []) ≡ 0) × AreBitSegments (next ∷ more)
+AreBitSegments (segment ∷ next ∷ more) =
+    IsBitSegment segment × (unused_bits (segment ∷ []) ≡ 0) × AreBitSegments (next ∷ more)
 
 -- the octets of the segments, their numbers of unused bits apart
 abbrev pub bit_octets : List (List ℕ) → List ℕ
@@ -86,7 +90,8 @@ abbrev pub boolean_contents : List ℕ → List ℕ
 boolean_contents [] = []
 boolean_contents (x ∷ octets) = elim (x == 0) [ true ↦ 0 ∷ [] | false ↦ 255 ∷ [] ]
 
--- The tree, its tag apart, is a leaf of the kind, and the octets are its DER contents. Strings alone may be constructed.
+-- The tree, its tag apart, is a leaf of the kind, and the octets are its DER contents. Strings
+-- alone may be constructed.
 unfoldable pub LeafContents : LeafKind → RawTree → List ℕ → Type 0
 LeafContents Boolean (Primitive tag contents) octets = (length contents ≡ 1) × (octets ≡ boolean_contents contents)
 LeafContents Boolean (Constructed tag trees) octets = ⊥

@@ -15,7 +15,8 @@ padded_less (x ∷ xs) (y ∷ ys) = nat_lt x y || (x == y && padded_less xs ys)
 -- the text put before the first one that is greater
 unfoldable pub insert_text : List ℕ → List (List ℕ) → List (List ℕ)
 insert_text text [] = text ∷ []
-insert_text text (first ∷ others) = cond (padded_less text first) (text ∷ first ∷ others) (first ∷ insert_text text others)
+insert_text text (first ∷ others) =
+    cond (padded_less text first) (text ∷ first ∷ others) (first ∷ insert_text text others)
 
 -- the texts in the order of SET OF, each as often as it stands
 unfoldable pub arrange : List (List ℕ) → List (List ℕ)

@@ -37,12 +37,16 @@ unfoldable mutual
   -- The octets lay out the tree: a primitive element has the definite form, a constructed one either form (8.1.3.2).
   pub LaidOut : RawTree → List ℕ → Type 0
   LaidOut (Primitive tag contents) octets = IsTag tag × Definite tag false contents octets
-  LaidOut (Constructed tag trees) octets = IsTag tag × ((contents : List ℕ) × AllLaidOut trees contents × (Definite tag true contents octets ⊎ Indefinite tag contents octets))
+  LaidOut (Constructed tag trees) octets =
+      IsTag tag
+      × ((contents : List ℕ) × AllLaidOut trees contents
+      × (Definite tag true contents octets ⊎ Indefinite tag contents octets))
 
   -- The octets lay out the trees, one after another.
   pub AllLaidOut : RawTrees → List ℕ → Type 0
   AllLaidOut NoTrees octets = octets ≡ []
-  AllLaidOut (FirstTree tree trees) octets = (first : List ℕ) × (others : List ℕ) × LaidOut tree first × AllLaidOut trees others × (octets ≡ first ++ others)
+  AllLaidOut (FirstTree tree trees) octets =
+      (first : List ℕ) × (others : List ℕ) × LaidOut tree first × AllLaidOut trees others × (octets ≡ first ++ others)
 
 abbrev pub tree_tag : RawTree → Tag
 tree_tag (Primitive tag contents) = tag

@@ -7,13 +7,15 @@ use Rattle.tlv_core.specs.declared.reason.Reason.{Reason}
 abbrev pub fault : ℕ → Reason → Fault
 fault place why = record { at = place; why = why; inside = None }
 
--- The innermost container: none, one of definite length that ends at a place, one of indefinite length that ends with `00 00`.
+-- The innermost container: none, one of definite length that ends at a place, one of indefinite
+-- length that ends with `00 00`.
 pub data Innermost : Type 0 where
   NoContainer : Innermost
   EndsAt : ℕ → Innermost
   EndsWithZeros : Innermost
 
--- What encloses an element: the end of the nearest container of definite length, if there is one, the innermost container, and how many are open.
+-- What encloses an element: the end of the nearest container of definite length, if there is one, the innermost
+-- container, and how many are open.
 pub record Enclosing : Type 0 where
   pub nearest_end : Option ℕ
   pub innermost : Innermost
@@ -52,5 +54,13 @@ pub data LengthForm : Type 0 where
 
 -- what encloses the members of a container whose contents begin here
 abbrev pub entered : Enclosing → ℕ → LengthForm → Enclosing
-entered enclosing here (DefiniteLength number) = record { nearest_end = Some (here + number); innermost = EndsAt (here + number); open_containers = enclosing.open_containers + 1 }
-entered enclosing here IndefiniteLength = record { nearest_end = enclosing.nearest_end; innermost = EndsWithZeros; open_containers = enclosing.open_containers + 1 }
+entered enclosing here (DefiniteLength number) = record {
+  nearest_end = Some (here + number);
+  innermost = EndsAt (here + number);
+  open_containers = enclosing.open_containers + 1;
+}
+entered enclosing here IndefiniteLength = record {
+  nearest_end = enclosing.nearest_end;
+  innermost = EndsWithZeros;
+  open_containers = enclosing.open_containers + 1;
+}

@@ -1,4 +1,5 @@
--- What laws ask of a type: that its rules go by values alone, and by no order of a SET OF; that they never give the two reasons that are not theirs.
+-- What laws ask of a type: that its rules go by values alone, and by no order of a SET OF; that they never give the two
+-- reasons that are not theirs.
 use Rattle.std.specs.Prelude.{List, Some, ◌≡◌}
 use Rattle.tlv_core.specs.declared.reason.Reason.{Reason}
 use Rattle.tlv_core.specs.declared.reason.Reason.TheVariants.{Inner, Truncated}
@@ -8,7 +9,9 @@ use Rattle.x690.specs.Values.{Same, Value}
 
 -- The rule says the same of values that are the same.
 abbrev pub FairRule : Rule → Type 0
-FairRule rule = (earlier earlier' : List Value) (value value' : Value) → Each Same earlier earlier' → Same value value' → rule earlier value ≡ rule earlier' value'
+FairRule rule =
+    (earlier earlier' : List Value) (value value' : Value) → Each Same earlier earlier' → Same value value'
+    → rule earlier value ≡ rule earlier' value'
 
 unfoldable mutual
   -- Each rule of the type is fair.
@@ -35,7 +38,8 @@ abbrev pub HonestReason : Reason → Type 0
 HonestReason why = (why ≡ Truncated → ⊥) × (why ≡ Inner → ⊥)
 
 abbrev pub HonestRule : Rule → Type 0
-HonestRule rule = (earlier : List Value) (value : Value) (why : Reason) → rule earlier value ≡ Some why → HonestReason why
+HonestRule rule =
+    (earlier : List Value) (value : Value) (why : Reason) → rule earlier value ≡ Some why → HonestReason why
 
 unfoldable mutual
   -- Each rule of the type is honest.

@@ -89,19 +89,33 @@ read_segment zero limits number enclosing segments place tag constructed = Fail 
 read_segment (suc deep) limits number enclosing segments place tag constructed =
     require (same_tag tag (universal number)) (fault place WrongTag)
     (elim constructed [
-      | true ↦ in_container limits enclosing place true (λ inside. each_member (read_segment deep limits number inside) limits.octets limits inside segments) >>= λ ended. Done ended.all
-      | false ↦ primitive_contents limits enclosing place >>= λ contents. require (is_next_segment number segments contents) (fault place BadBits) (Done (segments ++ (contents ∷ [])))
+      | true ↦
+          in_container limits enclosing place true
+          (λ inside. each_member (read_segment deep limits number inside) limits.octets limits inside segments)
+          >>= λ ended. Done ended.all
+      | false ↦
+          primitive_contents limits enclosing place
+          >>= λ contents.
+          require (is_next_segment number segments contents) (fault place BadBits) (Done (segments ++ (contents ∷ [])))
     ])
 
 -- A leaf whose identifier is taken.
 unfoldable pub read_leaf : Limits → Enclosing → LeafKind → ℕ → Tag → Bool → Reading Value
 read_leaf limits enclosing kind place tag constructed =
     elim constructed [
-      | false ↦ primitive_contents limits enclosing place >>= λ contents. require (is_contents kind contents) (fault place (bad_contents kind)) (Done (Leaf tag (der_contents kind contents)))
+      | false ↦
+          primitive_contents limits enclosing place
+          >>= λ contents.
+          require (is_contents kind contents) (fault place (bad_contents kind))
+          (Done (Leaf tag (der_contents kind contents)))
       | true ↦ elim (segment_tag kind) [
         | None ↦ Fail (fault place WrongForm)
-        | Some number ↦ in_container limits enclosing place true (λ inside. each_member (read_segment limits.depth limits number inside) limits.octets limits inside [])
-            >>= λ ended. require (is_joined_contents kind ended.all) (fault place BadText) (Done (Leaf tag (joined_contents kind ended.all)))
+        | Some number ↦
+            in_container limits enclosing place true
+            (λ inside. each_member (read_segment limits.depth limits number inside) limits.octets limits inside [])
+            >>= λ ended.
+            require (is_joined_contents kind ended.all) (fault place BadText)
+            (Done (Leaf tag (joined_contents kind ended.all)))
       ]
     ]
 
@@ -110,8 +124,11 @@ unfoldable pub add_member : (ℕ → Tag → Bool → Reading Value) → List Va
 add_member one values place tag constructed = one place tag constructed >>= λ value. Done (values ++ (value ∷ []))
 
 -- the values of all elements of the container
-unfoldable pub all_members : Limits → Enclosing → ℕ → Bool → (Enclosing → ℕ → Tag → Bool → Reading Value) → Reading (Ended (List Value))
-all_members limits enclosing place constructed one = in_container limits enclosing place constructed (λ inside. each_member (add_member (one inside)) limits.octets limits inside [])
+unfoldable pub all_members : Limits → Enclosing → ℕ → Bool → (Enclosing → ℕ → Tag → Bool → Reading Value)
+    → Reading (Ended (List Value))
+all_members limits enclosing place constructed one =
+    in_container limits enclosing place constructed
+    (λ inside. each_member (add_member (one inside)) limits.octets limits inside [])
 
 -- An open value whose identifier is taken, at most `deep` deep.
 unfoldable pub read_open : ℕ → Limits → Enclosing → ℕ → Tag → Bool → Reading Value
@@ -120,7 +137,16 @@ read_open (suc deep) limits enclosing place tag constructed =
     elim (open_form tag) [
       | OpenRefused ↦ Fail (fault place LeftOut)
       | OpenLeaf kind ↦ read_leaf limits enclosing kind place tag constructed
-      | OpenPlain ↦ elim constructed [ false ↦ primitive_contents limits enclosing place >>= λ contents. Done (Leaf tag contents) | true ↦ all_members limits enclosing place true (λ inside. read_open deep limits inside) >>= λ ended. Done (Sequence tag (values_of ended.all)) ]
-      | OpenSequence ↦ all_members limits enclosing place constructed (λ inside. read_open deep limits inside) >>= λ ended. Done (Sequence tag (values_of ended.all))
-      | OpenSetOf ↦ all_members limits enclosing place constructed (λ inside. read_open deep limits inside) >>= λ ended. Done (SetOf tag (values_of ended.all))
+      | OpenPlain ↦ elim constructed [
+        | false ↦ primitive_contents limits enclosing place >>= λ contents. Done (Leaf tag contents)
+        | true ↦
+            all_members limits enclosing place true (λ inside. read_open deep limits inside)
+            >>= λ ended. Done (Sequence tag (values_of ended.all))
+      ]
+      | OpenSequence ↦
+          all_members limits enclosing place constructed (λ inside. read_open deep limits inside)
+          >>= λ ended. Done (Sequence tag (values_of ended.all))
+      | OpenSetOf ↦
+          all_members limits enclosing place constructed (λ inside. read_open deep limits inside)
+          >>= λ ended. Done (SetOf tag (values_of ended.all))
     ]

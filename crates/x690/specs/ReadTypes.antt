@@ -20,15 +20,22 @@ use Rattle.x690.specs.Values.{Leaf, Sequence, SetOf, Value, leaf_at, leaf_conten
 unfoldable pub apply_rule : ℕ → Option Reason → Value → Reading Value
 apply_rule place refused value = elim refused [ None ↦ Done value | Some why ↦ Fail (fault place why) ]
 
--- What the octets that an OCTET STRING contains gave, read as a document of their own: its fault is inside, and so are octets behind the value.
+-- What the octets that an OCTET STRING contains gave, read as a document of their own: its fault is inside, and so
+-- are octets behind the value.
 unfoldable pub from_inside : ℕ → Outcome Value → Reading Value
 from_inside place (Halted inner) = Fail (record { at = place; why = Inner; inside = Some (inner.at, inner.why) })
 from_inside place (Took value taken []) = Done value
-from_inside place (Took value taken (octet ∷ more)) = Fail (record { at = place; why = Inner; inside = Some (taken, Trailing) })
+from_inside place (Took value taken (octet ∷ more)) =
+    Fail (record { at = place; why = Inner; inside = Some (taken, Trailing) })
 
 -- an element that has to stand here, by the reading of what follows its identifier
 unfoldable pub due_element : Limits → Enclosing → (ℕ → Tag → Bool → Reading Value) → Reading Value
-due_element limits enclosing one = next_tag limits enclosing >>= λ next. elim next [ ContainerEnds place ↦ Fail (fault place Missing) | ElementStands place tag constructed ↦ one place tag constructed ]
+due_element limits enclosing one =
+    next_tag limits enclosing
+    >>= λ next. elim next [
+      | ContainerEnds place ↦ Fail (fault place Missing)
+      | ElementStands place tag constructed ↦ one place tag constructed
+    ]
 
 -- the value is this leaf
 abbrev pub is_this_leaf : Tag → List ℕ → Value → Bool
@@ -37,28 +44,46 @@ is_this_leaf tag octets (Sequence own values) = false
 is_this_leaf tag octets (SetOf own values) = false
 
 unfoldable mutual
-  -- An element whose identifier is taken, read as the type; `earlier` are the values of the earlier fields of its container.
+  -- An element whose identifier is taken, read as the type; `earlier` are the values of the
+  -- earlier fields of its container.
   pub read_type : Limits → TypeTerm → List Value → Enclosing → ℕ → Tag → Bool → Reading Value
-  read_type limits (LeafType own kind) earlier enclosing place tag constructed = require (same_tag own tag) (fault place WrongTag) (read_leaf limits enclosing kind place own constructed)
-  read_type limits OpenType earlier enclosing place tag constructed = read_open limits.depth limits enclosing place tag constructed
+  read_type limits (LeafType own kind) earlier enclosing place tag constructed =
+      require (same_tag own tag) (fault place WrongTag) (read_leaf limits enclosing kind place own constructed)
+  read_type limits OpenType earlier enclosing place tag constructed =
+      read_open limits.depth limits enclosing place tag constructed
   read_type limits (SequenceOfType own least type) earlier enclosing place tag constructed =
       require (same_tag own tag) (fault place WrongTag)
-      (all_members limits enclosing place constructed (read_type limits type []) >>= λ ended. require (nat_le least (length ended.all)) (fault ended.at Missing) (Done (Sequence own (values_of ended.all))))
+      (all_members limits enclosing place constructed (read_type limits type [])
+      >>= λ ended.
+      require (nat_le least (length ended.all)) (fault ended.at Missing) (Done (Sequence own (values_of ended.all))))
   read_type limits (SetOfType own least type) earlier enclosing place tag constructed =
       require (same_tag own tag) (fault place WrongTag)
-      (all_members limits enclosing place constructed (read_type limits type []) >>= λ ended. require (nat_le least (length ended.all)) (fault place EmptySet) (Done (SetOf own (values_of ended.all))))
+      (all_members limits enclosing place constructed (read_type limits type [])
+      >>= λ ended.
+      require (nat_le least (length ended.all)) (fault place EmptySet) (Done (SetOf own (values_of ended.all))))
   read_type limits (SequenceType own rest) earlier enclosing place tag constructed =
       require (same_tag own tag) (fault place WrongTag)
-      (in_container limits enclosing place constructed (λ inside. next_tag limits inside >>= λ next. read_fields limits rest [] inside next) >>= λ values. Done (Sequence own (values_of values)))
+      (in_container limits enclosing place constructed
+      (λ inside. next_tag limits inside >>= λ next. read_fields limits rest [] inside next)
+      >>= λ values. Done (Sequence own (values_of values)))
   read_type limits (ContainingType own rule type) earlier enclosing place tag constructed =
       require (same_tag own tag) (fault place WrongTag)
       (read_leaf limits enclosing OctetString place own constructed
-      >>= λ value. from_inside place (run (due_element limits outermost (read_type limits type earlier outermost)) 0 (leaf_contents value))
+      >>= λ value.
+      from_inside place
+      (run (due_element limits outermost (read_type limits type earlier outermost)) 0 (leaf_contents value))
       >>= λ contained. apply_rule place (rule earlier contained) (Leaf own (der contained)))
-  read_type limits (RuledType rule type) earlier enclosing place tag constructed = read_type limits type earlier enclosing place tag constructed >>= λ value. apply_rule place (rule earlier value) value
-  read_type limits (RefusedType own why) earlier enclosing place tag constructed = require (same_tag own tag) (fault place WrongTag) (Fail (fault place why))
-  read_type limits (DefinedByType path octets first second) earlier enclosing place tag constructed = choose (one_of (leaf_at path earlier) octets) (read_type limits first earlier enclosing place tag constructed) (read_type limits second earlier enclosing place tag constructed)
-  read_type limits (ChoiceType first second) earlier enclosing place tag constructed = choose (fits_tag first tag) (read_type limits first earlier enclosing place tag constructed) (read_type limits second earlier enclosing place tag constructed)
+  read_type limits (RuledType rule type) earlier enclosing place tag constructed =
+      read_type limits type earlier enclosing place tag constructed
+      >>= λ value. apply_rule place (rule earlier value) value
+  read_type limits (RefusedType own why) earlier enclosing place tag constructed =
+      require (same_tag own tag) (fault place WrongTag) (Fail (fault place why))
+  read_type limits (DefinedByType path octets first second) earlier enclosing place tag constructed =
+      choose (one_of (leaf_at path earlier) octets) (read_type limits first earlier enclosing place tag constructed)
+      (read_type limits second earlier enclosing place tag constructed)
+  read_type limits (ChoiceType first second) earlier enclosing place tag constructed =
+      choose (fits_tag first tag) (read_type limits first earlier enclosing place tag constructed)
+      (read_type limits second earlier enclosing place tag constructed)
 
   -- The fields from here on, where `next` stands: the values of those that are there, but those that are their default.
   pub read_fields : Limits → Fields → List Value → Enclosing → Next → Reading (List Value)
@@ -67,17 +92,24 @@ unfoldable mutual
   read_fields limits (Required type rest) earlier enclosing (ContainerEnds place) = Fail (fault place Missing)
   read_fields limits (Required type rest) earlier enclosing (ElementStands place tag constructed) =
       require (fits_tag type tag) (fault place WrongTag)
-      (read_type limits type earlier enclosing place tag constructed >>= λ value. next_tag limits enclosing >>= λ next. read_fields limits rest (earlier ++ (value ∷ [])) enclosing next >>= λ values. Done (value ∷ values))
-  read_fields limits (Optional type rest) earlier enclosing (ContainerEnds place) = read_fields limits rest earlier enclosing (ContainerEnds place)
+      (read_type limits type earlier enclosing place tag constructed
+      >>= λ value. next_tag limits enclosing
+      >>= λ next. read_fields limits rest (earlier ++ (value ∷ [])) enclosing next >>= λ values. Done (value ∷ values))
+  read_fields limits (Optional type rest) earlier enclosing (ContainerEnds place) =
+      read_fields limits rest earlier enclosing (ContainerEnds place)
   read_fields limits (Optional type rest) earlier enclosing (ElementStands place tag constructed) =
       choose (fits_tag type tag)
-      (read_type limits type earlier enclosing place tag constructed >>= λ value. next_tag limits enclosing >>= λ next. read_fields limits rest (earlier ++ (value ∷ [])) enclosing next >>= λ values. Done (value ∷ values))
+      (read_type limits type earlier enclosing place tag constructed
+      >>= λ value. next_tag limits enclosing
+      >>= λ next. read_fields limits rest (earlier ++ (value ∷ [])) enclosing next >>= λ values. Done (value ∷ values))
       (read_fields limits rest earlier enclosing (ElementStands place tag constructed))
-  read_fields limits (Default own octets type rest) earlier enclosing (ContainerEnds place) = read_fields limits rest earlier enclosing (ContainerEnds place)
+  read_fields limits (Default own octets type rest) earlier enclosing (ContainerEnds place) =
+      read_fields limits rest earlier enclosing (ContainerEnds place)
   read_fields limits (Default own octets type rest) earlier enclosing (ElementStands place tag constructed) =
       choose (fits_tag type tag)
       (read_type limits type earlier enclosing place tag constructed >>= λ value. next_tag limits enclosing >>= λ next.
-      choose (is_this_leaf own octets value) (read_fields limits rest earlier enclosing next) (read_fields limits rest (earlier ++ (value ∷ [])) enclosing next >>= λ values. Done (value ∷ values)))
+      choose (is_this_leaf own octets value) (read_fields limits rest earlier enclosing next)
+      (read_fields limits rest (earlier ++ (value ∷ [])) enclosing next >>= λ values. Done (value ∷ values)))
       (read_fields limits rest earlier enclosing (ElementStands place tag constructed))
 
 -- an element of the type that has to stand here
@@ -92,4 +124,5 @@ read_document limits type octets = run (read_element limits type [] outermost) 0
 abbrev pub IsClosed : TypeTerm → Type 0
 IsClosed type =
     (limits : Limits) (earlier : List Value) (enclosing : Enclosing) (place : ℕ) (tag : Tag) (constructed : Bool)
-    → read_type limits type earlier enclosing place tag constructed ≡ read_type limits type [] enclosing place tag constructed
+    → read_type limits type earlier enclosing place tag constructed
+    ≡ read_type limits type [] enclosing place tag constructed

@@ -1,4 +1,5 @@
--- Plain readings: what is asked of the input, octet by octet, and what is answered. A reading is data, a tree; `run` walks it along the octets.
+-- Plain readings: what is asked of the input, octet by octet, and what is answered. A reading is data, a tree; `run`
+-- walks it along the octets.
 use Rattle.std.specs.Prelude.{Bool, List, [], false, true, ℕ, ◌+◌, ◌∷◌}
 use Rattle.tlv_core.specs.declared.fault.Fault.{Fault}
 use Rattle.tlv_core.specs.declared.reason.Reason.TheVariants.{Truncated}
@@ -34,7 +35,8 @@ pub data Outcome (A : Type 0) : Type 0 where
   Took : A → ℕ → List ℕ → Outcome A
   Halted : Fault → Outcome A
 
--- The outcome of a reading that begins at a place, before these octets. Where an octet is asked for and none is left, the document is truncated there.
+-- The outcome of a reading that begins at a place, before these octets. Where an octet is asked for and none is left,
+-- the document is truncated there.
 unfoldable pub run : {A : Type 0} → Reading A → ℕ → List ℕ → Outcome A
 run (Done value) place octets = Took value place octets
 run (Fail fault') place octets = Halted fault'

@@ -4,7 +4,8 @@ use Rattle.x690.specs.Contents.{OctetString, Utf8String}
 use Rattle.x690.specs.Layouts.{universal}
 use Rattle.x690.specs.TypeTerms.{LeafType, TypeTerm, choice_of}
 
--- the universal tags of those whose octets are carried as they are (profile): ObjectDescriptor, NumericString to UniversalString, BMPString (X.680 table 1)
+-- the universal tags of those whose octets are carried as they are (profile): ObjectDescriptor, NumericString to
+-- UniversalString, BMPString (X.680 table 1)
 abbrev pub carried_numbers : List ℕ
 carried_numbers = 7 ∷ 18 ∷ 19 ∷ 20 ∷ 21 ∷ 22 ∷ 23 ∷ 24 ∷ 25 ∷ 26 ∷ 27 ∷ 28 ∷ 30 ∷ []
 

@@ -19,14 +19,16 @@ abbrev pub Chosen : Bool → Type 0 → Type 0 → Type 0
 Chosen test First Second = ((test ≡ true) × First) ⊎ ((test ≡ false) × Second)
 
 mutual
-  -- Each type carries its tag: an IMPLICIT tag stands in the place of the type's own, an EXPLICIT one is that of a sequence of one field.
+  -- Each type carries its tag: an IMPLICIT tag stands in the place of the type's own, an EXPLICIT one is that
+  -- of a sequence of one field.
   pub data TypeTerm : Type 0 where
     LeafType : Tag → LeafKind → TypeTerm
     OpenType : TypeTerm
     -- with the least number of members, and their type
     SequenceOfType SetOfType : Tag → ℕ → TypeTerm → TypeTerm
     SequenceType : Tag → Fields → TypeTerm
-    -- an OCTET STRING whose octets are one element of the type and nothing else, with a rule on the value of that element
+    -- an OCTET STRING whose octets are one element of the type and nothing else, with a rule on
+    -- the value of that element
     ContainingType : Tag → Rule → TypeTerm → TypeTerm
     -- the type, with a rule on its value
     RuledType : Rule → TypeTerm → TypeTerm
@@ -34,7 +36,8 @@ mutual
     RefusedType : Tag → Reason → TypeTerm
     -- the first type where the leaf at the path among the earlier fields is one of these octets, else the second
     DefinedByType : List ℕ → List (List ℕ) → TypeTerm → TypeTerm → TypeTerm
-    -- a CHOICE (X.680 29, X.690 8.13): the first type where its values may begin with the tag that stands here, else the second
+    -- a CHOICE (X.680 29, X.690 8.13): the first type where its values may begin with the tag that
+    -- stands here, else the second
     ChoiceType : TypeTerm → TypeTerm → TypeTerm
 
   pub data Fields : Type 0 where
@@ -85,5 +88,11 @@ unfoldable mutual
   pub DistinctFields : Fields → Type 0
   DistinctFields EndOfFields = Unit {0}
   DistinctFields (Required type fields) = Distinct type × DistinctFields fields
-  DistinctFields (Optional type fields) = Distinct type × DistinctFields fields × ((tag : Tag) → fits_tag type tag ≡ true → fields_fit_tag fields tag ≡ false)
-  DistinctFields (Default own octets type fields) = Distinct type × DistinctFields fields × ((tag : Tag) → fits_tag type tag ≡ true → fields_fit_tag fields tag ≡ false)
+  DistinctFields (Optional type fields) =
+      Distinct type
+      × DistinctFields fields
+      × ((tag : Tag) → fits_tag type tag ≡ true → fields_fit_tag fields tag ≡ false)
+  DistinctFields (Default own octets type fields) =
+      Distinct type
+      × DistinctFields fields
+      × ((tag : Tag) → fits_tag type tag ≡ true → fields_fit_tag fields tag ≡ false)

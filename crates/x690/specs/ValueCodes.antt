@@ -55,15 +55,22 @@ add_none (FirstMember v vs) = ap (FirstMember v) (add_none vs)
 mutual
   build_tokens : (v : Value) (k : List Token) → build (tokens v k) ≡ (FirstMember v (build k).0, (build k).1)
   build_tokens (Leaf t o) k = refl
-  build_tokens (Sequence t vs) k = ap (λ s. closed (Sequence t) s.0 s.1) (build_all vs ((3, (0, (0, []))) ∷ k)) ∙ ap (λ x. closed (Sequence t) x ((build k).0 ∷ (build k).1)) (add_none vs)
-  build_tokens (SetOf t vs) k = ap (λ s. closed (SetOf t) s.0 s.1) (build_all vs ((3, (0, (0, []))) ∷ k)) ∙ ap (λ x. closed (SetOf t) x ((build k).0 ∷ (build k).1)) (add_none vs)
+  build_tokens (Sequence t vs) k =
+      ap (λ s. closed (Sequence t) s.0 s.1) (build_all vs ((3, (0, (0, []))) ∷ k))
+      ∙ ap (λ x. closed (Sequence t) x ((build k).0 ∷ (build k).1)) (add_none vs)
+  build_tokens (SetOf t vs) k =
+      ap (λ s. closed (SetOf t) s.0 s.1) (build_all vs ((3, (0, (0, []))) ∷ k))
+      ∙ ap (λ x. closed (SetOf t) x ((build k).0 ∷ (build k).1)) (add_none vs)
 
   build_all : (vs : Values) (k : List Token) → build (all_tokens vs k) ≡ (add_all vs (build k).0, (build k).1)
   build_all NoMembers k = refl
-  build_all (FirstMember v vs) k = build_tokens v (all_tokens vs k) ∙ ap (λ s. (FirstMember v s.0, s.1)) (build_all vs k)
+  build_all (FirstMember v vs) k =
+      build_tokens v (all_tokens vs k) ∙ ap (λ s. (FirstMember v s.0, s.1)) (build_all vs k)
 
 pub from_tokens-tokens : (v : Value) → from_tokens (tokens v []) ≡ v
 from_tokens-tokens v = ap (λ s. first_of_values s.0) (build_tokens v [])
 
 abbrev pub value_code : Coded Value
-value_code = code_by (List Token) (coded_list (coded× coded_ℕ (coded× coded_ℕ (coded× coded_ℕ (coded_list coded_ℕ))))) (λ v. tokens v []) from_tokens from_tokens-tokens
+value_code =
+    code_by (List Token) (coded_list (coded× coded_ℕ (coded× coded_ℕ (coded× coded_ℕ (coded_list coded_ℕ)))))
+    (λ v. tokens v []) from_tokens from_tokens-tokens

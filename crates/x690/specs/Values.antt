@@ -4,7 +4,8 @@ use Rattle.tlv_core.specs.Identifier.{Tag}
 use Rattle.x690.specs.Lists.{Picked}
 
 mutual
-  -- What a tree says: a leaf with its DER contents, a sequence of values in order (SEQUENCE and SEQUENCE OF), or a SET OF, whose order says nothing.
+  -- What a tree says: a leaf with its DER contents, a sequence of values in order (SEQUENCE and SEQUENCE OF), or a SET
+  -- OF, whose order says nothing.
   pub data Value : Type 0 where
     Leaf : Tag → List ℕ → Value
     Sequence : Tag → Values → Value
@@ -60,7 +61,8 @@ unfoldable mutual
   -- The values can be paired one to one with those of the list, each pair being the same.
   pub SamePaired : Values → List Value → Type 0
   SamePaired NoMembers list = list ≡ []
-  SamePaired (FirstMember value values) list = (value' : Value) × (rest : List Value) × Picked value' list rest × Same value value' × SamePaired values rest
+  SamePaired (FirstMember value values) list =
+      (value' : Value) × (rest : List Value) × Picked value' list rest × Same value value' × SamePaired values rest
 
 -- the contents of a leaf, none of other values
 abbrev pub leaf_contents : Value → List ℕ
@@ -74,7 +76,8 @@ sequence_members (Leaf tag contents) = []
 sequence_members (Sequence tag values) = members values
 sequence_members (SetOf tag values) = []
 
--- the contents of the leaf at a path: the member at its first number, counted from 0, and on inside that member; no octets where no leaf stands there
+-- the contents of the leaf at a path: the member at its first number, counted from 0, and on inside that member; no
+-- octets where no leaf stands there
 unfoldable pub leaf_at : List ℕ → List Value → List ℕ
 leaf_at [] values = []
 leaf_at (i ∷ path) [] = []

@@ -32,22 +32,29 @@ set_of_closed own least T l earlier c p tag constructed = refl
 
 pub choice_closed : (first second : TypeTerm) → IsClosed first → IsClosed second → IsClosed (ChoiceType first second)
 unfolding read_type
-choice_closed first second closed closed' l earlier c p tag constructed = ap₂ (choose (fits_tag first tag)) (closed l earlier c p tag constructed) (closed' l earlier c p tag constructed)
+choice_closed first second closed closed' l earlier c p tag constructed =
+    ap₂ (choose (fits_tag first tag)) (closed l earlier c p tag constructed) (closed' l earlier c p tag constructed)
 
 -- with a rule on the value alone
-pub ruled_closed : (rule : Rule) (T : TypeTerm) → IsClosed T → ((earlier : List Value) → rule earlier ≡ rule []) → IsClosed (RuledType rule T)
+pub ruled_closed : (rule : Rule) (T : TypeTerm) → IsClosed T → ((earlier : List Value) → rule earlier ≡ rule [])
+    → IsClosed (RuledType rule T)
 unfolding read_type
 ruled_closed rule T closed alone l earlier c p tag constructed =
-    ap₂ (λ reading rule'. reading >>= λ value. apply_rule p (rule' value) value) (closed l earlier c p tag constructed) (alone earlier)
+    ap₂ (λ reading rule'. reading >>= λ value. apply_rule p (rule' value) value) (closed l earlier c p tag constructed)
+    (alone earlier)
 
 -- character strings and times
-carried_closed : (first : TypeTerm) (numbers : List ℕ) → IsClosed first → IsClosed (choice_of first (map carried_string numbers))
+carried_closed : (first : TypeTerm) (numbers : List ℕ) → IsClosed first
+    → IsClosed (choice_of first (map carried_string numbers))
 carried_closed first [] closed = closed
-carried_closed first (number ∷ numbers) closed = choice_closed first (choice_of (carried_string number) (map carried_string numbers)) closed (carried_closed (carried_string number) numbers (leaf_closed (universal number) OctetString))
+carried_closed first (number ∷ numbers) closed =
+    choice_closed first (choice_of (carried_string number) (map carried_string numbers)) closed
+    (carried_closed (carried_string number) numbers (leaf_closed (universal number) OctetString))
 
 pub strings_closed : IsClosed string_types
 unfolding string_types
-strings_closed = carried_closed (LeafType (universal 12) Utf8String) carried_numbers (leaf_closed (universal 12) Utf8String)
+strings_closed =
+    carried_closed (LeafType (universal 12) Utf8String) carried_numbers (leaf_closed (universal 12) Utf8String)
 
 pub refused_closed : (own : Tag) (why : Reason) → IsClosed (RefusedType own why)
 unfolding read_type

@@ -17,5 +17,9 @@ use Rattle.x690.specs.TypeTerms.{TypeTerm, fits_tag}
 use Rattle.x690.specs.Values.{leaf_at}
 
 unfoldable pub computed : Limits → TypeTerm → List ℕ → Answer
-unfolding chars encode_utf8 is_utf8 base128 identifier leading_base128 number_octets shortest_length answer arrange der der_element insert_text padded_less string_types open_form add_member all_members is_subidentifiers read_leaf read_open read_segment each_member fit_contents header_octet in_container next_octets next_tag primitive_contents read_big_endian read_definite_length read_high_number read_length read_number read_tag_number apply_rule due_element from_inside read_document read_type choose require run ◌>>=◌ fits_tag leaf_at
+unfolding chars encode_utf8 is_utf8 base128 identifier leading_base128 number_octets shortest_length answer arrange der
+    der_element insert_text padded_less string_types open_form add_member all_members is_subidentifiers read_leaf
+    read_open read_segment each_member fit_contents header_octet in_container next_octets next_tag primitive_contents
+    read_big_endian read_definite_length read_high_number read_length read_number read_tag_number apply_rule due_element
+    from_inside read_document read_type choose require run ◌>>=◌ fits_tag leaf_at
 computed limits type octets = answer limits type octets

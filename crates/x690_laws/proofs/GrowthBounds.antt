@@ -34,25 +34,39 @@ mutual
   unfolding LaidOut segments
 
   segments_below : (n : ℕ) (r : RawTree) (b : List ℕ) → LaidOut r b → AllBelow n b → AllBelow n (join (segments r))
-  segments_below n (Primitive t o) b h a = subst (AllBelow n) (sym (append-nil o)) (below_back n h.1.length_octets o (below_back n (identifier t false) (h.1.length_octets ++ o) (subst (AllBelow n) h.1.is a)))
+  segments_below n (Primitive t o) b h a =
+      subst (AllBelow n) (sym (append-nil o))
+      (below_back n h.1.length_octets o
+      (below_back n (identifier t false) (h.1.length_octets ++ o) (subst (AllBelow n) h.1.is a)))
   segments_below n (Constructed t rs) b h a = ⊎_elim
-      (λ d. all_segments_below n rs h.1.0 h.1.1 (below_back n d.length_octets h.1.0 (below_back n (identifier t true) (d.length_octets ++ h.1.0) (subst (AllBelow n) d.is a))))
-      (λ d. all_segments_below n rs h.1.0 h.1.1 (below_front n h.1.0 (0 ∷ 0 ∷ []) (below_back n (128 ∷ []) (h.1.0 ++ (0 ∷ 0 ∷ [])) (below_back n (identifier t true) (128 ∷ (h.1.0 ++ (0 ∷ 0 ∷ []))) (subst (AllBelow n) d.is a)))))
+      (λ d.
+      all_segments_below n rs h.1.0 h.1.1
+      (below_back n d.length_octets h.1.0
+      (below_back n (identifier t true) (d.length_octets ++ h.1.0) (subst (AllBelow n) d.is a))))
+      (λ d.
+      all_segments_below n rs h.1.0 h.1.1
+      (below_front n h.1.0 (0 ∷ 0 ∷ [])
+      (below_back n (128 ∷ []) (h.1.0 ++ (0 ∷ 0 ∷ []))
+      (below_back n (identifier t true) (128 ∷ (h.1.0 ++ (0 ∷ 0 ∷ []))) (subst (AllBelow n) d.is a)))))
       h.1.2
 
-  all_segments_below : (n : ℕ) (rs : RawTrees) (c : List ℕ) → AllLaidOut rs c → AllBelow n c → AllBelow n (join (all_segments rs))
+  all_segments_below : (n : ℕ) (rs : RawTrees) (c : List ℕ) → AllLaidOut rs c → AllBelow n c
+      → AllBelow n (join (all_segments rs))
   all_segments_below n NoTrees c h a = tt
   all_segments_below n (FirstTree r rs) c h a =
       let a' : AllBelow n (h.0 ++ h.1) = subst (AllBelow n) h.4 a in
       subst (AllBelow n) (sym (joined_append (segments r) (all_segments rs)))
-      (below_append n (join (segments r)) (join (all_segments rs)) (segments_below n r h.0 h.2 (below_front n h.0 h.1 a')) (all_segments_below n rs h.1 h.3 (below_back n h.0 h.1 a')))
+      (below_append n (join (segments r)) (join (all_segments rs))
+      (segments_below n r h.0 h.2 (below_front n h.0 h.1 a'))
+      (all_segments_below n rs h.1 h.3 (below_back n h.0 h.1 a')))
 
 held_length : (r : RawTree) (b : List ℕ) → LaidOut r b → length (join (segments r)) ≤ length b
 held_length r b h = let f = frame r b h in omega (arith, framed_length r b f.form f.contents f.framed)
 
 -- an element with one octet of contents at most
 
-brief_length : (t : Tag) (f g : Bool) (o c b : List ℕ) → length o ≤ 1 → Framed t g c b → (length (der_element t f o) ≤ length b + 1) × (2 ≤ length b)
+brief_length : (t : Tag) (f g : Bool) (o c b : List ℕ) → length o ≤ 1 → Framed t g c b
+    → (length (der_element t f o) ≤ length b + 1) × (2 ≤ length b)
 brief_length t f g o c b l h =
     let e = element_length t f o in
     let one = shortest_one (length o) (omega arith) in
@@ -61,12 +75,15 @@ brief_length t f g o c b l h =
     let k = definite_length t g c b d in
     let some = spelled_some (length c) d.length_octets d.spells in
     (omega (arith, identifier_form t f g), omega (arith, identifier_some t g)))
-    (λ d. let k = indefinite_length t c b d in (omega (arith, identifier_form t f true), omega (arith, identifier_some t true)))
+    (λ d.
+    let k = indefinite_length t c b d in
+    (omega (arith, identifier_form t f true), omega (arith, identifier_some t true)))
     h
 
 -- at most twice as long
 
-twice_element : (t : Tag) (f g : Bool) (o c b : List ℕ) → length b < 2147483648 → length o ≤ 2 * length c → Framed t g c b → length (der_element t f o) ≤ 2 * length b
+twice_element : (t : Tag) (f g : Bool) (o c b : List ℕ) → length b < 2147483648 → length o ≤ 2 * length c
+    → Framed t g c b → length (der_element t f o) ≤ 2 * length b
 twice_element t f g o c b a l h =
     let e = element_length t f o in
     ⊎_elim
@@ -78,7 +95,9 @@ twice_element t f g o c b a l h =
     (λ x. omega (arith, x.one, x.small, shortest_within 1 (length o) (omega (arith, x.small))))
     (λ x. omega (arith, ap length x.is, x.some, shortest_within 4 (length o) (omega arith)))
     (spelled_cases (length c) d.length_octets d.spells))
-    (λ d. let k = indefinite_length t c b d in omega (arith, identifier_form t f true, identifier_some t true, shortest_within 4 (length o) (omega arith)))
+    (λ d.
+    let k = indefinite_length t c b d in
+    omega (arith, identifier_form t f true, identifier_some t true, shortest_within 4 (length o) (omega arith)))
     h
 
 twice : Growing (λ b. length b < 2147483648) (λ m n. m ≤ 2 * n)
@@ -98,7 +117,8 @@ growth_by_two d T earlier r v b a h k = grows twice d T earlier r v b a h k
 
 -- at most five times as long: so it is of octets of any length that is below 2^64 five times
 
-five_times : (t : Tag) (f g : Bool) (o c b : List ℕ) → length b < 1152921504606846976 → length o ≤ 5 * length c → Framed t g c b → length (der_element t f o) ≤ 5 * length b
+five_times : (t : Tag) (f g : Bool) (o c b : List ℕ) → length b < 1152921504606846976 → length o ≤ 5 * length c
+    → Framed t g c b → length (der_element t f o) ≤ 5 * length b
 five_times t f g o c b a l h =
     let e = element_length t f o in
     ⊎_elim
@@ -106,7 +126,9 @@ five_times t f g o c b a l h =
     let k = definite_length t g c b d in
     let some = spelled_some (length c) d.length_octets d.spells in
     omega (arith, identifier_form t f g, identifier_some t g, shortest_within 8 (length o) (omega arith)))
-    (λ d. let k = indefinite_length t c b d in omega (arith, identifier_form t f true, identifier_some t true, shortest_within 8 (length o) (omega arith)))
+    (λ d.
+    let k = indefinite_length t c b d in
+    omega (arith, identifier_form t f true, identifier_some t true, shortest_within 8 (length o) (omega arith)))
     h
 
 five : Growing (λ b. length b < 1152921504606846976) (λ m n. m ≤ 5 * n)
@@ -126,19 +148,35 @@ growth d T earlier r v b a h k = grows five d T earlier r v b a h k
 
 -- at most half as long again
 
-half_definite : (t : Tag) (f g : Bool) (o c b : List ℕ) → AllBelow 256 b → 2 * length o ≤ 3 * length c → Definite t g c b → 2 * length (der_element t f o) ≤ 3 * length b
+half_definite : (t : Tag) (f g : Bool) (o c b : List ℕ) → AllBelow 256 b → 2 * length o ≤ 3 * length c
+    → Definite t g c b → 2 * length (der_element t f o) ≤ 3 * length b
 half_definite t f g o c b a l d =
-    let below = below_front 256 d.length_octets c (below_back 256 (identifier t g) (d.length_octets ++ c) (subst (AllBelow 256) d.is a)) in
+    let below = below_front 256 d.length_octets c
+    (below_back 256 (identifier t g) (d.length_octets ++ c) (subst (AllBelow 256) d.is a)) in
     let s = shortest_against (length o) (length c) d.length_octets below l d.spells in
-    omega (arith, element_length t f o, definite_length t g c b d, identifier_form t f g, identifier_some t g, spelled_some (length c) d.length_octets d.spells)
+    omega (
+      arith,
+      element_length t f o,
+      definite_length t g c b d,
+      identifier_form t f g,
+      identifier_some t g,
+      spelled_some (length c) d.length_octets d.spells,
+    )
 
-half_element : (t : Tag) (f g : Bool) (o c b : List ℕ) → AllBelow 256 b × (length b < 2147483648) → 2 * length o ≤ 3 * length c → Framed t g c b → 2 * length (der_element t f o) ≤ 3 * length b
+half_element : (t : Tag) (f g : Bool) (o c b : List ℕ) → AllBelow 256 b × (length b < 2147483648)
+    → 2 * length o ≤ 3 * length c → Framed t g c b → 2 * length (der_element t f o) ≤ 3 * length b
 half_element t f g o c b a l h = ⊎_elim
     (λ d. half_definite t f g o c b a.0 l d)
     (λ d.
     let k = indefinite_length t c b d in
     let short : length b < 2147483648 = a.1 in
-    omega (arith, element_length t f o, identifier_form t f true, identifier_some t true, shortest_within 4 (length o) (omega arith)))
+    omega (
+      arith,
+      element_length t f o,
+      identifier_form t f true,
+      identifier_some t true,
+      shortest_within 4 (length o) (omega arith),
+    ))
     h
 
 half : Growing (λ b. AllBelow 256 b × (length b < 2147483648)) (λ m n. 2 * m ≤ 3 * n)
@@ -160,7 +198,10 @@ growth_by_half d T earlier r v b o a h k = grows half d T earlier r v b (o, a) h
 
 no_segments : LaidOut (Constructed (universal 3) NoTrees) (35 ∷ 0 ∷ [])
 unfolding LaidOut SpellsLength identifier
-no_segments = (record { class_fits = omega arith; number_fits = omega arith; not_end = λ e. absurd (omega arith) }, ([], refl, inl (record { length_octets = 0 ∷ []; spells = inl (omega arith, refl, refl); is = refl })))
+no_segments = (
+  record { class_fits = omega arith; number_fits = omega arith; not_end = λ e. absurd (omega arith) },
+  ([], refl, inl (record { length_octets = 0 ∷ []; spells = inl (omega arith, refl, refl); is = refl })),
+)
 
 no_bits : Fits 1 (LeafType (universal 3) BitString) [] (Constructed (universal 3) NoTrees) (Leaf (universal 3) (0 ∷ []))
 unfolding Fits LeafContents Segmented segments

@@ -25,21 +25,29 @@ pub within_of : (l : Limits) (e : Option ℕ) (k : ℕ) → MayStand l e k → W
 within_of l e k m = let z = m.in_limit in record { nearest_end = bound_after e k m.in_bound; limit = omega arith }
 
 pub may_of : (l : Limits) (e : Option ℕ) (k : ℕ) → Within l e (k + 1) → MayStand l e k
-may_of l e k w = let z : k + 1 ≤ l.octets = w.limit in record { in_bound = not_at_bound e k w.nearest_end; in_limit = omega arith }
+may_of l e k w =
+    let z : k + 1 ≤ l.octets = w.limit in record { in_bound = not_at_bound e k w.nearest_end; in_limit = omega arith }
 
-pub all_within : (l : Limits) (e : Option ℕ) (k x : ℕ) (s : List ℕ) → AllMayStand l e k (x ∷ s) → Within l e (k + length (x ∷ s))
-all_within l e k x [] h = let q : k + 1 ≡ k + length (x ∷ []) = omega arith in subst (Within l e) q (within_of l e k h.0)
-all_within l e k x (y ∷ s) h = let q : k + 1 + length (y ∷ s) ≡ k + length (x ∷ y ∷ s) = omega arith in subst (Within l e) q (all_within l e (k + 1) y s h.1)
+pub all_within : (l : Limits) (e : Option ℕ) (k x : ℕ) (s : List ℕ) → AllMayStand l e k (x ∷ s)
+    → Within l e (k + length (x ∷ s))
+all_within l e k x [] h =
+    let q : k + 1 ≡ k + length (x ∷ []) = omega arith in subst (Within l e) q (within_of l e k h.0)
+all_within l e k x (y ∷ s) h =
+    let q : k + 1 + length (y ∷ s) ≡ k + length (x ∷ y ∷ s) = omega arith in
+    subst (Within l e) q (all_within l e (k + 1) y s h.1)
 
-pub some_within : (l : Limits) (e : Option ℕ) (k : ℕ) (s : List ℕ) → 0 < length s → AllMayStand l e k s → Within l e (k + length s)
+pub some_within : (l : Limits) (e : Option ℕ) (k : ℕ) (s : List ℕ) → 0 < length s → AllMayStand l e k s
+    → Within l e (k + length s)
 some_within l e k [] z h = absurd (omega arith)
 some_within l e k (x ∷ s) z h = all_within l e k x s h
 
 pub all_may : (l : Limits) (e : Option ℕ) (k : ℕ) (s : List ℕ) → Within l e (k + length s) → AllMayStand l e k s
 all_may l e k [] w = tt
 all_may l e k (x ∷ s) w =
-    let q : k + length (x ∷ s) ≡ k + 1 + length s = omega arith in
-    (may_of l e k (within_less l e (k + 1) (k + length (x ∷ s)) (omega arith) w), all_may l e (k + 1) s (subst (Within l e) q w))
+    let q : k + length (x ∷ s) ≡ k + 1 + length s = omega arith in (
+      may_of l e k (within_less l e (k + 1) (k + length (x ∷ s)) (omega arith) w),
+      all_may l e (k + 1) s (subst (Within l e) q w),
+    )
 
 -- one octet
 
@@ -56,12 +64,14 @@ pub fail_on : (A : Type 0) (f : Fault) (k : ℕ) (s : List ℕ) → run {A = A} 
 unfolding run
 fail_on A f k s = refl
 
-pub require_off : {A : Type 0} (b : Bool) (g : Fault) (p : Reading A) (k : ℕ) (s : List ℕ) (f : Fault) → b ≡ false → f ≡ g → run (require b g p) k s ≡ Halted f
+pub require_off : {A : Type 0} (b : Bool) (g : Fault) (p : Reading A) (k : ℕ) (s : List ℕ) (f : Fault) → b ≡ false
+    → f ≡ g → run (require b g p) k s ≡ Halted f
 unfolding require run
 require_off true g p k s f e z = cc
 require_off false g p k s f e z = ap Halted (sym z)
 
-pub no_octet : (l : Limits) (e : Option ℕ) (p k : ℕ) (s : List ℕ) (f : Fault) → run (header_octet l e p) k s ≡ Halted f → NoOctet l e p k s f
+pub no_octet : (l : Limits) (e : Option ℕ) (p k : ℕ) (s : List ℕ) (f : Fault) → run (header_octet l e p) k s ≡ Halted f
+    → NoOctet l e p k s f
 unfolding header_octet
 no_octet l e p k s f h = ⊎_elim
     (λ a. inl (not_not _ a.0, a.1))
@@ -77,28 +87,44 @@ no_octet l e p k s f h = ⊎_elim
     not_not true e = refl
     not_not false e = cc
 
-pub no_octet_halts : (l : Limits) (e : Option ℕ) (p k : ℕ) (s : List ℕ) (f : Fault) → NoOctet l e p k s f → run (header_octet l e p) k s ≡ Halted f
+pub no_octet_halts : (l : Limits) (e : Option ℕ) (p k : ℕ) (s : List ℕ) (f : Fault) → NoOctet l e p k s f
+    → run (header_octet l e p) k s ≡ Halted f
 unfolding header_octet
 no_octet_halts l e p k s f (inl (a, g)) = where_on _ k s ∙ require_off _ _ _ k s f (ap not a) g
-no_octet_halts l e p k s f (inr (inl (a, b, g))) = where_on _ k s ∙ require_on _ _ _ k s (not_false _ a) ∙ require_off _ _ _ k s f (grind (arith, nat_tests)) g
+no_octet_halts l e p k s f (inr (inl (a, b, g))) =
+    where_on _ k s ∙ require_on _ _ _ k s (not_false _ a) ∙ require_off _ _ _ k s f (grind (arith, nat_tests)) g
 no_octet_halts l e p k s f (inr (inr (m, z, g))) =
     let lt : k < l.octets = m.in_limit in
-    where_on _ k s ∙ require_on _ _ _ k s (not_false _ m.in_bound) ∙ require_on _ _ _ k s (grind (arith, nat_tests)) ∙ ap (λ w. run (Ask Done) k w) z ∙ ask_empty k ∙ ap Halted (sym g)
+    where_on _ k s
+    ∙ require_on _ _ _ k s (not_false _ m.in_bound)
+    ∙ require_on _ _ _ k s (grind (arith, nat_tests))
+    ∙ ap (λ w. run (Ask Done) k w) z
+    ∙ ask_empty k
+    ∙ ap Halted (sym g)
 
-pub octet_begins : (l : Limits) (e : Option ℕ) (p k : ℕ) (s : List ℕ) (x q : ℕ) (r : List ℕ) → run (header_octet l e p) k s ≡ Took x q r → Begin l e k s (x ∷ []) r × (q ≡ k + 1)
-octet_begins l e p k s x q r h = let o = octet_took l e p k s x q r h in (record { is = o.is; stand = (may_of l e k (subst (Within l e) o.place o.within), tt) }, o.place)
+pub octet_begins : (l : Limits) (e : Option ℕ) (p k : ℕ) (s : List ℕ) (x q : ℕ) (r : List ℕ)
+    → run (header_octet l e p) k s ≡ Took x q r → Begin l e k s (x ∷ []) r × (q ≡ k + 1)
+octet_begins l e p k s x q r h =
+    let o = octet_took l e p k s x q r h in
+    (record { is = o.is; stand = (may_of l e k (subst (Within l e) o.place o.within), tt) }, o.place)
 
-pub begins_octet : (l : Limits) (e : Option ℕ) (p k : ℕ) (s : List ℕ) (x : ℕ) (r : List ℕ) → Begin l e k s (x ∷ []) r → run (header_octet l e p) k s ≡ Took x (k + 1) r
-begins_octet l e p k s x r b = ap (λ w. run (header_octet l e p) k w) b.is ∙ octet_on l e p k x r (within_of l e k b.stand.0)
+pub begins_octet : (l : Limits) (e : Option ℕ) (p k : ℕ) (s : List ℕ) (x : ℕ) (r : List ℕ) → Begin l e k s (x ∷ []) r
+    → run (header_octet l e p) k s ≡ Took x (k + 1) r
+begins_octet l e p k s x r b =
+    ap (λ w. run (header_octet l e p) k w) b.is ∙ octet_on l e p k x r (within_of l e k b.stand.0)
 
 -- one octet, and then others
-begin_more : (l : Limits) (e : Option ℕ) (k j : ℕ) (s : List ℕ) (x : ℕ) (t before r : List ℕ) → j ≡ k + 1 → Begin l e k s (x ∷ []) t → Begin l e j t before r → Begin l e k s (x ∷ before) r
-begin_more l e k j s x t before r q a b = record { is = a.is ∙ ap (λ w. x ∷ w) b.is; stand = (a.stand.0, subst (λ w. AllMayStand l e w before) q b.stand) }
+begin_more : (l : Limits) (e : Option ℕ) (k j : ℕ) (s : List ℕ) (x : ℕ) (t before r : List ℕ) → j ≡ k + 1
+    → Begin l e k s (x ∷ []) t → Begin l e j t before r → Begin l e k s (x ∷ before) r
+begin_more l e k j s x t before r q a b =
+    record { is = a.is ∙ ap (λ w. x ∷ w) b.is; stand = (a.stand.0, subst (λ w. AllMayStand l e w before) q b.stand) }
 
-begin_first : (l : Limits) (e : Option ℕ) (k : ℕ) (s : List ℕ) (x : ℕ) (before r : List ℕ) → Begin l e k s (x ∷ before) r → Begin l e k s (x ∷ []) (before ++ r)
+begin_first : (l : Limits) (e : Option ℕ) (k : ℕ) (s : List ℕ) (x : ℕ) (before r : List ℕ)
+    → Begin l e k s (x ∷ before) r → Begin l e k s (x ∷ []) (before ++ r)
 begin_first l e k s x before r b = record { is = b.is; stand = (b.stand.0, tt) }
 
-begin_rest : (l : Limits) (e : Option ℕ) (k : ℕ) (s : List ℕ) (x : ℕ) (before r : List ℕ) → Begin l e k s (x ∷ before) r → Begin l e (k + 1) (before ++ r) before r
+begin_rest : (l : Limits) (e : Option ℕ) (k : ℕ) (s : List ℕ) (x : ℕ) (before r : List ℕ) → Begin l e k s (x ∷ before) r
+    → Begin l e (k + 1) (before ++ r) before r
 begin_rest l e k s x before r b = record { is = refl; stand = b.stand.1 }
 
 begin_none : (l : Limits) (e : Option ℕ) (k : ℕ) (s : List ℕ) → Begin l e k s [] s
@@ -110,7 +136,11 @@ abbrev LeadFits : ℕ → List ℕ → Type 0
 LeadFits n before = (n ≡ 0) → NoLeadingZero before
 
 abbrev BadFrom : ℕ → ℕ → List ℕ → ℕ → Type 0
-BadFrom left n before x = ((n ≡ 0) × (before ≡ []) × (x ≡ 128)) ⊎ ((length before + 1 ≡ left) × (128 ≤ x)) ⊎ ((x < 128) × (base128_number n before * 128 + x < 31)) ⊎ (256 ≤ x)
+BadFrom left n before x =
+    ((n ≡ 0) × (before ≡ []) × (x ≡ 128))
+    ⊎ ((length before + 1 ≡ left) × (128 ≤ x))
+    ⊎ ((x < 128) × (base128_number n before * 128 + x < 31))
+    ⊎ (256 ≤ x)
 
 record HighFrom (l : Limits) (e : Option ℕ) (p left n k : ℕ) (s : List ℕ) (f : Fault) : Type 0 where
   before : List ℕ
@@ -119,12 +149,15 @@ record HighFrom (l : Limits) (e : Option ℕ) (p left n k : ℕ) (s : List ℕ) 
   few : length before + 1 ≤ left
   continue : AllContinue before
   lead : LeadFits n before
-  stops : NoOctet l e p (k + length before) rest f ⊎ ((x : ℕ) × (rest' : List ℕ) × Begin l e (k + length before) rest (x ∷ []) rest' × BadFrom left n before x × (f ≡ fault p BadTag))
+  stops : NoOctet l e p (k + length before) rest f
+      ⊎ ((x : ℕ) × (rest' : List ℕ) × Begin l e (k + length before) rest (x ∷ []) rest' × BadFrom left n before x
+      × (f ≡ fault p BadTag))
 
 lead_or_large : (n x : ℕ) → not ((n == 0) && (x == 128)) && nat_lt x 256 ≡ false → ((n ≡ 0) × (x ≡ 128)) ⊎ (256 ≤ x)
 lead_or_large n x h = go (n == 0) (x == 128) (nat_lt x 256) refl refl refl h
   where
-    go : (a b c : Bool) → (n == 0) ≡ a → (x == 128) ≡ b → nat_lt x 256 ≡ c → not (a && b) && c ≡ false → ((n ≡ 0) × (x ≡ 128)) ⊎ (256 ≤ x)
+    go : (a b c : Bool) → (n == 0) ≡ a → (x == 128) ≡ b → nat_lt x 256 ≡ c → not (a && b) && c ≡ false
+        → ((n ≡ 0) × (x ≡ 128)) ⊎ (256 ≤ x)
     go true true c p q r h = inl (grind (arith, nat_tests), grind (arith, nat_tests))
     go true false true p q r h = cc
     go true false false p q r h = inr (grind (arith, nat_tests))
@@ -137,17 +170,27 @@ lead_or_fits n x h a b =
     let t'' = subst (λ w. not ((0 == 0) && (w == 128)) ≡ true) b t' in
     cc
 
-here_no : (l : Limits) (e : Option ℕ) (p k : ℕ) (s : List ℕ) (f : Fault) → NoOctet l e p k s f → NoOctet l e p (k + 0) s f
+here_no : (l : Limits) (e : Option ℕ) (p k : ℕ) (s : List ℕ) (f : Fault) → NoOctet l e p k s f
+    → NoOctet l e p (k + 0) s f
 here_no l e p k s f h = let q : k ≡ k + 0 = omega arith in subst (λ w. NoOctet l e p w s f) q h
 
 here_begin : (l : Limits) (e : Option ℕ) (k : ℕ) (s t r : List ℕ) → Begin l e k s t r → Begin l e (k + 0) s t r
 here_begin l e k s t r h = let q : k ≡ k + 0 = omega arith in subst (λ w. Begin l e w s t r) q h
 
-high_halts : (l : Limits) (e : Option ℕ) (p left n k : ℕ) (s : List ℕ) (f : Fault) → 0 < left → run (read_high_number l e p left n) k s ≡ Halted f → HighFrom l e p left n k s f
+high_halts : (l : Limits) (e : Option ℕ) (p left n k : ℕ) (s : List ℕ) (f : Fault) → 0 < left
+    → run (read_high_number l e p left n) k s ≡ Halted f → HighFrom l e p left n k s f
 unfolding read_high_number
 high_halts l e p zero n k s f z h = absurd (omega arith)
 high_halts l e p (suc left) n k s f z h = ⊎_elim
-    (λ a. record { before = []; rest = s; begin = begin_none l e k s; few = omega arith; continue = tt; lead = λ w. tt; stops = inl (here_no l e p k s f (no_octet l e p k s f a)) })
+    (λ a. record {
+      before = [];
+      rest = s;
+      begin = begin_none l e k s;
+      few = omega arith;
+      continue = tt;
+      lead = λ w. tt;
+      stops = inl (here_no l e p k s f (no_octet l e p k s f a));
+    })
     (λ a. let b = octet_begins l e p k s a.0 a.1 a.2 a.3 in ⊎_elim
     (λ t. ⊎_elim
     (λ u. bad a.0 a.2 b.0 (inl (u.0, refl, u.1)) t.1)
@@ -155,28 +198,67 @@ high_halts l e p (suc left) n k s f z h = ⊎_elim
     (lead_or_large n a.0 t.0))
     (λ t. let t0 = both_true _ _ t.0 in ⊎_elim
     (λ u. let u0 : nat_lt a.0 128 ≡ true = u.0 in ⊎_elim
-    (λ w. let w0 : nat_le 31 (n * 128 + a.0) ≡ false = w.0 in bad a.0 a.2 b.0 (inr (inr (inl (grind (arith, nat_tests), grind (arith, nat_tests))))) w.1)
+    (λ w.
+    let w0 : nat_le 31 (n * 128 + a.0) ≡ false = w.0 in
+    bad a.0 a.2 b.0 (inr (inr (inl (grind (arith, nat_tests), grind (arith, nat_tests))))) w.1)
     (λ w. absurd (halted_done _ _ _ f w.1))
     (halted_require _ _ _ a.1 a.2 f u.1))
-    (λ u. more left a.0 a.1 a.2 b.0 b.1 t0.0 t0.1 u.0 u.1 (λ w g. high_halts l e p left (n * 128 + (a.0 - 128)) a.1 a.2 f w g))
+    (λ u.
+    more left a.0 a.1 a.2 b.0 b.1 t0.0 t0.1 u.0 u.1
+    (λ w g. high_halts l e p left (n * 128 + (a.0 - 128)) a.1 a.2 f w g))
     (halted_choose _ _ _ a.1 a.2 f t.1))
     (halted_require _ _ _ a.1 a.2 f a.4))
     (halted_bind _ _ k s f h)
   where
-    bad : (x : ℕ) (r : List ℕ) → Begin l e k s (x ∷ []) r → BadFrom (suc left) n [] x → f ≡ fault p BadTag → HighFrom l e p (suc left) n k s f
-    bad x r b w g = record { before = []; rest = s; begin = begin_none l e k s; few = omega arith; continue = tt; lead = λ w. tt; stops = inr (x, r, here_begin l e k s (x ∷ []) r b, w, g) }
+    bad : (x : ℕ) (r : List ℕ) → Begin l e k s (x ∷ []) r → BadFrom (suc left) n [] x → f ≡ fault p BadTag
+        → HighFrom l e p (suc left) n k s f
+    bad x r b w g = record {
+      before = [];
+      rest = s;
+      begin = begin_none l e k s;
+      few = omega arith;
+      continue = tt;
+      lead = λ w. tt;
+      stops = inr (x, r, here_begin l e k s (x ∷ []) r b, w, g);
+    }
 
-    later : (left' x : ℕ) (before : List ℕ) (y : ℕ) → 128 ≤ x → (n ≡ 0 → x ≢ 128) → n * 128 + (x - 128) ≡ n * 128 + x % 128 → BadFrom (suc left') (n * 128 + (x - 128)) before y → BadFrom (suc (suc left')) n (x ∷ before) y
-    later left' x before y ge lf d (inl h) = let z : n * 128 + (x - 128) ≡ 0 = h.0 in let a : n ≡ 0 = omega arith in let b : x ≡ 128 = omega arith in absurd (lf a b)
-    later left' x before y ge lf d (inr (inl h)) = let c : length before + 1 ≡ suc left' = h.0 in inr (inl (omega arith, h.1))
-    later left' x before y ge lf d (inr (inr (inl h))) = inr (inr (inl (h.0, subst (λ w. base128_number w before * 128 + y < 31) d h.1)))
+    later : (left' x : ℕ) (before : List ℕ) (y : ℕ) → 128 ≤ x → (n ≡ 0 → x ≢ 128)
+        → n * 128 + (x - 128) ≡ n * 128 + x % 128 → BadFrom (suc left') (n * 128 + (x - 128)) before y
+        → BadFrom (suc (suc left')) n (x ∷ before) y
+    later left' x before y ge lf d (inl h) =
+        let z : n * 128 + (x - 128) ≡ 0 = h.0 in
+        let a : n ≡ 0 = omega arith in
+        let b : x ≡ 128 = omega arith in
+        absurd (lf a b)
+    later left' x before y ge lf d (inr (inl h)) =
+        let c : length before + 1 ≡ suc left' = h.0 in inr (inl (omega arith, h.1))
+    later left' x before y ge lf d (inr (inr (inl h))) =
+        inr (inr (inl (h.0, subst (λ w. base128_number w before * 128 + y < 31) d h.1)))
     later left' x before y ge lf d (inr (inr (inr h))) = inr (inr (inr h))
 
-    more : (left' x j : ℕ) (v : List ℕ) → Begin l e k s (x ∷ []) v → j ≡ k + 1 → not ((n == 0) && (x == 128)) ≡ true → nat_lt x 256 ≡ true → nat_lt x 128 ≡ false → run (read_high_number l e p left' (n * 128 + (x - 128))) j v ≡ Halted f
-        → (0 < left' → run (read_high_number l e p left' (n * 128 + (x - 128))) j v ≡ Halted f → HighFrom l e p left' (n * 128 + (x - 128)) j v f) → HighFrom l e p (suc left') n k s f
+    more : (left' x j : ℕ) (v : List ℕ) → Begin l e k s (x ∷ []) v → j ≡ k + 1 → not ((n == 0) && (x == 128)) ≡ true
+        → nat_lt x 256 ≡ true → nat_lt x 128 ≡ false
+        → run (read_high_number l e p left' (n * 128 + (x - 128))) j v ≡ Halted f
+        → (0 < left' → run (read_high_number l e p left' (n * 128 + (x - 128))) j v ≡ Halted f
+        → HighFrom l e p left' (n * 128 + (x - 128)) j v f)
+        → HighFrom l e p (suc left') n k s f
     more zero x j v b q t0 t1 u h ih =
         let ge : 128 ≤ x = grind (arith, nat_tests) in
-        record { before = []; rest = s; begin = begin_none l e k s; few = omega arith; continue = tt; lead = λ w. tt; stops = inr (x, v, here_begin l e k s (x ∷ []) v b, inr (inl (omega arith, ge)), halted_fail ℕ (fault p BadTag) j v f h) }
+        record {
+          before = [];
+          rest = s;
+          begin = begin_none l e k s;
+          few = omega arith;
+          continue = tt;
+          lead = λ w. tt;
+          stops = inr (
+            x,
+            v,
+            here_begin l e k s (x ∷ []) v b,
+            inr (inl (omega arith, ge)),
+            halted_fail ℕ (fault p BadTag) j v f h,
+          );
+        }
     more (suc left') x j v b q t0 t1 u h ih =
         let ge : 128 ≤ x = grind (arith, nat_tests) in
         let lt : x < 256 = grind (arith, nat_tests) in
@@ -194,22 +276,36 @@ high_halts l e p (suc left) n k s f z h = ⊎_elim
           lead = lf;
           stops = ⊎_elim
               (λ a. inl (subst (λ y. NoOctet l e p y i.rest f) w a))
-              (λ a. inr (a.0, a.1, subst (λ y. Begin l e y i.rest (a.0 ∷ []) a.1) w a.2, later left' x i.before a.0 ge lf d a.3, a.4))
+              (λ a. inr (
+                a.0,
+                a.1,
+                subst (λ y. Begin l e y i.rest (a.0 ∷ []) a.1) w a.2,
+                later left' x i.before a.0 ge lf d a.3,
+                a.4,
+              ))
               i.stops;
         }
 
 -- behind one octet of a high tag number, where the two tests go on
-high_next : (l : Limits) (e : Option ℕ) (p left n k : ℕ) (s : List ℕ) (x : ℕ) (r : List ℕ) → Begin l e k s (x ∷ []) r → not ((n == 0) && (x == 128)) && nat_lt x 256 ≡ true
-    → run (read_high_number l e p (suc left) n) k s ≡ run (choose (nat_lt x 128) (require (nat_le 31 (n * 128 + x)) (fault p BadTag) (Done (n * 128 + x))) (read_high_number l e p left (n * 128 + (x - 128)))) (k + 1) r
+high_next : (l : Limits) (e : Option ℕ) (p left n k : ℕ) (s : List ℕ) (x : ℕ) (r : List ℕ) → Begin l e k s (x ∷ []) r
+    → not ((n == 0) && (x == 128)) && nat_lt x 256 ≡ true
+    → run (read_high_number l e p (suc left) n) k s
+    ≡ run (choose (nat_lt x 128) (require (nat_le 31 (n * 128 + x)) (fault p BadTag) (Done (n * 128 + x)))
+    (read_high_number l e p left (n * 128 + (x - 128))))
+    (k + 1) r
 unfolding read_high_number
-high_next l e p left n k s x r b t = run_bind _ _ k s x (k + 1) r (begins_octet l e p k s x r b) ∙ require_on _ _ _ (k + 1) r t
+high_next l e p left n k s x r b t =
+    run_bind _ _ k s x (k + 1) r (begins_octet l e p k s x r b) ∙ require_on _ _ _ (k + 1) r t
 
-high_refused : (l : Limits) (e : Option ℕ) (p left n k : ℕ) (s : List ℕ) (x : ℕ) (r : List ℕ) (f : Fault) → Begin l e k s (x ∷ []) r → not ((n == 0) && (x == 128)) && nat_lt x 256 ≡ false → f ≡ fault p BadTag
+high_refused : (l : Limits) (e : Option ℕ) (p left n k : ℕ) (s : List ℕ) (x : ℕ) (r : List ℕ) (f : Fault)
+    → Begin l e k s (x ∷ []) r → not ((n == 0) && (x == 128)) && nat_lt x 256 ≡ false → f ≡ fault p BadTag
     → run (read_high_number l e p (suc left) n) k s ≡ Halted f
 unfolding read_high_number
-high_refused l e p left n k s x r f b t g = run_bind _ _ k s x (k + 1) r (begins_octet l e p k s x r b) ∙ require_off _ _ _ (k + 1) r f t g
+high_refused l e p left n k s x r f b t g =
+    run_bind _ _ k s x (k + 1) r (begins_octet l e p k s x r b) ∙ require_off _ _ _ (k + 1) r f t g
 
-not_last : (l : Limits) (e : Option ℕ) (p n k : ℕ) (s : List ℕ) (f : Fault) → f ≡ fault p BadTag → run (read_high_number l e p zero n) k s ≡ Halted f
+not_last : (l : Limits) (e : Option ℕ) (p n k : ℕ) (s : List ℕ) (f : Fault) → f ≡ fault p BadTag
+    → run (read_high_number l e p zero n) k s ≡ Halted f
 unfolding read_high_number
 not_last l e p n k s f g = fail_on ℕ (fault p BadTag) k s ∙ ap Halted (sym g)
 
@@ -227,50 +323,67 @@ fits_lead : (n x : ℕ) → (n ≡ 0 → x ≢ 128) → not ((n == 0) && (x == 1
 fits_lead n x h = go (n == 0) (x == 128) refl refl
   where
     go : (a b : Bool) → (n == 0) ≡ a → (x == 128) ≡ b → not (a && b) ≡ true
-    go true true p q = let z : n ≡ 0 = grind (arith, nat_tests) in let w : x ≡ 128 = grind (arith, nat_tests) in absurd (h z w)
+    go true true p q =
+        let z : n ≡ 0 = grind (arith, nat_tests) in let w : x ≡ 128 = grind (arith, nat_tests) in absurd (h z w)
     go true false p q = refl
     go false b p q = refl
 
-first_missing : (l : Limits) (e : Option ℕ) (p left n k : ℕ) (s : List ℕ) (f : Fault) → NoOctet l e p k s f → run (read_high_number l e p (suc left) n) k s ≡ Halted f
+first_missing : (l : Limits) (e : Option ℕ) (p left n k : ℕ) (s : List ℕ) (f : Fault) → NoOctet l e p k s f
+    → run (read_high_number l e p (suc left) n) k s ≡ Halted f
 unfolding read_high_number
 first_missing l e p left n k s f h = halt_bind (header_octet l e p) _ k s f (no_octet_halts l e p k s f h)
 
 not_zero : (n x : ℕ) → 128 ≤ x → (n ≡ 0 → x ≢ 128) → n * 128 + (x - 128) ≢ 0
 not_zero n x ge g z = let a : n ≡ 0 = omega arith in let b : x ≡ 128 = omega arith in g a b
 
-less_by : (left n x : ℕ) (before : List ℕ) (y : ℕ) → 128 ≤ x → x < 256 → BadFrom (suc left) n (x ∷ before) y → BadFrom left (n * 128 + (x - 128)) before y
+less_by : (left n x : ℕ) (before : List ℕ) (y : ℕ) → 128 ≤ x → x < 256 → BadFrom (suc left) n (x ∷ before) y
+    → BadFrom left (n * 128 + (x - 128)) before y
 less_by left n x before y ge lt (inl h) = let z : x ∷ before ≡ [] = h.1 in cc
-less_by left n x before y ge lt (inr (inl h)) = let z : length (x ∷ before) + 1 ≡ suc left = h.0 in inr (inl (omega arith, h.1))
-less_by left n x before y ge lt (inr (inr (inl h))) = let d : n * 128 + x % 128 ≡ n * 128 + (x - 128) = omega arith in inr (inr (inl (h.0, subst (λ w. base128_number w before * 128 + y < 31) d h.1)))
+less_by left n x before y ge lt (inr (inl h)) =
+    let z : length (x ∷ before) + 1 ≡ suc left = h.0 in inr (inl (omega arith, h.1))
+less_by left n x before y ge lt (inr (inr (inl h))) =
+    let d : n * 128 + x % 128 ≡ n * 128 + (x - 128) = omega arith in
+    inr (inr (inl (h.0, subst (λ w. base128_number w before * 128 + y < 31) d h.1)))
 less_by left n x before y ge lt (inr (inr (inr h))) = inr (inr (inr h))
 
-high_stops : (l : Limits) (e : Option ℕ) (p left n k : ℕ) (s : List ℕ) (f : Fault) (before rest : List ℕ) → Begin l e k s before rest → length before + 1 ≤ left → AllContinue before → LeadFits n before
-    → (NoOctet l e p (k + length before) rest f ⊎ ((x : ℕ) × (rest' : List ℕ) × Begin l e (k + length before) rest (x ∷ []) rest' × BadFrom left n before x × (f ≡ fault p BadTag)))
+high_stops : (l : Limits) (e : Option ℕ) (p left n k : ℕ) (s : List ℕ) (f : Fault) (before rest : List ℕ)
+    → Begin l e k s before rest → length before + 1 ≤ left → AllContinue before → LeadFits n before
+    → (NoOctet l e p (k + length before) rest f
+    ⊎ ((x : ℕ) × (rest' : List ℕ) × Begin l e (k + length before) rest (x ∷ []) rest' × BadFrom left n before x
+    × (f ≡ fault p BadTag)))
     → run (read_high_number l e p left n) k s ≡ Halted f
 high_stops l e p zero n k s f before rest b c d g h = absurd (omega arith)
 high_stops l e p (suc left) n k s f [] rest b c d g (inl h) =
     let q : k + 0 ≡ k = omega arith in
-    first_missing l e p left n k s f (subst (λ w. NoOctet l e p k w f) (sym b.is) (subst (λ w. NoOctet l e p w rest f) q h))
+    first_missing l e p left n k s f
+    (subst (λ w. NoOctet l e p k w f) (sym b.is) (subst (λ w. NoOctet l e p w rest f) q h))
 high_stops l e p (suc left) n k s f [] rest b c d g (inr (x, r, bx, w, z)) =
     let q : k + 0 ≡ k = omega arith in
     go (subst (λ y. Begin l e k y (x ∷ []) r) (sym b.is) (subst (λ y. Begin l e y rest (x ∷ []) r) q bx)) w
   where
-    tested : (t : Bool) → not ((n == 0) && (x == 128)) && nat_lt x 256 ≡ t → suc zero ≡ suc left → 128 ≤ x → Begin l e k s (x ∷ []) r → run (read_high_number l e p (suc left) n) k s ≡ Halted f
+    tested : (t : Bool) → not ((n == 0) && (x == 128)) && nat_lt x 256 ≡ t → suc zero ≡ suc left → 128 ≤ x
+        → Begin l e k s (x ∷ []) r → run (read_high_number l e p (suc left) n) k s ≡ Halted f
     tested true t m ge bx =
         let m' : left ≡ 0 = omega arith in
         let u : nat_lt x 128 ≡ false = grind (arith, nat_tests) in
-        high_next l e p left n k s x r bx t ∙ choose_second _ _ _ (k + 1) r u ∙ ap (λ y. run (read_high_number l e p y (n * 128 + (x - 128))) (k + 1) r) m' ∙ not_last l e p (n * 128 + (x - 128)) (k + 1) r f z
+        high_next l e p left n k s x r bx t
+        ∙ choose_second _ _ _ (k + 1) r u
+        ∙ ap (λ y. run (read_high_number l e p y (n * 128 + (x - 128))) (k + 1) r) m'
+        ∙ not_last l e p (n * 128 + (x - 128)) (k + 1) r f z
     tested false t m ge bx = high_refused l e p left n k s x r f bx t z
 
     go : Begin l e k s (x ∷ []) r → BadFrom (suc left) n [] x → run (read_high_number l e p (suc left) n) k s ≡ Halted f
     go bx (inl w) = high_refused l e p left n k s x r f bx (lead_fails n x w.0 w.2) z
-    go bx (inr (inl w)) = tested (not ((n == 0) && (x == 128)) && nat_lt x 256) refl (let m : 1 ≡ suc left = w.0 in m) w.1 bx
+    go bx (inr (inl w)) =
+        tested (not ((n == 0) && (x == 128)) && nat_lt x 256) refl (let m : 1 ≡ suc left = w.0 in m) w.1 bx
     go bx (inr (inr (inl w))) =
         let lt : x < 128 = w.0 in
         let sm : n * 128 + x < 31 = w.1 in
         let t : not ((n == 0) && (x == 128)) ≡ true = fits_lead n x (λ a y. absurd (omega arith)) in
         let t' : nat_lt x 256 ≡ true = grind (arith, nat_tests) in
-        high_next l e p left n k s x r bx (both _ _ t t') ∙ choose_first _ _ _ (k + 1) r (grind (arith, nat_tests)) ∙ require_off _ _ _ (k + 1) r f (grind (arith, nat_tests)) z
+        high_next l e p left n k s x r bx (both _ _ t t')
+        ∙ choose_first _ _ _ (k + 1) r (grind (arith, nat_tests))
+        ∙ require_off _ _ _ (k + 1) r f (grind (arith, nat_tests)) z
     go bx (inr (inr (inr w))) = high_refused l e p left n k s x r f bx (large_fails n x w) z
 high_stops l e p (suc left) n k s f (x ∷ before) rest b c d g h =
     let ge : 128 ≤ x = d.0 in
@@ -280,27 +393,40 @@ high_stops l e p (suc left) n k s f (x ∷ before) rest b c d g h =
     let u : nat_lt x 128 ≡ false = grind (arith, nat_tests) in
     let q : k + length (x ∷ before) ≡ k + 1 + length before = omega arith in
     let nz : n * 128 + (x - 128) ≢ 0 = not_zero n x ge g in
-    high_next l e p left n k s x (before ++ rest) (begin_first l e k s x before rest b) (both _ _ t t') ∙ choose_second _ _ _ (k + 1) (before ++ rest) u
-    ∙ high_stops l e p left (n * 128 + (x - 128)) (k + 1) (before ++ rest) f before rest (begin_rest l e k s x before rest b) (omega arith) d.2 (λ z. absurd (nz z))
+    high_next l e p left n k s x (before ++ rest) (begin_first l e k s x before rest b) (both _ _ t t')
+    ∙ choose_second _ _ _ (k + 1) (before ++ rest) u
+    ∙ high_stops l e p left (n * 128 + (x - 128)) (k + 1) (before ++ rest) f before rest
+    (begin_rest l e k s x before rest b) (omega arith) d.2 (λ z. absurd (nz z))
     (⊎_elim
     (λ a. inl (subst (λ y. NoOctet l e p y rest f) q a))
-    (λ a. inr (a.0, a.1, subst (λ y. Begin l e y rest (a.0 ∷ []) a.1) q a.2, less_by left n x before a.0 ge lt a.3, a.4))
+    (λ a.
+    inr (a.0, a.1, subst (λ y. Begin l e y rest (a.0 ∷ []) a.1) q a.2, less_by left n x before a.0 ge lt a.3, a.4))
     h)
 
-high_number_stops : (l : Limits) (e : Option ℕ) (p k : ℕ) (s : List ℕ) (f : Fault) → run (read_high_number l e p 4 0) k s ≡ Halted f → HighNumberStops l e p k s f
+high_number_stops : (l : Limits) (e : Option ℕ) (p k : ℕ) (s : List ℕ) (f : Fault)
+    → run (read_high_number l e p 4 0) k s ≡ Halted f → HighNumberStops l e p k s f
 high_number_stops l e p k s f h =
     let x = high_halts l e p 4 0 k s f (omega arith) h in
-    let few : length x.before + 1 ≤ 4 = x.few in
-    (x.before, x.rest, x.begin, omega arith, x.continue, x.lead refl, ⊎_elim inl (λ a. inr (a.0, a.1, a.2, (bad x.before a.0 a.3, a.4))) x.stops)
+    let few : length x.before + 1 ≤ 4 = x.few in (
+      x.before,
+      x.rest,
+      x.begin,
+      omega arith,
+      x.continue,
+      x.lead refl,
+      ⊎_elim inl (λ a. inr (a.0, a.1, a.2, (bad x.before a.0 a.3, a.4))) x.stops,
+    )
   where
     bad : (before : List ℕ) (y : ℕ) → BadFrom 4 0 before y → BadTagOctet before y
     bad before y (inl w) = inl (w.1, w.2)
     bad before y (inr (inl w)) = let c : length before + 1 ≡ 4 = w.0 in inr (inl (omega arith, w.1))
     bad before y (inr (inr w)) = inr (inr w)
 
-high_number_halts : (l : Limits) (e : Option ℕ) (p k : ℕ) (s : List ℕ) (f : Fault) → HighNumberStops l e p k s f → run (read_high_number l e p 4 0) k s ≡ Halted f
+high_number_halts : (l : Limits) (e : Option ℕ) (p k : ℕ) (s : List ℕ) (f : Fault) → HighNumberStops l e p k s f
+    → run (read_high_number l e p 4 0) k s ≡ Halted f
 high_number_halts l e p k s f (before, rest, b, few, c, z, h) =
-    high_stops l e p 4 0 k s f before rest b (omega arith) c (λ w. z) (⊎_elim inl (λ a. inr (a.0, a.1, a.2, bad before a.0 a.3.0, a.3.1)) h)
+    high_stops l e p 4 0 k s f before rest b (omega arith) c (λ w. z)
+    (⊎_elim inl (λ a. inr (a.0, a.1, a.2, bad before a.0 a.3.0, a.3.1)) h)
   where
     bad : (before : List ℕ) (y : ℕ) → BadTagOctet before y → BadFrom 4 0 before y
     bad before y (inl w) = inl (refl, w.0, w.1)
@@ -309,40 +435,66 @@ high_number_halts l e p k s f (before, rest, b, few, c, z, h) =
 
 -- what stands at a place
 
-not_ended : (l : Limits) (c : Enclosing) (k : ℕ) (s : List ℕ) (p : ℕ) (t : Tag) (form : Bool) (j : ℕ) (u : List ℕ) → run (next_tag l c) k s ≡ Took (ElementStands p t form) j u → stands_at_end c.innermost k ≡ false
+not_ended : (l : Limits) (c : Enclosing) (k : ℕ) (s : List ℕ) (p : ℕ) (t : Tag) (form : Bool) (j : ℕ) (u : List ℕ)
+    → run (next_tag l c) k s ≡ Took (ElementStands p t form) j u → stands_at_end c.innermost k ≡ false
 not_ended l c k s p t form j u h = go (stands_at_end c.innermost k) refl
   where
     go : (b : Bool) → stands_at_end c.innermost k ≡ b → stands_at_end c.innermost k ≡ false
-    go true e = let z : Took (ContainerEnds k) k s ≡ Took (ElementStands p t form) j u = sym (ends_on l c k s e) ∙ h in cc
+    go true e =
+        let z : Took (ContainerEnds k) k s ≡ Took (ElementStands p t form) j u = sym (ends_on l c k s e) ∙ h in cc
     go false e = e
 
-pub stands_of : (l : Limits) (c : Enclosing) (k : ℕ) (s : List ℕ) (p : ℕ) (t : Tag) (form : Bool) (j : ℕ) (u : List ℕ) → run (next_tag l c) k s ≡ Took (ElementStands p t form) j u → (p ≡ k) × Stands l c k s t form j u
+pub stands_of : (l : Limits) (c : Enclosing) (k : ℕ) (s : List ℕ) (p : ℕ) (t : Tag) (form : Bool) (j : ℕ) (u : List ℕ)
+    → run (next_tag l c) k s ≡ Took (ElementStands p t form) j u → (p ≡ k) × Stands l c k s t form j u
 stands_of l c k s p t form j u h =
     let n = next_took l c k s (ElementStands p t form) j u h in
-    let w = subst (Within l c.nearest_end) n.place n.within in
-    (n.at, record { not_ended = not_ended l c k s p t form j u h; is_tag = n.tag; begins = record { is = n.is; stand = all_may l c.nearest_end k (identifier t form) w }; behind_is = n.place; depth_fits = n.deep })
+    let w = subst (Within l c.nearest_end) n.place n.within in (
+      n.at,
+      record {
+        not_ended = not_ended l c k s p t form j u h;
+        is_tag = n.tag;
+        begins = record { is = n.is; stand = all_may l c.nearest_end k (identifier t form) w };
+        behind_is = n.place;
+        depth_fits = n.deep;
+      },
+    )
 
-pub stands_run : (l : Limits) (c : Enclosing) (k : ℕ) (s : List ℕ) (t : Tag) (form : Bool) (j : ℕ) (u : List ℕ) → Stands l c k s t form j u → run (next_tag l c) k s ≡ Took (ElementStands k t form) j u
+pub stands_run : (l : Limits) (c : Enclosing) (k : ℕ) (s : List ℕ) (t : Tag) (form : Bool) (j : ℕ) (u : List ℕ)
+    → Stands l c k s t form j u → run (next_tag l c) k s ≡ Took (ElementStands k t form) j u
 stands_run l c k s t form j u h =
     ap (λ w. run (next_tag l c) k w) h.begins.is
-    ∙ next_on l c k t form u h.not_ended h.is_tag h.depth_fits (some_within l c.nearest_end k (identifier t form) (id_some t form h.is_tag) h.begins.stand)
+    ∙ next_on l c k t form u h.not_ended h.is_tag h.depth_fits
+    (some_within l c.nearest_end k (identifier t form) (id_some t form h.is_tag) h.begins.stand)
     ∙ ap (λ w. Took (ElementStands k t form) w u) (sym h.behind_is)
 
-pub ends_of : (l : Limits) (c : Enclosing) (k : ℕ) (s : List ℕ) (p j : ℕ) (u : List ℕ) → run (next_tag l c) k s ≡ Took (ContainerEnds p) j u → (p ≡ k) × EndsHere l c k s
+pub ends_of : (l : Limits) (c : Enclosing) (k : ℕ) (s : List ℕ) (p j : ℕ) (u : List ℕ)
+    → run (next_tag l c) k s ≡ Took (ContainerEnds p) j u → (p ≡ k) × EndsHere l c k s
 ends_of l c k s p j u h =
     let n = next_took l c k s (ContainerEnds p) j u h in (
       n.at,
       ⊎_elim
           (λ a. inl a.0)
-          (λ a. let q : j ≡ k + length {A = ℕ} (0 ∷ 0 ∷ []) = a.2 in inr (a.0, u, record { is = a.1; stand = all_may l c.nearest_end k (0 ∷ 0 ∷ []) (subst (Within l c.nearest_end) q a.3) }))
+          (λ a.
+          let q : j ≡ k + length {A = ℕ} (0 ∷ 0 ∷ []) = a.2 in inr (
+            a.0,
+            u,
+            record { is = a.1; stand = all_may l c.nearest_end k (0 ∷ 0 ∷ []) (subst (Within l c.nearest_end) q a.3) },
+          ))
           n.ends,
     )
 
-pub ends_run : (l : Limits) (c : Enclosing) (k : ℕ) (s : List ℕ) → EndsHere l c k s → (j : ℕ) × (u : List ℕ) × (run (next_tag l c) k s ≡ Took (ContainerEnds k) j u)
-ends_run l c k s (inl e) = let t : (k == k) ≡ true = grind (arith, nat_tests) in (k, s, ends_on l c k s (ap (λ w. stands_at_end w k) e ∙ t))
-ends_run l c k s (inr (e, r, b)) = (k + 2, r, ap (λ w. run (next_tag l c) k w) b.is ∙ endless_on l c k r e (all_within l c.nearest_end k 0 (0 ∷ []) b.stand))
+pub ends_run : (l : Limits) (c : Enclosing) (k : ℕ) (s : List ℕ) → EndsHere l c k s
+    → (j : ℕ) × (u : List ℕ) × (run (next_tag l c) k s ≡ Took (ContainerEnds k) j u)
+ends_run l c k s (inl e) =
+    let t : (k == k) ≡ true = grind (arith, nat_tests) in (k, s, ends_on l c k s (ap (λ w. stands_at_end w k) e ∙ t))
+ends_run l c k s (inr (e, r, b)) = (
+  k + 2,
+  r,
+  ap (λ w. run (next_tag l c) k w) b.is ∙ endless_on l c k r e (all_within l c.nearest_end k 0 (0 ∷ []) b.stand),
+)
 
-pub tag_stops : (l : Limits) (c : Enclosing) (k : ℕ) (s : List ℕ) (f : Fault) → run (next_tag l c) k s ≡ Halted f → StopsInTag l c k s f
+pub tag_stops : (l : Limits) (c : Enclosing) (k : ℕ) (s : List ℕ) (f : Fault) → run (next_tag l c) k s ≡ Halted f
+    → StopsInTag l c k s f
 unfolding next_tag read_tag_number
 tag_stops l c k s f h = ⊎_elim
     (λ a. absurd (halted_done _ k s f a.1))
@@ -357,20 +509,32 @@ tag_stops l c k s f h = ⊎_elim
             o.0,
             ⊎_elim
                 (λ z. let z0 : (b.0 == 0) ≡ true = z.0 in inl (grind (arith, nat_tests), ending b.1 b.2 o.1 z.1))
-                (λ z. let z0 : (b.0 == 0) ≡ false = z.0 in let nz : b.0 ≢ 0 = grind (arith, nat_tests) in inr (nz, naming b.0 b.1 b.2 o.0 o.1 nz z.1))
+                (λ z.
+                let z0 : (b.0 == 0) ≡ false = z.0 in
+                let nz : b.0 ≢ 0 = grind (arith, nat_tests) in
+                inr (nz, naming b.0 b.1 b.2 o.0 o.1 nz z.1))
                 (halted_choose _ _ _ b.1 b.2 f b.4),
           ))
           (halted_bind _ _ k s f a.1),
     ))
     (halted_choose _ _ _ k s f (sym (where_on _ k s) ∙ h))
   where
-    ending : (j : ℕ) (r : List ℕ) → j ≡ k + 1 → run (require (ends_with_zeros c.innermost) (fault k BadEnd) (header_octet l c.nearest_end k >>= λ y. require (y == 0) (fault k BadEnd) (Done (ContainerEnds k)))) j r ≡ Halted f → EndStops l c k r f
+    ending : (j : ℕ) (r : List ℕ) → j ≡ k + 1
+        → run (require (ends_with_zeros c.innermost) (fault k BadEnd)
+        (header_octet l c.nearest_end k >>= λ y. require (y == 0) (fault k BadEnd) (Done (ContainerEnds k)))) j r
+        ≡ Halted f
+        → EndStops l c k r f
     ending j r q h = ⊎_elim
         (λ a. inl a)
         (λ a. ⊎_elim
         (λ b. inr (inl (a.0, subst (λ w. NoOctet l c.nearest_end k w r f) q (no_octet l c.nearest_end k j r f b))))
         (λ b. let o = octet_begins l c.nearest_end k j r b.0 b.1 b.2 b.3 in ⊎_elim
-        (λ d. let d0 : (b.0 == 0) ≡ false = d.0 in inr (inr (a.0, (b.0, b.2, subst (λ w. Begin l c.nearest_end w r (b.0 ∷ []) b.2) q o.0, (grind (arith, nat_tests), d.1)))))
+        (λ d.
+        let d0 : (b.0 == 0) ≡ false = d.0 in
+        inr (inr (
+          a.0,
+          (b.0, b.2, subst (λ w. Begin l c.nearest_end w r (b.0 ∷ []) b.2) q o.0, (grind (arith, nat_tests), d.1)),
+        )))
         (λ d. absurd (halted_done _ _ _ f d.1))
         (halted_require _ _ _ b.1 b.2 f b.4))
         (halted_bind _ _ j r f a.1))
@@ -385,7 +549,12 @@ tag_stops l c k s f h = ⊎_elim
         go false false p q e = inr (grind (arith, nat_tests))
 
     naming : (x j : ℕ) (r : List ℕ) → Begin l c.nearest_end k s (x ∷ []) r → j ≡ k + 1 → x ≢ 0
-        → run (require (not (x == 32) && nat_lt x 256) (fault k BadTag) (choose (nat_lt (x % 32) 31) (Done (x % 32)) (read_high_number l c.nearest_end k 4 0) >>= λ n. require (nat_lt c.open_containers l.depth) (fault k TooDeep) (Done (ElementStands k (record { class = x / 64; number = n }) (nat_le 32 (x % 64)))))) j r ≡ Halted f
+        → run (require (not (x == 32) && nat_lt x 256) (fault k BadTag)
+        (choose (nat_lt (x % 32) 31) (Done (x % 32)) (read_high_number l c.nearest_end k 4 0)
+        >>= λ n.
+        require (nat_lt c.open_containers l.depth) (fault k TooDeep)
+        (Done (ElementStands k (record { class = x / 64; number = n }) (nat_le 32 (x % 64)))))) j r
+        ≡ Halted f
         → IdentifierStops l c k s x r f
     naming x j r o q nz h = ⊎_elim
         (λ a. inl (not_both x a.0, a.1))
@@ -399,7 +568,11 @@ tag_stops l c k s f h = ⊎_elim
         (λ d. absurd (halted_done _ _ _ f d.1))
         (λ d. let d0 : nat_lt (x % 32) 31 ≡ false = d.0 in
         let ge : 31 ≤ x % 32 = grind (arith, nat_tests) in
-        inr (inl (lt, omega arith, subst (λ w. HighNumberStops l c.nearest_end k w r f) q (high_number_stops l c.nearest_end k j r f d.1))))
+        inr (inl (
+          lt,
+          omega arith,
+          subst (λ w. HighNumberStops l c.nearest_end k w r f) q (high_number_stops l c.nearest_end k j r f d.1),
+        )))
         (halted_choose _ _ _ j r f b))
         (λ b. ⊎_elim
         (λ d. let d0 : nat_lt c.open_containers l.depth ≡ false = d.0 in
@@ -408,14 +581,21 @@ tag_stops l c k s f h = ⊎_elim
         let i = number_took l c.nearest_end k x j r b.0 b.1 b.2 (subst (Within l c.nearest_end) q' w) b.3 in
         let id = identifier_is l c.nearest_end x j r b.0 b.1 b.2 lt i in
         let p1 : b.1 ≡ j + length i.octets = i.place in
-        let n : length (identifier (record { class = x / 64; number = b.0 }) (nat_le 32 (x % 64))) ≡ length (x ∷ i.octets) = ap length id in
-        let e : b.1 ≡ k + length (identifier (record { class = x / 64; number = b.0 }) (nat_le 32 (x % 64))) = omega arith in
+        let n : length (identifier (record { class = x / 64; number = b.0 }) (nat_le 32 (x % 64)))
+        ≡ length (x ∷ i.octets) = ap length id in
+        let e : b.1 ≡ k + length (identifier (record { class = x / 64; number = b.0 }) (nat_le 32 (x % 64))) =
+        omega arith in
         inr (inr (
           record { class = x / 64; number = b.0 },
           nat_le 32 (x % 64),
           b.2,
           tag_is l c.nearest_end x j r b.0 b.1 b.2 lt nz n1 i,
-          record { is = o.is ∙ ap (λ v. x ∷ v) i.is ∙ sym (ap (λ v. v ++ b.2) id); stand = all_may l c.nearest_end k (identifier (record { class = x / 64; number = b.0 }) (nat_le 32 (x % 64))) (subst (Within l c.nearest_end) e i.within) },
+          record {
+            is = o.is ∙ ap (λ v. x ∷ v) i.is ∙ sym (ap (λ v. v ++ b.2) id);
+            stand =
+                all_may l c.nearest_end k (identifier (record { class = x / 64; number = b.0 }) (nat_le 32 (x % 64)))
+                (subst (Within l c.nearest_end) e i.within);
+          },
           grind (arith, nat_tests),
           d.1,
         )))
@@ -424,22 +604,42 @@ tag_stops l c k s f h = ⊎_elim
         (halted_bind _ _ j r f a.1))
         (halted_require _ _ _ j r f h)
 
-pub tag_halts : (l : Limits) (c : Enclosing) (k : ℕ) (s : List ℕ) (f : Fault) → StopsInTag l c k s f → run (next_tag l c) k s ≡ Halted f
+pub tag_halts : (l : Limits) (c : Enclosing) (k : ℕ) (s : List ℕ) (f : Fault) → StopsInTag l c k s f
+    → run (next_tag l c) k s ≡ Halted f
 unfolding next_tag read_tag_number
-tag_halts l c k s f (a, inl h) = where_on _ k s ∙ choose_second _ _ _ k s a ∙ halt_bind (header_octet l c.nearest_end k) _ k s f (no_octet_halts l c.nearest_end k k s f h)
+tag_halts l c k s f (a, inl h) =
+    where_on _ k s
+    ∙ choose_second _ _ _ k s a
+    ∙ halt_bind (header_octet l c.nearest_end k) _ k s f (no_octet_halts l c.nearest_end k k s f h)
 tag_halts l c k s f (a, inr (x, r, b, inl (z, h))) =
     let t : (x == 0) ≡ true = grind (arith, nat_tests) in
-    where_on _ k s ∙ choose_second _ _ _ k s a ∙ run_bind _ _ k s x (k + 1) r (begins_octet l c.nearest_end k k s x r b) ∙ choose_first _ _ _ (k + 1) r t ∙ ending h
+    where_on _ k s
+    ∙ choose_second _ _ _ k s a
+    ∙ run_bind _ _ k s x (k + 1) r (begins_octet l c.nearest_end k k s x r b)
+    ∙ choose_first _ _ _ (k + 1) r t
+    ∙ ending h
   where
-    ending : EndStops l c k r f → run (require (ends_with_zeros c.innermost) (fault k BadEnd) (header_octet l c.nearest_end k >>= λ y. require (y == 0) (fault k BadEnd) (Done (ContainerEnds k)))) (k + 1) r ≡ Halted f
+    ending : EndStops l c k r f
+        → run (require (ends_with_zeros c.innermost) (fault k BadEnd)
+        (header_octet l c.nearest_end k >>= λ y. require (y == 0) (fault k BadEnd) (Done (ContainerEnds k))))
+        (k + 1) r
+        ≡ Halted f
     ending (inl (e, g)) = require_off _ _ _ (k + 1) r f e g
-    ending (inr (inl (e, g))) = require_on _ _ _ (k + 1) r e ∙ halt_bind (header_octet l c.nearest_end k) _ (k + 1) r f (no_octet_halts l c.nearest_end k (k + 1) r f g)
+    ending (inr (inl (e, g))) =
+        require_on _ _ _ (k + 1) r e
+        ∙ halt_bind (header_octet l c.nearest_end k) _ (k + 1) r f (no_octet_halts l c.nearest_end k (k + 1) r f g)
     ending (inr (inr (e, (y, r', b', (n, g))))) =
         let u : (y == 0) ≡ false = grind (arith, nat_tests) in
-        require_on _ _ _ (k + 1) r e ∙ run_bind _ _ (k + 1) r y (k + 1 + 1) r' (begins_octet l c.nearest_end k (k + 1) r y r' b') ∙ require_off _ _ _ (k + 1 + 1) r' f u g
+        require_on _ _ _ (k + 1) r e
+        ∙ run_bind _ _ (k + 1) r y (k + 1 + 1) r' (begins_octet l c.nearest_end k (k + 1) r y r' b')
+        ∙ require_off _ _ _ (k + 1 + 1) r' f u g
 tag_halts l c k s f (a, inr (x, r, b, inr (n, inl (w, g)))) =
     let t : (x == 0) ≡ false = grind (arith, nat_tests) in
-    where_on _ k s ∙ choose_second _ _ _ k s a ∙ run_bind _ _ k s x (k + 1) r (begins_octet l c.nearest_end k k s x r b) ∙ choose_second _ _ _ (k + 1) r t ∙ require_off _ _ _ (k + 1) r f (off w) g
+    where_on _ k s
+    ∙ choose_second _ _ _ k s a
+    ∙ run_bind _ _ k s x (k + 1) r (begins_octet l c.nearest_end k k s x r b)
+    ∙ choose_second _ _ _ (k + 1) r t
+    ∙ require_off _ _ _ (k + 1) r f (off w) g
   where
     either : (a b : Bool) → (a ≡ true) ⊎ (b ≡ false) → not a && b ≡ false
     either true b h = refl
@@ -455,11 +655,16 @@ tag_halts l c k s f (a, inr (x, r, b, inr (n, inr (inl (lt, m, h))))) =
     let t1 : (x == 32) ≡ false = grind (arith, nat_tests) in
     let t2 : nat_lt x 256 ≡ true = grind (arith, nat_tests) in
     let t3 : nat_lt (x % 32) 31 ≡ false = grind (arith, nat_tests) in
-    where_on _ k s ∙ choose_second _ _ _ k s a ∙ run_bind _ _ k s x (k + 1) r (begins_octet l c.nearest_end k k s x r b) ∙ choose_second _ _ _ (k + 1) r t
+    where_on _ k s
+    ∙ choose_second _ _ _ k s a
+    ∙ run_bind _ _ k s x (k + 1) r (begins_octet l c.nearest_end k k s x r b)
+    ∙ choose_second _ _ _ (k + 1) r t
     ∙ require_on _ _ _ (k + 1) r (both _ _ (not_false _ t1) t2)
     ∙ halt_bind _ _ (k + 1) r f (choose_second _ _ _ (k + 1) r t3 ∙ high_number_halts l c.nearest_end k (k + 1) r f h)
 tag_halts l c k s f (a, inr (x, r, b, inr (n, inr (inr (t, form, r', g, i, d, e))))) =
-    ap (λ w. run (next_tag l c) k w) i.is ∙ next_deep l c k t form r' a g d (some_within l c.nearest_end k (identifier t form) (id_some t form g) i.stand) ∙ ap Halted (sym e)
+    ap (λ w. run (next_tag l c) k w) i.is
+    ∙ next_deep l c k t form r' a g d (some_within l c.nearest_end k (identifier t form) (id_some t form g) i.stand)
+    ∙ ap Halted (sym e)
 
 -- lengths
 
@@ -471,10 +676,13 @@ record BigStands (l : Limits) (e : Option ℕ) (left n k : ℕ) (s : List ℕ) (
   count : length octets ≡ left
   number : big_endian n octets ≡ m
 
-big_stands : (l : Limits) (e : Option ℕ) (p left n k : ℕ) (s : List ℕ) (m q : ℕ) (r : List ℕ) → run (read_big_endian l e p left n) k s ≡ Took m q r → BigStands l e left n k s m q r
+big_stands : (l : Limits) (e : Option ℕ) (p left n k : ℕ) (s : List ℕ) (m q : ℕ) (r : List ℕ)
+    → run (read_big_endian l e p left n) k s ≡ Took m q r → BigStands l e left n k s m q r
 unfolding read_big_endian
 big_stands l e p zero n k s m q r h =
-    let d = took_done _ _ _ _ _ _ h in let d1 : k ≡ q = d.1 in record { octets = []; begin = record { is = d.2; stand = tt }; place = omega arith; count = refl; number = d.0 }
+    let d = took_done _ _ _ _ _ _ h in
+    let d1 : k ≡ q = d.1 in
+    record { octets = []; begin = record { is = d.2; stand = tt }; place = omega arith; count = refl; number = d.0 }
 big_stands l e p (suc left) n k s m q r h =
     let a = took_bind _ _ _ _ _ _ _ h in
     let o = octet_begins l e p k s a.value a.place a.rest a.first in
@@ -482,9 +690,18 @@ big_stands l e p (suc left) n k s m q r h =
     let z : a.place ≡ k + 1 = o.1 in
     let z' : q ≡ a.place + length i.octets = i.place in
     let z'' : length i.octets ≡ left = i.count in
-    record { octets = a.value ∷ i.octets; begin = begin_more l e k a.place s a.value a.rest i.octets r o.1 o.0 i.begin; place = omega arith; count = omega arith; number = i.number }
+    record {
+      octets = a.value ∷ i.octets;
+      begin = begin_more l e k a.place s a.value a.rest i.octets r o.1 o.0 i.begin;
+      place = omega arith;
+      count = omega arith;
+      number = i.number;
+    }
 
-big_halts : (l : Limits) (e : Option ℕ) (p left n k : ℕ) (s : List ℕ) (f : Fault) → run (read_big_endian l e p left n) k s ≡ Halted f → (before : List ℕ) × (rest : List ℕ) × Begin l e k s before rest × (length before < left) × NoOctet l e p (k + length before) rest f
+big_halts : (l : Limits) (e : Option ℕ) (p left n k : ℕ) (s : List ℕ) (f : Fault)
+    → run (read_big_endian l e p left n) k s ≡ Halted f
+    → (before : List ℕ) × (rest : List ℕ) × Begin l e k s before rest × (length before < left)
+    × NoOctet l e p (k + length before) rest f
 unfolding read_big_endian
 big_halts l e p zero n k s f h = absurd (halted_done _ k s f h)
 big_halts l e p (suc left) n k s f h = ⊎_elim
@@ -493,22 +710,33 @@ big_halts l e p (suc left) n k s f h = ⊎_elim
     let i = big_halts l e p left (n * 256 + a.0) a.1 a.2 f a.4 in
     let q : a.1 ≡ k + 1 = o.1 in
     let lt : length i.0 < left = i.3 in
-    let w : a.1 + length i.0 ≡ k + length (a.0 ∷ i.0) = omega arith in
-    (a.0 ∷ i.0, i.1, begin_more l e k a.1 s a.0 a.2 i.0 i.1 q o.0 i.2, omega arith, subst (λ y. NoOctet l e p y i.1 f) w i.4))
+    let w : a.1 + length i.0 ≡ k + length (a.0 ∷ i.0) = omega arith in (
+      a.0 ∷ i.0,
+      i.1,
+      begin_more l e k a.1 s a.0 a.2 i.0 i.1 q o.0 i.2,
+      omega arith,
+      subst (λ y. NoOctet l e p y i.1 f) w i.4,
+    ))
     (halted_bind _ _ k s f h)
 
-big_stops : (l : Limits) (e : Option ℕ) (p left n k : ℕ) (s : List ℕ) (f : Fault) (before rest : List ℕ) → Begin l e k s before rest → length before < left → NoOctet l e p (k + length before) rest f → run (read_big_endian l e p left n) k s ≡ Halted f
+big_stops : (l : Limits) (e : Option ℕ) (p left n k : ℕ) (s : List ℕ) (f : Fault) (before rest : List ℕ)
+    → Begin l e k s before rest → length before < left → NoOctet l e p (k + length before) rest f
+    → run (read_big_endian l e p left n) k s ≡ Halted f
 unfolding read_big_endian
 big_stops l e p zero n k s f before rest b c h = absurd (omega arith)
 big_stops l e p (suc left) n k s f [] rest b c h =
     let q : k + 0 ≡ k = omega arith in
-    halt_bind (header_octet l e p) _ k s f (no_octet_halts l e p k s f (subst (λ w. NoOctet l e p k w f) (sym b.is) (subst (λ w. NoOctet l e p w rest f) q h)))
+    halt_bind (header_octet l e p) _ k s f
+    (no_octet_halts l e p k s f (subst (λ w. NoOctet l e p k w f) (sym b.is) (subst (λ w. NoOctet l e p w rest f) q h)))
 big_stops l e p (suc left) n k s f (x ∷ before) rest b c h =
     let q : k + length (x ∷ before) ≡ k + 1 + length before = omega arith in
-    run_bind _ _ k s x (k + 1) (before ++ rest) (begins_octet l e p k s x (before ++ rest) (begin_first l e k s x before rest b))
-    ∙ big_stops l e p left (n * 256 + x) (k + 1) (before ++ rest) f before rest (begin_rest l e k s x before rest b) (omega arith) (subst (λ y. NoOctet l e p y rest f) q h)
+    run_bind _ _ k s x (k + 1) (before ++ rest)
+    (begins_octet l e p k s x (before ++ rest) (begin_first l e k s x before rest b))
+    ∙ big_stops l e p left (n * 256 + x) (k + 1) (before ++ rest) f before rest (begin_rest l e k s x before rest b)
+    (omega arith) (subst (λ y. NoOctet l e p y rest f) q h)
 
-fit_halts : (l : Limits) (e : Option ℕ) (p n k : ℕ) (s : List ℕ) (f : Fault) → run (fit_contents l e p n) k s ≡ Halted f → EndTooFar l e p (k + n) f
+fit_halts : (l : Limits) (e : Option ℕ) (p n k : ℕ) (s : List ℕ) (f : Fault) → run (fit_contents l e p n) k s ≡ Halted f
+    → EndTooFar l e p (k + n) f
 unfolding fit_contents
 fit_halts l e p n k s f h = ⊎_elim
     (λ a. inl (not_not _ a.0, a.1))
@@ -522,25 +750,39 @@ fit_halts l e p n k s f h = ⊎_elim
     not_not true e = refl
     not_not false e = cc
 
-fit_stops : (l : Limits) (e : Option ℕ) (p n k : ℕ) (s : List ℕ) (f : Fault) → EndTooFar l e p (k + n) f → run (fit_contents l e p n) k s ≡ Halted f
+fit_stops : (l : Limits) (e : Option ℕ) (p n k : ℕ) (s : List ℕ) (f : Fault) → EndTooFar l e p (k + n) f
+    → run (fit_contents l e p n) k s ≡ Halted f
 unfolding fit_contents
 fit_stops l e p n k s f (inl (a, g)) = where_on _ k s ∙ require_off _ _ _ k s f (ap not a) g
-fit_stops l e p n k s f (inr (a, b, g)) = where_on _ k s ∙ require_on _ _ _ k s (not_false _ a) ∙ require_off _ _ _ k s f (grind (arith, nat_tests)) g
+fit_stops l e p n k s f (inr (a, b, g)) =
+    where_on _ k s ∙ require_on _ _ _ k s (not_false _ a) ∙ require_off _ _ _ k s f (grind (arith, nat_tests)) g
 
 -- the number behind the first octet of a length stops
 abbrev LateStop : Limits → Option ℕ → ℕ → ℕ → List ℕ → Fault → Type 0
 LateStop l e p k s f =
-    ((first : ℕ) × (before : List ℕ) × (rest : List ℕ) × Begin l e k s (first ∷ before) rest × (first < 255) × (128 + length before < first) × NoOctet l e p (k + 1 + length before) rest f)
-    ⊎ ((number : ℕ) × (header : List ℕ) × (rest : List ℕ) × Begin l e k s header rest × SpellsLength number header × EndTooFar l e p (k + length header + number) f)
+    ((first : ℕ) × (before : List ℕ) × (rest : List ℕ) × Begin l e k s (first ∷ before) rest × (first < 255)
+    × (128 + length before < first) × NoOctet l e p (k + 1 + length before) rest f)
+    ⊎ ((number : ℕ) × (header : List ℕ) × (rest : List ℕ) × Begin l e k s header rest × SpellsLength number header
+    × EndTooFar l e p (k + length header + number) f)
 
-number_halts : (l : Limits) (e : Option ℕ) (p k : ℕ) (s : List ℕ) (x j : ℕ) (r : List ℕ) (f : Fault) → Begin l e k s (x ∷ []) r → j ≡ k + 1 → x < 255 → x ≢ 128 → run (read_number l e p x) j r ≡ Halted f → LateStop l e p k s f
+number_halts : (l : Limits) (e : Option ℕ) (p k : ℕ) (s : List ℕ) (x j : ℕ) (r : List ℕ) (f : Fault)
+    → Begin l e k s (x ∷ []) r → j ≡ k + 1 → x < 255 → x ≢ 128 → run (read_number l e p x) j r ≡ Halted f
+    → LateStop l e p k s f
 unfolding read_number SpellsLength
 number_halts l e p k s x j r f b q lt ne h = ⊎_elim
     (λ a. ⊎_elim
     (λ d. absurd (halted_done _ j r f d.1))
     (λ d. let i = big_halts l e p (x - 128) 0 j r f d.1 in
     let c : length i.0 < x - 128 = i.3 in
-    inl (x, i.0, i.1, begin_more l e k j s x r i.0 i.1 q b i.2, lt, omega arith, subst (λ w. NoOctet l e p (w + length i.0) i.1 f) q i.4))
+    inl (
+      x,
+      i.0,
+      i.1,
+      begin_more l e k j s x r i.0 i.1 q b i.2,
+      lt,
+      omega arith,
+      subst (λ w. NoOctet l e p (w + length i.0) i.1 f) q i.4,
+    ))
     (halted_choose _ _ _ j r f a))
     (λ a. let far = fit_halts l e p a.0 a.1 a.2 f a.4 in ⊎_elim
     (λ d. let d0 : nat_lt x 128 ≡ true = d.0 in
@@ -548,18 +790,33 @@ number_halts l e p k s x j r f b q lt ne h = ⊎_elim
     let y0 : x ≡ a.0 = y.0 in
     let y1 : j ≡ a.1 = y.1 in
     let w : a.1 + a.0 ≡ k + length (x ∷ []) + a.0 = omega arith in
-    inr (a.0, x ∷ [], a.2, record { is = b.is ∙ ap (λ z. x ∷ z) y.2; stand = b.stand }, inl (grind (arith, nat_tests), y0, refl), subst (λ z. EndTooFar l e p z f) w far))
+    inr (
+      a.0,
+      x ∷ [],
+      a.2,
+      record { is = b.is ∙ ap (λ z. x ∷ z) y.2; stand = b.stand },
+      inl (grind (arith, nat_tests), y0, refl),
+      subst (λ z. EndTooFar l e p z f) w far,
+    ))
     (λ d. let d0 : nat_lt x 128 ≡ false = d.0 in
     let ge : 128 ≤ x = grind (arith, nat_tests) in
     let i = big_stands l e p (x - 128) 0 j r a.0 a.1 a.2 d.1 in
     let c : length i.octets ≡ x - 128 = i.count in
     let pl : a.1 ≡ j + length i.octets = i.place in
     let w : a.1 + a.0 ≡ k + length (x ∷ i.octets) + a.0 = omega arith in
-    inr (a.0, x ∷ i.octets, a.2, begin_more l e k j s x r i.octets a.2 q b i.begin, inr (omega arith, lt, omega arith, i.number), subst (λ z. EndTooFar l e p z f) w far))
+    inr (
+      a.0,
+      x ∷ i.octets,
+      a.2,
+      begin_more l e k j s x r i.octets a.2 q b i.begin,
+      inr (omega arith, lt, omega arith, i.number),
+      subst (λ z. EndTooFar l e p z f) w far,
+    ))
     (took_choose _ _ _ _ _ _ _ _ a.3))
     (halted_bind _ _ j r f h)
 
-pub length_stops : (l : Limits) (e : Option ℕ) (p k : ℕ) (s : List ℕ) (f : Fault) → run (read_length l e p) k s ≡ Halted f → StopsInLength l e p true k s f
+pub length_stops : (l : Limits) (e : Option ℕ) (p k : ℕ) (s : List ℕ) (f : Fault)
+    → run (read_length l e p) k s ≡ Halted f → StopsInLength l e p true k s f
 unfolding read_length
 length_stops l e p k s f h = ⊎_elim
     (λ a. inl (no_octet l e p k s f a))
@@ -575,7 +832,8 @@ length_stops l e p k s f h = ⊎_elim
     (halted_require _ _ _ a.1 a.2 f a.4))
     (halted_bind _ _ k s f h)
 
-pub definite_stops : (l : Limits) (e : Option ℕ) (p k : ℕ) (s : List ℕ) (f : Fault) → run (read_definite_length l e p) k s ≡ Halted f → StopsInLength l e p false k s f
+pub definite_stops : (l : Limits) (e : Option ℕ) (p k : ℕ) (s : List ℕ) (f : Fault)
+    → run (read_definite_length l e p) k s ≡ Halted f → StopsInLength l e p false k s f
 unfolding read_definite_length
 definite_stops l e p k s f h = ⊎_elim
     (λ a. inl (no_octet l e p k s f a))
@@ -591,53 +849,79 @@ definite_stops l e p k s f h = ⊎_elim
     which : (x : ℕ) → nat_lt x 255 && not (x == 128) ≡ false → (255 ≤ x) ⊎ ((false ≡ false) × (x ≡ 128))
     which x h = go (nat_lt x 255) (x == 128) refl refl h
       where
-        go : (a b : Bool) → nat_lt x 255 ≡ a → (x == 128) ≡ b → a && not b ≡ false → (255 ≤ x) ⊎ ((false ≡ false) × (x ≡ 128))
+        go : (a b : Bool) → nat_lt x 255 ≡ a → (x == 128) ≡ b → a && not b ≡ false
+            → (255 ≤ x) ⊎ ((false ≡ false) × (x ≡ 128))
         go false b p q h = inl (grind (arith, nat_tests))
         go true true p q h = inr (refl, grind (arith, nat_tests))
         go true false p q h = cc
 
 -- the number up to where its contents are looked at
-prefix_on : (l : Limits) (e : Option ℕ) (p m k : ℕ) (header : List ℕ) (f : FirstOf m header) (r : List ℕ) → Within l e (k + length f.rest) → run (choose (nat_lt f.first 128) (Done f.first) (read_big_endian l e p (f.first - 128) 0)) k (f.rest ++ r) ≡ Took m (k + length f.rest) r
+prefix_on : (l : Limits) (e : Option ℕ) (p m k : ℕ) (header : List ℕ) (f : FirstOf m header) (r : List ℕ)
+    → Within l e (k + length f.rest)
+    → run (choose (nat_lt f.first 128) (Done f.first) (read_big_endian l e p (f.first - 128) 0)) k (f.rest ++ r)
+    ≡ Took m (k + length f.rest) r
 prefix_on l e p m k header f r w = ⊎_elim
     (λ a. let a0 : f.first < 128 = a.0 in
     let t : nat_lt f.first 128 ≡ true = grind (arith, nat_tests) in
     let n : length f.rest ≡ 0 = ap length a.2 in
     let q : k ≡ k + length f.rest = omega arith in
-    choose_first _ _ _ k (f.rest ++ r) t ∙ done_on f.first k (f.rest ++ r) ∙ ap₂ (λ u v. Took u k (v ++ r)) a.1 a.2 ∙ ap (λ u. Took m u r) q)
+    choose_first _ _ _ k (f.rest ++ r) t
+    ∙ done_on f.first k (f.rest ++ r)
+    ∙ ap₂ (λ u v. Took u k (v ++ r)) a.1 a.2
+    ∙ ap (λ u. Took m u r) q)
     (λ a. let a0 : 129 ≤ f.first = a.0 in
     let t : nat_lt f.first 128 ≡ false = grind (arith, nat_tests) in
     choose_second _ _ _ k (f.rest ++ r) t ∙ ap (λ u. run (read_big_endian l e p u 0) k (f.rest ++ r)) (sym a.1)
     ∙ big_on l e p 0 k f.rest r w ∙ ap (λ u. Took u (k + length f.rest) r) a.2)
     f.form
 
-number_late : (l : Limits) (e : Option ℕ) (p k x : ℕ) (r : List ℕ) (f : Fault) (before rest : List ℕ) → r ≡ before ++ rest → AllMayStand l e (k + 1) before → 128 + length before < x → NoOctet l e p (k + 1 + length before) rest f → run (read_number l e p x) (k + 1) r ≡ Halted f
+number_late : (l : Limits) (e : Option ℕ) (p k x : ℕ) (r : List ℕ) (f : Fault) (before rest : List ℕ)
+    → r ≡ before ++ rest → AllMayStand l e (k + 1) before → 128 + length before < x
+    → NoOctet l e p (k + 1 + length before) rest f → run (read_number l e p x) (k + 1) r ≡ Halted f
 unfolding read_number
 number_late l e p k x r f before rest is stand lt h =
     let t : nat_lt x 128 ≡ false = grind (arith, nat_tests) in
-    halt_bind _ _ (k + 1) r f (choose_second _ _ _ (k + 1) r t ∙ big_stops l e p (x - 128) 0 (k + 1) r f before rest (record { is = is; stand = stand }) (omega arith) h)
+    halt_bind _ _ (k + 1) r f
+    (choose_second _ _ _ (k + 1) r t
+    ∙ big_stops l e p (x - 128) 0 (k + 1) r f before rest (record { is = is; stand = stand }) (omega arith) h)
 
-number_far : (l : Limits) (e : Option ℕ) (p k m : ℕ) (header r : List ℕ) (g : Fault) (f : FirstOf m header) → Within l e (k + 1 + length f.rest) → EndTooFar l e p (k + 1 + length f.rest + m) g → run (read_number l e p f.first) (k + 1) (f.rest ++ r) ≡ Halted g
+number_far : (l : Limits) (e : Option ℕ) (p k m : ℕ) (header r : List ℕ) (g : Fault) (f : FirstOf m header)
+    → Within l e (k + 1 + length f.rest) → EndTooFar l e p (k + 1 + length f.rest + m) g
+    → run (read_number l e p f.first) (k + 1) (f.rest ++ r) ≡ Halted g
 unfolding read_number
-number_far l e p k m header r g f w h = run_bind _ _ (k + 1) (f.rest ++ r) m (k + 1 + length f.rest) r (prefix_on l e p m (k + 1) header f r w) ∙ fit_stops l e p m (k + 1 + length f.rest) r g h
+number_far l e p k m header r g f w h =
+    run_bind _ _ (k + 1) (f.rest ++ r) m (k + 1 + length f.rest) r (prefix_on l e p m (k + 1) header f r w)
+    ∙ fit_stops l e p m (k + 1 + length f.rest) r g h
 
 -- a length, behind its first octet
-length_next : (l : Limits) (e : Option ℕ) (p k : ℕ) (s : List ℕ) (x : ℕ) (r : List ℕ) (f : Fault) → Begin l e k s (x ∷ []) r → x < 255 → x ≢ 128 → run (read_number l e p x) (k + 1) r ≡ Halted f → run (read_length l e p) k s ≡ Halted f
+length_next : (l : Limits) (e : Option ℕ) (p k : ℕ) (s : List ℕ) (x : ℕ) (r : List ℕ) (f : Fault)
+    → Begin l e k s (x ∷ []) r → x < 255 → x ≢ 128 → run (read_number l e p x) (k + 1) r ≡ Halted f
+    → run (read_length l e p) k s ≡ Halted f
 unfolding read_length
 length_next l e p k s x r f b lt ne h =
-    run_bind _ _ k s x (k + 1) r (begins_octet l e p k s x r b) ∙ require_on _ _ _ (k + 1) r (grind (arith, nat_tests)) ∙ choose_second _ _ _ (k + 1) r (grind (arith, nat_tests))
+    run_bind _ _ k s x (k + 1) r (begins_octet l e p k s x r b)
+    ∙ require_on _ _ _ (k + 1) r (grind (arith, nat_tests))
+    ∙ choose_second _ _ _ (k + 1) r (grind (arith, nat_tests))
     ∙ halt_bind (read_number l e p x) _ (k + 1) r f h
 
-definite_next : (l : Limits) (e : Option ℕ) (p k : ℕ) (s : List ℕ) (x : ℕ) (r : List ℕ) (f : Fault) → Begin l e k s (x ∷ []) r → x < 255 → x ≢ 128 → run (read_number l e p x) (k + 1) r ≡ Halted f → run (read_definite_length l e p) k s ≡ Halted f
+definite_next : (l : Limits) (e : Option ℕ) (p k : ℕ) (s : List ℕ) (x : ℕ) (r : List ℕ) (f : Fault)
+    → Begin l e k s (x ∷ []) r → x < 255 → x ≢ 128 → run (read_number l e p x) (k + 1) r ≡ Halted f
+    → run (read_definite_length l e p) k s ≡ Halted f
 unfolding read_definite_length
 definite_next l e p k s x r f b lt ne h =
     let t : nat_lt x 255 ≡ true = grind (arith, nat_tests) in
     let t' : (x == 128) ≡ false = grind (arith, nat_tests) in
-    run_bind _ _ k s x (k + 1) r (begins_octet l e p k s x r b) ∙ require_on _ _ _ (k + 1) r (both _ _ t (not_false _ t')) ∙ h
+    run_bind _ _ k s x (k + 1) r (begins_octet l e p k s x r b)
+    ∙ require_on _ _ _ (k + 1) r (both _ _ t (not_false _ t'))
+    ∙ h
 
-late_halts : {A : Type 0} (reading : Reading A) (l : Limits) (e : Option ℕ) (p k : ℕ) (s : List ℕ) (f : Fault) → ((x : ℕ) (r : List ℕ) → Begin l e k s (x ∷ []) r → x < 255 → x ≢ 128 → run (read_number l e p x) (k + 1) r ≡ Halted f → run reading k s ≡ Halted f)
+late_halts : {A : Type 0} (reading : Reading A) (l : Limits) (e : Option ℕ) (p k : ℕ) (s : List ℕ) (f : Fault)
+    → ((x : ℕ) (r : List ℕ) → Begin l e k s (x ∷ []) r → x < 255 → x ≢ 128
+    → run (read_number l e p x) (k + 1) r ≡ Halted f → run reading k s ≡ Halted f)
     → LateStop l e p k s f → run reading k s ≡ Halted f
 late_halts reading l e p k s f go (inl (x, before, rest, b, lt, c, h)) =
-    go x (before ++ rest) (begin_first l e k s x before rest b) lt (λ z. absurd (omega arith)) (number_late l e p k x (before ++ rest) f before rest refl b.stand.1 c h)
+    go x (before ++ rest) (begin_first l e k s x before rest b) lt (λ z. absurd (omega arith))
+    (number_late l e p k x (before ++ rest) f before rest refl b.stand.1 c h)
 late_halts reading l e p k s f go (inr (m, header, rest, b, sp, h)) =
     let i = first_of_len m header sp in
     let b' = subst (λ w. Begin l e k s w rest) i.is b in
@@ -645,19 +929,26 @@ late_halts reading l e p k s f go (inr (m, header, rest, b, sp, h)) =
     let w = all_within l e k i.first i.rest b'.stand in
     let q : k + length (i.first ∷ i.rest) ≡ k + 1 + length i.rest = omega arith in
     let q' : k + length header + m ≡ k + 1 + length i.rest + m = omega arith in
-    go i.first (i.rest ++ rest) (begin_first l e k s i.first i.rest rest b') i.below i.not_indefinite (number_far l e p k m header rest f i (subst (Within l e) q w) (subst (λ y. EndTooFar l e p y f) q' h))
+    go i.first (i.rest ++ rest) (begin_first l e k s i.first i.rest rest b') i.below i.not_indefinite
+    (number_far l e p k m header rest f i (subst (Within l e) q w) (subst (λ y. EndTooFar l e p y f) q' h))
 
-pub length_halts : (l : Limits) (e : Option ℕ) (p k : ℕ) (s : List ℕ) (f : Fault) → StopsInLength l e p true k s f → run (read_length l e p) k s ≡ Halted f
+pub length_halts : (l : Limits) (e : Option ℕ) (p k : ℕ) (s : List ℕ) (f : Fault) → StopsInLength l e p true k s f
+    → run (read_length l e p) k s ≡ Halted f
 unfolding read_length
 length_halts l e p k s f (inl h) = halt_bind (header_octet l e p) _ k s f (no_octet_halts l e p k s f h)
-length_halts l e p k s f (inr (inl (x, r, b, (inl ge, g)))) = run_bind _ _ k s x (k + 1) r (begins_octet l e p k s x r b) ∙ require_off _ _ _ (k + 1) r f (grind (arith, nat_tests)) g
+length_halts l e p k s f (inr (inl (x, r, b, (inl ge, g)))) =
+    run_bind _ _ k s x (k + 1) r (begins_octet l e p k s x r b)
+    ∙ require_off _ _ _ (k + 1) r f (grind (arith, nat_tests)) g
 length_halts l e p k s f (inr (inl (x, r, b, (inr w, g)))) = let z : true ≡ false = w.0 in cc
-length_halts l e p k s f (inr (inr h)) = late_halts (read_length l e p) l e p k s f (λ x r b lt ne g. length_next l e p k s x r f b lt ne g) h
+length_halts l e p k s f (inr (inr h)) =
+    late_halts (read_length l e p) l e p k s f (λ x r b lt ne g. length_next l e p k s x r f b lt ne g) h
 
-pub definite_halts : (l : Limits) (e : Option ℕ) (p k : ℕ) (s : List ℕ) (f : Fault) → StopsInLength l e p false k s f → run (read_definite_length l e p) k s ≡ Halted f
+pub definite_halts : (l : Limits) (e : Option ℕ) (p k : ℕ) (s : List ℕ) (f : Fault) → StopsInLength l e p false k s f
+    → run (read_definite_length l e p) k s ≡ Halted f
 unfolding read_definite_length
 definite_halts l e p k s f (inl h) = halt_bind (header_octet l e p) _ k s f (no_octet_halts l e p k s f h)
-definite_halts l e p k s f (inr (inl (x, r, b, (w, g)))) = run_bind _ _ k s x (k + 1) r (begins_octet l e p k s x r b) ∙ require_off _ _ _ (k + 1) r f (off w) g
+definite_halts l e p k s f (inr (inl (x, r, b, (w, g)))) =
+    run_bind _ _ k s x (k + 1) r (begins_octet l e p k s x r b) ∙ require_off _ _ _ (k + 1) r f (off w) g
   where
     either : (a b : Bool) → (a ≡ false) ⊎ (b ≡ true) → a && not b ≡ false
     either false b h = refl
@@ -668,24 +959,40 @@ definite_halts l e p k s f (inr (inl (x, r, b, (w, g)))) = run_bind _ _ k s x (k
     off : (255 ≤ x) ⊎ ((false ≡ false) × (x ≡ 128)) → nat_lt x 255 && not (x == 128) ≡ false
     off (inl h) = let z : nat_lt x 255 ≡ false = grind (arith, nat_tests) in either _ _ (inl z)
     off (inr h) = let y : x ≡ 128 = h.1 in let z : (x == 128) ≡ true = grind (arith, nat_tests) in either _ _ (inr z)
-definite_halts l e p k s f (inr (inr h)) = late_halts (read_definite_length l e p) l e p k s f (λ x r b lt ne g. definite_next l e p k s x r f b lt ne g) h
+definite_halts l e p k s f (inr (inr h)) =
+    late_halts (read_definite_length l e p) l e p k s f (λ x r b lt ne g. definite_next l e p k s x r f b lt ne g) h
 
 -- a length that stands
 
-pub form_stands : (l : Limits) (e : Option ℕ) (p k : ℕ) (s : List ℕ) (x : LengthForm) (q : ℕ) (r : List ℕ) → run (read_length l e p) k s ≡ Took x q r → FormStands l e k s x q r
-form_stands l e p k s (DefiniteLength m) q r h = let n = length_took l e p k s (DefiniteLength m) q r h in record { header = n.octets; is = n.is; spells = n.spells; behind_is = n.place; in_bound = n.within.nearest_end; in_limit = n.within.limit }
+pub form_stands : (l : Limits) (e : Option ℕ) (p k : ℕ) (s : List ℕ) (x : LengthForm) (q : ℕ) (r : List ℕ)
+    → run (read_length l e p) k s ≡ Took x q r → FormStands l e k s x q r
+form_stands l e p k s (DefiniteLength m) q r h =
+    let n = length_took l e p k s (DefiniteLength m) q r h in record {
+      header = n.octets;
+      is = n.is;
+      spells = n.spells;
+      behind_is = n.place;
+      in_bound = n.within.nearest_end;
+      in_limit = n.within.limit;
+    }
 form_stands l e p k s IndefiniteLength q r h =
     let n = length_took l e p k s IndefiniteLength q r h in
     (record { is = n.0; stand = (may_of l e k (subst (Within l e) n.1 n.2), tt) }, n.1)
 
-pub form_run : (l : Limits) (e : Option ℕ) (p k : ℕ) (s : List ℕ) (x : LengthForm) (q : ℕ) (r : List ℕ) → FormStands l e k s x q r → run (read_length l e p) k s ≡ Took x q r
+pub form_run : (l : Limits) (e : Option ℕ) (p k : ℕ) (s : List ℕ) (x : LengthForm) (q : ℕ) (r : List ℕ)
+    → FormStands l e k s x q r → run (read_length l e p) k s ≡ Took x q r
 form_run l e p k s (DefiniteLength m) q r h =
     let w : Within l e (q + m) = record { nearest_end = h.in_bound; limit = h.in_limit } in
-    ap (λ z. run (read_length l e p) k z) h.is ∙ length_on l e p m k h.header r h.spells (subst (λ z. Within l e (z + m)) h.behind_is w) ∙ ap (λ z. Took (DefiniteLength m) z r) (sym h.behind_is)
+    ap (λ z. run (read_length l e p) k z) h.is
+    ∙ length_on l e p m k h.header r h.spells (subst (λ z. Within l e (z + m)) h.behind_is w)
+    ∙ ap (λ z. Took (DefiniteLength m) z r) (sym h.behind_is)
 form_run l e p k s IndefiniteLength q r h =
-    ap (λ z. run (read_length l e p) k z) h.0.is ∙ indefinite_on l e p k r (within_of l e k h.0.stand.0) ∙ ap (λ z. Took IndefiniteLength z r) (sym h.1)
+    ap (λ z. run (read_length l e p) k z) h.0.is
+    ∙ indefinite_on l e p k r (within_of l e k h.0.stand.0)
+    ∙ ap (λ z. Took IndefiniteLength z r) (sym h.1)
 
-pub definite_stands : (l : Limits) (e : Option ℕ) (p k : ℕ) (s : List ℕ) (m q : ℕ) (r : List ℕ) → run (read_definite_length l e p) k s ≡ Took m q r → LengthStands l e k s m q r
+pub definite_stands : (l : Limits) (e : Option ℕ) (p k : ℕ) (s : List ℕ) (m q : ℕ) (r : List ℕ)
+    → run (read_definite_length l e p) k s ≡ Took m q r → LengthStands l e k s m q r
 unfolding read_definite_length
 definite_stands l e p k s m q r h =
     let a = took_bind _ _ _ _ _ _ _ h in
@@ -697,9 +1004,17 @@ definite_stands l e p k s m q r h =
     let t1 : (a.value == 128) ≡ false = not_true _ b0.1 in let ne : a.value ≢ 128 = grind (arith, nat_tests) in
     let n = number_of_took l e p a.value a.place a.rest m q r lt ne b.1 in
     let n2 : q ≡ a.place + length n.0 = n.2 in
-    record { header = a.value ∷ n.0; is = o.is ∙ ap (λ w. a.value ∷ w) n.1; spells = n.3; behind_is = omega arith; in_bound = n.4.nearest_end; in_limit = n.4.limit }
+    record {
+      header = a.value ∷ n.0;
+      is = o.is ∙ ap (λ w. a.value ∷ w) n.1;
+      spells = n.3;
+      behind_is = omega arith;
+      in_bound = n.4.nearest_end;
+      in_limit = n.4.limit;
+    }
 
-pub definite_run : (l : Limits) (e : Option ℕ) (p k : ℕ) (s : List ℕ) (m q : ℕ) (r : List ℕ) → LengthStands l e k s m q r → run (read_definite_length l e p) k s ≡ Took m q r
+pub definite_run : (l : Limits) (e : Option ℕ) (p k : ℕ) (s : List ℕ) (m q : ℕ) (r : List ℕ)
+    → LengthStands l e k s m q r → run (read_definite_length l e p) k s ≡ Took m q r
 unfolding read_definite_length
 definite_run l e p k s m q r h =
     let i = first_of_len m h.header h.spells in
@@ -714,5 +1029,8 @@ definite_run l e p k s m q r h =
     let w : Within l e (q + m) = record { nearest_end = h.in_bound; limit = h.in_limit } in
     let w' = subst (Within l e) q' w in
     ap (λ z. run (read_definite_length l e p) k z) (h.is ∙ ap (λ z. z ++ r) i.is)
-    ∙ run_bind _ _ k (i.first ∷ (i.rest ++ r)) i.first (k + 1) (i.rest ++ r) (octet_on l e p k i.first (i.rest ++ r) (within_less l e (k + 1) (k + 1 + length i.rest + m) (omega arith) w'))
-    ∙ require_on _ _ _ (k + 1) (i.rest ++ r) (both _ _ t (not_false _ t')) ∙ number_on l e p m (k + 1) h.header i r w' ∙ ap (λ z. Took m z r) q''
+    ∙ run_bind _ _ k (i.first ∷ (i.rest ++ r)) i.first (k + 1) (i.rest ++ r)
+    (octet_on l e p k i.first (i.rest ++ r) (within_less l e (k + 1) (k + 1 + length i.rest + m) (omega arith) w'))
+    ∙ require_on _ _ _ (k + 1) (i.rest ++ r) (both _ _ t (not_false _ t'))
+    ∙ number_on l e p m (k + 1) h.header i r w'
+    ∙ ap (λ z. Took m z r) q''

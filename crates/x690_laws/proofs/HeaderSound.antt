@@ -42,7 +42,8 @@ unfolding run
 ask_took k [] x q r h = cc
 ask_took k (y ∷ s) x q r h = let e : y ≡ x = cc in let e' : s ≡ r = cc in let e'' : k + 1 ≡ q = cc in (cc, sym e'')
 
-pub octet_took : (l : Limits) (e : Option ℕ) (p k : ℕ) (s : List ℕ) (x q : ℕ) (r : List ℕ) → run (header_octet l e p) k s ≡ Took x q r → OneOctet l e k s x q r
+pub octet_took : (l : Limits) (e : Option ℕ) (p k : ℕ) (s : List ℕ) (x q : ℕ) (r : List ℕ)
+    → run (header_octet l e p) k s ≡ Took x q r → OneOctet l e k s x q r
 unfolding header_octet
 octet_took l e p k s x q r h =
     let a = took_require _ _ _ _ _ _ _ _ (took_where _ _ _ _ _ _ h) in
@@ -50,19 +51,28 @@ octet_took l e p k s x q r h =
     let o = ask_took k s x q r b.1 in
     let b0 : nat_lt k l.octets ≡ true = b.0 in
     let o1 : q ≡ k + 1 = o.1 in
-    record { is = o.0; place = o.1; within = record { nearest_end = next_bound e k q o.1 (not_true (at_end e k) a.0); limit = grind (arith, nat_tests) } }
+    record {
+      is = o.0;
+      place = o.1;
+      within =
+          record { nearest_end = next_bound e k q o.1 (not_true (at_end e k) a.0); limit = grind (arith, nat_tests) };
+    }
 
 -- high tag numbers
 
 -- one digit more, of those that others follow
-pub one_more : (n x : ℕ) → 128 ≤ x → x < 256 → n * 128 + (x - 128) ≢ 0 → leading_base128 (n * 128 + (x - 128)) (n * 128 + (x - 128)) ≡ leading_base128 n n ++ (x ∷ [])
+pub one_more : (n x : ℕ) → 128 ≤ x → x < 256 → n * 128 + (x - 128) ≢ 0
+    → leading_base128 (n * 128 + (x - 128)) (n * 128 + (x - 128)) ≡ leading_base128 n n ++ (x ∷ [])
 one_more n x h g z =
     let digit : x % 128 ≡ x - 128 = omega arith in
-    subst (λ d. leading_base128 (n * 128 + d) (n * 128 + d) ≡ leading_base128 n n ++ (x ∷ [])) digit (leading_next n x h g (omega arith))
+    subst (λ d. leading_base128 (n * 128 + d) (n * 128 + d) ≡ leading_base128 n n ++ (x ∷ [])) digit
+    (leading_next n x h g (omega arith))
 
 -- the last digit
 pub last_digit : (n x : ℕ) → x < 128 → base128 (n * 128 + x) ≡ leading_base128 n n ++ (x ∷ [])
-last_digit n x h = let digit : x % 128 ≡ x = omega arith in subst (λ d. base128 (n * 128 + d) ≡ leading_base128 n n ++ (x ∷ [])) digit (base128_next n x h)
+last_digit n x h =
+    let digit : x % 128 ≡ x = omega arith in
+    subst (λ d. base128 (n * 128 + d) ≡ leading_base128 n n ++ (x ∷ [])) digit (base128_next n x h)
 
 pub record HighNumber (l : Limits) (e : Option ℕ) (left n k : ℕ) (s : List ℕ) (m q : ℕ) (r : List ℕ) : Type 0 where
   pub octets : List ℕ
@@ -86,7 +96,8 @@ times_more n n' p m h g = omega (arith, mul-le-mul_left p h)
 small_last : (n x m left : ℕ) → n * 128 + x ≡ m → x < 128 → m + 1 ≤ (n + 1) * 128 ^ (suc left)
 small_last n x m left e h = rw pow-suc (times_last n (128 ^ left) m (one_power left) (omega arith))
 
-small_more : (n x m left : ℕ) → x < 256 → m + 1 ≤ (n * 128 + (x - 128) + 1) * 128 ^ left → m + 1 ≤ (n + 1) * 128 ^ (suc left)
+small_more : (n x m left : ℕ) → x < 256 → m + 1 ≤ (n * 128 + (x - 128) + 1) * 128 ^ left
+    → m + 1 ≤ (n + 1) * 128 ^ (suc left)
 small_more n x m left e h = rw pow-suc (times_more n (n * 128 + (x - 128)) (128 ^ left) m (omega arith) h)
 
 not_lead : (n x : ℕ) → 128 ≤ x → not ((n == 0) && (x == 128)) ≡ true → n * 128 + (x - 128) ≢ 0
@@ -97,7 +108,8 @@ not_lead n x h t z =
     let t'' = subst (λ w. not ((0 == 0) && (w == 128)) ≡ true) b t' in
     cc
 
-pub high_took : (l : Limits) (e : Option ℕ) (p left n k : ℕ) (s : List ℕ) (m q : ℕ) (r : List ℕ) → run (read_high_number l e p left n) k s ≡ Took m q r → HighNumber l e left n k s m q r
+pub high_took : (l : Limits) (e : Option ℕ) (p left n k : ℕ) (s : List ℕ) (m q : ℕ) (r : List ℕ)
+    → run (read_high_number l e p left n) k s ≡ Took m q r → HighNumber l e left n k s m q r
 unfolding read_high_number
 high_took l e p zero n k s m q r h = absurd (took_fail _ _ _ _ _ _ h)
 high_took l e p (suc left) n k s m q r h =
@@ -109,9 +121,11 @@ high_took l e p (suc left) n k s m q r h =
     (λ x j v w. high_took l e p left (n * 128 + (x - 128)) j v m q r w)
   where
     go : (x j : ℕ) (v : List ℕ) → OneOctet l e k s x j v → not ((n == 0) && (x == 128)) ≡ true → nat_lt x 256 ≡ true
-        → (((nat_lt x 128 ≡ true) × (run (require (nat_le 31 (n * 128 + x)) (fault p BadTag) (Done (n * 128 + x))) j v ≡ Took m q r))
+        → (((nat_lt x 128 ≡ true)
+        × (run (require (nat_le 31 (n * 128 + x)) (fault p BadTag) (Done (n * 128 + x))) j v ≡ Took m q r))
         ⊎ ((nat_lt x 128 ≡ false) × (run (read_high_number l e p left (n * 128 + (x - 128))) j v ≡ Took m q r)))
-        → ((x j : ℕ) (v : List ℕ) → run (read_high_number l e p left (n * 128 + (x - 128))) j v ≡ Took m q r → HighNumber l e left (n * 128 + (x - 128)) j v m q r)
+        → ((x j : ℕ) (v : List ℕ) → run (read_high_number l e p left (n * 128 + (x - 128))) j v ≡ Took m q r
+        → HighNumber l e left (n * 128 + (x - 128)) j v m q r)
         → HighNumber l e (suc left) n k s m q r
     go x j v o t u c ih = ⊎_elim
         (λ y. let g = took_require _ _ _ _ _ _ _ _ y.1 in let d = took_done _ _ _ _ _ _ g.1 in
@@ -140,7 +154,10 @@ high_took l e p (suc left) n k s m q r h =
           is = o.is ∙ ap (λ w. x ∷ w) i.is;
           place = let z = o.place in let z' = i.place in omega arith;
           within = i.within;
-          digits_are = sym (append_assoc (leading_base128 n n) (x ∷ []) i.octets) ∙ ap (λ w. w ++ i.octets) (sym (one_more n x ge lt nz)) ∙ i.digits_are;
+          digits_are =
+              sym (append_assoc (leading_base128 n n) (x ∷ []) i.octets)
+              ∙ ap (λ w. w ++ i.octets) (sym (one_more n x ge lt nz))
+              ∙ i.digits_are;
           large = i.large;
           small = small_more n x m left lt i.small;
         })
@@ -148,7 +165,8 @@ high_took l e p (suc left) n k s m q r h =
 
 -- what stands here
 
-pub record NextElement (l : Limits) (c : Enclosing) (k : ℕ) (s : List ℕ) (p : ℕ) (t : Tag) (form : Bool) (q : ℕ) (r : List ℕ) : Type 0 where
+pub record NextElement (l : Limits) (c : Enclosing) (k : ℕ) (s : List ℕ) (p : ℕ) (t : Tag) (form : Bool) (q : ℕ)
+    (r : List ℕ) : Type 0 where
   pub at : p ≡ k
   pub tag : IsTag t
   pub is : s ≡ identifier t form ++ r
@@ -159,7 +177,8 @@ pub record NextElement (l : Limits) (c : Enclosing) (k : ℕ) (s : List ℕ) (p 
 -- the container's end: nothing in a definite one, `00 00` in an indefinite one
 pub record NextEnds (l : Limits) (c : Enclosing) (k : ℕ) (s : List ℕ) (p q : ℕ) (r : List ℕ) : Type 0 where
   pub at : p ≡ k
-  pub ends : ((c.innermost ≡ EndsAt k) × (s ≡ r) × (q ≡ k)) ⊎ ((c.innermost ≡ EndsWithZeros) × (s ≡ 0 ∷ 0 ∷ r) × (q ≡ k + 2) × Within l c.nearest_end q)
+  pub ends : ((c.innermost ≡ EndsAt k) × (s ≡ r) × (q ≡ k))
+      ⊎ ((c.innermost ≡ EndsWithZeros) × (s ≡ 0 ∷ 0 ∷ r) × (q ≡ k + 2) × Within l c.nearest_end q)
 
 abbrev pub NextIs : Limits → Enclosing → ℕ → List ℕ → Next → ℕ → List ℕ → Type 0
 NextIs l c k s (ContainerEnds p) q r = NextEnds l c k s p q r
@@ -170,9 +189,11 @@ pub record TagNumber (l : Limits) (e : Option ℕ) (x k : ℕ) (s : List ℕ) (n
   pub is : s ≡ octets ++ r
   pub place : q ≡ k + length octets
   pub within : Within l e q
-  pub number : ((x % 32 ≡ n) × (n < 31) × (octets ≡ [])) ⊎ ((x % 32 ≡ 31) × (31 ≤ n) × (n < 268435456) × (octets ≡ base128 n))
+  pub number : ((x % 32 ≡ n) × (n < 31) × (octets ≡ []))
+      ⊎ ((x % 32 ≡ 31) × (31 ≤ n) × (n < 268435456) × (octets ≡ base128 n))
 
-pub number_took : (l : Limits) (e : Option ℕ) (p x k : ℕ) (s : List ℕ) (n q : ℕ) (r : List ℕ) → Within l e k → run (read_tag_number l e p x) k s ≡ Took n q r → TagNumber l e x k s n q r
+pub number_took : (l : Limits) (e : Option ℕ) (p x k : ℕ) (s : List ℕ) (n q : ℕ) (r : List ℕ) → Within l e k
+    → run (read_tag_number l e p x) k s ≡ Took n q r → TagNumber l e x k s n q r
 unfolding read_tag_number
 number_took l e p x k s n q r w h = ⊎_elim
     (λ y. let d = took_done _ _ _ _ _ _ y.1 in
@@ -180,7 +201,13 @@ number_took l e p x k s n q r w h = ⊎_elim
     let d0 : x % 32 ≡ n = d.0 in
     let d1 : k ≡ q = d.1 in
     let lt : x % 32 < 31 = grind (arith, nat_tests) in
-    record { octets = []; is = d.2; place = omega arith; within = subst (Within l e) d1 w; number = inl (d0, omega arith, refl) })
+    record {
+      octets = [];
+      is = d.2;
+      place = omega arith;
+      within = subst (Within l e) d1 w;
+      number = inl (d0, omega arith, refl);
+    })
     (λ y. let i = high_took l e p 4 0 k s n q r y.1 in
     let y0 : nat_lt (x % 32) 31 ≡ false = y.0 in
     let ge : 31 ≤ x % 32 = grind (arith, nat_tests) in
@@ -202,27 +229,47 @@ lead_is x h = go (nat_le 32 (x % 64)) refl
     go true e = let g : 32 ≤ x % 64 = grind (arith, nat_tests) in omega arith
     go false e = let g : x % 64 < 32 = grind (arith, nat_tests) in omega arith
 
-pub short_identifier : (t : Tag) (f : Bool) → t.number < 31 → identifier t f ≡ (t.class * 64 + cond f 32 0 + t.number) ∷ []
+pub short_identifier : (t : Tag) (f : Bool) → t.number < 31
+    → identifier t f ≡ (t.class * 64 + cond f 32 0 + t.number) ∷ []
 unfolding identifier
-short_identifier t f h = let e : nat_lt t.number 31 ≡ true = grind (arith, nat_tests) in ap (λ b. cond b ((t.class * 64 + cond f 32 0 + t.number) ∷ []) ((t.class * 64 + cond f 32 0 + 31) ∷ base128 t.number)) e
+short_identifier t f h =
+    let e : nat_lt t.number 31 ≡ true = grind (arith, nat_tests) in
+    ap
+    (λ b. cond b ((t.class * 64 + cond f 32 0 + t.number) ∷ []) ((t.class * 64 + cond f 32 0 + 31) ∷ base128 t.number))
+    e
 
-pub long_identifier : (t : Tag) (f : Bool) → 31 ≤ t.number → identifier t f ≡ (t.class * 64 + cond f 32 0 + 31) ∷ base128 t.number
+pub long_identifier : (t : Tag) (f : Bool) → 31 ≤ t.number
+    → identifier t f ≡ (t.class * 64 + cond f 32 0 + 31) ∷ base128 t.number
 unfolding identifier
-long_identifier t f h = let e : nat_lt t.number 31 ≡ false = grind (arith, nat_tests) in ap (λ b. cond b ((t.class * 64 + cond f 32 0 + t.number) ∷ []) ((t.class * 64 + cond f 32 0 + 31) ∷ base128 t.number)) e
+long_identifier t f h =
+    let e : nat_lt t.number 31 ≡ false = grind (arith, nat_tests) in
+    ap
+    (λ b. cond b ((t.class * 64 + cond f 32 0 + t.number) ∷ []) ((t.class * 64 + cond f 32 0 + 31) ∷ base128 t.number))
+    e
 
 -- the identifier that an octet and the number behind it are
-pub identifier_is : (l : Limits) (e : Option ℕ) (x k : ℕ) (s : List ℕ) (n q : ℕ) (r : List ℕ) → x < 256 → (i : TagNumber l e x k s n q r) → identifier (record { class = x / 64; number = n }) (nat_le 32 (x % 64)) ≡ x ∷ i.octets
+pub identifier_is : (l : Limits) (e : Option ℕ) (x k : ℕ) (s : List ℕ) (n q : ℕ) (r : List ℕ) → x < 256
+    → (i : TagNumber l e x k s n q r)
+    → identifier (record { class = x / 64; number = n }) (nat_le 32 (x % 64)) ≡ x ∷ i.octets
 identifier_is l e x k s n q r h i = ⊎_elim
     (λ y. short_identifier (record { class = x / 64; number = n }) (nat_le 32 (x % 64)) y.1
-    ∙ ap₂ (λ a b. a ∷ b) (ap (λ m. x / 64 * 64 + cond (nat_le 32 (x % 64)) 32 0 + m) (sym y.0) ∙ sym (lead_is x h)) (sym y.2))
+    ∙ ap₂ (λ a b. a ∷ b) (ap (λ m. x / 64 * 64 + cond (nat_le 32 (x % 64)) 32 0 + m) (sym y.0) ∙ sym (lead_is x h))
+    (sym y.2))
     (λ y. long_identifier (record { class = x / 64; number = n }) (nat_le 32 (x % 64)) y.1
-    ∙ ap₂ (λ a b. a ∷ b) (ap (λ m. x / 64 * 64 + cond (nat_le 32 (x % 64)) 32 0 + m) (sym y.0) ∙ sym (lead_is x h)) (sym y.3))
+    ∙ ap₂ (λ a b. a ∷ b) (ap (λ m. x / 64 * 64 + cond (nat_le 32 (x % 64)) 32 0 + m) (sym y.0) ∙ sym (lead_is x h))
+    (sym y.3))
     i.number
 
-pub tag_is : (l : Limits) (e : Option ℕ) (x k : ℕ) (s : List ℕ) (n q : ℕ) (r : List ℕ) → x < 256 → x ≢ 0 → x ≢ 32 → TagNumber l e x k s n q r → IsTag (record { class = x / 64; number = n })
+pub tag_is : (l : Limits) (e : Option ℕ) (x k : ℕ) (s : List ℕ) (n q : ℕ) (r : List ℕ) → x < 256 → x ≢ 0 → x ≢ 32
+    → TagNumber l e x k s n q r → IsTag (record { class = x / 64; number = n })
 tag_is l e x k s n q r h z z' i = ⊎_elim
-    (λ y. let y0 : x % 32 ≡ n = y.0 in let y1 : n < 31 = y.1 in record { class_fits = omega arith; number_fits = omega arith; not_end = λ w. z (no_class x n h y0 w z') })
-    (λ y. let y1 : 31 ≤ n = y.1 in record { class_fits = omega arith; number_fits = y.2; not_end = λ w. absurd (omega arith) })
+    (λ y.
+    let y0 : x % 32 ≡ n = y.0 in
+    let y1 : n < 31 = y.1 in
+    record { class_fits = omega arith; number_fits = omega arith; not_end = λ w. z (no_class x n h y0 w z') })
+    (λ y.
+    let y1 : 31 ≤ n = y.1 in
+    record { class_fits = omega arith; number_fits = y.2; not_end = λ w. absurd (omega arith) })
     i.number
   where
     no_class : (x n : ℕ) → x < 256 → x % 32 ≡ n → x / 64 + n ≡ 0 → x ≢ 32 → x ≡ 0
@@ -238,11 +285,13 @@ in_endless NoContainer h = cc
 in_endless (EndsAt e) h = cc
 in_endless EndsWithZeros h = refl
 
-pub next_took : (l : Limits) (c : Enclosing) (k : ℕ) (s : List ℕ) (d : Next) (q : ℕ) (r : List ℕ) → run (next_tag l c) k s ≡ Took d q r → NextIs l c k s d q r
+pub next_took : (l : Limits) (c : Enclosing) (k : ℕ) (s : List ℕ) (d : Next) (q : ℕ) (r : List ℕ)
+    → run (next_tag l c) k s ≡ Took d q r → NextIs l c k s d q r
 unfolding next_tag
 next_took l c k s d q r h = ⊎_elim
     (λ y. let e = took_done _ _ _ _ _ _ y.1 in let e1 : k ≡ q = e.1 in
-    subst (λ w. NextIs l c k s w q r) e.0 (record { at = refl; ends = inl (in_definite c.innermost k y.0, e.2, sym e1) }))
+    subst (λ w. NextIs l c k s w q r) e.0
+    (record { at = refl; ends = inl (in_definite c.innermost k y.0, e.2, sym e1) }))
     (λ y. let a = took_bind _ _ _ _ _ _ _ y.1 in
     let o = octet_took l c.nearest_end k k s a.value a.place a.rest a.first in
     ⊎_elim
@@ -286,7 +335,8 @@ next_took l c k s d q r h = ⊎_elim
     let e1 : a'.place ≡ q = e.1 in
     let p0 : a.place ≡ k + 1 = o.place in
     let p1 : a'.place ≡ a.place + length i.octets = i.place in
-    let n : length (identifier (record { class = a.value / 64; number = a'.value }) (nat_le 32 (a.value % 64))) ≡ length (a.value ∷ i.octets) = ap length id in
+    let n : length (identifier (record { class = a.value / 64; number = a'.value }) (nat_le 32 (a.value % 64)))
+    ≡ length (a.value ∷ i.octets) = ap length id in
     subst (λ w. NextIs l c k s w q r) e.0
     (record {
       at = refl;
@@ -308,10 +358,13 @@ pub record BigNumber (l : Limits) (e : Option ℕ) (left n k : ℕ) (s : List �
   pub count : length octets ≡ left
   pub number : big_endian n octets ≡ m
 
-pub big_took : (l : Limits) (e : Option ℕ) (p left n k : ℕ) (s : List ℕ) (m q : ℕ) (r : List ℕ) → run (read_big_endian l e p left n) k s ≡ Took m q r → BigNumber l e left n k s m q r
+pub big_took : (l : Limits) (e : Option ℕ) (p left n k : ℕ) (s : List ℕ) (m q : ℕ) (r : List ℕ)
+    → run (read_big_endian l e p left n) k s ≡ Took m q r → BigNumber l e left n k s m q r
 unfolding read_big_endian
 big_took l e p zero n k s m q r h =
-    let d = took_done _ _ _ _ _ _ h in let d1 : k ≡ q = d.1 in record { octets = []; is = d.2; place = omega arith; count = refl; number = d.0 }
+    let d = took_done _ _ _ _ _ _ h in
+    let d1 : k ≡ q = d.1 in
+    record { octets = []; is = d.2; place = omega arith; count = refl; number = d.0 }
 big_took l e p (suc left) n k s m q r h =
     let a = took_bind _ _ _ _ _ _ _ h in
     let o = octet_took l e p k s a.value a.place a.rest a.first in
@@ -319,7 +372,13 @@ big_took l e p (suc left) n k s m q r h =
     let z : a.place ≡ k + 1 = o.place in
     let z' : q ≡ a.place + length i.octets = i.place in
     let z'' : length i.octets ≡ left = i.count in
-    record { octets = a.value ∷ i.octets; is = o.is ∙ ap (λ w. a.value ∷ w) i.is; place = omega arith; count = omega arith; number = i.number }
+    record {
+      octets = a.value ∷ i.octets;
+      is = o.is ∙ ap (λ w. a.value ∷ w) i.is;
+      place = omega arith;
+      count = omega arith;
+      number = i.number;
+    }
 
 -- a length, its octets and that its contents end within
 pub record Length (l : Limits) (e : Option ℕ) (k : ℕ) (s : List ℕ) (m q : ℕ) (r : List ℕ) : Type 0 where
@@ -329,7 +388,8 @@ pub record Length (l : Limits) (e : Option ℕ) (k : ℕ) (s : List ℕ) (m q : 
   pub spells : SpellsLength m octets
   pub within : Within l e (q + m)
 
-pub fitting_took : (l : Limits) (e : Option ℕ) (p n k : ℕ) (s : List ℕ) (m q : ℕ) (r : List ℕ) → run (fit_contents l e p n) k s ≡ Took m q r → (n ≡ m) × (k ≡ q) × (s ≡ r) × Within l e (q + m)
+pub fitting_took : (l : Limits) (e : Option ℕ) (p n k : ℕ) (s : List ℕ) (m q : ℕ) (r : List ℕ)
+    → run (fit_contents l e p n) k s ≡ Took m q r → (n ≡ m) × (k ≡ q) × (s ≡ r) × Within l e (q + m)
 unfolding fit_contents
 fitting_took l e p n k s m q r h =
     let a = took_require _ _ _ _ _ _ _ _ (took_where _ _ _ _ _ _ h) in
@@ -342,7 +402,8 @@ fitting_took l e p n k s m q r h =
     (d.0, d.1, d.2, subst (λ x. Within l e (q + x)) d0 (subst (λ x. Within l e (x + n)) d1 w))
 
 -- the number behind the first octet `x` of a length
-pub number_of_took : (l : Limits) (e : Option ℕ) (p x k : ℕ) (s : List ℕ) (m q : ℕ) (r : List ℕ) → x < 255 → x ≢ 128 → run (read_number l e p x) k s ≡ Took m q r
+pub number_of_took : (l : Limits) (e : Option ℕ) (p x k : ℕ) (s : List ℕ) (m q : ℕ) (r : List ℕ) → x < 255 → x ≢ 128
+    → run (read_number l e p x) k s ≡ Took m q r
     → (o : List ℕ) × (s ≡ o ++ r) × (q ≡ k + length o) × SpellsLength m (x ∷ o) × Within l e (q + m)
 unfolding read_number SpellsLength
 number_of_took l e p x k s m q r lt ne h =
@@ -369,7 +430,8 @@ abbrev pub ExtentIs : Limits → Option ℕ → ℕ → List ℕ → LengthForm 
 ExtentIs l e k s (DefiniteLength m) q r = Length l e k s m q r
 ExtentIs l e k s IndefiniteLength q r = (s ≡ 128 ∷ r) × (q ≡ k + 1) × Within l e q
 
-pub length_took : (l : Limits) (e : Option ℕ) (p k : ℕ) (s : List ℕ) (x : LengthForm) (q : ℕ) (r : List ℕ) → run (read_length l e p) k s ≡ Took x q r → ExtentIs l e k s x q r
+pub length_took : (l : Limits) (e : Option ℕ) (p k : ℕ) (s : List ℕ) (x : LengthForm) (q : ℕ) (r : List ℕ)
+    → run (read_length l e p) k s ≡ Took x q r → ExtentIs l e k s x q r
 unfolding read_length
 length_took l e p k s x q r h =
     let a = took_bind _ _ _ _ _ _ _ h in
@@ -383,7 +445,8 @@ length_took l e p k s x q r h =
     let d1 : a.place ≡ q = d.1 in
     let y0 : (a.value == 128) ≡ true = y.0 in
     let v : a.value ≡ 128 = grind (arith, nat_tests) in
-    subst (λ w. ExtentIs l e k s w q r) d.0 (o.is ∙ ap₂ (λ u w. u ∷ w) v d.2, omega arith, subst (Within l e) d1 o.within))
+    subst (λ w. ExtentIs l e k s w q r) d.0
+    (o.is ∙ ap₂ (λ u w. u ∷ w) v d.2, omega arith, subst (Within l e) d1 o.within))
     (λ y. let c = took_bind _ _ _ _ _ _ _ y.1 in
     let d = took_done _ _ _ _ _ _ c.next_tag in
     let y0 : (a.value == 128) ≡ false = y.0 in
@@ -392,12 +455,23 @@ length_took l e p k s x q r h =
     let n2 : c.place ≡ a.place + length n.0 = n.2 in
     let d1 : c.place ≡ q = d.1 in
     subst (λ w. ExtentIs l e k s w q r) d.0
-    (record { octets = a.value ∷ n.0; is = o.is ∙ ap (λ w. a.value ∷ w) (n.1 ∙ ap (λ w. n.0 ++ w) d.2); place = omega arith; spells = n.3; within = subst (λ w. Within l e (w + c.value)) d1 n.4 }))
+    (record {
+      octets = a.value ∷ n.0;
+      is = o.is ∙ ap (λ w. a.value ∷ w) (n.1 ∙ ap (λ w. n.0 ++ w) d.2);
+      place = omega arith;
+      spells = n.3;
+      within = subst (λ w. Within l e (w + c.value)) d1 n.4;
+    }))
     (took_choose _ _ _ _ _ _ _ _ b.1)
 
-pub octets_took : (n k : ℕ) (s o : List ℕ) (q : ℕ) (r : List ℕ) → run (next_octets n) k s ≡ Took o q r → (s ≡ o ++ r) × (length o ≡ n) × (q ≡ k + n)
+pub octets_took : (n k : ℕ) (s o : List ℕ) (q : ℕ) (r : List ℕ) → run (next_octets n) k s ≡ Took o q r
+    → (s ≡ o ++ r) × (length o ≡ n) × (q ≡ k + n)
 unfolding next_octets run
-octets_took zero k s o q r h = let e : [] ≡ o = cc in let e' : k ≡ q = cc in let e'' : s ≡ r = cc in (e'' ∙ ap (λ v. v ++ r) e, ap length (sym e), omega arith)
+octets_took zero k s o q r h =
+    let e : [] ≡ o = cc in
+    let e' : k ≡ q = cc in
+    let e'' : s ≡ r = cc in
+    (e'' ∙ ap (λ v. v ++ r) e, ap length (sym e), omega arith)
 octets_took (suc n) k [] o q r h = cc
 octets_took (suc n) k (x ∷ s) o q r h =
     let a = took_bind _ _ _ _ _ _ _ h in
@@ -418,7 +492,8 @@ pub record PrimitiveTaken (l : Limits) (c : Enclosing) (k : ℕ) (s o : List ℕ
   pub spells : SpellsLength (length o) length_octets
   pub within : Within l c.nearest_end q
 
-pub primitive_took : (l : Limits) (c : Enclosing) (p k : ℕ) (s o : List ℕ) (q : ℕ) (r : List ℕ) → run (primitive_contents l c p) k s ≡ Took o q r → PrimitiveTaken l c k s o q r
+pub primitive_took : (l : Limits) (c : Enclosing) (p k : ℕ) (s o : List ℕ) (q : ℕ) (r : List ℕ)
+    → run (primitive_contents l c p) k s ≡ Took o q r → PrimitiveTaken l c k s o q r
 unfolding primitive_contents read_definite_length
 primitive_took l c p k s o q r h =
     let y = took_bind _ _ _ _ _ _ _ h in

@@ -17,22 +17,30 @@ pub der_leaf : (t : Tag) (o : List ℕ) → der (Leaf t o) ≡ der_header t fals
 unfolding der der_element der_header
 der_leaf t o = sym (append_assoc (identifier t false) (shortest_length (length o)) o)
 
-pub der_row : (t : Tag) (vs : List Value) → der (Sequence t (values_of vs)) ≡ der_header t true (length (texts_of vs)) ++ texts_of vs
+pub der_row : (t : Tag) (vs : List Value)
+    → der (Sequence t (values_of vs)) ≡ der_header t true (length (texts_of vs)) ++ texts_of vs
 unfolding der der_element der_header
 der_row t vs =
     ap (λ s. der_element t true (join s)) (ders_values vs)
     ∙ sym (append_assoc (identifier t true) (shortest_length (length (texts_of vs))) (texts_of vs))
 
-pub der_bag : (t : Tag) (vs : List Value) → Ascends (map der vs) → der (SetOf t (values_of vs)) ≡ der_header t true (length (texts_of vs)) ++ texts_of vs
+pub der_bag : (t : Tag) (vs : List Value) → Ascends (map der vs)
+    → der (SetOf t (values_of vs)) ≡ der_header t true (length (texts_of vs)) ++ texts_of vs
 unfolding der der_element der_header
 der_bag t vs a =
     let e = ders_values vs in
-    let q : arrange (der_texts (values_of vs)) ≡ map der vs = arrange_ascends (der_texts (values_of vs)) (ders_texts (values_of vs)) (subst Ascends (sym e) a) ∙ e in
+    let q : arrange (der_texts (values_of vs)) ≡ map der vs =
+    arrange_ascends (der_texts (values_of vs)) (ders_texts (values_of vs)) (subst Ascends (sym e) a) ∙ e in
     ap (λ s. der_element t true (join s)) q
     ∙ sym (append_assoc (identifier t true) (shortest_length (length (texts_of vs))) (texts_of vs))
 
 pub header_form : (t : Tag) (f g : Bool) (n : ℕ) → length (der_header t f n) ≡ length (der_header t g n)
 unfolding der_header identifier
 header_form t f g n =
-    elim (nat_lt t.number 31) as (λ b. length (cond b ((t.class * 64 + cond f 32 0 + t.number) ∷ []) ((t.class * 64 + cond f 32 0 + 31) ∷ base128 t.number) ++ shortest_length n) ≡ length (cond b ((t.class * 64 + cond g 32 0 + t.number) ∷ []) ((t.class * 64 + cond g 32 0 + 31) ∷ base128 t.number) ++ shortest_length n))
+    elim (nat_lt t.number 31) as (λ b.
+    length (cond b ((t.class * 64 + cond f 32 0 + t.number) ∷ []) ((t.class * 64 + cond f 32 0 + 31) ∷ base128 t.number)
+    ++ shortest_length n)
+    ≡ length (cond b ((t.class * 64 + cond g 32 0 + t.number) ∷ [])
+    ((t.class * 64 + cond g 32 0 + 31) ∷ base128 t.number)
+    ++ shortest_length n))
     [ true ↦ refl | false ↦ refl ]

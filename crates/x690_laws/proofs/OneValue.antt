@@ -49,7 +49,8 @@ row_each NoMembers (FirstMember w ws) h = absurd h
 row_each (FirstMember v vs) NoMembers h = absurd h
 row_each (FirstMember v vs) (FirstMember w ws) h = (h.0, row_each vs ws h.1)
 
-pub same_sequence : (t : Tag) (vs ws : Values) → Each Same (members vs) (members ws) → Same (Sequence t vs) (Sequence t ws)
+pub same_sequence : (t : Tag) (vs ws : Values) → Each Same (members vs) (members ws)
+    → Same (Sequence t vs) (Sequence t ws)
 unfolding Same
 same_sequence t vs ws h = (refl, each_row vs ws h)
 
@@ -59,7 +60,9 @@ same_set t vs ws h = (refl, paired_bag vs (members ws) h)
 
 -- two lists related to one, in place and paired
 
-pub each_same : {A B : Type 0} (R : A → B → Type 0) (S : B → B → Type 0) (f : (a : A) (b c : B) → R a b → R a c → S b c) (xs : List A) (bs cs : List B) → Each R xs bs → Each R xs cs → Each S bs cs
+pub each_same : {A B : Type 0} (R : A → B → Type 0) (S : B → B → Type 0) (f : (a : A) (b c : B) → R a b → R a c → S b c)
+    (xs : List A) (bs cs : List B)
+    → Each R xs bs → Each R xs cs → Each S bs cs
 each_same R S f [] [] [] h k = tt
 each_same R S f [] [] (c ∷ cs) h k = absurd k
 each_same R S f [] (b ∷ bs) cs h k = absurd h
@@ -67,7 +70,9 @@ each_same R S f (x ∷ xs) [] cs h k = absurd h
 each_same R S f (x ∷ xs) (b ∷ bs) [] h k = absurd k
 each_same R S f (x ∷ xs) (b ∷ bs) (c ∷ cs) h k = (f x b c h.0 k.0, each_same R S f xs bs cs h.1 k.1)
 
-pub paired_same : {A B : Type 0} (R : A → B → Type 0) (S : B → B → Type 0) (f : (a : A) (b c : B) → R a b → R a c → S b c) (xs : List A) (bs cs : List B) → Paired R xs bs → Paired R xs cs → Paired S bs cs
+pub paired_same : {A B : Type 0} (R : A → B → Type 0) (S : B → B → Type 0)
+    (f : (a : A) (b c : B) → R a b → R a c → S b c) (xs : List A) (bs cs : List B)
+    → Paired R xs bs → Paired R xs cs → Paired S bs cs
 paired_same R S f [] bs cs h k = subst (λ v. Paired S v cs) (sym h) k
 paired_same R S f (x ∷ xs) bs cs h k =
     paired_add S h.0 k.0 bs h.1 cs k.1 h.2 k.2 (f x h.0 k.0 h.3 k.3) (paired_same R S f xs h.1 k.1 h.4 k.4)
@@ -75,8 +80,10 @@ paired_same R S f (x ∷ xs) bs cs h k =
 each_none : (vs ws : List Value) → vs ≡ [] → ws ≡ [] → Each Same vs ws
 each_none vs ws p q = subst (λ x. Each Same x ws) (sym p) (subst (λ x. Each Same [] x) (sym q) tt)
 
-each_cons : (vs vs' ws ws' : List Value) (v w : Value) → vs ≡ v ∷ vs' → ws ≡ w ∷ ws' → Same v w → Each Same vs' ws' → Each Same vs ws
-each_cons vs vs' ws ws' v w p q h k = subst (λ x. Each Same x ws) (sym p) (subst (λ x. Each Same (v ∷ vs') x) (sym q) (h, k))
+each_cons : (vs vs' ws ws' : List Value) (v w : Value) → vs ≡ v ∷ vs' → ws ≡ w ∷ ws' → Same v w → Each Same vs' ws'
+    → Each Same vs ws
+each_cons vs vs' ws ws' v w p q h k =
+    subst (λ x. Each Same x ws) (sym p) (subst (λ x. Each Same (v ∷ vs') x) (sym q) (h, k))
 
 -- open values
 
@@ -89,7 +96,8 @@ open_leaf_same t r v w h k =
 clash_plain : (t : Tag) (k : LeafKind) → open_form t ≡ OpenLeaf k → open_form t ≡ OpenPlain → ⊥
 clash_plain t k h l = cc
 
-clash_row : (t : Tag) (k : LeafKind) → open_form t ≡ OpenLeaf k → (open_form t ≡ OpenSequence) ⊎ (open_form t ≡ OpenPlain) → ⊥
+clash_row : (t : Tag) (k : LeafKind) → open_form t ≡ OpenLeaf k
+    → (open_form t ≡ OpenSequence) ⊎ (open_form t ≡ OpenPlain) → ⊥
 clash_row t k h l = ⊎_elim (λ m. cc) (λ m. cc) l
 
 clash_bag : (t : Tag) (k : LeafKind) → open_form t ≡ OpenLeaf k → open_form t ≡ OpenSetOf → ⊥
@@ -115,7 +123,9 @@ mutual
       (λ a'. ⊎_elim
       (λ b. absurd (clash_row t b.kind b.taken a'.1))
       (λ b. ⊎_elim
-      (λ b'. same_along v w (Sequence t a'.0) (Sequence t b'.0) a'.2 b'.2 (same_sequence t a'.0 b'.0 (open_row_same rs (members a'.0) (members b'.0) a'.3 b'.3)))
+      (λ b'.
+      same_along v w (Sequence t a'.0) (Sequence t b'.0) a'.2 b'.2
+      (same_sequence t a'.0 b'.0 (open_row_same rs (members a'.0) (members b'.0) a'.3 b'.3)))
       (λ b'. absurd (clash_both t b'.1 a'.1))
       b)
       k)
@@ -123,18 +133,22 @@ mutual
       (λ b. absurd (clash_bag t b.kind b.taken a'.1))
       (λ b. ⊎_elim
       (λ b'. absurd (clash_both t a'.1 b'.1))
-      (λ b'. same_along v w (SetOf t a'.0) (SetOf t b'.0) a'.2 b'.2 (same_set t a'.0 b'.0 (open_bag_same rs (members a'.0) (members b'.0) a'.3 b'.3)))
+      (λ b'.
+      same_along v w (SetOf t a'.0) (SetOf t b'.0) a'.2 b'.2
+      (same_set t a'.0 b'.0 (open_bag_same rs (members a'.0) (members b'.0) a'.3 b'.3)))
       b)
       k)
       a)
       h
 
-  pub open_row_same : (rs : RawTrees) (vs ws : List Value) → FitOpenInPlace rs vs → FitOpenInPlace rs ws → Each Same vs ws
+  pub open_row_same : (rs : RawTrees) (vs ws : List Value) → FitOpenInPlace rs vs → FitOpenInPlace rs ws
+      → Each Same vs ws
   open_row_same NoTrees vs ws h k = each_none vs ws h k
   open_row_same (FirstTree r rs) vs ws h k =
       each_cons vs h.1 ws k.1 h.0 k.0 h.2 k.2 (open_same r h.0 k.0 h.3 k.3) (open_row_same rs h.1 k.1 h.4 k.4)
 
-  pub open_bag_same : (rs : RawTrees) (vs ws : List Value) → FitOpenPaired rs vs → FitOpenPaired rs ws → Paired Same vs ws
+  pub open_bag_same : (rs : RawTrees) (vs ws : List Value) → FitOpenPaired rs vs → FitOpenPaired rs ws
+      → Paired Same vs ws
   open_bag_same NoTrees vs ws h k = subst (λ x. Paired Same x ws) (sym h) k
   open_bag_same (FirstTree r rs) vs ws h k =
       paired_add Same h.0 k.0 vs h.1 ws k.1 h.2 k.2 (open_same r h.0 k.0 h.3 k.3) (open_bag_same rs h.1 k.1 h.4 k.4)
@@ -172,10 +186,12 @@ leaf_at_same (i ∷ p) [] [] h = refl
 leaf_at_same (i ∷ p) [] (w ∷ ws) h = absurd h
 leaf_at_same (i ∷ p) (v ∷ vs) [] h = absurd h
 leaf_at_same (zero ∷ []) (v ∷ vs) (w ∷ ws) h = octets_same v w h.0
-leaf_at_same (zero ∷ j ∷ p) (v ∷ vs) (w ∷ ws) h = leaf_at_same (j ∷ p) (sequence_members v) (sequence_members w) (members_same v w h.0)
+leaf_at_same (zero ∷ j ∷ p) (v ∷ vs) (w ∷ ws) h =
+    leaf_at_same (j ∷ p) (sequence_members v) (sequence_members w) (members_same v w h.0)
 leaf_at_same (suc i ∷ p) (v ∷ vs) (w ∷ ws) h = leaf_at_same (i ∷ p) vs ws h.1
 
-pub each_snoc : (vs ws : List Value) (v w : Value) → Each Same vs ws → Same v w → Each Same (vs ++ (v ∷ [])) (ws ++ (w ∷ []))
+pub each_snoc : (vs ws : List Value) (v w : Value) → Each Same vs ws → Same v w
+    → Each Same (vs ++ (v ∷ [])) (ws ++ (w ∷ []))
 each_snoc [] [] v w h k = (k, tt)
 each_snoc [] (b ∷ ws) v w h k = absurd h
 each_snoc (a ∷ vs) [] v w h k = absurd h
@@ -184,21 +200,30 @@ each_snoc (a ∷ vs) (b ∷ ws) v w h k = (h.0, each_snoc vs ws v w h.1 k)
 mutual
   unfolding Fits
 
-  pub fits_same : (d : ℕ) (T : TypeTerm) (earlier earlier' : List Value) (r : RawTree) (v w : Value) → Each Same earlier earlier' → Fits d T earlier r v → Fits d T earlier' r w → Same v w
-  fits_same d (LeafType t l) earlier earlier' r v w e h k = same_of v w (h.3 ∙ ap (Leaf t) (leaf_one l r h.1 k.1 h.2 k.2) ∙ sym k.3)
+  pub fits_same : (d : ℕ) (T : TypeTerm) (earlier earlier' : List Value) (r : RawTree) (v w : Value)
+      → Each Same earlier earlier' → Fits d T earlier r v → Fits d T earlier' r w → Same v w
+  fits_same d (LeafType t l) earlier earlier' r v w e h k =
+      same_of v w (h.3 ∙ ap (Leaf t) (leaf_one l r h.1 k.1 h.2 k.2) ∙ sym k.3)
   fits_same d OpenType earlier earlier' r v w e h k = open_same r v w h k
   fits_same d (SequenceOfType t n T) earlier earlier' r v w e h k =
       let q : k.0 ≡ h.0 = let a = h.2 in let b = k.2 in cc in
       let k' = subst (λ x. Each (Fits d T []) (member_trees x) (members k.1)) q k.5 in
-      same_along v w (Sequence t h.1) (Sequence t k.1) h.3 k.3 (same_sequence t h.1 k.1 (each_same (Fits d T []) Same (λ a b c x y. fits_same d T [] [] a b c tt x y) (member_trees h.0) (members h.1) (members k.1) h.5 k'))
+      same_along v w (Sequence t h.1) (Sequence t k.1) h.3 k.3
+      (same_sequence t h.1 k.1
+      (each_same (Fits d T []) Same (λ a b c x y. fits_same d T [] [] a b c tt x y) (member_trees h.0) (members h.1)
+      (members k.1) h.5 k'))
   fits_same d (SetOfType t n T) earlier earlier' r v w e h k =
       let q : k.0 ≡ h.0 = let a = h.2 in let b = k.2 in cc in
       let k' = subst (λ x. Paired (Fits d T []) (member_trees x) (members k.1)) q k.5 in
-      same_along v w (SetOf t h.1) (SetOf t k.1) h.3 k.3 (same_set t h.1 k.1 (paired_same (Fits d T []) Same (λ a b c x y. fits_same d T [] [] a b c tt x y) (member_trees h.0) (members h.1) (members k.1) h.5 k'))
+      same_along v w (SetOf t h.1) (SetOf t k.1) h.3 k.3
+      (same_set t h.1 k.1
+      (paired_same (Fits d T []) Same (λ a b c x y. fits_same d T [] [] a b c tt x y) (member_trees h.0) (members h.1)
+      (members k.1) h.5 k'))
   fits_same d (SequenceType t fs) earlier earlier' r v w e h k =
       let q : k.0 ≡ h.0 = let a = h.2 in let b = k.2 in cc in
       let k' = subst (λ x. FitsFields d fs [] (member_trees x) (members k.1)) q k.4 in
-      same_along v w (Sequence t h.1) (Sequence t k.1) h.3 k.3 (same_sequence t h.1 k.1 (fields_same d fs [] [] (member_trees h.0) (members h.1) (members k.1) tt h.4 k'))
+      same_along v w (Sequence t h.1) (Sequence t k.1) h.3 k.3
+      (same_sequence t h.1 k.1 (fields_same d fs [] [] (member_trees h.0) (members h.1) (members k.1) tt h.4 k'))
   fits_same d (ContainingType t q T) earlier earlier' r v w e h k =
       let c = leaf_one OctetString r h.1 k.1 h.2 k.2 in
       let s = (prefix h.3 k.3 h.1 k.1 [] h.6 k.6 (sym c ∙ sym (append-nil h.1))).1 in
@@ -209,22 +234,28 @@ mutual
   fits_same d (DefinedByType p os A B) earlier earlier' r v w e h k =
       let l = leaf_at_same p earlier earlier' e in
       ⊎_elim
-      (λ a. ⊎_elim (λ b. fits_same d A earlier earlier' r v w e a.1 b.1) (λ b. absurd (let x = a.0 in let y = b.0 in cc)) k)
-      (λ a. ⊎_elim (λ b. absurd (let x = a.0 in let y = b.0 in cc)) (λ b. fits_same d B earlier earlier' r v w e a.1 b.1) k)
+      (λ a.
+      ⊎_elim (λ b. fits_same d A earlier earlier' r v w e a.1 b.1) (λ b. absurd (let x = a.0 in let y = b.0 in cc)) k)
+      (λ a.
+      ⊎_elim (λ b. absurd (let x = a.0 in let y = b.0 in cc)) (λ b. fits_same d B earlier earlier' r v w e a.1 b.1) k)
       h
   fits_same d (ChoiceType A B) earlier earlier' r v w e h k = ⊎_elim
-      (λ a. ⊎_elim (λ b. fits_same d A earlier earlier' r v w e a.1 b.1) (λ b. absurd (let x = a.0 in let y = b.0 in cc)) k)
-      (λ a. ⊎_elim (λ b. absurd (let x = a.0 in let y = b.0 in cc)) (λ b. fits_same d B earlier earlier' r v w e a.1 b.1) k)
+      (λ a.
+      ⊎_elim (λ b. fits_same d A earlier earlier' r v w e a.1 b.1) (λ b. absurd (let x = a.0 in let y = b.0 in cc)) k)
+      (λ a.
+      ⊎_elim (λ b. absurd (let x = a.0 in let y = b.0 in cc)) (λ b. fits_same d B earlier earlier' r v w e a.1 b.1) k)
       h
 
-  pub fields_same : (d : ℕ) (fs : Fields) (earlier earlier' : List Value) (rs : List RawTree) (vs ws : List Value) → Each Same earlier earlier' → FitsFields d fs earlier rs vs → FitsFields d fs earlier' rs ws → Each Same vs ws
+  pub fields_same : (d : ℕ) (fs : Fields) (earlier earlier' : List Value) (rs : List RawTree) (vs ws : List Value)
+      → Each Same earlier earlier' → FitsFields d fs earlier rs vs → FitsFields d fs earlier' rs ws → Each Same vs ws
   fields_same d EndOfFields earlier earlier' rs vs ws e h k = each_none vs ws h.1 k.1
   fields_same d (Required T fs) earlier earlier' rs vs ws e h k =
       let q : k.0 ≡ h.0 = let a = h.4 in let b = k.4 in cc in
       let q' : k.1 ≡ h.1 = let a = h.4 in let b = k.4 in cc in
       let s = fits_same d T earlier earlier' h.0 h.2 k.2 e h.6 (subst (λ x. Fits d T earlier' x k.2) q k.6) in
       each_cons vs h.3 ws k.3 h.2 k.2 h.5 k.5 s
-      (fields_same d fs (earlier ++ (h.2 ∷ [])) (earlier' ++ (k.2 ∷ [])) h.1 h.3 k.3 (each_snoc earlier earlier' h.2 k.2 e s) h.7 (subst (λ x. FitsFields d fs (earlier' ++ (k.2 ∷ [])) x k.3) q' k.7))
+      (fields_same d fs (earlier ++ (h.2 ∷ [])) (earlier' ++ (k.2 ∷ [])) h.1 h.3 k.3
+      (each_snoc earlier earlier' h.2 k.2 e s) h.7 (subst (λ x. FitsFields d fs (earlier' ++ (k.2 ∷ [])) x k.3) q' k.7))
   fields_same d (Optional T fs) earlier earlier' rs vs ws e h k = ⊎_elim
       (λ a. ⊎_elim
       (λ b. fields_same d fs earlier earlier' rs vs ws e a.1 b.1)
@@ -237,7 +268,9 @@ mutual
       let q' : b.1 ≡ a.1 = let x = a.4 in let y = b.4 in cc in
       let s = fits_same d T earlier earlier' a.0 a.2 b.2 e a.7 (subst (λ x. Fits d T earlier' x b.2) q b.7) in
       each_cons vs a.3 ws b.3 a.2 b.2 a.5 b.5 s
-      (fields_same d fs (earlier ++ (a.2 ∷ [])) (earlier' ++ (b.2 ∷ [])) a.1 a.3 b.3 (each_snoc earlier earlier' a.2 b.2 e s) a.8 (subst (λ x. FitsFields d fs (earlier' ++ (b.2 ∷ [])) x b.3) q' b.8)))
+      (fields_same d fs (earlier ++ (a.2 ∷ [])) (earlier' ++ (b.2 ∷ [])) a.1 a.3 b.3
+      (each_snoc earlier earlier' a.2 b.2 e s) a.8
+      (subst (λ x. FitsFields d fs (earlier' ++ (b.2 ∷ [])) x b.3) q' b.8)))
       k)
       h
   fields_same d (Default ct co T fs) earlier earlier' rs vs ws e h k = ⊎_elim
@@ -260,7 +293,9 @@ mutual
       (λ g. absurd (f.2 (same_trans a.2 b.2 (Leaf ct co) s g.0)))
       (λ g.
       each_cons vs f.0 ws g.0 a.2 b.2 f.1 g.1 s
-      (fields_same d fs (earlier ++ (a.2 ∷ [])) (earlier' ++ (b.2 ∷ [])) a.1 f.0 g.0 (each_snoc earlier earlier' a.2 b.2 e s) f.3 (subst (λ x. FitsFields d fs (earlier' ++ (b.2 ∷ [])) x g.0) q' g.3)))
+      (fields_same d fs (earlier ++ (a.2 ∷ [])) (earlier' ++ (b.2 ∷ [])) a.1 f.0 g.0
+      (each_snoc earlier earlier' a.2 b.2 e s) f.3
+      (subst (λ x. FitsFields d fs (earlier' ++ (b.2 ∷ [])) x g.0) q' g.3)))
       b.6)
       a.6)
       k)

@@ -38,7 +38,8 @@ ge_trans (a ∷ x) (b ∷ y) [] h k = refl
 ge_trans (a ∷ x) (b ∷ y) (c ∷ z) h k = let ih = ge_trans x y z in grind (arith, nat_tests)
 
 pub lt_asym : (x y : List ℕ) → padded_less x y ≡ true → padded_less y x ≡ false
-lt_asym x y h = ⊎_elim (λ k. let l = lt_trans x y x h k in let m = lt_irrefl x in cc) (λ k. k) (bool_cases (padded_less y x))
+lt_asym x y h =
+    ⊎_elim (λ k. let l = lt_trans x y x h k in let m = lt_irrefl x in cc) (λ k. k) (bool_cases (padded_less y x))
 
 pub equality_by_order : EqualityByOrder
 equality_by_order = record {
@@ -48,7 +49,8 @@ equality_by_order = record {
 }
 
 -- lists that are equal by the padded order: one begins the other
-pub ties : (x y : List ℕ) → padded_less x y ≡ false → padded_less y x ≡ false → ((z : List ℕ) × (y ≡ x ++ z)) ⊎ ((z : List ℕ) × (x ≡ y ++ z))
+pub ties : (x y : List ℕ) → padded_less x y ≡ false → padded_less y x ≡ false
+    → ((z : List ℕ) × (y ≡ x ++ z)) ⊎ ((z : List ℕ) × (x ≡ y ++ z))
 unfolding padded_less
 ties [] y h k = inl (y, refl)
 ties (a ∷ x) [] h k = inr (a ∷ x, refl)

@@ -9,6 +9,7 @@ pub leaf_fits : (kind : LeafKind) (own tag : Tag) → fits_tag (LeafType own kin
 unfolding fits_tag
 leaf_fits kind own tag = refl
 
-pub set_of_fits : (least : ℕ) (type : TypeTerm) (own tag : Tag) → fits_tag (SetOfType own least type) tag ≡ same_tag own tag
+pub set_of_fits : (least : ℕ) (type : TypeTerm) (own tag : Tag)
+    → fits_tag (SetOfType own least type) tag ≡ same_tag own tag
 unfolding fits_tag
 set_of_fits least type own tag = refl

@@ -28,18 +28,32 @@ pick_swap x y (z ∷ zs) ys rest h k = ⊎_elim
     h
 
 -- the partner of a member that is taken out
-pub paired_take : {A B : Type 0} (R : A → B → Type 0) (a : A) (xs rest : List A) (bs : List B) → Picked a xs rest → Paired R xs bs → Taken R a rest bs
+pub paired_take : {A B : Type 0} (R : A → B → Type 0) (a : A) (xs rest : List A) (bs : List B) → Picked a xs rest
+    → Paired R xs bs → Taken R a rest bs
 paired_take R a [] rest bs h p = absurd h
 paired_take R a (x ∷ xs) rest bs h p = ⊎_elim
-    (λ e. record { partner = p.0; left = p.1; choose = p.2; related = subst (λ v. R v p.0) (sym e.0) p.3; paired = subst (λ v. Paired R v p.1) (sym e.1) p.4 })
+    (λ e. record {
+      partner = p.0;
+      left = p.1;
+      choose = p.2;
+      related = subst (λ v. R v p.0) (sym e.0) p.3;
+      paired = subst (λ v. Paired R v p.1) (sym e.1) p.4;
+    })
     (λ f.
     let t = paired_take R a xs f.0 p.1 f.2 p.4 in
     let s = pick_swap p.0 t.partner bs p.1 t.left p.2 t.choose in
-    record { partner = t.partner; left = s.between; choose = s.first; related = t.related; paired = subst (λ v. Paired R v s.between) (sym f.1) (p.0, t.left, s.second, p.3, t.paired) })
+    record {
+      partner = t.partner;
+      left = s.between;
+      choose = s.first;
+      related = t.related;
+      paired = subst (λ v. Paired R v s.between) (sym f.1) (p.0, t.left, s.second, p.3, t.paired);
+    })
     h
 
 -- one more pair
-pub paired_add : {A B : Type 0} (R : A → B → Type 0) (a : A) (b : B) (xs rest : List A) (bs left : List B) → Picked a xs rest → Picked b bs left → R a b → Paired R rest left → Paired R xs bs
+pub paired_add : {A B : Type 0} (R : A → B → Type 0) (a : A) (b : B) (xs rest : List A) (bs left : List B)
+    → Picked a xs rest → Picked b bs left → R a b → Paired R rest left → Paired R xs bs
 paired_add R a b [] rest bs left h k r p = absurd h
 paired_add R a b (x ∷ xs) rest bs left h k r p = ⊎_elim
     (λ e. (b, left, k, subst (λ v. R v b) e.0 r, subst (λ v. Paired R v left) e.1 p))

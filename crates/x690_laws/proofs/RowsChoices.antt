@@ -62,15 +62,18 @@ a_generalized_time : IsDer usual string_types (hex (codes "180f32303530303130313
 unfolding computed
 a_generalized_time = refl
 
-a_utf8_string_in_segments_across_a_character : answer usual string_types (hex (codes "2c070401c30402a921")) ≡ Spelled (hex (codes "0c03c3a921")) 9
+a_utf8_string_in_segments_across_a_character : answer usual string_types (hex (codes "2c070401c30402a921"))
+    ≡ Spelled (hex (codes "0c03c3a921")) 9
 unfolding computed
 a_utf8_string_in_segments_across_a_character = refl
 
-a_utf8_string_of_indefinite_length : answer usual string_types (hex (codes "2c800401c324030401a90000")) ≡ Spelled (hex (codes "0c02c3a9")) 12
+a_utf8_string_of_indefinite_length : answer usual string_types (hex (codes "2c800401c324030401a90000"))
+    ≡ Spelled (hex (codes "0c02c3a9")) 12
 unfolding computed
 a_utf8_string_of_indefinite_length = refl
 
-a_bmp_string_in_segments : answer usual string_types (hex (codes "3e06040100040141")) ≡ Spelled (hex (codes "1e020041")) 8
+a_bmp_string_in_segments : answer usual string_types (hex (codes "3e06040100040141"))
+    ≡ Spelled (hex (codes "1e020041")) 8
 unfolding computed
 a_bmp_string_in_segments = refl
 
@@ -138,11 +141,13 @@ a_fault_inside_the_second_alternative : answer usual number_or_numbers (hex (cod
 unfolding computed
 a_fault_inside_the_second_alternative = refl
 
-the_second_alternative_is_normalised : answer usual number_or_numbers (hex (codes "30800201050000")) ≡ Spelled (hex (codes "3003020105")) 7
+the_second_alternative_is_normalised : answer usual number_or_numbers (hex (codes "30800201050000"))
+    ≡ Spelled (hex (codes "3003020105")) 7
 unfolding computed
 the_second_alternative_is_normalised = refl
 
-the_first_alternative_that_the_tag_fits_counts : answer usual number_or_any (hex (codes "8002007f")) ≡ refused 0 BadInteger
+the_first_alternative_that_the_tag_fits_counts : answer usual number_or_any (hex (codes "8002007f"))
+    ≡ refused 0 BadInteger
 unfolding computed
 the_first_alternative_that_the_tag_fits_counts = refl
 

@@ -7,11 +7,13 @@ use Rattle.x690.specs.TypeTerms.{OpenType}
 use Rattle.x690_laws.proofs.Computed.{computed}
 use Rattle.x690_laws.specs.Examples.{hex, IsDer, refused, usual}
 
-a_constructed_utf8_string : answer usual OpenType (hex (codes "2c070401c30402a921")) ≡ Spelled (hex (codes "0c03c3a921")) 9
+a_constructed_utf8_string : answer usual OpenType (hex (codes "2c070401c30402a921"))
+    ≡ Spelled (hex (codes "0c03c3a921")) 9
 unfolding computed
 a_constructed_utf8_string = refl
 
-sets_inside_sets_are_sorted : answer usual OpenType (hex (codes "3180310602010202010131060201010201020000")) ≡ Spelled (hex (codes "311031060201010201023106020101020102")) 20
+sets_inside_sets_are_sorted : answer usual OpenType (hex (codes "3180310602010202010131060201010201020000"))
+    ≡ Spelled (hex (codes "311031060201010201023106020101020102")) 20
 unfolding computed
 sets_inside_sets_are_sorted = refl
 
@@ -19,7 +21,8 @@ unused_bits_are_cleared : answer usual OpenType (hex (codes "030204af")) ≡ Spe
 unfolding computed
 unused_bits_are_cleared = refl
 
-bit_string_segments_are_joined : answer usual OpenType (hex (codes "2380030200aa030203ff0000")) ≡ Spelled (hex (codes "030303aaf8")) 12
+bit_string_segments_are_joined : answer usual OpenType (hex (codes "2380030200aa030203ff0000"))
+    ≡ Spelled (hex (codes "030303aaf8")) 12
 unfolding computed
 bit_string_segments_are_joined = refl
 
@@ -99,10 +102,14 @@ a_constructed_integer_as_an_open_value : answer usual OpenType (hex (codes "2203
 unfolding computed
 a_constructed_integer_as_an_open_value = refl
 
-an_explicit_tag_of_indefinite_length : answer usual (explicit 0 object_identifier) (hex (codes "a08006052b8104000a0000")) ≡ Spelled (hex (codes "a00706052b8104000a")) 11
+an_explicit_tag_of_indefinite_length : answer usual (explicit 0 object_identifier)
+    (hex (codes "a08006052b8104000a0000"))
+    ≡ Spelled (hex (codes "a00706052b8104000a")) 11
 unfolding computed
 an_explicit_tag_of_indefinite_length = refl
 
-open_values_nested_too_deep : answer (record { depth = 64; octets = 1048576 }) OpenType (hex (codes "30803080308030803080308030803080308030803080308030803080308030803080308030803080308030803080308030803080308030803080308030803080308030803080308030803080308030803080308030803080308030803080308030803080308030803080308030803080308030803080308030803080308030803080")) ≡ refused 128 TooDeep
+open_values_nested_too_deep : answer (record { depth = 64; octets = 1048576 }) OpenType
+    (hex (codes "30803080308030803080308030803080308030803080308030803080308030803080308030803080308030803080308030803080308030803080308030803080308030803080308030803080308030803080308030803080308030803080308030803080308030803080308030803080308030803080308030803080308030803080"))
+    ≡ refused 128 TooDeep
 unfolding computed
 open_values_nested_too_deep = refl

@@ -54,7 +54,8 @@ mutual
   bag_sym : (vs : Values) (ws : List Value) → SamePaired vs ws → Paired Same ws (members vs)
   bag_sym NoMembers ws h = subst (λ x. Paired Same x []) (sym h) refl
   bag_sym (FirstMember v vs) ws h =
-      paired_add Same h.0 v ws h.1 (v ∷ members vs) (members vs) h.2 (inl (refl, refl)) (same_sym v h.0 h.3) (bag_sym vs h.1 h.4)
+      paired_add Same h.0 v ws h.1 (v ∷ members vs) (members vs) h.2 (inl (refl, refl)) (same_sym v h.0 h.3)
+      (bag_sym vs h.1 h.4)
 
 mutual
   unfolding Same
@@ -74,14 +75,16 @@ mutual
   same_trans (SetOf t us) (Sequence u vs) w h k = absurd h
   same_trans (SetOf t us) (SetOf u vs) (Leaf x q) h k = absurd k
   same_trans (SetOf t us) (SetOf u vs) (Sequence x ws) h k = absurd k
-  same_trans (SetOf t us) (SetOf u vs) (SetOf x ws) h k = (h.0 ∙ k.0, bag_trans us (members vs) (members ws) h.1 (bag_paired vs (members ws) k.1))
+  same_trans (SetOf t us) (SetOf u vs) (SetOf x ws) h k =
+      (h.0 ∙ k.0, bag_trans us (members vs) (members ws) h.1 (bag_paired vs (members ws) k.1))
 
   row_trans : (us vs ws : Values) → SameInPlace us vs → SameInPlace vs ws → SameInPlace us ws
   row_trans NoMembers NoMembers ws h k = k
   row_trans NoMembers (FirstMember v vs) ws h k = absurd h
   row_trans (FirstMember u us) NoMembers ws h k = absurd h
   row_trans (FirstMember u us) (FirstMember v vs) NoMembers h k = absurd k
-  row_trans (FirstMember u us) (FirstMember v vs) (FirstMember w ws) h k = (same_trans u v w h.0 k.0, row_trans us vs ws h.1 k.1)
+  row_trans (FirstMember u us) (FirstMember v vs) (FirstMember w ws) h k =
+      (same_trans u v w h.0 k.0, row_trans us vs ws h.1 k.1)
 
   bag_trans : (us : Values) (vs ws : List Value) → SamePaired us vs → Paired Same vs ws → SamePaired us ws
   bag_trans NoMembers vs ws h k = let k' = subst (λ x. Paired Same x ws) h k in k'

@@ -22,9 +22,12 @@ number_value zero n h = omega arith
 number_value (suc k) n h =
     let small : n / 256 < 256 ^ k = omega (arith, pow-suc 256 k) in go (n == 0) refl (number_value k (n / 256) small)
   where
-    go : (b : Bool) → (n == 0) ≡ b → big_endian 0 (number_octets k (n / 256)) ≡ n / 256 → big_endian 0 (branch b [] (number_octets k (n / 256) ++ ((n % 256) ∷ []))) ≡ n
+    go : (b : Bool) → (n == 0) ≡ b → big_endian 0 (number_octets k (n / 256)) ≡ n / 256
+        → big_endian 0 (branch b [] (number_octets k (n / 256) ++ ((n % 256) ∷ []))) ≡ n
     go true e ih = grind (arith, nat_tests)
-    go false e ih = big_endian_append 0 (number_octets k (n / 256)) ((n % 256) ∷ []) ∙ (let q : big_endian 0 (number_octets k (n / 256)) * 256 + n % 256 ≡ n = omega arith in q)
+    go false e ih =
+        big_endian_append 0 (number_octets k (n / 256)) ((n % 256) ∷ [])
+        ∙ (let q : big_endian 0 (number_octets k (n / 256)) * 256 + n % 256 ≡ n = omega arith in q)
 
 pub below_power : (n : ℕ) → n < 256 ^ n
 below_power zero = lit< tt
@@ -52,14 +55,17 @@ pub shortest_alone : (m n : ℕ) (x y : List ℕ) → shortest_length m ++ x ≡
 shortest_alone m n x y e = ⊎_elim
     (λ a. ⊎_elim
     (λ b. let e' : (m ∷ []) ++ x ≡ (n ∷ []) ++ y = along x y a.is b.is e in (cc, cc))
-    (λ b. let e' : (m ∷ []) ++ x ≡ ((128 + length (number_octets n n)) ∷ number_octets n n) ++ y = along x y a.is b.is e in
+    (λ b.
+    let e' : (m ∷ []) ++ x ≡ ((128 + length (number_octets n n)) ∷ number_octets n n) ++ y = along x y a.is b.is e in
     let q : m ≡ 128 + length (number_octets n n) = cc in absurd (omega arith))
     (shortest_cases n))
     (λ a. ⊎_elim
-    (λ b. let e' : ((128 + length (number_octets m m)) ∷ number_octets m m) ++ x ≡ (n ∷ []) ++ y = along x y a.is b.is e in
+    (λ b.
+    let e' : ((128 + length (number_octets m m)) ∷ number_octets m m) ++ x ≡ (n ∷ []) ++ y = along x y a.is b.is e in
     let q : n ≡ 128 + length (number_octets m m) = cc in absurd (omega arith))
     (λ b.
-    let e' : ((128 + length (number_octets m m)) ∷ number_octets m m) ++ x ≡ ((128 + length (number_octets n n)) ∷ number_octets n n) ++ y = along x y a.is b.is e in
+    let e' : ((128 + length (number_octets m m)) ∷ number_octets m m) ++ x
+    ≡ ((128 + length (number_octets n n)) ∷ number_octets n n) ++ y = along x y a.is b.is e in
     let q : 128 + length (number_octets m m) ≡ 128 + length (number_octets n n) = cc in
     let r : number_octets m m ++ x ≡ number_octets n n ++ y = cc in
     let s = split_alone (number_octets m m) (number_octets n n) x y (omega arith) r in
@@ -75,11 +81,14 @@ pub record SameElement (t u : Tag) (f g : Bool) (c d x y : List ℕ) : Type 0 wh
   pub contents : c ≡ d
   pub rests : x ≡ y
 
-pub element_alone : (t u : Tag) (f g : Bool) (c d x y : List ℕ) → der_element t f c ++ x ≡ der_element u g d ++ y → SameElement t u f g c d x y
+pub element_alone : (t u : Tag) (f g : Bool) (c d x y : List ℕ) → der_element t f c ++ x ≡ der_element u g d ++ y
+    → SameElement t u f g c d x y
 unfolding der_element
 element_alone t u f g c d x y e =
-    let e' : identifier t f ++ (shortest_length (length c) ++ (c ++ x)) ≡ identifier u g ++ (shortest_length (length d) ++ (d ++ y)) = simp append_assoc at e in
-    let i = identifier_alone t u f g (shortest_length (length c) ++ (c ++ x)) (shortest_length (length d) ++ (d ++ y)) e' in
+    let e' : identifier t f ++ (shortest_length (length c) ++ (c ++ x))
+    ≡ identifier u g ++ (shortest_length (length d) ++ (d ++ y)) = simp append_assoc at e in
+    let i =
+    identifier_alone t u f g (shortest_length (length c) ++ (c ++ x)) (shortest_length (length d) ++ (d ++ y)) e' in
     let l = shortest_alone (length c) (length d) (c ++ x) (d ++ y) i.2 in
     let s = split_alone c d x y l.0 l.1 in
     record { tags = i.0; forms = i.1; contents = s.0; rests = s.1 }
@@ -113,7 +122,8 @@ ders_texts (FirstMember v vs) = (der_text v, ders_texts vs)
 -- no text begins another one
 pub text_front : (x y z : List ℕ) → IsText x → IsText y → y ≡ x ++ z → x ≡ y
 text_front x y z h k e =
-    let e' : der_element h.tag h.form h.contents ++ z ≡ der_element k.tag k.form k.contents ++ [] = ap (λ v. v ++ z) (sym h.is) ∙ sym e ∙ k.is ∙ sym (append-nil (der_element k.tag k.form k.contents)) in
+    let e' : der_element h.tag h.form h.contents ++ z ≡ der_element k.tag k.form k.contents ++ [] =
+    ap (λ v. v ++ z) (sym h.is) ∙ sym e ∙ k.is ∙ sym (append-nil (der_element k.tag k.form k.contents)) in
     let a = element_alone h.tag k.tag h.form k.form h.contents k.contents z [] e' in
     sym (append-nil x) ∙ ap (λ v. x ++ v) (sym a.rests) ∙ sym e
 
@@ -127,7 +137,8 @@ insert_before : (x y : List ℕ) (ys : List (List ℕ)) → padded_less x y ≡ 
 unfolding insert_text
 insert_before x y ys h = rw h refl
 
-insert_after : (x y : List ℕ) (ys : List (List ℕ)) → padded_less x y ≡ false → insert_text x (y ∷ ys) ≡ y ∷ insert_text x ys
+insert_after : (x y : List ℕ) (ys : List (List ℕ)) → padded_less x y ≡ false
+    → insert_text x (y ∷ ys) ≡ y ∷ insert_text x ys
 unfolding insert_text
 insert_after x y ys h = rw h refl
 
@@ -135,7 +146,8 @@ insert_one : (x : List ℕ) → insert_text x [] ≡ x ∷ []
 unfolding insert_text
 insert_one x = refl
 
-insert_front : (x y : List ℕ) (zs : List (List ℕ)) → IsText x → IsText y → insert_text x zs ≡ x ∷ zs → insert_text y zs ≡ y ∷ zs → insert_text x (y ∷ zs) ≡ insert_text y (x ∷ zs)
+insert_front : (x y : List ℕ) (zs : List (List ℕ)) → IsText x → IsText y → insert_text x zs ≡ x ∷ zs
+    → insert_text y zs ≡ y ∷ zs → insert_text x (y ∷ zs) ≡ insert_text y (x ∷ zs)
 insert_front x y zs h k a b = ⊎_elim
     (λ l. let p = insert_before x y zs l in let q = insert_after y x zs (lt_asym x y l) in cc)
     (λ l. let p = insert_after x y zs l in ⊎_elim
@@ -147,11 +159,13 @@ insert_front x y zs h k a b = ⊎_elim
 not_before : (x y z : List ℕ) → padded_less x z ≡ true → padded_less y z ≡ false → padded_less y x ≡ false
 not_before x y z h k = ⊎_elim (λ l. let m = lt_trans y x z l h in cc) (λ l. l) (bool_cases (padded_less y x))
 
-pub insert_comm : (x y : List ℕ) (zs : List (List ℕ)) → IsText x → IsText y → insert_text x (insert_text y zs) ≡ insert_text y (insert_text x zs)
+pub insert_comm : (x y : List ℕ) (zs : List (List ℕ)) → IsText x → IsText y
+    → insert_text x (insert_text y zs) ≡ insert_text y (insert_text x zs)
 insert_comm x y [] h k = rw (insert_one y, insert_one x) (insert_front x y [] h k (insert_one x) (insert_one y))
 insert_comm x y (z ∷ zs) h k = ⊎_elim
     (λ a. ⊎_elim
-    (λ b. let p = insert_before x z zs a in let q = insert_before y z zs b in let f = insert_front x y (z ∷ zs) h k p q in cc)
+    (λ b.
+    let p = insert_before x z zs a in let q = insert_before y z zs b in let f = insert_front x y (z ∷ zs) h k p q in cc)
     (λ b.
     let p = insert_before x z zs a in let q = insert_after y z zs b in
     let r = insert_before x z (insert_text y zs) a in
@@ -174,7 +188,8 @@ unfolding arrange
 arrange_more x xs = refl
 
 -- the arrangement doesn't depend on the order
-pub arrange_pick : (x : List ℕ) (ys rest : List (List ℕ)) → Texts ys → Picked x ys rest → arrange ys ≡ insert_text x (arrange rest)
+pub arrange_pick : (x : List ℕ) (ys rest : List (List ℕ)) → Texts ys → Picked x ys rest
+    → arrange ys ≡ insert_text x (arrange rest)
 arrange_pick x [] rest h p = absurd p
 arrange_pick x (y ∷ ys) rest h p = ⊎_elim
     (λ a. arrange_more y ys ∙ ap₂ insert_text (sym a.0) (ap arrange (sym a.1)))
@@ -190,7 +205,8 @@ arrange_pick x (y ∷ ys) rest h p = ⊎_elim
 
 pick_texts : (x : List ℕ) (ys rest : List (List ℕ)) → Texts ys → Picked x ys rest → Texts rest
 pick_texts x [] rest h p = absurd p
-pick_texts x (y ∷ ys) rest h p = ⊎_elim (λ a. subst Texts (sym a.1) h.1) (λ a. subst Texts (sym a.1) (h.0, pick_texts x ys a.0 h.1 a.2)) p
+pick_texts x (y ∷ ys) rest h p =
+    ⊎_elim (λ a. subst Texts (sym a.1) h.1) (λ a. subst Texts (sym a.1) (h.0, pick_texts x ys a.0 h.1 a.2)) p
 
 pub arrange_paired : (xs ys : List (List ℕ)) → Texts ys → Paired (λ x y. x ≡ y) xs ys → arrange xs ≡ arrange ys
 arrange_paired [] ys h p = ap arrange (sym p)
@@ -229,24 +245,30 @@ arrange_ascends (x ∷ y ∷ ys) h a =
 
 texts_paired : (xs ys : List (List ℕ)) → Texts ys → Paired (λ x y. x ≡ y) xs ys → Texts xs
 texts_paired [] ys h p = tt
-texts_paired (x ∷ xs) ys h p = (subst IsText (sym p.3) (picked p.0 ys p.1 h p.2), texts_paired xs p.1 (pick_texts p.0 ys p.1 h p.2) p.4)
+texts_paired (x ∷ xs) ys h p =
+    (subst IsText (sym p.3) (picked p.0 ys p.1 h p.2), texts_paired xs p.1 (pick_texts p.0 ys p.1 h p.2) p.4)
   where
     picked : (x : List ℕ) (ys rest : List (List ℕ)) → Texts ys → Picked x ys rest → IsText x
     picked x [] rest h p = absurd p
     picked x (y ∷ ys) rest h p = ⊎_elim (λ a. subst IsText (sym a.0) h.0) (λ a. picked x ys a.0 h.1 a.2) p
 
-pub one_arrangement : (vs : Values) (xs : List (List ℕ)) → Ascends xs → Paired (λ x y. x ≡ y) xs (der_texts vs) → xs ≡ arrange (der_texts vs)
+pub one_arrangement : (vs : Values) (xs : List (List ℕ)) → Ascends xs → Paired (λ x y. x ≡ y) xs (der_texts vs)
+    → xs ≡ arrange (der_texts vs)
 one_arrangement vs xs a p =
     let t = ders_texts vs in
     sym (arrange_ascends xs (texts_paired xs (der_texts vs) t p) a) ∙ arrange_paired xs (der_texts vs) t p
 
 -- neither list begins the other one, unless they are the same
-plain_same : (x y : List ℕ) → ((z : List ℕ) → y ≡ x ++ z → x ≡ y) → ((z : List ℕ) → x ≡ y ++ z → y ≡ x) → padded_less x y ≡ plain_less x y
+plain_same : (x y : List ℕ) → ((z : List ℕ) → y ≡ x ++ z → x ≡ y) → ((z : List ℕ) → x ≡ y ++ z → y ≡ x)
+    → padded_less x y ≡ plain_less x y
 unfolding padded_less
 plain_same [] [] f g = refl
 plain_same [] (y ∷ ys) f g = let e : [] ≡ y ∷ ys = f (y ∷ ys) refl in cc
 plain_same (x ∷ xs) [] f g = refl
-plain_same (x ∷ xs) (y ∷ ys) f g = go (x == y) refl (λ e. plain_same xs ys (λ z h. behind x y xs ys (f z (front x y ys (xs ++ z) e h))) (λ z h. behind y x ys xs (g z (front y x xs (ys ++ z) (sym e) h))))
+plain_same (x ∷ xs) (y ∷ ys) f g =
+    go (x == y) refl (λ e.
+    plain_same xs ys (λ z h. behind x y xs ys (f z (front x y ys (xs ++ z) e h)))
+    (λ z h. behind y x ys xs (g z (front y x xs (ys ++ z) (sym e) h))))
   where
     front : (a b : ℕ) (s t : List ℕ) → a ≡ b → s ≡ t → b ∷ s ≡ a ∷ t
     front a b s t e h = ap₂ (λ u v. u ∷ v) (sym e) h
@@ -254,7 +276,8 @@ plain_same (x ∷ xs) (y ∷ ys) f g = go (x == y) refl (λ e. plain_same xs ys 
     behind : (a b : ℕ) (s t : List ℕ) → a ∷ s ≡ b ∷ t → s ≡ t
     behind a b s t h = cc
 
-    go : (b : Bool) → (x == y) ≡ b → (x ≡ y → padded_less xs ys ≡ plain_less xs ys) → nat_lt x y || (b && padded_less xs ys) ≡ nat_lt x y || (b && plain_less xs ys)
+    go : (b : Bool) → (x == y) ≡ b → (x ≡ y → padded_less xs ys ≡ plain_less xs ys)
+        → nat_lt x y || (b && padded_less xs ys) ≡ nat_lt x y || (b && plain_less xs ys)
     go true e ih = ap (λ b. nat_lt x y || b) (ih (grind (arith, nat_tests)))
     go false e ih = refl
 
@@ -264,13 +287,16 @@ arrangement = record {
   transitive = λ x y z h k. ge_trans z y x k h;
   no_front = λ v w z e. text_front (der v) (der w) z (der_text v) (der_text w) e;
   no_ties = λ v w l m. text_ties (der v) (der w) (der_text v) (der_text w) l m;
-  plain_order = λ v w. plain_same (der v) (der w) (λ z e. text_front (der v) (der w) z (der_text v) (der_text w) e) (λ z e. text_front (der w) (der v) z (der_text w) (der_text v) e);
+  plain_order = λ v w.
+      plain_same (der v) (der w) (λ z e. text_front (der v) (der w) z (der_text v) (der_text w) e)
+      (λ z e. text_front (der w) (der v) z (der_text w) (der_text v) e);
   one_arrangement = one_arrangement;
 }
 
 -- values that are the same have one text
 
-pub pick_map : {A B : Type 0} (f : A → B) (x : A) (ys rest : List A) → Picked x ys rest → Picked (f x) (map f ys) (map f rest)
+pub pick_map : {A B : Type 0} (f : A → B) (x : A) (ys rest : List A) → Picked x ys rest
+    → Picked (f x) (map f ys) (map f rest)
 pick_map f x [] rest p = absurd p
 pick_map f x (y ∷ ys) rest p = ⊎_elim
     (λ a. inl (ap f a.0, ap (map f) a.1))
@@ -296,7 +322,9 @@ mutual
   same_der (SetOf t vs) (Sequence u ws) k = absurd k
   same_der (SetOf t vs) (SetOf u ws) k =
       let p = bag_der vs (members ws) k.1 in
-      ap₂ (λ a b. der_element a true (join b)) k.0 (arrange_paired (der_texts vs) (der_texts ws) (ders_texts ws) (subst (λ x. Paired (λ x y. x ≡ y) (der_texts vs) x) (sym (ders_map ws)) p))
+      ap₂ (λ a b. der_element a true (join b)) k.0
+      (arrange_paired (der_texts vs) (der_texts ws) (ders_texts ws)
+      (subst (λ x. Paired (λ x y. x ≡ y) (der_texts vs) x) (sym (ders_map ws)) p))
 
   row_der : (vs ws : Values) → SameInPlace vs ws → der_texts vs ≡ der_texts ws
   row_der NoMembers NoMembers k = refl

@@ -100,7 +100,8 @@ len_brief : (n : ℕ) → n < 128 → SpellsLength n (n ∷ [])
 unfolding SpellsLength
 len_brief n h = inl (h, refl, refl)
 
-len_counted : (n : ℕ) → n < 18446744073709551616 → 128 ≤ n → SpellsLength n ((128 + length (number_octets n n)) ∷ number_octets n n)
+len_counted : (n : ℕ) → n < 18446744073709551616 → 128 ≤ n
+    → SpellsLength n ((128 + length (number_octets n n)) ∷ number_octets n n)
 unfolding SpellsLength
 len_counted n h l =
     let c = number_length 8 n n (omega arith) in
@@ -115,11 +116,17 @@ shortest_len n h = ⊎_elim
 
 pub element_long : (t : Tag) (f : Bool) (c : List ℕ) → length c ≤ length (der_element t f c)
 unfolding der_element
-element_long t f c = omega (arith, length-append (identifier t f) (shortest_length (length c) ++ c), length-append (shortest_length (length c)) c)
+element_long t f c = omega (
+  arith,
+  length-append (identifier t f) (shortest_length (length c) ++ c),
+  length-append (shortest_length (length c)) c,
+)
 
-pub element_definite : (t : Tag) (f : Bool) (c : List ℕ) → length c < 18446744073709551616 → Definite t f c (der_element t f c)
+pub element_definite : (t : Tag) (f : Bool) (c : List ℕ) → length c < 18446744073709551616
+    → Definite t f c (der_element t f c)
 unfolding der_element
-element_definite t f c h = record { length_octets = shortest_length (length c); spells = shortest_len (length c) h; is = refl }
+element_definite t f c h =
+    record { length_octets = shortest_length (length c); spells = shortest_len (length c) h; is = refl }
 
 mutual
   unfolding LaidOut Tagged text
@@ -130,7 +137,8 @@ mutual
       let c : length (join (texts rs)) < 18446744073709551616 = omega (arith, element_long t true (join (texts rs))) in
       (h.0, (join (texts rs), lays_text rs h.1 c, inl (element_definite t true (join (texts rs)) c)))
 
-  lays_text : (rs : RawTrees) → AllTagged rs → length (join (texts rs)) < 18446744073709551616 → AllLaidOut rs (join (texts rs))
+  lays_text : (rs : RawTrees) → AllTagged rs → length (join (texts rs)) < 18446744073709551616
+      → AllLaidOut rs (join (texts rs))
   lays_text NoTrees h l = refl
   lays_text (FirstTree r rs) h l =
       let e = length-append (text r) (join (texts rs)) in
@@ -141,8 +149,18 @@ mutual
 element_pos : (t : Tag) (f : Bool) (c : List ℕ) → 1 ≤ length (der_element t f c)
 unfolding der_element
 element_pos t f c = ⊎_elim
-    (λ a. omega (arith, ap length a.is, length-append (identifier t f) (shortest_length (length c) ++ c), length-append (shortest_length (length c)) c))
-    (λ a. omega (arith, ap length a.is, length-append (identifier t f) (shortest_length (length c) ++ c), length-append (shortest_length (length c)) c))
+    (λ a. omega (
+      arith,
+      ap length a.is,
+      length-append (identifier t f) (shortest_length (length c) ++ c),
+      length-append (shortest_length (length c)) c,
+    ))
+    (λ a. omega (
+      arith,
+      ap length a.is,
+      length-append (identifier t f) (shortest_length (length c) ++ c),
+      length-append (shortest_length (length c)) c,
+    ))
     (shortest_cases (length c))
 
 element_some : (t : Tag) (f : Bool) (c x : List ℕ) → der_element t f c ++ x ≡ [] → ⊥
@@ -158,8 +176,10 @@ mutual
 
   pub text_alone : (r s : RawTree) (x y : List ℕ) → text r ++ x ≡ text s ++ y → (r ≡ s) × (x ≡ y)
   text_alone (Primitive t o) (Primitive u p) x y e = let a = element_alone t u false false o p x y e in (cc, a.rests)
-  text_alone (Primitive t o) (Constructed u ss) x y e = let a = element_alone t u false true o (join (texts ss)) x y e in absurd (let q : false ≡ true = a.forms in cc)
-  text_alone (Constructed t rs) (Primitive u p) x y e = let a = element_alone t u true false (join (texts rs)) p x y e in absurd (let q : true ≡ false = a.forms in cc)
+  text_alone (Primitive t o) (Constructed u ss) x y e =
+      let a = element_alone t u false true o (join (texts ss)) x y e in absurd (let q : false ≡ true = a.forms in cc)
+  text_alone (Constructed t rs) (Primitive u p) x y e =
+      let a = element_alone t u true false (join (texts rs)) p x y e in absurd (let q : true ≡ false = a.forms in cc)
   text_alone (Constructed t rs) (Constructed u ss) x y e =
       let a = element_alone t u true true (join (texts rs)) (join (texts ss)) x y e in
       let m = texts_alone rs ss a.contents in
@@ -187,7 +207,9 @@ insert_texts : (x : RawTree) (ys : List RawTree) → map text (insert_tree x ys)
 unfolding insert_tree insert_text
 insert_texts x [] = refl
 insert_texts x (y ∷ ys) =
-    elim (padded_less (text x) (text y)) as (λ b. map text (elim b [ true ↦ x ∷ y ∷ ys | false ↦ y ∷ insert_tree x ys ]) ≡ cond b (text x ∷ text y ∷ map text ys) (text y ∷ insert_text (text x) (map text ys)))
+    elim (padded_less (text x) (text y)) as (λ b.
+    map text (elim b [ true ↦ x ∷ y ∷ ys | false ↦ y ∷ insert_tree x ys ])
+    ≡ cond b (text x ∷ text y ∷ map text ys) (text y ∷ insert_text (text x) (map text ys)))
     [ true ↦ refl | false ↦ ap (λ s. text y ∷ s) (insert_texts x ys) ]
 
 pub arrange_texts : (xs : List RawTree) → map text (arrange_trees xs) ≡ arrange (map text xs)
@@ -198,7 +220,9 @@ arrange_texts (x ∷ xs) = insert_texts x (arrange_trees xs) ∙ ap (insert_text
 insert_depth : (x : RawTree) (ys : List RawTree) → depth_list (insert_tree x ys) ≡ depth_list (x ∷ ys)
 unfolding insert_tree
 insert_depth x [] = refl
-insert_depth x (y ∷ ys) = elim (padded_less (text x) (text y)) as (λ b. depth_list (elim b [ true ↦ x ∷ y ∷ ys | false ↦ y ∷ insert_tree x ys ]) ≡ depth_list (x ∷ y ∷ ys))
+insert_depth x (y ∷ ys) =
+    elim (padded_less (text x) (text y)) as
+    (λ b. depth_list (elim b [ true ↦ x ∷ y ∷ ys | false ↦ y ∷ insert_tree x ys ]) ≡ depth_list (x ∷ y ∷ ys))
     [ true ↦ refl | false ↦ omega (arith, insert_depth x ys) ]
 
 pub arrange_depth : (xs : List RawTree) → depth_list (arrange_trees xs) ≡ depth_list xs
@@ -209,7 +233,9 @@ arrange_depth (x ∷ xs) = insert_depth x (arrange_trees xs) ∙ ap (λ n. max (
 insert_tagged : (x : RawTree) (ys : List RawTree) → Tagged x → TaggedList ys → TaggedList (insert_tree x ys)
 unfolding insert_tree
 insert_tagged x [] h k = (h, tt)
-insert_tagged x (y ∷ ys) h k = elim (padded_less (text x) (text y)) as (λ b. TaggedList (elim b [ true ↦ x ∷ y ∷ ys | false ↦ y ∷ insert_tree x ys ]))
+insert_tagged x (y ∷ ys) h k =
+    elim (padded_less (text x) (text y)) as
+    (λ b. TaggedList (elim b [ true ↦ x ∷ y ∷ ys | false ↦ y ∷ insert_tree x ys ]))
     [ true ↦ (h, k) | false ↦ (k.0, insert_tagged x ys h k.1) ]
 
 pub arrange_tagged : (xs : List RawTree) → TaggedList xs → TaggedList (arrange_trees xs)
@@ -217,17 +243,21 @@ unfolding arrange_trees
 arrange_tagged [] h = tt
 arrange_tagged (x ∷ xs) h = insert_tagged x (arrange_trees xs) h.0 (arrange_tagged xs h.1)
 
-insert_paired : {B : Type 0} (R : RawTree → B → Type 0) (x : RawTree) (ys : List RawTree) (bs : List B) → Paired R (x ∷ ys) bs → Paired R (insert_tree x ys) bs
+insert_paired : {B : Type 0} (R : RawTree → B → Type 0) (x : RawTree) (ys : List RawTree) (bs : List B)
+    → Paired R (x ∷ ys) bs → Paired R (insert_tree x ys) bs
 unfolding insert_tree
 insert_paired R x [] bs h = h
 insert_paired {B} R x (y ∷ ys) bs h =
     let q = h.4 in
     let s = pick_swap h.0 q.0 bs h.1 q.1 h.2 q.2 in
     let ih = insert_paired R x ys s.between (h.0, q.1, s.second, h.3, q.4) in
-    elim (padded_less (text x) (text y)) as (λ b. Paired R (elim b [ true ↦ x ∷ y ∷ ys | false ↦ y ∷ insert_tree x ys ]) bs)
+    elim (padded_less (text x) (text y)) as
+    (λ b. Paired R (elim b [ true ↦ x ∷ y ∷ ys | false ↦ y ∷ insert_tree x ys ]) bs)
     [ true ↦ h | false ↦ (q.0, s.between, s.first, q.3, ih) ]
 
-pub arrange_paired : {B : Type 0} (R : RawTree → B → Type 0) (xs : List RawTree) (bs : List B) → Paired R xs bs → Paired R (arrange_trees xs) bs
+pub arrange_paired : {B : Type 0} (R : RawTree → B → Type 0) (xs : List RawTree) (bs : List B) → Paired R xs bs
+    → Paired R (arrange_trees xs) bs
 unfolding arrange_trees
 arrange_paired R [] bs h = h
-arrange_paired R (x ∷ xs) bs h = insert_paired R x (arrange_trees xs) bs (h.0, h.1, h.2, h.3, arrange_paired R xs h.1 h.4)
+arrange_paired R (x ∷ xs) bs h =
+    insert_paired R x (arrange_trees xs) bs (h.0, h.1, h.2, h.3, arrange_paired R xs h.1 h.4)

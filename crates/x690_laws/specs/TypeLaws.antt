@@ -10,15 +10,20 @@ use Rattle.x690.specs.TypeTerms.{Distinct, TypeTerm}
 use Rattle.x690.specs.Values.{Same, Value}
 
 abbrev pub OneValue : Type 0
-OneValue = (depth : ℕ) (type : TypeTerm) (earlier : List Value) (tree : RawTree) (v w : Value) → Fits depth type earlier tree v → Fits depth type earlier tree w → Same v w
+OneValue =
+    (depth : ℕ) (type : TypeTerm) (earlier : List Value) (tree : RawTree) (v w : Value) → Fits depth type earlier tree v
+    → Fits depth type earlier tree w → Same v w
 
 abbrev pub TextSpells : Type 0
-TextSpells = (limits : Limits) (type : TypeTerm) (value : Value) (octets : List ℕ) → Distinct type → limits.octets < 18446744073709551616 → Spells limits type value octets → Spells limits type value (der value)
+TextSpells =
+    (limits : Limits) (type : TypeTerm) (value : Value) (octets : List ℕ) → Distinct type
+    → limits.octets < 18446744073709551616 → Spells limits type value octets → Spells limits type value (der value)
 
 -- The limits may differ.
 abbrev pub OneText : Type 0
 OneText =
-    (limits limits' : Limits) (type : TypeTerm) (v w : Value) (octets octets' : List ℕ) → Distinct type → limits.octets < 2147483648
+    (limits limits' : Limits) (type : TypeTerm) (v w : Value) (octets octets' : List ℕ) → Distinct type
+    → limits.octets < 2147483648
     → Spells limits type v octets → Spells limits' type w octets' → der v ≡ der w → Same v w
 
 -- The type of all character strings and times is as the laws ask.

@@ -21,9 +21,11 @@ pub record Arrangement : Type 0 where
   pub total : (x y : List ℕ) → (padded_less x y ≡ false) ⊎ (padded_less y x ≡ false)
   pub transitive : (x y z : List ℕ) → padded_less y x ≡ false → padded_less z y ≡ false → padded_less z x ≡ false
   pub no_front : (v w : Value) (z : List ℕ) → der w ≡ der v ++ z → der v ≡ der w
-  pub no_ties : (v w : Value) → padded_less (der v) (der w) ≡ false → padded_less (der w) (der v) ≡ false → der v ≡ der w
+  pub no_ties : (v w : Value) → padded_less (der v) (der w) ≡ false → padded_less (der w) (der v) ≡ false
+      → der v ≡ der w
   pub plain_order : (v w : Value) → padded_less (der v) (der w) ≡ plain_less (der v) (der w)
-  pub one_arrangement : (values : Values) (texts : List (List ℕ)) → Ascends texts → Paired (λ x y. x ≡ y) texts (der_texts values) → texts ≡ arrange (der_texts values)
+  pub one_arrangement : (values : Values) (texts : List (List ℕ)) → Ascends texts
+      → Paired (λ x y. x ≡ y) texts (der_texts values) → texts ≡ arrange (der_texts values)
 
 -- Neither of the texts is less than the other: they are equal by the order of SET OF.
 abbrev pub EqualByOrder : List ℕ → List ℕ → Type 0

@@ -3,4 +3,8 @@ use Rattle.ber_pull.specs.View.{standing}
 use Rattle.ber_pull_bench.proofs.walk.Given as goal
 
 abbrev pub invariant-loop : goal.invariant-loop
-invariant-loop l = ((standing l.pull).error ≡ None) × ((standing l.pull).given ≡ None) × (length (standing l.pull).containers ≡ l.open) × (l.open ≤ l.counter)
+invariant-loop l =
+    ((standing l.pull).error ≡ None)
+    × ((standing l.pull).given ≡ None)
+    × (length (standing l.pull).containers ≡ l.open)
+    × (l.open ≤ l.counter)

@@ -7,4 +7,6 @@ pub returns : goal.returns
 returns c =
     let limits : Limits = record { depth = c.args.depth; octets = c.args.octets } in
     let src = c.args.src.now in
-    checked c.place_of.result (IsPlace c.args.kind limits src) (KindRefused c.args.kind limits src) _ _ c.place_of.ensures.place c.place_of.ensures.refused c.tell.ensures.checked c.tell.ensures.refused
+    checked c.place_of.result (IsPlace c.args.kind limits src)
+    (KindRefused c.args.kind limits src)
+    _ _ c.place_of.ensures.place c.place_of.ensures.refused c.tell.ensures.checked c.tell.ensures.refused

@@ -7,4 +7,6 @@ pub returns : goal.returns
 returns c =
     let limits : Limits = record { depth = c.args.depth; octets = c.args.octets } in
     let src = c.args.src.now in
-    wrote c.text_of.result (λ text. text.items) (IsText c.args.kind limits src) (KindRefused c.args.kind limits src) _ _ _ _ c.text_of.ensures.text c.text_of.ensures.refused c.deliver.ensures.put c.deliver.ensures.refused
+    wrote c.text_of.result (λ text. text.items) (IsText c.args.kind limits src)
+    (KindRefused c.args.kind limits src)
+    _ _ _ _ c.text_of.ensures.text c.text_of.ensures.refused c.deliver.ensures.put c.deliver.ensures.refused

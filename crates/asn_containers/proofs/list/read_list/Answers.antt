@@ -22,7 +22,10 @@ returns-in_err-expect_tag-clause-reads g c = λ given fine is.
     let s = c.args.pull.now.state in
     let own = c.args.tag in
     let least = c.args.least in
-    value_err c.args.pull.now c.expect_tag.new.pull (read_given (SequenceOfType own least type) s given) (λ list. Sequence own (values_of (map g.T.DerText.value (list_items list)))) c.from_residual.result c.in_err-expect_tag.field-0.0 (search rules)
+    value_err c.args.pull.now c.expect_tag.new.pull (read_given (SequenceOfType own least type) s given)
+    (λ list. Sequence own (values_of (map g.T.DerText.value (list_items list))))
+    c.from_residual.result c.in_err-expect_tag.field-0.0
+    (search rules)
     (hears_as _ _ _ _ _ _ _ (list_type_is own least type s given) (c.in_err-expect_tag.ensures.stops given fine is _))
 
 pub returns-in_err-items-clause-reads : goal.returns-in_err-items-clause-reads
@@ -35,9 +38,15 @@ returns-in_err-items-clause-reads g c = λ given fine is.
     let still = c.in_ok-expect_tag.ensures.same in
     let fine' = fine_still c.args.pull.now c.expect_tag.new.pull still fine in
     let is' = given_still c.args.pull.now c.expect_tag.new.pull given still is in
-    value_err c.args.pull.now c.read_members.new.pull (read_given (SequenceOfType own least type) s given) (λ list. Sequence own (values_of (map g.T.DerText.value (list_items list)))) c.from_residual-in_err-items.result c.in_err-items.field-0.0 (search rules)
+    value_err c.args.pull.now c.read_members.new.pull (read_given (SequenceOfType own least type) s given)
+    (λ list. Sequence own (values_of (map g.T.DerText.value (list_items list))))
+    c.from_residual-in_err-items.result c.in_err-items.field-0.0
+    (search rules)
     (hears_as _ _ _ _ _ _ _ (list_type_is own least type s given) (hears_on _ _ _ _ _ _ _ _ ok.1
-    (hears_error (read_given_members type s given) (list_of own least) _ _ _ _ _ (unmoved_answers (λ z. read_given_members type z given) c.args.pull.now c.expect_tag.new.pull c.read_members.new.pull _ still (c.in_err-items.ensures.reads given fine' is')))))
+    (hears_error (read_given_members type s given) (list_of own least) _ _ _ _ _
+    (unmoved_answers
+    (λ z. read_given_members type z given) c.args.pull.now c.expect_tag.new.pull c.read_members.new.pull _ still
+    (c.in_err-items.ensures.reads given fine' is')))))
 
 pub returns-then-len-least-clause-reads : goal.returns-then-len-least-clause-reads
 returns-then-len-least-clause-reads g c = λ given fine is.
@@ -56,9 +65,13 @@ returns-then-len-least-clause-reads g c = λ given fine is.
     let few : length c.in_ok-items.items.items < least = search rules in
     let less : length read.0 < least = omega arith in
     let none : nat_le least (length read.0) ≡ false = grind (arith, nat_tests) in
-    refused_by _ c.args.pull.now c.read_members.new.pull c.refuse.new.self (fault c.in_ok-items.at Missing) c.refuse.result first.0 first.1 c.refuse.ensures.same
+    refused_by _ c.args.pull.now c.read_members.new.pull c.refuse.new.self
+    (fault c.in_ok-items.at Missing) c.refuse.result first.0 first.1 c.refuse.ensures.same
     (hears_as _ _ _ _ _ _ _ (list_type_is own least type s given) (hears_on _ _ _ _ _ _ _ _ ok.1
-    (hears_then (read_given_members type s given) (list_of own least) (ended read.0 c.in_ok-items.at) _ _ _ _ _ _ _ (unmoved_answers (λ z. read_given_members type z given) c.args.pull.now c.expect_tag.new.pull c.read_members.new.pull _ still read.2) (hears_off _ _ _ _ _ none))))
+    (hears_then (read_given_members type s given) (list_of own least) (ended read.0 c.in_ok-items.at) _ _ _ _ _ _ _
+    (unmoved_answers
+    (λ z. read_given_members type z given) c.args.pull.now c.expect_tag.new.pull c.read_members.new.pull _ still read.2)
+    (hears_off _ _ _ _ _ none))))
 
 pub returns-in_err-row-clause-reads : goal.returns-in_err-row-clause-reads
 returns-in_err-row-clause-reads g c = λ given fine is.
@@ -72,10 +85,16 @@ returns-in_err-row-clause-reads g c = λ given fine is.
     let is' = given_still c.args.pull.now c.expect_tag.new.pull given still is in
     let read = c.in_ok-items.ensures.reads given fine' is' in
     let stop = c.in_err-row.ensures.stops in
-    value_err c.args.pull.now c.row_of.new.pull (read_given (SequenceOfType own least type) s given) (λ list. Sequence own (values_of (map g.T.DerText.value (list_items list)))) c.from_residual-in_err-row.result c.in_err-row.field-0.0 (search rules)
+    value_err c.args.pull.now c.row_of.new.pull (read_given (SequenceOfType own least type) s given)
+    (λ list. Sequence own (values_of (map g.T.DerText.value (list_items list))))
+    c.from_residual-in_err-row.result c.in_err-row.field-0.0
+    (search rules)
     (hears_as _ _ _ _ _ _ _ (list_type_is own least type s given) (hears_on _ _ _ _ _ _ _ _ ok.1
     (hears_error (read_given_members type s given) (list_of own least) c.in_err-row.field-0.0 _ _ _ _
-    (hears_then_memory _ (ended read.0 c.in_ok-items.at) c.in_err-row.field-0.0 _ _ _ _ _ _ stop.0 (ap (λ z. z.taken) stop.2) (ap g.R.Source.remaining stop.1) (unmoved_answers (λ z. read_given_members type z given) c.args.pull.now c.expect_tag.new.pull c.read_members.new.pull _ still read.2)))))
+    (hears_then_memory _ (ended read.0 c.in_ok-items.at) c.in_err-row.field-0.0 _ _ _ _ _ _ stop.0
+    (ap (λ z. z.taken) stop.2) (ap g.R.Source.remaining stop.1)
+    (unmoved_answers (λ z. read_given_members type z given)
+    c.args.pull.now c.expect_tag.new.pull c.read_members.new.pull _ still read.2)))))
 
 pub returns-clause-reads : goal.returns-clause-reads
 returns-clause-reads g c = λ given fine is.
@@ -93,10 +112,18 @@ returns-clause-reads g c = λ given fine is.
     let few : least ≤ length c.in_ok-items.items.items = search rules in
     let more : least ≤ length read.0 = omega arith in
     let enough : nat_le least (length read.0) ≡ true = grind (arith, nat_tests) in
-    let made : map g.T.DerText.value c.in_ok-items.items.items ≡ map g.T.DerText.value c.in_ok-row.row.items.items = ap (λ z. map g.T.DerText.value z.items) (sym c.in_ok-row.ensures.made) in (
+    let made : map g.T.DerText.value c.in_ok-items.items.items ≡ map g.T.DerText.value c.in_ok-row.row.items.items =
+    ap (λ z. map g.T.DerText.value z.items) (sym c.in_ok-row.ensures.made) in (
       Sequence own (values_of read.0),
       same_lists own read.0 _ (rw (← made) read.1),
-      subst (λ z. Answers c.args.pull.now z (read_given (SequenceOfType own least type) s given) (Said (Sequence own (values_of read.0)))) (sym c.in_ok-row.ensures.still)
+      subst (λ z.
+          Answers c.args.pull.now z (read_given (SequenceOfType own least type) s given)
+          (Said (Sequence own (values_of read.0))))
+          (sym c.in_ok-row.ensures.still)
           (hears_as _ _ _ _ _ _ _ (list_type_is own least type s given) (hears_on _ _ _ _ _ _ _ _ ok.1
-          (hears_then (read_given_members type s given) (list_of own least) (ended read.0 c.in_ok-items.at) _ _ _ _ _ _ _ (unmoved_answers (λ z. read_given_members type z given) c.args.pull.now c.expect_tag.new.pull c.read_members.new.pull _ still read.2) (hears_on _ _ _ _ _ _ _ _ enough (hears_done _ _ _))))),
+          (hears_then (read_given_members type s given) (list_of own least)
+          (ended read.0 c.in_ok-items.at) _ _ _ _ _ _ _
+          (unmoved_answers (λ z. read_given_members type z given)
+          c.args.pull.now c.expect_tag.new.pull c.read_members.new.pull _ still read.2)
+          (hears_on _ _ _ _ _ _ _ _ enough (hears_done _ _ _))))),
     )

@@ -17,7 +17,10 @@ invariant-loop-items g l =
     × ((standing l.pull).limits ≡ (standing l.fn.pull).limits)
     × ((standing l.fn.pull).taken ≤ (standing l.pull).taken)
     × ((standing l.fn.pull).error ≡ None)
-    × ((given : Given) → (standing l.fn.pull).given ≡ Some given → (vs : List Value) × Each Same vs (map g.T.DerText.value l.items.items) × Inside (read_type (standing l.fn.pull).limits g.T.Element.type_term []) (read_given_members g.T.Element.type_term (standing l.fn.pull) given) l.fn.pull l.pull vs)
+    × ((given : Given) → (standing l.fn.pull).given ≡ Some given
+    → (vs : List Value) × Each Same vs (map g.T.DerText.value l.items.items)
+    × Inside (read_type (standing l.fn.pull).limits g.T.Element.type_term [])
+    (read_given_members g.T.Element.type_term (standing l.fn.pull) given) l.fn.pull l.pull vs)
 
 abbrev pub decreases-loop-items : goal.decreases-loop-items
 decreases-loop-items g l = (standing l.pull).limits.octets - (standing l.pull).taken

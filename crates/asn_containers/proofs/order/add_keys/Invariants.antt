@@ -3,4 +3,6 @@ use Rattle.x690.specs.DerTexts.{texts_of}
 use Rattle.asn_containers.proofs.order.add_keys.Given as goal
 
 abbrev pub invariant-loop-item : goal.invariant-loop-item
-invariant-loop-item g l = (map (λ k. k.item) l.keys.items ≡ l.yielded) × (l.rest ≡ texts_of (map g.T.DerText.value l.item-iterator.rest.items))
+invariant-loop-item g l =
+    (map (λ k. k.item) l.keys.items ≡ l.yielded)
+    × (l.rest ≡ texts_of (map g.T.DerText.value l.item-iterator.rest.items))

@@ -14,12 +14,16 @@ few_ascend f (item ∷ []) h = refl
 few_ascend f (item ∷ next ∷ items) h = absurd (omega arith)
 
 pub returns-then-len-lt2-clause-in_order : goal.returns-then-len-lt2-clause-in_order
-returns-then-len-lt2-clause-in_order g c = few_ascend g.T.DerText.value c.shrink_to_fit.new.self.items (omega (arith, c.if-len-lt2.true, c.len.ensures, c.shrink_to_fit.new.self.ok))
+returns-then-len-lt2-clause-in_order g c =
+    few_ascend g.T.DerText.value c.shrink_to_fit.new.self.items
+    (omega (arith, c.if-len-lt2.true, c.len.ensures, c.shrink_to_fit.new.self.ok))
 
 pub returns-clause-same : goal.returns-clause-same
 returns-clause-same g c =
-    let p = IsPermutation-map (λ k. k.item) c.in_ok-keys.keys.items c.sort_unstable.new.self.items c.sort_unstable.ensures.permutation in
-    subst (λ z. IsPermutation z c.in_ok-sorted.sorted.items) (c.in_ok-keys.ensures ∙ c.shrink_to_fit.ensures.items) (subst (λ z. IsPermutation (map (λ k. k.item) c.in_ok-keys.keys.items) z) (sym c.in_ok-sorted.ensures) p)
+    let p = IsPermutation-map
+    (λ k. k.item) c.in_ok-keys.keys.items c.sort_unstable.new.self.items c.sort_unstable.ensures.permutation in
+    subst (λ z. IsPermutation z c.in_ok-sorted.sorted.items) (c.in_ok-keys.ensures ∙ c.shrink_to_fit.ensures.items)
+    (subst (λ z. IsPermutation (map (λ k. k.item) c.in_ok-keys.keys.items) z) (sym c.in_ok-sorted.ensures) p)
 
 pub returns-clause-in_order : goal.returns-clause-in_order
 returns-clause-in_order g c =

@@ -9,7 +9,8 @@ returns-then-size-content-clause-none g c = λ e.
     let xs = c.args.items.now in
     let i = c.loop-item.item-index in
     let x = c.item-item.result in
-    let t = texts_left_one (map f xs) i (f x) (within_map f xs i c.loop-item-test.true) (nth_value f xs i x c.loop-item-test.true c.item-item.is) in
+    let t = texts_left_one (map f xs) i (f x) (within_map f xs i c.loop-item-test.true)
+    (nth_value f xs i x c.loop-item-test.true c.item-item.is) in
     let k = c.loop-item.invariant.1 in
     let s = c.size-size.ensures in
     let h = c.if-size-content.true in
@@ -22,7 +23,8 @@ loop-item-preserved g c =
     let xs = c.args.items.now in
     let i = c.loop-item.item-index in
     let x = c.item-item.result in
-    let t = texts_left_one (map f xs) i (f x) (within_map f xs i c.loop-item-test.true) (nth_value f xs i x c.loop-item-test.true c.item-item.is) in
+    let t = texts_left_one (map f xs) i (f x) (within_map f xs i c.loop-item-test.true)
+    (nth_value f xs i x c.loop-item-test.true c.item-item.is) in
     let k = c.loop-item.invariant.1 in
     let s = c.size-size.ensures in
     let h = c.if-size-content.false in

@@ -12,7 +12,9 @@ put-requires g c =
     let xs = c.args.items.now in
     let i = c.loop-item.item-index in
     let x = c.item-item.result in
-    member_room (map f xs) i (f x) (within_map f xs i c.loop-item-test.true) (nth_value f xs i x c.loop-item-test.true c.item-item.is) c.args.sink.now c.loop-item.sink c.loop-item.sink _ c.loop-item.invariant c.requires.room
+    member_room (map f xs) i (f x) (within_map f xs i c.loop-item-test.true)
+    (nth_value f xs i x c.loop-item-test.true c.item-item.is)
+    c.args.sink.now c.loop-item.sink c.loop-item.sink _ c.loop-item.invariant c.requires.room
 
 pub loop-item-preserved : goal.loop-item-preserved
 loop-item-preserved g c =
@@ -20,7 +22,9 @@ loop-item-preserved g c =
     let xs = c.args.items.now in
     let i = c.loop-item.item-index in
     let x = c.item-item.result in
-    member_put (map f xs) i (f x) (within_map f xs i c.loop-item-test.true) (nth_value f xs i x c.loop-item-test.true c.item-item.is) c.args.sink.now c.loop-item.sink c.put.new.sink c.loop-item.invariant c.in_ok-put.ensures
+    member_put (map f xs) i (f x) (within_map f xs i c.loop-item-test.true)
+    (nth_value f xs i x c.loop-item-test.true c.item-item.is)
+    c.args.sink.now c.loop-item.sink c.put.new.sink c.loop-item.invariant c.in_ok-put.ensures
 
 pub returns-in_err-put : goal.returns-in_err-put
 returns-in_err-put g c =
@@ -28,4 +32,7 @@ returns-in_err-put g c =
     let xs = c.args.items.now in
     let i = c.loop-item.item-index in
     let x = c.item-item.result in
-    member_stop (map f xs) i (f x) (within_map f xs i c.loop-item-test.true) (nth_value f xs i x c.loop-item-test.true c.item-item.is) c.args.sink.now c.loop-item.sink c.put.new.sink c.from_residual.result c.in_err-put.field-0.0 (search rules) c.loop-item.invariant c.in_err-put.ensures
+    member_stop (map f xs) i (f x) (within_map f xs i c.loop-item-test.true)
+    (nth_value f xs i x c.loop-item-test.true c.item-item.is)
+    c.args.sink.now c.loop-item.sink c.put.new.sink c.from_residual.result c.in_err-put.field-0.0
+    (search rules) c.loop-item.invariant c.in_err-put.ensures

@@ -10,7 +10,8 @@ overflow_add-content g c =
     let xs = c.args.items.now in
     let i = c.loop-item.item-index in
     let x = c.item-item.result in
-    let t = texts_left_one (map f xs) i (f x) (within_map f xs i c.loop-item-test.true) (nth_value f xs i x c.loop-item-test.true c.item-item.is) in
+    let t = texts_left_one (map f xs) i (f x) (within_map f xs i c.loop-item-test.true)
+    (nth_value f xs i x c.loop-item-test.true c.item-item.is) in
     let k = c.loop-item.invariant.0 in
     let r = c.requires in
     let e = c.size-content.ensures in omega arith
@@ -25,5 +26,10 @@ loop-item-preserved g c =
     let n = nth_value f xs i x c.loop-item-test.true c.item-item.is in
     let t = texts_left_one (map f xs) i (f x) w n in
     let k = c.loop-item.invariant.0 in
-    let e = c.size-content.ensures in
-    (omega arith, ap (λ z. z ++ starts_from (c.loop-item.content + c.size-content.result) (drop (i + 1) (map f xs))) c.in_ok-push.ensures.items ∙ (starts_more_one c.loop-item.starts.items c.loop-item.content c.size-content.result i (map f xs) (f x) w n e ∙ c.loop-item.invariant.1))
+    let e = c.size-content.ensures in (
+      omega arith,
+      ap (λ z. z ++ starts_from (c.loop-item.content + c.size-content.result) (drop (i + 1) (map f xs)))
+          c.in_ok-push.ensures.items
+          ∙ (starts_more_one c.loop-item.starts.items c.loop-item.content c.size-content.result i (map f xs) (f x) w n e
+          ∙ c.loop-item.invariant.1),
+    )

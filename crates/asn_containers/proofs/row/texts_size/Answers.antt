@@ -9,7 +9,8 @@ overflow_add-size g c =
     let xs = c.args.items.now in
     let i = c.loop-item.item-index in
     let x = c.item-item.result in
-    let t = texts_left_one (map f xs) i (f x) (within_map f xs i c.loop-item-test.true) (nth_value f xs i x c.loop-item-test.true c.item-item.is) in
+    let t = texts_left_one (map f xs) i (f x) (within_map f xs i c.loop-item-test.true)
+    (nth_value f xs i x c.loop-item-test.true c.item-item.is) in
     let k = c.loop-item.invariant in
     let r = c.requires in
     let e = c.size-size.ensures in omega arith
@@ -20,6 +21,7 @@ loop-item-preserved g c =
     let xs = c.args.items.now in
     let i = c.loop-item.item-index in
     let x = c.item-item.result in
-    let t = texts_left_one (map f xs) i (f x) (within_map f xs i c.loop-item-test.true) (nth_value f xs i x c.loop-item-test.true c.item-item.is) in
+    let t = texts_left_one (map f xs) i (f x) (within_map f xs i c.loop-item-test.true)
+    (nth_value f xs i x c.loop-item-test.true c.item-item.is) in
     let k = c.loop-item.invariant in
     let e = c.size-size.ensures in omega arith

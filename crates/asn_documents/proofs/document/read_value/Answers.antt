@@ -13,12 +13,14 @@ pub returns-then-size-from-clause-reads : goal.returns-then-size-from-clause-rea
 returns-then-size-from-clause-reads g c =
     let l = c.args.limits in
     let x = c.in_ok-value.ensures.reads in
-    let long : l.octets < length (der (g.T.DerText.value c.in_ok-value.value)) = omega (arith, c.if-size-from.true, c.size.ensures, c.from.ensures, c.octets.ensures.value) in
+    let long : l.octets < length (der (g.T.DerText.value c.in_ok-value.value)) =
+    omega (arith, c.if-size-from.true, c.size.ensures, c.from.ensures, c.octets.ensures.value) in
     too_long l g.T.Element.type_term x.0 (g.T.DerText.value c.in_ok-value.value) _ _ _ x.1 long x.2
 
 pub returns-clause-reads : goal.returns-clause-reads
 returns-clause-reads g c =
     let l = c.args.limits in
     let x = c.in_ok-value.ensures.reads in
-    let short : length (der (g.T.DerText.value c.in_ok-value.value)) ≤ l.octets = omega (arith, c.if-size-from.false, c.size.ensures, c.from.ensures, c.octets.ensures.value) in
+    let short : length (der (g.T.DerText.value c.in_ok-value.value)) ≤ l.octets =
+    omega (arith, c.if-size-from.false, c.size.ensures, c.from.ensures, c.octets.ensures.value) in
     said l g.T.Element.type_term x.0 (g.T.DerText.value c.in_ok-value.value) _ _ _ x.1 short x.2

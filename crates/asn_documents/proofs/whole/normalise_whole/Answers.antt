@@ -5,16 +5,24 @@ use Rattle.asn_documents.proofs.whole.normalise_whole.Goals as goal
 
 pub returns-in_err-value-clause-refused : goal.returns-in_err-value-clause-refused
 returns-in_err-value-clause-refused g c =
-    let unread = unread_whole c.args.limits g.T.Element.type_term c.in_err-value.field-0.0 (g.R.Source.remaining c.args.src.now) (g.R.Source.remaining c.read_whole_input.new.src) c.requires.lawful c.in_err-value.ensures.reads in
+    let unread =
+    unread_whole c.args.limits g.T.Element.type_term c.in_err-value.field-0.0 (g.R.Source.remaining c.args.src.now)
+    (g.R.Source.remaining c.read_whole_input.new.src) c.requires.lawful c.in_err-value.ensures.reads in
     search rules
 
 pub returns-in_err-written-clause-refused : goal.returns-in_err-written-clause-refused
 returns-in_err-written-clause-refused g c =
-    let part = in_part c.args.limits g.T.Element.type_term (g.T.DerText.value c.in_ok-value.value) (g.R.Source.remaining c.args.src.now) (g.R.Source.remaining c.read_whole_input.new.src) (g.W.Target.contents c.args.dst.now) (g.W.Target.contents c.write_value.new.dst) c.in_ok-value.taken c.in_err-written.field-0.0.written c.requires.lawful (search rules) c.in_ok-value.ensures.reads
+    let part = in_part c.args.limits g.T.Element.type_term (g.T.DerText.value c.in_ok-value.value)
+    (g.R.Source.remaining c.args.src.now) (g.R.Source.remaining c.read_whole_input.new.src)
+    (g.W.Target.contents c.args.dst.now)
+    (g.W.Target.contents c.write_value.new.dst) c.in_ok-value.taken c.in_err-written.field-0.0.written c.requires.lawful
+    (search rules) c.in_ok-value.ensures.reads
     c.in_err-written.ensures.0 c.in_err-written.ensures.1 in
     search rules
 
 pub returns-clause-normalised : goal.returns-clause-normalised
 returns-clause-normalised g c =
-    normalised_as c.args.limits g.T.Element.type_term (g.T.DerText.value c.in_ok-value.value) _ _ _ _ c.in_ok-value.taken c.in_ok-written.written c.requires.lawful (search rules) c.in_ok-value.ensures.reads
+    normalised_as c.args.limits g.T.Element.type_term
+    (g.T.DerText.value c.in_ok-value.value) _ _ _ _ c.in_ok-value.taken c.in_ok-written.written c.requires.lawful
+    (search rules) c.in_ok-value.ensures.reads
     c.in_ok-written.ensures.1 c.in_ok-written.ensures.0

@@ -5,5 +5,7 @@ pub returns : goal.returns
 returns g c =
     let value = g.T.DerText.value c.args.value.now in
     let other = g.T.DerText.value c.args.other.now in
-    let one = c.have_one_text.ensures in
-    (λ same. g.T.DerText.one_text c.args.value.now c.args.other.now (one.0 same), λ same. one.1 (canonical value other same))
+    let one = c.have_one_text.ensures in (
+      λ same. g.T.DerText.one_text c.args.value.now c.args.other.now (one.0 same),
+      λ same. one.1 (canonical value other same),
+    )

@@ -7,4 +7,9 @@ use Rattle.asn_elements.proofs.leaf.leaf_size.Goals as goal
 pub returns : goal.returns
 returns c =
     let xs = c.args.contents.now in
-    omega (arith, c.element_size.ensures false, ap length (der_leaf c.args.tag xs), length-append (der_header c.args.tag false (length xs)) xs)
+    omega (
+      arith,
+      c.element_size.ensures false,
+      ap length (der_leaf c.args.tag xs),
+      length-append (der_header c.args.tag false (length xs)) xs,
+    )

@@ -12,14 +12,17 @@ pub returns-in_err-unused-clause-reads : goal.returns-in_err-unused-clause-reads
 returns-in_err-unused-clause-reads g c = λ own given fine is.
     let s = c.args.pull.now.state in
     hears_err _ _ c.from_residual.result c.in_err-unused.field-0.0 _ _ _ _ (search rules)
-    (hears_same _ _ _ _ _ _ _ (bits_leaf_is own s given) (hears_error (read_bits s given) (bits_leaf own) _ _ _ _ _ (c.in_err-unused.ensures.reads given fine is)))
+    (hears_same _ _ _ _ _ _ _ (bits_leaf_is own s given)
+    (hears_error (read_bits s given) (bits_leaf own) _ _ _ _ _ (c.in_err-unused.ensures.reads given fine is)))
 
 pub returns-in-Ok-clause-reads : goal.returns-in-Ok-clause-reads
 returns-in-Ok-clause-reads g c = λ own given fine is.
     let s = c.args.pull.now.state in
     let whole : c.insert.new.self.items ≡ c.in_ok-unused.unused ∷ c.in_ok-unused.octets.items = search rules in
     hears_said _ _ _ _ _ _ _ (ap (Leaf own) (sym whole))
-    (hears_same _ _ _ _ _ _ _ (bits_leaf_is own s given) (hears_then (read_bits s given) (bits_leaf own) (c.in_ok-unused.unused, c.in_ok-unused.octets.items) _ _ _ _ _ _ _ (c.in_ok-unused.ensures.reads given fine is) (hears_done _ _ _)))
+    (hears_same _ _ _ _ _ _ _ (bits_leaf_is own s given)
+    (hears_then (read_bits s given) (bits_leaf own) (c.in_ok-unused.unused, c.in_ok-unused.octets.items) _ _ _ _ _ _ _
+    (c.in_ok-unused.ensures.reads given fine is) (hears_done _ _ _)))
 
 pub returns-in-Err-clause-reads : goal.returns-in-Err-clause-reads
 returns-in-Err-clause-reads g c = λ own given fine is.
@@ -27,7 +30,9 @@ returns-in-Err-clause-reads g c = λ own given fine is.
     let first = c.no_memory.ensures.first (search rules) in
     hears_same _ _ _ _ _ _ _ (bits_leaf_is own s given)
     (hears_error (read_bits s given) (bits_leaf own) c.no_memory.result _ _ _ _
-    (hears_then_memory _ (c.in_ok-unused.unused, c.in_ok-unused.octets.items) c.no_memory.result _ _ _ _ _ _ first.0 (ap (λ z. z.taken) first.1) (ap g.R.Source.remaining c.no_memory.ensures.same) (c.in_ok-unused.ensures.reads given fine is)))
+    (hears_then_memory _ (c.in_ok-unused.unused, c.in_ok-unused.octets.items) c.no_memory.result _ _ _ _ _ _ first.0
+    (ap (λ z. z.taken) first.1) (ap g.R.Source.remaining c.no_memory.ensures.same)
+    (c.in_ok-unused.ensures.reads given fine is)))
 
 pub returns-in-Ok-clause-bits : goal.returns-in-Ok-clause-bits
 returns-in-Ok-clause-bits g c =

@@ -11,16 +11,25 @@ use Rattle.asn_elements.proofs.object_identifier.read_identifier_as.Goals as goa
 
 pub returns-in_err-expect_tag-clause-reads : goal.returns-in_err-expect_tag-clause-reads
 returns-in_err-expect_tag-clause-reads g c = λ given fine is.
-    value_err c.args.pull.now c.expect_tag.new.pull (read_given (LeafType c.args.own ObjectIdentifier) c.args.pull.now.state given) (λ v. Leaf c.args.own v) c.from_residual.result c.in_err-expect_tag.field-0.0 (search rules)
-    (hears_as _ _ _ _ _ _ _ (leaf_type_is c.args.own ObjectIdentifier c.args.pull.now.state given) (c.in_err-expect_tag.ensures.stops given fine is _))
+    value_err c.args.pull.now c.expect_tag.new.pull
+    (read_given (LeafType c.args.own ObjectIdentifier) c.args.pull.now.state given)
+    (λ v. Leaf c.args.own v) c.from_residual.result c.in_err-expect_tag.field-0.0 (search rules)
+    (hears_as _ _ _ _ _ _ _ (leaf_type_is c.args.own ObjectIdentifier c.args.pull.now.state given)
+    (c.in_err-expect_tag.ensures.stops given fine is _))
 
 pub returns-in_err-oid-clause-reads : goal.returns-in_err-oid-clause-reads
 returns-in_err-oid-clause-reads g c = λ given fine is.
     let ok = c.in_ok-expect_tag.ensures.is given fine is in
-    value_err c.args.pull.now c.read_identifier.new.pull (read_given (LeafType c.args.own ObjectIdentifier) c.args.pull.now.state given) (λ v. Leaf c.args.own v) c.from_residual-in_err-oid.result c.in_err-oid.field-0.0 (search rules)
+    value_err c.args.pull.now c.read_identifier.new.pull
+    (read_given (LeafType c.args.own ObjectIdentifier) c.args.pull.now.state given)
+    (λ v. Leaf c.args.own v) c.from_residual-in_err-oid.result c.in_err-oid.field-0.0 (search rules)
     (hears_as _ _ _ _ _ _ _ (leaf_type_is c.args.own ObjectIdentifier c.args.pull.now.state given)
-    (hears_on _ _ _ _ _ _ _ _ ok.1 (unmoved_answers (λ s. read_given_leaf ObjectIdentifier c.args.own s given) c.args.pull.now c.expect_tag.new.pull c.read_identifier.new.pull _ c.in_ok-expect_tag.ensures.same
-    (c.in_err-oid.ensures.reads c.args.own given (fine_still c.args.pull.now c.expect_tag.new.pull c.in_ok-expect_tag.ensures.same fine) (given_still c.args.pull.now c.expect_tag.new.pull given c.in_ok-expect_tag.ensures.same is)))))
+    (hears_on _ _ _ _ _ _ _ _ ok.1
+    (unmoved_answers (λ s. read_given_leaf ObjectIdentifier c.args.own s given)
+    c.args.pull.now c.expect_tag.new.pull c.read_identifier.new.pull _ c.in_ok-expect_tag.ensures.same
+    (c.in_err-oid.ensures.reads c.args.own given
+    (fine_still c.args.pull.now c.expect_tag.new.pull c.in_ok-expect_tag.ensures.same fine)
+    (given_still c.args.pull.now c.expect_tag.new.pull given c.in_ok-expect_tag.ensures.same is)))))
 
 pub returns-clause-reads : goal.returns-clause-reads
 returns-clause-reads g c = λ given fine is.
@@ -29,6 +38,10 @@ returns-clause-reads g c = λ given fine is.
       v,
       equivalence.same_refl v,
       hears_as _ _ _ _ _ _ _ (leaf_type_is c.args.own ObjectIdentifier c.args.pull.now.state given)
-          (hears_on _ _ _ _ _ _ _ _ ok.1 (unmoved_answers (λ s. read_given_leaf ObjectIdentifier c.args.own s given) c.args.pull.now c.expect_tag.new.pull c.read_identifier.new.pull _ c.in_ok-expect_tag.ensures.same
-          (c.in_ok-oid.ensures.reads c.args.own given (fine_still c.args.pull.now c.expect_tag.new.pull c.in_ok-expect_tag.ensures.same fine) (given_still c.args.pull.now c.expect_tag.new.pull given c.in_ok-expect_tag.ensures.same is)))),
+          (hears_on _ _ _ _ _ _ _ _ ok.1
+          (unmoved_answers (λ s. read_given_leaf ObjectIdentifier c.args.own s given)
+          c.args.pull.now c.expect_tag.new.pull c.read_identifier.new.pull _ c.in_ok-expect_tag.ensures.same
+          (c.in_ok-oid.ensures.reads c.args.own given
+          (fine_still c.args.pull.now c.expect_tag.new.pull c.in_ok-expect_tag.ensures.same fine)
+          (given_still c.args.pull.now c.expect_tag.new.pull given c.in_ok-expect_tag.ensures.same is)))),
     )

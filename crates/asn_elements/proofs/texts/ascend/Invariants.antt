@@ -8,4 +8,6 @@ use Rattle.asn_elements.specs.Members.{StandIn}
 use Rattle.asn_elements.proofs.texts.ascend.Given as goal
 
 abbrev pub invariant-loop-i : goal.invariant-loop-i
-invariant-loop-i l = (values : List Value) → StandIn values l.octets l.starts → AllAdjacentBelow (λ text next. is_lt (slice_cmp nat_cmp next text) ≡ false) (map der values) l.i
+invariant-loop-i l =
+    (values : List Value) → StandIn values l.octets l.starts
+    → AllAdjacentBelow (λ text next. is_lt (slice_cmp nat_cmp next text) ≡ false) (map der values) l.i

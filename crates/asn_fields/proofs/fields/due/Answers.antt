@@ -21,10 +21,18 @@ pub returns-in_err-next-clause-reads : goal.returns-in_err-next-clause-reads
 returns-in_err-next-clause-reads g c = λ earlier outer inside a.
     let read = c.in_ok-field.ensures.reads earlier outer inside a in
     with_error _ _ c.from_residual-in_err-next.result c.in_err-next.field-0.0 (search rules)
-    (take_then _ _ _ _ _ _ _ _ _ _ (hears_then _ _ read.0 _ _ _ _ _ _ _ read.2 (hears_error _ _ _ _ _ _ _ (c.in_err-next.ensures.reads outer inside (c.in_ok-field.ensures.stands outer inside a)))))
+    (take_then _ _ _ _ _ _ _ _ _ _
+    (hears_then _ _ read.0 _ _ _ _ _ _ _ read.2
+    (hears_error _ _ _ _ _ _ _
+    (c.in_err-next.ensures.reads outer inside (c.in_ok-field.ensures.stands outer inside a)))))
 
 pub returns-clause-reads : goal.returns-clause-reads
 returns-clause-reads g c = λ earlier outer inside a.
     let read = c.in_ok-field.ensures.reads earlier outer inside a in
-    let behind = c.in_ok-next.ensures.reads outer inside (c.in_ok-field.ensures.stands outer inside a) in
-    (read.0, read.1, take_then _ _ _ _ _ _ _ _ _ _ (hears_then _ _ read.0 _ _ _ _ _ _ _ read.2 (hears_then _ _ (next_of c.in_ok-next.field-0) _ _ _ _ _ _ _ behind (hears_done _ _ _))))
+    let behind = c.in_ok-next.ensures.reads outer inside (c.in_ok-field.ensures.stands outer inside a) in (
+      read.0,
+      read.1,
+      take_then _ _ _ _ _ _ _ _ _ _
+          (hears_then _ _ read.0 _ _ _ _ _ _ _ read.2
+          (hears_then _ _ (next_of c.in_ok-next.field-0) _ _ _ _ _ _ _ behind (hears_done _ _ _))),
+    )

@@ -26,17 +26,26 @@ use Rattle.asn_open_values.proofs.open_value.+open.Goals as goal
 pub append_container-returns-in_err-octets-clause-reads : goal.append_container-returns-in_err-octets-clause-reads
 append_container-returns-in_err-octets-clause-reads g t c = λ deep given fine is bound.
     let s = c.args.pull.now.state in
-    text_err c.args.pull.now c.read_members.new.pull (read_given_container deep c.args.is_set c.args.tag s given) _ _ c.from_residual.result c.in_err-octets.field-0.0 (search rules)
-    (hears_error (read_given_open_members deep s given) (λ e. Done (container c.args.is_set c.args.tag (values_of e.all))) _ _ _ _ _ (c.in_err-octets.ensures.reads deep given fine is bound))
+    text_err c.args.pull.now c.read_members.new.pull
+    (read_given_container deep c.args.is_set c.args.tag s given) _ _ c.from_residual.result c.in_err-octets.field-0.0
+    (search rules)
+    (hears_error (read_given_open_members deep s given)
+    (λ e. Done (container c.args.is_set c.args.tag (values_of e.all))) _ _ _ _ _
+    (c.in_err-octets.ensures.reads deep given fine is bound))
 
 pub append_container-returns-in_err-contents-clause-reads : goal.append_container-returns-in_err-contents-clause-reads
 append_container-returns-in_err-contents-clause-reads g t c = λ deep given fine is bound.
     let s = c.args.pull.now.state in
     let read = c.in_ok-octets.ensures.reads deep given fine is bound in
     let stop = c.in_err-contents.ensures.stops in
-    text_err c.args.pull.now c.arranged.new.pull (read_given_container deep c.args.is_set c.args.tag s given) _ _ c.from_residual-in_err-contents.result c.in_err-contents.field-0.0 (search rules)
-    (hears_error (read_given_open_members deep s given) (λ e. Done (container c.args.is_set c.args.tag (values_of e.all))) c.in_err-contents.field-0.0 _ _ _ _
-    (hears_then_memory _ (ended read.0 read.1) c.in_err-contents.field-0.0 _ _ _ _ _ _ stop.0 (ap (λ z. z.taken) stop.2) (ap g.R.Source.remaining stop.1) read.3))
+    text_err c.args.pull.now c.arranged.new.pull
+    (read_given_container deep c.args.is_set c.args.tag s given)
+    _ _ c.from_residual-in_err-contents.result c.in_err-contents.field-0.0
+    (search rules)
+    (hears_error (read_given_open_members deep s given)
+    (λ e. Done (container c.args.is_set c.args.tag (values_of e.all))) c.in_err-contents.field-0.0 _ _ _ _
+    (hears_then_memory _ (ended read.0 read.1) c.in_err-contents.field-0.0 _ _ _ _ _ _ stop.0 (ap (λ z. z.taken) stop.2)
+    (ap g.R.Source.remaining stop.1) read.3))
 
 pub append_container-returns-clause-reads : goal.append_container-returns-clause-reads
 append_container-returns-clause-reads g t c = λ deep given fine is bound.
@@ -48,7 +57,9 @@ append_container-returns-clause-reads g t c = λ deep given fine is bound.
     let der_is : der v ≡ framed c.args.tag contents = c.in_ok-contents.ensures.is read.0 c.args.tag (search rules) in
     text_put c.args.pull.now c.arranged.new.pull c.append_element.new.pull p v _ _ _
     (subst (λ z. Answers c.args.pull.now z p (Said v)) (sym c.in_ok-contents.ensures.still)
-    (hears_then (read_given_open_members deep s given) (λ e. Done (container c.args.is_set c.args.tag (values_of e.all))) (ended read.0 read.1) _ _ _ _ _ _ _ read.3 (hears_done _ _ _)))
+    (hears_then (read_given_open_members deep s given)
+    (λ e. Done (container c.args.is_set c.args.tag (values_of e.all))) (ended read.0 read.1) _ _ _ _ _ _ _ read.3
+    (hears_done _ _ _)))
     (rw der_is (search rules))
     c.append_element.ensures.still
     c.append_element.ensures.stops
@@ -58,59 +69,86 @@ append_open-returns-in-Refused-clause-reads g t c = λ deep given fine is bound.
     let next = c.requires.next fine in
     let tied = subst (λ o. IfSome o (λ g. (g.tag ≡ c.args.tag) × (g.constructed ≡ c.args.constructed))) is next.1 in
     let first = c.refuse.ensures.first (search rules) in
-    open_refused c.args.pull.now c.args.pull.now c.refuse.new.self (refl, refl) next.0.depth_fits deep given fine is bound c.refuse.result
+    open_refused c.args.pull.now c.args.pull.now c.refuse.new.self
+    (refl, refl) next.0.depth_fits deep given fine is bound c.refuse.result
     (ap open_form tied.0 ∙ (sym c.open_form-form.ensures ∙ ap form_of c.in-Refused.is))
-    (first.0 ∙ ap (λ p. errors.Fault (fault p LeftOut)) (c.at-at.ensures.value ∙ place_given c.args.pull.now.state given is)) first.1 c.refuse.ensures.same
+    (first.0
+    ∙ ap (λ p. errors.Fault (fault p LeftOut)) (c.at-at.ensures.value ∙ place_given c.args.pull.now.state given is))
+    first.1 c.refuse.ensures.same
 
 pub append_open-returns-in-SetOf-clause-reads : goal.append_open-returns-in-SetOf-clause-reads
 append_open-returns-in-SetOf-clause-reads g t c = λ deep given fine is bound.
     let next = c.requires.next fine in
     let tied = subst (λ o. IfSome o (λ g. (g.tag ≡ c.args.tag) × (g.constructed ≡ c.args.constructed))) is next.1 in
-    open_by c.args.pull.now c.args.pull.now c.append_container-in-SetOf.new.pull (refl, refl) next.0.depth_fits deep given fine is bound (λ d s. read_given_container d true c.args.tag s given) _ _ _
-    (λ d. set_by d c.args.pull.now.state given c.args.tag (sym tied.0) (sym c.open_form-form.ensures ∙ ap form_of c.in-SetOf.is))
+    open_by c.args.pull.now c.args.pull.now c.append_container-in-SetOf.new.pull
+    (refl, refl) next.0.depth_fits deep given fine is bound
+    (λ d s. read_given_container d true c.args.tag s given) _ _ _
+    (λ d.
+    set_by d c.args.pull.now.state given c.args.tag (sym tied.0)
+    (sym c.open_form-form.ensures ∙ ap form_of c.in-SetOf.is))
     (λ d fine' is' bound'. c.append_container-in-SetOf.ensures.reads d given fine' is' bound')
 
 pub append_open-returns-in-Sequence-clause-reads : goal.append_open-returns-in-Sequence-clause-reads
 append_open-returns-in-Sequence-clause-reads g t c = λ deep given fine is bound.
     let next = c.requires.next fine in
     let tied = subst (λ o. IfSome o (λ g. (g.tag ≡ c.args.tag) × (g.constructed ≡ c.args.constructed))) is next.1 in
-    open_by c.args.pull.now c.args.pull.now c.append_container.new.pull (refl, refl) next.0.depth_fits deep given fine is bound (λ d s. read_given_container d false c.args.tag s given) _ _ _
-    (λ d. sequence_by d c.args.pull.now.state given c.args.tag (sym tied.0) (sym c.open_form-form.ensures ∙ ap form_of c.in-Sequence.is))
+    open_by c.args.pull.now c.args.pull.now c.append_container.new.pull
+    (refl, refl) next.0.depth_fits deep given fine is bound
+    (λ d s. read_given_container d false c.args.tag s given) _ _ _
+    (λ d.
+    sequence_by d c.args.pull.now.state given c.args.tag (sym tied.0)
+    (sym c.open_form-form.ensures ∙ ap form_of c.in-Sequence.is))
     (λ d fine' is' bound'. c.append_container.ensures.reads d given fine' is' bound')
 
 pub append_open-returns-in-Plain-clause-reads : goal.append_open-returns-in-Plain-clause-reads
 append_open-returns-in-Plain-clause-reads g t c = λ deep given fine is bound.
     let next = c.requires.next fine in
     let tied = subst (λ o. IfSome o (λ g. (g.tag ≡ c.args.tag) × (g.constructed ≡ c.args.constructed))) is next.1 in
-    open_by c.args.pull.now c.args.pull.now c.append_container-in-Plain.new.pull (refl, refl) next.0.depth_fits deep given fine is bound (λ d s. read_given_container d false c.args.tag s given) _ _ _
-    (λ d. plain_by d c.args.pull.now.state given c.args.tag (sym tied.0) (tied.1 ∙ c.if-constructed.true) (sym c.open_form-form.ensures ∙ ap form_of c.in-Plain.is))
+    open_by c.args.pull.now c.args.pull.now c.append_container-in-Plain.new.pull
+    (refl, refl) next.0.depth_fits deep given fine is bound
+    (λ d s. read_given_container d false c.args.tag s given) _ _ _
+    (λ d.
+    plain_by d c.args.pull.now.state given c.args.tag (sym tied.0) (tied.1 ∙ c.if-constructed.true)
+    (sym c.open_form-form.ensures ∙ ap form_of c.in-Plain.is))
     (λ d fine' is' bound'. c.append_container-in-Plain.ensures.reads d given fine' is' bound')
 
 pub append_open-returns-in-Plain-2-clause-reads : goal.append_open-returns-in-Plain-2-clause-reads
 append_open-returns-in-Plain-2-clause-reads g t c = λ deep given fine is bound.
     let next = c.requires.next fine in
     let tied = subst (λ o. IfSome o (λ g. (g.tag ≡ c.args.tag) × (g.constructed ≡ c.args.constructed))) is next.1 in
-    open_by c.args.pull.now c.args.pull.now c.append_leaf-in-Plain-2.new.pull (refl, refl) next.0.depth_fits deep given fine is bound (λ d s. read_given_contents c.open_form-form.result c.args.tag s given) _ _ _
-    (λ d. octets_by d c.args.pull.now.state given c.args.tag c.open_form-form.result (sym tied.0) (tied.1 ∙ c.if-constructed.false) c.in-Plain-2.is c.open_form-form.ensures)
+    open_by c.args.pull.now c.args.pull.now c.append_leaf-in-Plain-2.new.pull
+    (refl, refl) next.0.depth_fits deep given fine is bound
+    (λ d s. read_given_contents c.open_form-form.result c.args.tag s given) _ _ _
+    (λ d.
+    octets_by d c.args.pull.now.state given c.args.tag c.open_form-form.result (sym tied.0)
+    (tied.1 ∙ c.if-constructed.false) c.in-Plain-2.is c.open_form-form.ensures)
     (λ d fine' is' bound'. c.append_leaf-in-Plain-2.ensures.reads given fine' is')
 
 pub append_open-returns-in-Leaf-clause-reads : goal.append_open-returns-in-Leaf-clause-reads
 append_open-returns-in-Leaf-clause-reads g t c = λ deep given fine is bound.
     let next = c.requires.next fine in
     let tied = subst (λ o. IfSome o (λ g. (g.tag ≡ c.args.tag) × (g.constructed ≡ c.args.constructed))) is next.1 in
-    open_by c.args.pull.now c.args.pull.now c.append_leaf.new.pull (refl, refl) next.0.depth_fits deep given fine is bound (λ d s. read_given_contents c.open_form-form.result c.args.tag s given) _ _ _
-    (λ d. leaf_by d c.args.pull.now.state given c.args.tag c.open_form-form.result (sym tied.0) c.in-Leaf.is c.open_form-form.ensures)
+    open_by c.args.pull.now c.args.pull.now c.append_leaf.new.pull
+    (refl, refl) next.0.depth_fits deep given fine is bound
+    (λ d s. read_given_contents c.open_form-form.result c.args.tag s given) _ _ _
+    (λ d.
+    leaf_by d c.args.pull.now.state given c.args.tag c.open_form-form.result
+    (sym tied.0) c.in-Leaf.is c.open_form-form.ensures)
     (λ d fine' is' bound'. c.append_leaf.ensures.reads given fine' is')
 
 pub read_members-returns-in_err-enter-clause-reads : goal.read_members-returns-in_err-enter-clause-reads
 read_members-returns-in_err-enter-clause-reads g t c = λ deep given fine is bound.
     let s = c.args.pull.now.state in
-    texts_err c.args.pull.now c.enter.new.self (read_given_open_members deep s given) _ _ c.from_residual.result c.in_err-enter.field-0.0 (search rules)
-    (inside_never (λ inside. read_open deep s.limits inside) c.args.pull.now c.enter.new.self given c.in_err-enter.field-0.0 (c.in_err-enter.ensures.reads given fine is))
+    texts_err c.args.pull.now c.enter.new.self
+    (read_given_open_members deep s given) _ _ c.from_residual.result c.in_err-enter.field-0.0 (search rules)
+    (inside_never
+    (λ inside. read_open deep s.limits inside) c.args.pull.now c.enter.new.self given c.in_err-enter.field-0.0
+    (c.in_err-enter.ensures.reads given fine is))
 
 pub read_members-loop-starts-init : goal.read_members-loop-starts-init
 read_members-loop-starts-init g t c =
-    let fine : c.args.pull.now.state.error ≡ None = none_by c.args.pull.now.state.error (λ e h. let r = (c.in_ok-enter.ensures.repeats e h).0 in cc) in
+    let fine : c.args.pull.now.state.error ≡ None =
+    none_by c.args.pull.now.state.error (λ e h. let r = (c.in_ok-enter.ensures.repeats e h).0 in cc) in
     let stands = c.in_ok-enter.ensures.stands in (
       search rules,
       search rules,
@@ -120,42 +158,72 @@ read_members-loop-starts-init g t c =
       fine,
       (let e = ap (λ z. length z.containers) stands.1 in omega (arith, e)),
       λ deep given is bound.
-          let limits = c.args.pull.now.state.limits in
-          ([], search rules, inside_start (λ inside. read_open deep limits inside) c.args.pull.now c.enter.new.self given stands.0 is (search rules) c.in_ok-enter.ensures.same_source stands.1 c.in_ok-enter.ensures.advances (c.in_ok-enter.ensures.reads given fine is)),
+          let limits = c.args.pull.now.state.limits in (
+            [],
+            search rules,
+            inside_start (λ inside. read_open deep limits inside) c.args.pull.now c.enter.new.self given stands.0 is
+                (search rules) c.in_ok-enter.ensures.same_source stands.1 c.in_ok-enter.ensures.advances
+                (c.in_ok-enter.ensures.reads given fine is),
+          ),
     )
 
 pub read_members-returns-in_err-tag-clause-reads : goal.read_members-returns-in_err-tag-clause-reads
 read_members-returns-in_err-tag-clause-reads g t c = λ deep given fine is bound.
     let i = (c.loop-starts.invariant.7 deep given is bound).2 in
-    texts_err c.args.pull.now c.next_tag.new.self (read_given_open_members deep c.args.pull.now.state given) _ _ c.from_residual-in_err-tag.result c.in_err-tag.field-0.0 (search rules)
-    (inside_error _ _ c.args.pull.now c.loop-starts.pull _ i c.next_tag.new.self c.in_err-tag.field-0.0 (c.in_err-tag.ensures.reads i.fine))
+    texts_err c.args.pull.now c.next_tag.new.self
+    (read_given_open_members deep c.args.pull.now.state given)
+    _ _ c.from_residual-in_err-tag.result c.in_err-tag.field-0.0
+    (search rules)
+    (inside_error _ _ c.args.pull.now c.loop-starts.pull _ i c.next_tag.new.self c.in_err-tag.field-0.0
+    (c.in_err-tag.ensures.reads i.fine))
 
 pub read_members-returns-in_err-append_open-clause-reads : goal.read_members-returns-in_err-append_open-clause-reads
 read_members-returns-in_err-append_open-clause-reads g t c = λ deep given fine is bound.
     let before = c.loop-starts.invariant.7 deep given is bound in
     let i = before.2 in
-    let next = hears_said _ _ _ _ _ _ _ (ap (next_at (place c.loop-starts.pull.state)) c.in-Some.is) (c.in_ok-tag.ensures.reads i.fine) in
-    let stands = c.in_ok-tag.ensures.stands i.none_given ∙ ap (λ z. after_next c.next_tag.new.self.state.taken z c.loop-starts.pull.state) c.in-Some.is in
-    let new-given : Given = record { at = c.loop-starts.pull.state.taken; tag = c.in-Some.tag; constructed = c.in-Some.constructed } in
-    let room = room_now deep c.args.pull.now c.loop-starts.pull c.next_tag.new.self c.append_open.new.pull given before.0 i c.in-Some.tag c.in-Some.constructed next stands bound in
+    let next = hears_said _ _ _ _ _ _ _ (ap (next_at (place c.loop-starts.pull.state)) c.in-Some.is)
+    (c.in_ok-tag.ensures.reads i.fine) in
+    let stands = c.in_ok-tag.ensures.stands i.none_given
+    ∙ ap (λ z. after_next c.next_tag.new.self.state.taken z c.loop-starts.pull.state) c.in-Some.is in
+    let new-given : Given =
+    record { at = c.loop-starts.pull.state.taken; tag = c.in-Some.tag; constructed = c.in-Some.constructed } in
+    let room = room_now deep c.args.pull.now c.loop-starts.pull c.next_tag.new.self c.append_open.new.pull given
+    before.0 i c.in-Some.tag c.in-Some.constructed next stands bound in
     let read = c.in_err-append_open.ensures.reads deep new-given (search rules) (ap (λ z. z.given) stands) room in
-    texts_err c.args.pull.now c.append_open.new.pull (read_given_open_members deep c.args.pull.now.state given) _ _ c.from_residual-in_err-append_open.result c.in_err-append_open.field-0.0 (search rules)
-    (member_stops deep c.args.pull.now c.loop-starts.pull c.next_tag.new.self c.append_open.new.pull given before.0 i c.in-Some.tag c.in-Some.constructed next stands c.in_err-append_open.field-0.0 read)
+    texts_err c.args.pull.now c.append_open.new.pull
+    (read_given_open_members deep c.args.pull.now.state given)
+    _ _ c.from_residual-in_err-append_open.result c.in_err-append_open.field-0.0
+    (search rules)
+    (member_stops deep c.args.pull.now c.loop-starts.pull c.next_tag.new.self c.append_open.new.pull given before.0 i
+    c.in-Some.tag c.in-Some.constructed next stands c.in_err-append_open.field-0.0 read)
 
 pub read_members-returns-in_err-keep-clause-reads : goal.read_members-returns-in_err-keep-clause-reads
 read_members-returns-in_err-keep-clause-reads g t c = λ deep given fine is bound.
     let before = c.loop-starts.invariant.7 deep given is bound in
     let i = before.2 in
-    let next = hears_said _ _ _ _ _ _ _ (ap (next_at (place c.loop-starts.pull.state)) c.in-Some.is) (c.in_ok-tag.ensures.reads i.fine) in
-    let stands = c.in_ok-tag.ensures.stands i.none_given ∙ ap (λ z. after_next c.next_tag.new.self.state.taken z c.loop-starts.pull.state) c.in-Some.is in
-    let fits = subst (λ o. IfSome o (λ t. IsGiven t.0 c.next_tag.new.self.state)) c.in-Some.is c.in_ok-tag.ensures.fits in
-    let new-given : Given = record { at = c.loop-starts.pull.state.taken; tag = c.in-Some.tag; constructed = c.in-Some.constructed } in
-    let room = room_now deep c.args.pull.now c.loop-starts.pull c.next_tag.new.self c.append_open.new.pull given before.0 i c.in-Some.tag c.in-Some.constructed next stands bound in
+    let next = hears_said _ _ _ _ _ _ _ (ap (next_at (place c.loop-starts.pull.state)) c.in-Some.is)
+    (c.in_ok-tag.ensures.reads i.fine) in
+    let stands = c.in_ok-tag.ensures.stands i.none_given
+    ∙ ap (λ z. after_next c.next_tag.new.self.state.taken z c.loop-starts.pull.state) c.in-Some.is in
+    let fits =
+    subst (λ o. IfSome o (λ t. IsGiven t.0 c.next_tag.new.self.state)) c.in-Some.is c.in_ok-tag.ensures.fits in
+    let new-given : Given =
+    record { at = c.loop-starts.pull.state.taken; tag = c.in-Some.tag; constructed = c.in-Some.constructed } in
+    let room = room_now deep c.args.pull.now c.loop-starts.pull c.next_tag.new.self c.append_open.new.pull given
+    before.0 i c.in-Some.tag c.in-Some.constructed next stands bound in
     let read = c.in_ok-append_open.ensures.reads deep new-given (search rules) (ap (λ z. z.given) stands) room in
-    let more = member_more deep c.args.pull.now c.loop-starts.pull c.next_tag.new.self c.append_open.new.pull given before.0 i c.in-Some.tag c.in-Some.constructed next stands read.0 read.2 c.in_ok-tag.ensures.same_source c.in_ok-append_open.ensures.same_source c.in_ok-append_open.ensures.stands (search rules) c.in_ok-append_open.ensures.onward.forward (search rules) fits in
+    let more = member_more deep c.args.pull.now c.loop-starts.pull c.next_tag.new.self c.append_open.new.pull given
+    before.0 i c.in-Some.tag c.in-Some.constructed next stands read.0 read.2 c.in_ok-tag.ensures.same_source
+    c.in_ok-append_open.ensures.same_source c.in_ok-append_open.ensures.stands
+    (search rules) c.in_ok-append_open.ensures.onward.forward (search rules) fits in
     let stop = c.in_err-keep.ensures.stops in
-    texts_err c.args.pull.now c.keep.new.pull (read_given_open_members deep c.args.pull.now.state given) _ _ c.from_residual-in_err-keep.result c.in_err-keep.field-0.0 (search rules)
-    (inside_memory _ _ c.args.pull.now c.append_open.new.pull (before.0 ++ read.0 ∷ []) more c.keep.new.pull c.in_err-keep.field-0.0 stop.0 (ap (λ z. z.taken) stop.2) (ap g.R.Source.remaining stop.1))
+    texts_err c.args.pull.now c.keep.new.pull
+    (read_given_open_members deep c.args.pull.now.state given)
+    _ _ c.from_residual-in_err-keep.result c.in_err-keep.field-0.0
+    (search rules)
+    (inside_memory _ _ c.args.pull.now c.append_open.new.pull
+    (before.0 ++ read.0 ∷ []) more c.keep.new.pull c.in_err-keep.field-0.0 stop.0 (ap (λ z. z.taken) stop.2)
+    (ap g.R.Source.remaining stop.1))
 
 pub read_members-loop-starts-preserved : goal.read_members-loop-starts-preserved
 read_members-loop-starts-preserved g t c = (
@@ -165,29 +233,55 @@ read_members-loop-starts-preserved g t c = (
   search rules,
   search rules,
   c.loop-starts.invariant.5,
-  (let stands = c.in_ok-tag.ensures.stands c.loop-starts.invariant.2 ∙ ap (λ z. after_next c.next_tag.new.self.state.taken z c.loop-starts.pull.state) c.in-Some.is in
-      omega (arith, c.loop-starts.invariant.6, ap (λ z. length z.containers) stands, ap (λ z. length z.containers) c.in_ok-append_open.ensures.stands, ap (λ z. length z.state.containers) c.in_ok-keep.ensures.still)),
+  (let stands = c.in_ok-tag.ensures.stands c.loop-starts.invariant.2
+      ∙ ap (λ z. after_next c.next_tag.new.self.state.taken z c.loop-starts.pull.state) c.in-Some.is in
+      omega (
+        arith,
+        c.loop-starts.invariant.6,
+        ap (λ z. length z.containers) stands,
+        ap (λ z. length z.containers) c.in_ok-append_open.ensures.stands,
+        ap (λ z. length z.state.containers) c.in_ok-keep.ensures.still,
+      )),
   λ deep given is bound.
       let before = c.loop-starts.invariant.7 deep given is bound in
       let i = before.2 in
-      let next = hears_said _ _ _ _ _ _ _ (ap (next_at (place c.loop-starts.pull.state)) c.in-Some.is) (c.in_ok-tag.ensures.reads i.fine) in
-      let stands = c.in_ok-tag.ensures.stands i.none_given ∙ ap (λ z. after_next c.next_tag.new.self.state.taken z c.loop-starts.pull.state) c.in-Some.is in
-      let fits = subst (λ o. IfSome o (λ t. IsGiven t.0 c.next_tag.new.self.state)) c.in-Some.is c.in_ok-tag.ensures.fits in
-      let new-given : Given = record { at = c.loop-starts.pull.state.taken; tag = c.in-Some.tag; constructed = c.in-Some.constructed } in
-      let room = room_now deep c.args.pull.now c.loop-starts.pull c.next_tag.new.self c.append_open.new.pull given before.0 i c.in-Some.tag c.in-Some.constructed next stands bound in
+      let next = hears_said _ _ _ _ _ _ _ (ap (next_at (place c.loop-starts.pull.state)) c.in-Some.is)
+      (c.in_ok-tag.ensures.reads i.fine) in
+      let stands = c.in_ok-tag.ensures.stands i.none_given
+      ∙ ap (λ z. after_next c.next_tag.new.self.state.taken z c.loop-starts.pull.state) c.in-Some.is in
+      let fits =
+      subst (λ o. IfSome o (λ t. IsGiven t.0 c.next_tag.new.self.state)) c.in-Some.is c.in_ok-tag.ensures.fits in
+      let new-given : Given =
+      record { at = c.loop-starts.pull.state.taken; tag = c.in-Some.tag; constructed = c.in-Some.constructed } in
+      let room = room_now deep c.args.pull.now c.loop-starts.pull c.next_tag.new.self c.append_open.new.pull given
+      before.0 i c.in-Some.tag c.in-Some.constructed next stands bound in
       let read = c.in_ok-append_open.ensures.reads deep new-given (search rules) (ap (λ z. z.given) stands) room in
-      let more = member_more deep c.args.pull.now c.loop-starts.pull c.next_tag.new.self c.append_open.new.pull given before.0 i c.in-Some.tag c.in-Some.constructed next stands read.0 read.2 c.in_ok-tag.ensures.same_source c.in_ok-append_open.ensures.same_source c.in_ok-append_open.ensures.stands (search rules) c.in_ok-append_open.ensures.onward.forward (search rules) fits in
-      (before.0 ++ read.0 ∷ [], stand_more _ _ _ _ before.0 read.0 c.len-start.result before.1 read.1 c.in_ok-keep.ensures.kept (search rules), subst (λ z. Members deep c.args.pull.now given z (before.0 ++ read.0 ∷ [])) (sym c.in_ok-keep.ensures.still) more),
+      let more = member_more deep c.args.pull.now c.loop-starts.pull c.next_tag.new.self c.append_open.new.pull given
+      before.0 i c.in-Some.tag c.in-Some.constructed next stands read.0 read.2 c.in_ok-tag.ensures.same_source
+      c.in_ok-append_open.ensures.same_source c.in_ok-append_open.ensures.stands
+      (search rules) c.in_ok-append_open.ensures.onward.forward (search rules) fits in (
+        before.0 ++ read.0 ∷ [],
+        stand_more _ _ _ _ before.0 read.0 c.len-start.result before.1 read.1 c.in_ok-keep.ensures.kept (search rules),
+        subst (λ z. Members deep c.args.pull.now given z (before.0 ++ read.0 ∷ []))
+            (sym c.in_ok-keep.ensures.still) more,
+      ),
 )
 
 pub read_members-returns-clause-reads : goal.read_members-returns-clause-reads
 read_members-returns-clause-reads g t c = λ deep given fine is bound.
     let before = c.loop-starts.invariant.7 deep given is bound in
     let i = before.2 in
-    let next = hears_said _ _ _ _ _ _ _ (ap (next_at (place c.loop-starts.pull.state)) c.in_default.is) (c.in_ok-tag.ensures.reads i.fine) in
+    let next = hears_said _ _ _ _ _ _ _ (ap (next_at (place c.loop-starts.pull.state)) c.in_default.is)
+    (c.in_ok-tag.ensures.reads i.fine) in
     let end = c.in_ok-tag.ensures.ends i.none_given c.in_default.is in
-    let done = c.in_ok-leave.ensures.ended (search rules) end in
-    (before.0, place c.loop-starts.pull.state, before.1, hears_at _ _ _ _ _ _ _ _ (ap (λ z. z.taken) done.2) (ap g.R.Source.remaining done.1) (inside_ends _ _ c.args.pull.now c.loop-starts.pull before.0 i c.next_tag.new.self (place c.loop-starts.pull.state) next))
+    let done = c.in_ok-leave.ensures.ended (search rules) end in (
+      before.0,
+      place c.loop-starts.pull.state,
+      before.1,
+      hears_at _ _ _ _ _ _ _ _ (ap (λ z. z.taken) done.2) (ap g.R.Source.remaining done.1)
+          (inside_ends _ _ c.args.pull.now c.loop-starts.pull before.0 i c.next_tag.new.self
+          (place c.loop-starts.pull.state) next),
+    )
 
 pub read_members-returns-clause-texts : goal.read_members-returns-clause-texts
 read_members-returns-clause-texts g t c =
@@ -201,10 +295,12 @@ read_members-returns-clause-stands g t c =
     let s = c.args.pull.now.state in
     let given = some_given s.given (c.requires c.loop-starts.invariant.5) in
     let i = (c.loop-starts.invariant.7 s.limits.depth given.0 given.1 (omega arith)).2 in
-    let stands = c.in_ok-tag.ensures.stands i.none_given ∙ ap (λ z. after_next c.next_tag.new.self.state.taken z c.loop-starts.pull.state) c.in_default.is in
+    let stands = c.in_ok-tag.ensures.stands i.none_given
+    ∙ ap (λ z. after_next c.next_tag.new.self.state.taken z c.loop-starts.pull.state) c.in_default.is in
     let done = (c.in_ok-leave.ensures.ended (search rules) (c.in_ok-tag.ensures.ends i.none_given c.in_default.is)).2 in
     all_used c.leave.new.self.state s
     (ap (λ z. z.limits) done ∙ (ap (λ z. z.limits) stands ∙ i.limits))
     (ap (λ z. z.given) done ∙ (ap (λ z. z.given) stands ∙ i.none_given))
-    (left c.loop-starts.pull.state c.next_tag.new.self.state c.leave.new.self.state i.container s.containers c.next_tag.new.self.state.taken i.containers stands done)
+    (left c.loop-starts.pull.state c.next_tag.new.self.state c.leave.new.self.state i.container s.containers
+    c.next_tag.new.self.state.taken i.containers stands done)
     (ap (λ z. z.error) done ∙ (ap (λ z. z.error) stands ∙ (i.fine ∙ sym c.loop-starts.invariant.5)))

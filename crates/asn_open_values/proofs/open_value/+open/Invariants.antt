@@ -31,7 +31,11 @@ invariant-read_members-loop-starts g l =
     × ((standing l.fn.pull).taken ≤ (standing l.pull).taken)
     × ((standing l.fn.pull).error ≡ None)
     × (length (standing l.pull).containers ≡ length (standing l.fn.pull).containers + 1)
-    × ((deep : ℕ) (given : Given) → (standing l.fn.pull).given ≡ Some given → (standing l.fn.pull).limits.depth ≤ suc deep + length (standing l.fn.pull).containers → (vs : List Value) × StandIn vs l.octets.items l.starts.items × Inside (λ inside. read_open deep (standing l.fn.pull).limits inside) (read_given_open_members deep (standing l.fn.pull) given) l.fn.pull l.pull vs)
+    × ((deep : ℕ) (given : Given) → (standing l.fn.pull).given ≡ Some given
+    → (standing l.fn.pull).limits.depth ≤ suc deep + length (standing l.fn.pull).containers
+    → (vs : List Value) × StandIn vs l.octets.items l.starts.items
+    × Inside (λ inside. read_open deep (standing l.fn.pull).limits inside)
+    (read_given_open_members deep (standing l.fn.pull) given) l.fn.pull l.pull vs)
 
 abbrev pub decreases-read_members-loop-starts : goal.decreases-read_members-loop-starts
 decreases-read_members-loop-starts g l = (standing l.pull).limits.octets - (standing l.pull).taken

@@ -15,4 +15,5 @@ returns-then-not-is_set-clause-is g c = λ values tag are.
 pub returns-in-Ok-clause-is : goal.returns-in-Ok-clause-is
 returns-in-Ok-clause-is g c = λ values tag are.
     let yes : c.args.is_set ≡ true = search rules in
-    ap (λ b. der (container b tag (values_of values))) yes ∙ (arranged_text tag values ∙ ap (framed tag) (sym (c.in-Ok.ensures.sorted values are)))
+    ap (λ b. der (container b tag (values_of values))) yes
+    ∙ (arranged_text tag values ∙ ap (framed tag) (sym (c.in-Ok.ensures.sorted values are)))

@@ -9,7 +9,9 @@ pub loop-i-preserved : goal.loop-i-preserved
 loop-i-preserved c = λ values stands.
     let n = ap length stands.1 ∙ (starts_length 0 values ∙ sym (length-map values der)) in
     let inside : c.loop-i.i < length (map der values) = omega (arith, c.loop-i-test.true) in
-    ap (map (λ t. t.now)) c.in_ok-push.ensures.items ∙ cut_more (λ t. t.now) c.loop-i.texts.items c.text_at.result (map der values) c.loop-i.i inside (c.loop-i.invariant values stands) (c.text_at.ensures values stands)
+    ap (map (λ t. t.now)) c.in_ok-push.ensures.items
+    ∙ cut_more (λ t. t.now) c.loop-i.texts.items c.text_at.result (map der values) c.loop-i.i inside
+    (c.loop-i.invariant values stands) (c.text_at.ensures values stands)
 
 pub returns : goal.returns
 returns c = λ values stands.

@@ -19,20 +19,27 @@ returns-then-ascend-clause-sorted c = λ values stands.
 
 pub returns-in_err-texts-clause-still : goal.returns-in_err-texts-clause-still
 returns-in_err-texts-clause-still c = λ values stands sorted.
-    let yes : c.ascend.result ≡ true = (c.ascend.ensures values (c.deref.ensures.value ∙ stands.0, stands.1)).1 sorted in
+    let yes : c.ascend.result ≡ true =
+    (c.ascend.ensures values (c.deref.ensures.value ∙ stands.0, stands.1)).1 sorted in
     absurd cc
 
 pub returns-clause-still : goal.returns-clause-still
 returns-clause-still c = λ values stands sorted.
-    let yes : c.ascend.result ≡ true = (c.ascend.ensures values (c.deref.ensures.value ∙ stands.0, stands.1)).1 sorted in
+    let yes : c.ascend.result ≡ true =
+    (c.ascend.ensures values (c.deref.ensures.value ∙ stands.0, stands.1)).1 sorted in
     absurd cc
 
 pub returns-clause-sorted : goal.returns-clause-sorted
 returns-clause-sorted c =
     let texts = c.sort_unstable.new.self.items in
-    IfOk-weaker c.joined.result (λ s. s.items ≡ join (map (λ t. t.now) c.deref-3.result.now)) (λ s. (values : List Value) → StandIn values c.args.octets.items c.args.starts.now → s.items ≡ join (arrange (map der values)))
+    IfOk-weaker c.joined.result (λ s. s.items ≡ join (map (λ t. t.now) c.deref-3.result.now)) (λ s.
+    (values : List Value) → StandIn values c.args.octets.items c.args.starts.now
+    → s.items ≡ join (arrange (map der values)))
     (λ s is values stands.
     let moved = IsPermutation-map (λ t. t.now) c.in_ok-texts.texts.items texts c.sort_unstable.ensures.permutation in
-    let p = subst (λ z. IsPermutation z (map (λ t. t.now) texts)) (c.in_ok-texts.ensures values (c.deref-2.ensures.value ∙ stands.0, stands.1)) moved in
-    is ∙ (ap (λ z. join (map (λ t. t.now) z)) c.deref-3.ensures.value ∙ ap join (sorted_arranged (λ t. t.now) values texts p c.sort_unstable.ensures.sorted)))
+    let p = subst (λ z. IsPermutation z (map (λ t. t.now) texts))
+    (c.in_ok-texts.ensures values (c.deref-2.ensures.value ∙ stands.0, stands.1)) moved in
+    is
+    ∙ (ap (λ z. join (map (λ t. t.now) z)) c.deref-3.ensures.value
+    ∙ ap join (sorted_arranged (λ t. t.now) values texts p c.sort_unstable.ensures.sorted)))
     c.joined.ensures

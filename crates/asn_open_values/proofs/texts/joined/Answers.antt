@@ -8,4 +8,5 @@ loop-text-preserved c =
     let i = c.loop-text.text-index in
     let d : Bor (List ℕ) = record { ref_ptr = (0, 0); now = [] } in
     c.in_ok-extend_from_slice.ensures.items
-    ∙ (ap (λ z. z ++ (get_or texts i d).now) c.loop-text.invariant ∙ sym (joined_more (λ t. t.now) texts i d c.loop-text-test.true))
+    ∙ (ap (λ z. z ++ (get_or texts i d).now) c.loop-text.invariant
+    ∙ sym (joined_more (λ t. t.now) texts i d c.loop-text-test.true))

@@ -15,6 +15,10 @@ returns g c =
     let old = string_bytes c.args.text.now in
     let new = string_bytes c.push_set.new.text in
     let first = line (codes "attributes: ") (decimal c.len.result) in
-    in_words c.push_set.result new old (first ++ flat_map lines members) _ (past c.push_set.result new (string_bytes c.push_number_line.new.text) old first (flat_map lines members) c.in_ok-push_number_line.ensures c.push_set.ensures)
+    in_words c.push_set.result new old (first ++ flat_map lines members) _
+    (past c.push_set.result new (string_bytes c.push_number_line.new.text) old first
+    (flat_map lines members) c.in_ok-push_number_line.ensures c.push_set.ensures)
     (ap (λ n. line (codes "attributes: ") (decimal n) ++ flat_map lines members) c.len.ensures
-    ∙ ap (λ (o : Option (Bor (SetOf g.row.T.Denot g.T.DerText))). attributes_lines lines (option_map (λ set. set_items set) (option_map (λ r. r.now) o))) (sym c.in-Some.is))
+    ∙ ap (λ (o : Option (Bor (SetOf g.row.T.Denot g.T.DerText))).
+    attributes_lines lines (option_map (λ set. set_items set) (option_map (λ r. r.now) o)))
+    (sym c.in-Some.is))

@@ -22,12 +22,16 @@ loop-i-preserved c =
     c.in_ok-push_list.ensures
     ∙ ap (λ s. s ++ flat_map extension_line extensions) c.in_ok-push_number_line.ensures
     ∙ ap (λ n. (old ++ line (codes "  extensions: ") (decimal n)) ++ flat_map extension_line extensions) c.len.ensures
-    ∙ append_assoc old (line (codes "  extensions: ") (decimal (length extensions))) (flat_map extension_line extensions)
+    ∙ append_assoc old (line (codes "  extensions: ") (decimal (length extensions)))
+    (flat_map extension_line extensions)
     ∙ ap (λ s. s ++ extensions_lines extensions) c.loop-i.invariant
-    ∙ next_part list_items extensions_lines (string_bytes c.args.text.now) (set_items c.args.lists.now) c.loop-i.i c.in-Some.extensions.now c.in-Some.ensures.member
+    ∙ next_part list_items extensions_lines (string_bytes c.args.text.now)
+    (set_items c.args.lists.now) c.loop-i.i c.in-Some.extensions.now c.in-Some.ensures.member
 
 pub returns : goal.returns
 returns c =
     let count = c.len-i-end.ensures in
     let test = c.loop-i-test.false in
-    c.loop-i.invariant ∙ all_parts list_items extensions_lines (string_bytes c.args.text.now) (set_items c.args.lists.now) c.loop-i.i (omega arith)
+    c.loop-i.invariant
+    ∙ all_parts list_items extensions_lines (string_bytes c.args.text.now) (set_items c.args.lists.now) c.loop-i.i
+    (omega arith)

@@ -10,7 +10,8 @@ use Rattle.pk_show.proofs.attributes.push_plain.Goals as goal
 
 pub unreachable-requires : goal.unreachable-requires
 unreachable-requires c =
-    neither (one_of (request_attribute_type_of c.args.attribute.now) (extension_request ∷ [])) (sym c.requires) c.in_default.ensures.by_type
+    neither (one_of (request_attribute_type_of c.args.attribute.now) (extension_request ∷ []))
+    (sym c.requires) c.in_default.ensures.by_type
 
 pub returns : goal.returns
 unfolding request_attribute_lines
@@ -18,6 +19,8 @@ returns c =
     let it = c.args.attribute.now in
     let values = c.in-Some.values.now in
     let lines = flat_map value_line (set_items values) in
-    in_words c.push_values.result (string_bytes c.push_values.new.text) (string_bytes c.args.text.now) (attribute_line c.id.result.now (length (set_items values)) ++ lines) (request_attribute_lines it) c.push_values.ensures
+    in_words c.push_values.result (string_bytes c.push_values.new.text) (string_bytes c.args.text.now)
+    (attribute_line c.id.result.now (length (set_items values)) ++ lines)
+    (request_attribute_lines it) c.push_values.ensures
     (ap (λ id. attribute_line id (length (set_items values)) ++ lines) c.id.ensures
     ∙ plain_shown (request_attribute_type_of it) (request_attribute_values_of it) values c.in-Some.ensures.value)

@@ -12,5 +12,10 @@ returns c =
     let new = string_bytes c.push_octets_line.new.text in
     let first = algorithm_lines (codes "algorithm: ") (codes "parameters: ") c.algorithm.result.now in
     let second = octets_line (codes "encrypted key: ") (length c.octets-2.result.now) in
-    in_words c.push_octets_line.result new old (first ++ second) (encrypted_lines c.args.key.now) (past c.push_octets_line.result new (string_bytes c.push_algorithm.new.text) old first second c.in_ok-push_algorithm.ensures c.push_octets_line.ensures)
-    (ap₂ (λ it octets. algorithm_lines (codes "algorithm: ") (codes "parameters: ") it ++ octets_line (codes "encrypted key: ") (length octets)) c.algorithm.ensures (c.octets-2.ensures ∙ ap octets_of c.octets.ensures))
+    in_words c.push_octets_line.result new old (first ++ second) (encrypted_lines c.args.key.now)
+    (past c.push_octets_line.result new
+    (string_bytes c.push_algorithm.new.text) old first second c.in_ok-push_algorithm.ensures c.push_octets_line.ensures)
+    (ap₂ (λ it octets.
+    algorithm_lines (codes "algorithm: ") (codes "parameters: ") it
+    ++ octets_line (codes "encrypted key: ") (length octets)) c.algorithm.ensures
+    (c.octets-2.ensures ∙ ap octets_of c.octets.ensures))

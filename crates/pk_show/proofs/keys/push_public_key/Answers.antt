@@ -11,5 +11,9 @@ returns c =
     let new = string_bytes c.push_bits_line.new.text in
     let first = algorithm_lines c.args.label.now c.args.parameters_label.now c.algorithm.result.now in
     let second = line (codes "public key: ") (bits_said c.key.result.now) in
-    in_words c.push_bits_line.result new old (first ++ second) (public_key_lines c.args.label.now c.args.parameters_label.now c.args.key.now) (past c.push_bits_line.result new (string_bytes c.push_algorithm.new.text) old first second c.in_ok-push_algorithm.ensures c.push_bits_line.ensures)
-    (ap₂ (λ a b. a ++ b) (ap (algorithm_lines c.args.label.now c.args.parameters_label.now) c.algorithm.ensures) (ap (λ bits. line (codes "public key: ") (bits_said bits)) c.key.ensures.value))
+    in_words c.push_bits_line.result new old (first ++ second)
+    (public_key_lines c.args.label.now c.args.parameters_label.now c.args.key.now)
+    (past c.push_bits_line.result new
+    (string_bytes c.push_algorithm.new.text) old first second c.in_ok-push_algorithm.ensures c.push_bits_line.ensures)
+    (ap₂ (λ a b. a ++ b) (ap (algorithm_lines c.args.label.now c.args.parameters_label.now) c.algorithm.ensures)
+    (ap (λ bits. line (codes "public key: ") (bits_said bits)) c.key.ensures.value))

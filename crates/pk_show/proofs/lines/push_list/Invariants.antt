@@ -3,4 +3,5 @@ use Rattle.asn_containers.specs.Containers.{list_items}
 use Rattle.pk_show.proofs.lines.push_list.Given as goal
 
 abbrev pub invariant-loop-i : goal.invariant-loop-i
-invariant-loop-i g l = string_bytes l.text ≡ string_bytes l.fn.text ++ flat_map g.T.Shown.lines (take l.i (list_items l.list))
+invariant-loop-i g l =
+    string_bytes l.text ≡ string_bytes l.fn.text ++ flat_map g.T.Shown.lines (take l.i (list_items l.list))

@@ -15,10 +15,12 @@ unreachable-requires g c =
 pub loop-i-preserved : goal.loop-i-preserved
 loop-i-preserved g c =
     c.in_ok-push_lines.ensures ∙ ap (λ s. s ++ g.T.Shown.lines c.in-Some.member.now) c.loop-i.invariant
-    ∙ next_member g.T.Shown.lines (string_bytes c.args.text.now) (set_items c.args.set.now) c.loop-i.i c.in-Some.member.now c.in-Some.ensures.member
+    ∙ next_member g.T.Shown.lines (string_bytes c.args.text.now)
+    (set_items c.args.set.now) c.loop-i.i c.in-Some.member.now c.in-Some.ensures.member
 
 pub returns : goal.returns
 returns g c =
     let count = c.len-i-end.ensures in
     let test = c.loop-i-test.false in
-    c.loop-i.invariant ∙ all_members g.T.Shown.lines (string_bytes c.args.text.now) (set_items c.args.set.now) c.loop-i.i (omega arith)
+    c.loop-i.invariant
+    ∙ all_members g.T.Shown.lines (string_bytes c.args.text.now) (set_items c.args.set.now) c.loop-i.i (omega arith)

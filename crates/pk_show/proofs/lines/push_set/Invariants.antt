@@ -3,4 +3,5 @@ use Rattle.asn_containers.specs.Containers.{set_items}
 use Rattle.pk_show.proofs.lines.push_set.Given as goal
 
 abbrev pub invariant-loop-i : goal.invariant-loop-i
-invariant-loop-i g l = string_bytes l.text ≡ string_bytes l.fn.text ++ flat_map g.T.Shown.lines (take l.i (set_items l.set))
+invariant-loop-i g l =
+    string_bytes l.text ≡ string_bytes l.fn.text ++ flat_map g.T.Shown.lines (take l.i (set_items l.set))

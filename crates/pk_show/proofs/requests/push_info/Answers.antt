@@ -15,8 +15,13 @@ returns c =
     let new = string_bytes c.push_attributes.new.text in
     let first = subject_lines c.subject.result.now in
     let second = public_key_lines (codes "key algorithm: ") (codes "key parameters: ") c.key_info.result.now in
-    let third = attributes_lines request_attribute_lines (option_map (λ set. set_items set) (option_map (λ r. r.now) c.attributes.result)) in
+    let third = attributes_lines request_attribute_lines
+    (option_map (λ set. set_items set) (option_map (λ r. r.now) c.attributes.result)) in
     in_words r new old ((first ++ second) ++ third) (info_lines c.args.info.now)
-    (past r new with_key old (first ++ second) third (further with_key with_subject old first second c.in_ok-push_subject.ensures c.in_ok-push_public_key.ensures) c.push_attributes.ensures)
-    (ap₂ (λ a b. a ++ b) (ap₂ (λ a b. a ++ b) (ap subject_lines c.subject.ensures) (ap (public_key_lines (codes "key algorithm: ") (codes "key parameters: ")) c.key_info.ensures))
+    (past r new with_key old (first ++ second) third
+    (further with_key with_subject old first second c.in_ok-push_subject.ensures c.in_ok-push_public_key.ensures)
+    c.push_attributes.ensures)
+    (ap₂ (λ a b. a ++ b)
+    (ap₂ (λ a b. a ++ b) (ap subject_lines c.subject.ensures)
+    (ap (public_key_lines (codes "key algorithm: ") (codes "key parameters: ")) c.key_info.ensures))
     (ap (λ set. attributes_lines request_attribute_lines (option_map (λ set. set_items set) set)) c.attributes.ensures))

@@ -24,13 +24,17 @@ loop-i-preserved c =
     c.in_ok-push_set.ensures
     ∙ ap (λ s. s ++ flat_map item_line (set_items seen)) c.in_ok-push_number_line.ensures
     ∙ ap (λ n. (old ++ line (codes "  rdn: ") (decimal n)) ++ flat_map item_line (set_items seen)) c.len.ensures
-    ∙ ap (λ set. (old ++ line (codes "  rdn: ") (decimal (length (set_items set)))) ++ flat_map item_line (set_items set)) c.items-items.ensures.value
+    ∙ ap
+    (λ set. (old ++ line (codes "  rdn: ") (decimal (length (set_items set)))) ++ flat_map item_line (set_items set))
+    c.items-items.ensures.value
     ∙ append_assoc old (line (codes "  rdn: ") (decimal (length items))) (flat_map item_line items)
     ∙ ap (λ s. s ++ rdn_lines items) c.loop-i.invariant
-    ∙ next_part rdn_items rdn_lines (string_bytes c.args.text.now) (list_items c.args.rdns.now) c.loop-i.i c.in-Some.rdn.now c.in-Some.ensures
+    ∙ next_part rdn_items rdn_lines (string_bytes c.args.text.now)
+    (list_items c.args.rdns.now) c.loop-i.i c.in-Some.rdn.now c.in-Some.ensures
 
 pub returns : goal.returns
 returns c =
     let count = c.len-i-end.ensures in
     let test = c.loop-i-test.false in
-    c.loop-i.invariant ∙ all_parts rdn_items rdn_lines (string_bytes c.args.text.now) (list_items c.args.rdns.now) c.loop-i.i (omega arith)
+    c.loop-i.invariant
+    ∙ all_parts rdn_items rdn_lines (string_bytes c.args.text.now) (list_items c.args.rdns.now) c.loop-i.i (omega arith)

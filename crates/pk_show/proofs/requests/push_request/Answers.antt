@@ -13,9 +13,15 @@ returns c =
     let with_algorithm = string_bytes c.push_algorithm.new.text in
     let new = string_bytes c.push_bits_line.new.text in
     let first = info_lines c.info.result.now in
-    let second = algorithm_lines (codes "signature algorithm: ") (codes "signature parameters: ") c.signature_algorithm.result.now in
+    let second =
+    algorithm_lines (codes "signature algorithm: ") (codes "signature parameters: ") c.signature_algorithm.result.now in
     let third = line (codes "signature: ") (bits_said c.signature.result.now) in
     in_words r new old ((first ++ second) ++ third) (request_lines c.args.request.now)
-    (past r new with_algorithm old (first ++ second) third (further with_algorithm with_info old first second c.in_ok-push_info.ensures c.in_ok-push_algorithm.ensures) c.push_bits_line.ensures)
-    (ap₂ (λ a b. a ++ b) (ap₂ (λ a b. a ++ b) (ap info_lines c.info.ensures) (ap (algorithm_lines (codes "signature algorithm: ") (codes "signature parameters: ")) c.signature_algorithm.ensures))
+    (past r new with_algorithm old (first ++ second) third
+    (further with_algorithm with_info old first second c.in_ok-push_info.ensures c.in_ok-push_algorithm.ensures)
+    c.push_bits_line.ensures)
+    (ap₂ (λ a b. a ++ b)
+    (ap₂ (λ a b. a ++ b) (ap info_lines c.info.ensures)
+    (ap
+    (algorithm_lines (codes "signature algorithm: ") (codes "signature parameters: ")) c.signature_algorithm.ensures))
     (ap (λ bits. line (codes "signature: ") (bits_said bits)) c.signature.ensures))

@@ -13,7 +13,14 @@ returns c =
     let old = string_bytes c.args.text.now in
     let seen = list_items c.rdns-rdns.result.now in
     let parts = map rdn_items seen in
-    IfOk-equal c.push_rdns.result (string_bytes c.push_rdns.new.text) (string_bytes c.push_number_line.new.text ++ flat_map rdn_lines parts) (old ++ subject_lines c.args.subject.now) c.push_rdns.ensures
-    (ap (λ s. s ++ flat_map rdn_lines parts) (c.in_ok-push_number_line.ensures ∙ ap (λ n. old ++ line (codes "subject: ") (decimal n)) (c.len.ensures ∙ sym (length-map seen rdn_items)))
+    IfOk-equal c.push_rdns.result (string_bytes c.push_rdns.new.text)
+    (string_bytes c.push_number_line.new.text ++ flat_map rdn_lines parts)
+    (old ++ subject_lines c.args.subject.now) c.push_rdns.ensures
+    (ap (λ s. s ++ flat_map rdn_lines parts)
+    (c.in_ok-push_number_line.ensures
+    ∙ ap (λ n. old ++ line (codes "subject: ") (decimal n)) (c.len.ensures ∙ sym (length-map seen rdn_items)))
     ∙ append_assoc old (line (codes "subject: ") (decimal (length parts))) (flat_map rdn_lines parts)
-    ∙ ap (λ list. old ++ (line (codes "subject: ") (decimal (length (map rdn_items (list_items list)))) ++ flat_map rdn_lines (map rdn_items (list_items list)))) c.rdns-rdns.ensures)
+    ∙ ap (λ list.
+    old
+    ++ (line (codes "subject: ") (decimal (length (map rdn_items (list_items list))))
+    ++ flat_map rdn_lines (map rdn_items (list_items list)))) c.rdns-rdns.ensures)

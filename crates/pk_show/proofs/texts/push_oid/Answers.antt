@@ -10,8 +10,13 @@ loop-arc-init c =
     let all = c.arcs-first.ensures.all arcs (arcs_fit c.args.id.now c.arcs-first.ensures.is) in
     let first = c.arcs-first.result.0 in
     let second = c.arcs-first.result.1 in
-    let text = c.in_ok-push_arc.ensures ∙ ap (λ s. s ++ (codes "." ++ decimal second)) c.in_ok-push_number.ensures in
-    (drop 2 arcs, all.1, ap (λ s. s ++ behind_stops (drop 2 arcs)) text ∙ first_arcs_text old (drop 2 arcs) first second ∙ ap (λ s. old ++ dotted s) (sym all.0))
+    let text = c.in_ok-push_arc.ensures ∙ ap (λ s. s ++ (codes "." ++ decimal second)) c.in_ok-push_number.ensures in (
+      drop 2 arcs,
+      all.1,
+      ap (λ s. s ++ behind_stops (drop 2 arcs)) text
+          ∙ first_arcs_text old (drop 2 arcs) first second
+          ∙ ap (λ s. old ++ dotted s) (sym all.0),
+    )
 
 pub loop-arc-preserved : goal.loop-arc-preserved
 loop-arc-preserved c =

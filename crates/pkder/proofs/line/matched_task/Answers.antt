@@ -10,4 +10,6 @@ returns-in_ok-text-in-Err c =
     let name = c.in-Some.name.now in
     let rows = rows_of (found_of c.in-Some.options.now) in
     let met : sub ≡ Some (name, rows) = search rules in
-    told_why sub name rows c.in-Err.bad (string_bytes c.in_ok-text-in-Err.field-0) met c.in-Err.ensures.means c.in-Err.ensures.refused c.in_ok-text-in-Err.ensures
+    told_why sub name rows c.in-Err.bad
+    (string_bytes c.in_ok-text-in-Err.field-0)
+    met c.in-Err.ensures.means c.in-Err.ensures.refused c.in_ok-text-in-Err.ensures

@@ -11,7 +11,9 @@ loop-shown-init c =
     let same = c.into_iter-shown-iterator.ensures.into_iter_gives in
     record {
       appends = plain_none (string_bytes c.args.text.now);
-      plain = subst (λ it. IsPlain (escape_rest it)) (sym same) (subst IsPlain (sym items.ensures.rest) (escape_plain c.args.c));
+      plain =
+          subst (λ it. IsPlain (escape_rest it)) (sym same)
+          (subst IsPlain (sym items.ensures.rest) (escape_plain c.args.c));
       within = subst (λ it. escape_end it ≤ 10) (sym same) items.ensures.bound;
     }
 
@@ -22,7 +24,11 @@ loop-shown-preserved c =
     let held = c.loop-shown.invariant in
     let steps = c.in-Some.ensures.steps in
     record {
-      appends = plain_then (string_bytes c.args.text.now) (string_bytes c.loop-shown.text) (string_bytes c.push.new.self) held.appends (plain_char (string_bytes c.loop-shown.text) (string_bytes c.push.new.self) c.in-Some.shown (plain_first before behind c.in-Some.shown steps.1.0 held.plain) c.in_ok-push.ensures.bytes);
+      appends =
+          plain_then (string_bytes c.args.text.now) (string_bytes c.loop-shown.text)
+          (string_bytes c.push.new.self) held.appends
+          (plain_char (string_bytes c.loop-shown.text) (string_bytes c.push.new.self) c.in-Some.shown
+          (plain_first before behind c.in-Some.shown steps.1.0 held.plain) c.in_ok-push.ensures.bytes);
       plain = plain_others before behind c.in-Some.shown steps.1.0 held.plain;
       within = subst (λ n. n ≤ 10) (sym steps.0) held.within;
     }

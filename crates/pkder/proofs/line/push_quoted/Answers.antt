@@ -10,4 +10,6 @@ returns c =
     let before = string_bytes c.loop-c.text in
     let after = string_bytes c.push_str-2.new.self in
     let opens = plain_text initial opened (codes " \"") refl c.in_ok-push_str.ensures.bytes in
-    where_ok c.push_str-2.result after (before ++ codes "\"") before c.push_str-2.ensures.bytes (λ is. plain_then initial opened after opens (plain_then opened before after c.loop-c.invariant (plain_text before after (codes "\"") refl is)))
+    where_ok c.push_str-2.result after (before ++ codes "\"") before c.push_str-2.ensures.bytes (λ is.
+    plain_then initial opened after opens
+    (plain_then opened before after c.loop-c.invariant (plain_text before after (codes "\"") refl is)))

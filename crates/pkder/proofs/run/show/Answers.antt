@@ -19,19 +19,25 @@ returns-in-Ok-clause-replied g c =
     let document = c.in-Ok.document in
     let reads = c.in-Ok.ensures.reads in
     let text = der (valued document) in
-    text_replies (λ text. string_bytes text) c.args.dst.now c.write_text.new.dst g.W.Target.contents g.W.Target.has_failed None c.write_text.result outcomes.Done refl
-    l T (DueOfShow valued l c.args.kind before after) before after (document_lines document) c.show_text.result c.show_text.ensures
+    text_replies (λ text. string_bytes text) c.args.dst.now c.write_text.new.dst g.W.Target.contents
+    g.W.Target.has_failed None c.write_text.result outcomes.Done refl
+    l T (DueOfShow valued l c.args.kind before after) before after
+    (document_lines document) c.show_text.result c.show_text.ensures
     (document, c.in-Ok._taken, c.in-Ok.ensures.kind, reads, c.in-Ok.ensures.ends, refl, refl)
-    (no_memory l T before after reads.octets text reads.takes (λ more. reads.answers more ∙ ap (Spelled text) reads.taken_are))
+    (no_memory l T before after reads.octets text reads.takes
+    (λ more. reads.answers more ∙ ap (Spelled text) reads.taken_are))
     c.write_text.ensures
 
 pub returns-in-Ok-clause-unwritten : goal.returns-in-Ok-clause-unwritten
 returns-in-Ok-clause-unwritten g c =
-    text_silent (λ text. string_bytes text) c.args.dst.now c.write_text.new.dst g.W.Target.contents g.W.Target.has_failed None c.write_text.result outcomes.Done refl c.show_text.result c.write_text.ensures
+    text_silent (λ text. string_bytes text) c.args.dst.now c.write_text.new.dst g.W.Target.contents
+    g.W.Target.has_failed None c.write_text.result outcomes.Done refl c.show_text.result c.write_text.ensures
 
 pub returns-in-Ok-clause-failed : goal.returns-in-Ok-clause-failed
 returns-in-Ok-clause-failed g c =
-    text_fails (λ text. string_bytes text) c.args.dst.now c.write_text.new.dst g.W.Target.contents g.W.Target.has_failed None c.write_text.result outcomes.Done refl c.show_text.result (g.R.Source.has_failed c.read_whole_document.new.src) c.in-Ok.ensures.read c.requires.writable c.write_text.ensures
+    text_fails (λ text. string_bytes text) c.args.dst.now c.write_text.new.dst g.W.Target.contents g.W.Target.has_failed
+    None c.write_text.result outcomes.Done refl c.show_text.result
+    (g.R.Source.has_failed c.read_whole_document.new.src) c.in-Ok.ensures.read c.requires.writable c.write_text.ensures
 
 pub returns-in-Err-clause-replied : goal.returns-in-Err-clause-replied
 returns-in-Err-clause-replied g c =
@@ -39,7 +45,10 @@ returns-in-Err-clause-replied g c =
     let before = g.R.Source.remaining c.args.src.now in
     let after = g.R.Source.remaining c.read_whole_document.new.src in
     let contents = g.W.Target.contents c.args.dst.now in
-    unread_replies l (type_of c.args.kind) (DueOfShow valued l c.args.kind before after) before after contents contents c.in-Err.error _ c.unread.ensures c.in-Err.ensures.reads
+    unread_replies l (type_of c.args.kind)
+    (DueOfShow valued l c.args.kind before after)
+    before after contents contents c.in-Err.error _ c.unread.ensures c.in-Err.ensures.reads
 
 pub returns-in-Err-clause-failed : goal.returns-in-Err-clause-failed
-returns-in-Err-clause-failed g c = unread_fails c.in-Err.error _ _ _ c.unread.ensures (c.in-Err.ensures.read, c.requires.writable)
+returns-in-Err-clause-failed g c =
+    unread_fails c.in-Err.error _ _ _ c.unread.ensures (c.in-Err.ensures.read, c.requires.writable)

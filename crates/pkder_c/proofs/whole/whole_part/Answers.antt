@@ -8,7 +8,8 @@ use Rattle.pkder_c.proofs.whole.whole_part.Goals as goal
 
 pub returns-in-Ok-clause-part : goal.returns-in-Ok-clause-part
 returns-in-Ok-clause-part c =
-    part_made c.part_text.result (λ text. text.items) c.args.limits c.args.part c.args.src.now _ _ c.in-Ok._taken (search rules) c.in-Ok.ensures.ends c.in-Ok.ensures.reads c.part_text.ensures.part
+    part_made c.part_text.result (λ text. text.items) c.args.limits c.args.part c.args.src.now _ _ c.in-Ok._taken
+    (search rules) c.in-Ok.ensures.ends c.in-Ok.ensures.reads c.part_text.ensures.part
 
 pub returns-in-Ok-clause-refused : goal.returns-in-Ok-clause-refused
 returns-in-Ok-clause-refused c =
@@ -17,4 +18,5 @@ returns-in-Ok-clause-refused c =
 pub returns-in-Err-clause-refused : goal.returns-in-Err-clause-refused
 returns-in-Err-clause-refused c =
     unread_made c.args.limits (type_of Request) c.in-Err.error c.unread.result c.args.src.now _ c.unread.ensures
-    (unread_whole c.args.limits (type_of Request) c.in-Err.error (Some c.args.src.now) _ (kinds_are_lawful Request) c.in-Err.ensures.reads)
+    (unread_whole c.args.limits (type_of Request) c.in-Err.error (Some c.args.src.now) _
+    (kinds_are_lawful Request) c.in-Err.ensures.reads)

@@ -7,5 +7,7 @@ pub returns-then-content-lt128-clause-octets : goal.returns-then-content-lt128-c
 unfolding der_header
 returns-then-content-lt128-clause-octets c =
     ap₂ (λ x y. x ++ y)
-    (ap (λ z. z ∷ []) (c.lead.ensures ∙ ap (λ n. c.args.tag.class * 64 + cond c.args.constructed 32 0 + n) c.number-number.ensures) ∙ sym (identifier_low c.args.tag c.args.constructed (omega arith)))
+    (ap (λ z. z ∷ [])
+    (c.lead.ensures ∙ ap (λ n. c.args.tag.class * 64 + cond c.args.constructed 32 0 + n) c.number-number.ensures)
+    ∙ sym (identifier_low c.args.tag c.args.constructed (omega arith)))
     (sym (shortest_brief c.args.content (omega arith)))

@@ -7,8 +7,12 @@ loop-rest-init c = (_, first_read _ c.in-Some.field-0-0 _ c.in-Some.ensures.belo
 
 pub returns-in_default-first_subidentifier : goal.returns-in_default-first_subidentifier
 returns-in_default-first_subidentifier c =
-    let before = c.loop-rest.invariant in
-    (λ t. cc, λ is. absurd (none_read before.0 _ _ before.1 c.loop-rest-test.ensures (c.in_default-first_subidentifier.ensures.none refl) is))
+    let before = c.loop-rest.invariant in (
+      λ t. cc,
+      λ is.
+          absurd (none_read before.0 _ _ before.1 c.loop-rest-test.ensures
+          (c.in_default-first_subidentifier.ensures.none refl) is),
+    )
 
 pub loop-rest-preserved : goal.loop-rest-preserved
 loop-rest-preserved c =

@@ -10,4 +10,5 @@ returns-clause-some c =
       | then-arcs-lt2-2 w ↦ omega (arith, c.if-arcs-last.false, w.last-is)
       | else-arcs-lt2-2 w ↦ absurd (omega (arith, w.if-arcs-lt2-2.false, h))
     ] in
-    leading_some arcs _ c.if-arcs-lt2.false c.if-arcs-gt2.false small (λ i. (c.type_inv.arcs i).fits) c.checked_add.ensures
+    leading_some arcs _ c.if-arcs-lt2.false c.if-arcs-gt2.false small
+    (λ i. (c.type_inv.arcs i).fits) c.checked_add.ensures

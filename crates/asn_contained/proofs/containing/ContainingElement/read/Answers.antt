@@ -20,9 +20,13 @@ returns-in_err-inner-clause-reads g c = λ given fine is.
     let new = c.read_contained.new.pull in
     let T = g.T.Element.type_term in
     let e = c.in_err-inner.field-0.0 in
-    let read = subst (λ own. Answers old new (read_given_contained own T [] old.state given) (heard_error e)) c.universal_tag.ensures (c.in_err-inner.ensures.reads [] given fine is) in
-    value_err old new (read_given (ContainingType (universal 4) no_rule T) old.state given) (λ x. Leaf (universal 4) (der (g.T.DerText.value x.inner))) c.from_residual.result e (search rules)
-    (containing_error old.state.limits (universal 4) no_rule T [] (enclosing old.state) given.at given.tag given.constructed e _ _ _ _ read)
+    let read = subst
+    (λ own. Answers old new (read_given_contained own T [] old.state given) (heard_error e)) c.universal_tag.ensures
+    (c.in_err-inner.ensures.reads [] given fine is) in
+    value_err old new (read_given (ContainingType (universal 4) no_rule T) old.state given)
+    (λ x. Leaf (universal 4) (der (g.T.DerText.value x.inner))) c.from_residual.result e (search rules)
+    (containing_error old.state.limits (universal 4) no_rule T []
+    (enclosing old.state) given.at given.tag given.constructed e _ _ _ _ read)
 
 pub returns-clause-reads : goal.returns-clause-reads
 returns-clause-reads g c = λ given fine is.
@@ -32,8 +36,11 @@ returns-clause-reads g c = λ given fine is.
     let found = c.in_ok-inner.ensures.reads [] given fine is in
     let v = found.0 in
     let w = Leaf (universal 4) (der v) in
-    let read = subst (λ own. Answers old new (read_given_contained own T [] old.state given) (Said v)) c.universal_tag.ensures found.2 in (
+    let read = subst (λ own. Answers old new (read_given_contained own T [] old.state given) (Said v))
+    c.universal_tag.ensures found.2 in (
       w,
       same_octets_inside (universal 4) v (g.T.DerText.value c.in_ok-inner.inner) found.1,
-      containing old.state.limits (universal 4) no_rule T [] (enclosing old.state) given.at given.tag given.constructed v (Said w) _ _ _ _ _ _ read (rule_holds given.at None w _ _ refl),
+      containing old.state.limits (universal 4) no_rule T []
+          (enclosing old.state) given.at given.tag given.constructed v (Said w) _ _ _ _ _ _ read
+          (rule_holds given.at None w _ _ refl),
     )

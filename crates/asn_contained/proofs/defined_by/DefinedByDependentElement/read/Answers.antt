@@ -18,8 +18,13 @@ returns-in_err-first-clause-reads g c = λ fields given same fine is.
     let Y = g.Y.DependentElement.type_term in
     let ws = g.A.FieldsText.values c.args.earlier.now in
     let chosen : one_of (leaf_at path ws) octets ≡ true = search rules in
-    value_err old c.read.new.pull (read_given_behind (DefinedByType path octets X Y) fields old.state given) (λ x. either_of g.X.DependentElement.value g.Y.DependentElement.value x.value) c.from_residual.result c.in_err-first.field-0.0 (search rules)
-    (as_first_type old.state.limits path octets X Y fields ws same (enclosing old.state) given.at given.tag given.constructed _ _ _ _ _ chosen (c.in_err-first.ensures.reads fields given same fine is))
+    value_err old c.read.new.pull (read_given_behind (DefinedByType path octets X Y) fields old.state given)
+    (λ x. either_of g.X.DependentElement.value g.Y.DependentElement.value x.value)
+    c.from_residual.result c.in_err-first.field-0.0
+    (search rules)
+    (as_first_type old.state.limits path octets X Y fields ws same
+    (enclosing old.state) given.at given.tag given.constructed _ _ _ _ _ chosen
+    (c.in_err-first.ensures.reads fields given same fine is))
 
 pub returns-in_ok-first-clause-reads : goal.returns-in_ok-first-clause-reads
 returns-in_ok-first-clause-reads g c = λ fields given same fine is.
@@ -30,8 +35,12 @@ returns-in_ok-first-clause-reads g c = λ fields given same fine is.
     let Y = g.Y.DependentElement.type_term in
     let ws = g.A.FieldsText.values c.args.earlier.now in
     let chosen : one_of (leaf_at path ws) octets ≡ true = search rules in
-    let read = c.in_ok-first.ensures.reads fields given same fine is in
-    (read.0, read.1, as_first_type old.state.limits path octets X Y fields ws same (enclosing old.state) given.at given.tag given.constructed _ _ _ _ _ chosen read.2)
+    let read = c.in_ok-first.ensures.reads fields given same fine is in (
+      read.0,
+      read.1,
+      as_first_type old.state.limits path octets X Y fields ws same
+          (enclosing old.state) given.at given.tag given.constructed _ _ _ _ _ chosen read.2,
+    )
 
 pub returns-in_err-second-clause-reads : goal.returns-in_err-second-clause-reads
 returns-in_err-second-clause-reads g c = λ fields given same fine is.
@@ -42,8 +51,14 @@ returns-in_err-second-clause-reads g c = λ fields given same fine is.
     let Y = g.Y.DependentElement.type_term in
     let ws = g.A.FieldsText.values c.args.earlier.now in
     let chosen : one_of (leaf_at path ws) octets ≡ false = search rules in
-    value_err old c.read-else-is_first.new.pull (read_given_behind (DefinedByType path octets X Y) fields old.state given) (λ x. either_of g.X.DependentElement.value g.Y.DependentElement.value x.value) c.from_residual-in_err-second.result c.in_err-second.field-0.0 (search rules)
-    (as_second_type old.state.limits path octets X Y fields ws same (enclosing old.state) given.at given.tag given.constructed _ _ _ _ _ chosen (c.in_err-second.ensures.reads fields given same fine is))
+    value_err old c.read-else-is_first.new.pull
+    (read_given_behind (DefinedByType path octets X Y) fields old.state given)
+    (λ x. either_of g.X.DependentElement.value g.Y.DependentElement.value x.value)
+    c.from_residual-in_err-second.result c.in_err-second.field-0.0
+    (search rules)
+    (as_second_type old.state.limits path octets X Y fields ws same
+    (enclosing old.state) given.at given.tag given.constructed _ _ _ _ _ chosen
+    (c.in_err-second.ensures.reads fields given same fine is))
 
 pub returns-in_ok-second-clause-reads : goal.returns-in_ok-second-clause-reads
 returns-in_ok-second-clause-reads g c = λ fields given same fine is.
@@ -54,5 +69,9 @@ returns-in_ok-second-clause-reads g c = λ fields given same fine is.
     let Y = g.Y.DependentElement.type_term in
     let ws = g.A.FieldsText.values c.args.earlier.now in
     let chosen : one_of (leaf_at path ws) octets ≡ false = search rules in
-    let read = c.in_ok-second.ensures.reads fields given same fine is in
-    (read.0, read.1, as_second_type old.state.limits path octets X Y fields ws same (enclosing old.state) given.at given.tag given.constructed _ _ _ _ _ chosen read.2)
+    let read = c.in_ok-second.ensures.reads fields given same fine is in (
+      read.0,
+      read.1,
+      as_second_type old.state.limits path octets X Y fields ws same
+          (enclosing old.state) given.at given.tag given.constructed _ _ _ _ _ chosen read.2,
+    )

@@ -5,7 +5,11 @@ use Rattle.asn_containers.specs.Containers.{list_items}
 use Rattle.asn_containers.proofs.list.List.put_as.Goals as goal
 
 pub put-requires : goal.put-requires
-put-requires g c = subst (λ z. count c.args.sink.now + length z < 18446744073709551616) (der_row c.args.tag (map g.T.DerText.value (list_items c.args.self.now))) c.requires
+put-requires g c =
+    subst (λ z. count c.args.sink.now + length z < 18446744073709551616)
+    (der_row c.args.tag (map g.T.DerText.value (list_items c.args.self.now))) c.requires
 
 pub returns : goal.returns
-returns g c = subst (λ z. Puts z c.args.sink.now c.put.new.sink c.put.result) (sym (der_row c.args.tag (map g.T.DerText.value (list_items c.args.self.now)))) c.put.ensures
+returns g c =
+    subst (λ z. Puts z c.args.sink.now c.put.new.sink c.put.result)
+    (sym (der_row c.args.tag (map g.T.DerText.value (list_items c.args.self.now)))) c.put.ensures

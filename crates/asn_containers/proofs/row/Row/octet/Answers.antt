@@ -11,7 +11,8 @@ pub returns-in-InHeader : goal.returns-in-InHeader
 returns-in-InHeader g c =
     let ts = texts_of (map g.T.DerText.value c.args.self.now.items.items) in
     let e = ap (λ n. der_header c.args.tag true n) c.args.self.now.counted in
-    sym (get_header (der_header c.args.tag true (length ts)) ts c.args.i c.in-InHeader.octet (rw (← e) c.in-InHeader.ensures))
+    sym (get_header (der_header c.args.tag true (length ts)) ts c.args.i c.in-InHeader.octet
+    (rw (← e) c.in-InHeader.ensures))
 
 pub find-k-requires-clause-some : goal.find-k-requires-clause-some
 find-k-requires-clause-some g c =
@@ -56,4 +57,6 @@ returns-else-at-self g c =
     let inside : k < length xs = omega arith in
     c.octet.ensures
     ∙ sym (get_framed (der_header c.args.tag true (length ts)) ts c.args.i c.in-InContents.at (omega arith)
-    ∙ get_found (map f xs) ss k c.in-InContents.at (f c.index.result.now) s (omega arith) (nth_value f xs k c.index.result.now inside (search rules)) c.find-k.ensures.before c.find-k.ensures.after (omega arith))
+    ∙ get_found (map f xs) ss k c.in-InContents.at (f c.index.result.now) s (omega arith)
+    (nth_value f xs k c.index.result.now inside (search rules)) c.find-k.ensures.before c.find-k.ensures.after
+    (omega arith))

@@ -25,7 +25,10 @@ returns-in_err-at-clause-reads g c = λ given fine is.
     let s = c.args.pull.now.state in
     let own = c.args.tag in
     let least = c.args.least in
-    value_err c.args.pull.now c.expect_tag.new.pull (read_given (SetOfType own least type) s given) (λ set'. SetOf own (values_of (map g.T.DerText.value (set_items set')))) c.from_residual.result c.in_err-at.field-0.0 (search rules)
+    value_err c.args.pull.now c.expect_tag.new.pull (read_given (SetOfType own least type) s given)
+    (λ set'. SetOf own (values_of (map g.T.DerText.value (set_items set'))))
+    c.from_residual.result c.in_err-at.field-0.0
+    (search rules)
     (hears_as _ _ _ _ _ _ _ (set_type_is own least type s given) (c.in_err-at.ensures.stops given fine is _))
 
 pub returns-in_err-items-clause-reads : goal.returns-in_err-items-clause-reads
@@ -38,9 +41,15 @@ returns-in_err-items-clause-reads g c = λ given fine is.
     let still = c.in_ok-at.ensures.same in
     let fine' = fine_still c.args.pull.now c.expect_tag.new.pull still fine in
     let is' = given_still c.args.pull.now c.expect_tag.new.pull given still is in
-    value_err c.args.pull.now c.read_members.new.pull (read_given (SetOfType own least type) s given) (λ set'. SetOf own (values_of (map g.T.DerText.value (set_items set')))) c.from_residual-in_err-items.result c.in_err-items.field-0.0 (search rules)
+    value_err c.args.pull.now c.read_members.new.pull (read_given (SetOfType own least type) s given)
+    (λ set'. SetOf own (values_of (map g.T.DerText.value (set_items set'))))
+    c.from_residual-in_err-items.result c.in_err-items.field-0.0
+    (search rules)
     (hears_as _ _ _ _ _ _ _ (set_type_is own least type s given) (hears_on _ _ _ _ _ _ _ _ ok.1
-    (hears_error (read_given_members type s given) (set_of own least given.at) _ _ _ _ _ (unmoved_answers (λ z. read_given_members type z given) c.args.pull.now c.expect_tag.new.pull c.read_members.new.pull _ still (c.in_err-items.ensures.reads given fine' is')))))
+    (hears_error (read_given_members type s given) (set_of own least given.at) _ _ _ _ _
+    (unmoved_answers
+    (λ z. read_given_members type z given) c.args.pull.now c.expect_tag.new.pull c.read_members.new.pull _ still
+    (c.in_err-items.ensures.reads given fine' is')))))
 
 pub returns-then-len-least-clause-reads : goal.returns-then-len-least-clause-reads
 returns-then-len-least-clause-reads g c = λ given fine is.
@@ -59,13 +68,21 @@ returns-then-len-least-clause-reads g c = λ given fine is.
     let few : length c.in_ok-items.items.items < least = search rules in
     let less : length read.0 < least = omega arith in
     let none : nat_le least (length read.0) ≡ false = grind (arith, nat_tests) in
-    refused_by _ c.args.pull.now c.read_members.new.pull c.refuse.new.self (fault given.at EmptySet) c.refuse.result (first.0 ∙ ap (λ p. errors.Fault (fault p EmptySet)) ok.0) first.1 c.refuse.ensures.same
+    refused_by _ c.args.pull.now c.read_members.new.pull c.refuse.new.self (fault given.at EmptySet) c.refuse.result
+    (first.0 ∙ ap (λ p. errors.Fault (fault p EmptySet)) ok.0) first.1 c.refuse.ensures.same
     (hears_as _ _ _ _ _ _ _ (set_type_is own least type s given) (hears_on _ _ _ _ _ _ _ _ ok.1
-    (hears_then (read_given_members type s given) (set_of own least given.at) (ended read.0 c.in_ok-items._end) _ _ _ _ _ _ _ (unmoved_answers (λ z. read_given_members type z given) c.args.pull.now c.expect_tag.new.pull c.read_members.new.pull _ still read.2) (hears_off _ _ _ _ _ none))))
+    (hears_then (read_given_members type s given) (set_of own least given.at)
+    (ended read.0 c.in_ok-items._end) _ _ _ _ _ _ _
+    (unmoved_answers
+    (λ z. read_given_members type z given) c.args.pull.now c.expect_tag.new.pull c.read_members.new.pull _ still read.2)
+    (hears_off _ _ _ _ _ none))))
 
 pub row_of-requires-clause-short : goal.row_of-requires-clause-short
 row_of-requires-clause-short g c =
-    let p = texts_permuted (map g.T.DerText.value c.in_ok-items.items.items) (map g.T.DerText.value c.in_ok-sorted.sorted.items) (IsPermutation-map g.T.DerText.value c.in_ok-items.items.items c.in_ok-sorted.sorted.items c.in_ok-sorted.ensures.same) in
+    let p = texts_permuted (map g.T.DerText.value c.in_ok-items.items.items)
+    (map g.T.DerText.value c.in_ok-sorted.sorted.items)
+    (IsPermutation-map g.T.DerText.value c.in_ok-items.items.items c.in_ok-sorted.sorted.items
+    c.in_ok-sorted.ensures.same) in
     omega (arith, c.in_ok-items.ensures.short)
 
 pub returns-in_err-sorted-clause-reads : goal.returns-in_err-sorted-clause-reads
@@ -80,10 +97,16 @@ returns-in_err-sorted-clause-reads g c = λ given fine is.
     let is' = given_still c.args.pull.now c.expect_tag.new.pull given still is in
     let read = c.in_ok-items.ensures.reads given fine' is' in
     let stop = c.in_err-sorted.ensures.stops in
-    value_err c.args.pull.now c.put_in_order.new.pull (read_given (SetOfType own least type) s given) (λ set'. SetOf own (values_of (map g.T.DerText.value (set_items set')))) c.from_residual-in_err-sorted.result c.in_err-sorted.field-0.0 (search rules)
+    value_err c.args.pull.now c.put_in_order.new.pull (read_given (SetOfType own least type) s given)
+    (λ set'. SetOf own (values_of (map g.T.DerText.value (set_items set'))))
+    c.from_residual-in_err-sorted.result c.in_err-sorted.field-0.0
+    (search rules)
     (hears_as _ _ _ _ _ _ _ (set_type_is own least type s given) (hears_on _ _ _ _ _ _ _ _ ok.1
     (hears_error (read_given_members type s given) (set_of own least given.at) c.in_err-sorted.field-0.0 _ _ _ _
-    (hears_then_memory _ (ended read.0 c.in_ok-items._end) c.in_err-sorted.field-0.0 _ _ _ _ _ _ stop.0 (ap (λ z. z.taken) stop.2) (ap g.R.Source.remaining stop.1) (unmoved_answers (λ z. read_given_members type z given) c.args.pull.now c.expect_tag.new.pull c.read_members.new.pull _ still read.2)))))
+    (hears_then_memory _ (ended read.0 c.in_ok-items._end) c.in_err-sorted.field-0.0 _ _ _ _ _ _ stop.0
+    (ap (λ z. z.taken) stop.2) (ap g.R.Source.remaining stop.1)
+    (unmoved_answers (λ z. read_given_members type z given)
+    c.args.pull.now c.expect_tag.new.pull c.read_members.new.pull _ still read.2)))))
 
 pub returns-in_err-row-clause-reads : goal.returns-in_err-row-clause-reads
 returns-in_err-row-clause-reads g c = λ given fine is.
@@ -97,10 +120,17 @@ returns-in_err-row-clause-reads g c = λ given fine is.
     let is' = given_still c.args.pull.now c.expect_tag.new.pull given still is in
     let read = c.in_ok-items.ensures.reads given fine' is' in
     let stop = c.in_err-row.ensures.stops in
-    value_err c.args.pull.now c.row_of.new.pull (read_given (SetOfType own least type) s given) (λ set'. SetOf own (values_of (map g.T.DerText.value (set_items set')))) c.from_residual-in_err-row.result c.in_err-row.field-0.0 (search rules)
+    value_err c.args.pull.now c.row_of.new.pull (read_given (SetOfType own least type) s given)
+    (λ set'. SetOf own (values_of (map g.T.DerText.value (set_items set'))))
+    c.from_residual-in_err-row.result c.in_err-row.field-0.0
+    (search rules)
     (hears_as _ _ _ _ _ _ _ (set_type_is own least type s given) (hears_on _ _ _ _ _ _ _ _ ok.1
     (hears_error (read_given_members type s given) (set_of own least given.at) c.in_err-row.field-0.0 _ _ _ _
-    (hears_then_memory _ (ended read.0 c.in_ok-items._end) c.in_err-row.field-0.0 _ _ _ _ _ _ stop.0 (ap (λ z. z.taken) stop.2 ∙ ap (λ z. z.state.taken) c.in_ok-sorted.ensures.still) (ap g.R.Source.remaining stop.1 ∙ ap told c.in_ok-sorted.ensures.still) (unmoved_answers (λ z. read_given_members type z given) c.args.pull.now c.expect_tag.new.pull c.read_members.new.pull _ still read.2)))))
+    (hears_then_memory _ (ended read.0 c.in_ok-items._end) c.in_err-row.field-0.0 _ _ _ _ _ _ stop.0
+    (ap (λ z. z.taken) stop.2 ∙ ap (λ z. z.state.taken) c.in_ok-sorted.ensures.still)
+    (ap g.R.Source.remaining stop.1 ∙ ap told c.in_ok-sorted.ensures.still)
+    (unmoved_answers (λ z. read_given_members type z given)
+    c.args.pull.now c.expect_tag.new.pull c.read_members.new.pull _ still read.2)))))
 
 pub returns-clause-reads : goal.returns-clause-reads
 returns-clause-reads g c = λ given fine is.
@@ -118,13 +148,23 @@ returns-clause-reads g c = λ given fine is.
     let few : least ≤ length c.in_ok-items.items.items = search rules in
     let more : least ≤ length read.0 = omega arith in
     let enough : nat_le least (length read.0) ≡ true = grind (arith, nat_tests) in
-    let sorted = IsPermutation-map g.T.DerText.value c.in_ok-items.items.items c.in_ok-sorted.sorted.items c.in_ok-sorted.ensures.same in
-    let made : map g.T.DerText.value c.in_ok-sorted.sorted.items ≡ map g.T.DerText.value c.in_ok-row.row.items.items = ap (λ z. map g.T.DerText.value z.items) (sym c.in_ok-row.ensures.made) in (
+    let sorted = IsPermutation-map g.T.DerText.value c.in_ok-items.items.items c.in_ok-sorted.sorted.items
+    c.in_ok-sorted.ensures.same in
+    let made : map g.T.DerText.value c.in_ok-sorted.sorted.items ≡ map g.T.DerText.value c.in_ok-row.row.items.items =
+    ap (λ z. map g.T.DerText.value z.items) (sym c.in_ok-row.ensures.made) in (
       SetOf own (values_of read.0),
-      subst (λ z. Same (SetOf own (values_of read.0)) (SetOf own (values_of z))) made (same_sets own read.0 _ _ read.1 sorted),
-      subst (λ z. Answers c.args.pull.now z (read_given (SetOfType own least type) s given) (Said (SetOf own (values_of read.0)))) (sym (c.in_ok-row.ensures.still ∙ c.in_ok-sorted.ensures.still))
+      subst (λ z. Same (SetOf own (values_of read.0)) (SetOf own (values_of z))) made
+          (same_sets own read.0 _ _ read.1 sorted),
+      subst (λ z.
+          Answers c.args.pull.now z (read_given (SetOfType own least type) s given)
+          (Said (SetOf own (values_of read.0))))
+          (sym (c.in_ok-row.ensures.still ∙ c.in_ok-sorted.ensures.still))
           (hears_as _ _ _ _ _ _ _ (set_type_is own least type s given) (hears_on _ _ _ _ _ _ _ _ ok.1
-          (hears_then (read_given_members type s given) (set_of own least given.at) (ended read.0 c.in_ok-items._end) _ _ _ _ _ _ _ (unmoved_answers (λ z. read_given_members type z given) c.args.pull.now c.expect_tag.new.pull c.read_members.new.pull _ still read.2) (hears_on _ _ _ _ _ _ _ _ enough (hears_done _ _ _))))),
+          (hears_then (read_given_members type s given) (set_of own least given.at)
+          (ended read.0 c.in_ok-items._end) _ _ _ _ _ _ _
+          (unmoved_answers (λ z. read_given_members type z given)
+          c.args.pull.now c.expect_tag.new.pull c.read_members.new.pull _ still read.2)
+          (hears_on _ _ _ _ _ _ _ _ enough (hears_done _ _ _))))),
     )
 
 pub returns-clause-least : goal.returns-clause-least

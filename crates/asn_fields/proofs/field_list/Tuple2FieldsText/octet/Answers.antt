@@ -28,7 +28,9 @@ returns-then-i-size g c =
     let b = g.B.FieldsText.values c.args.self.now.1 in
     let h = c.if-i-size.true in
     let n = c.size-size.ensures in
-    c.octet.ensures ∙ sym (ap (λ z. slice_get z c.args.i) (texts_both a b) ∙ get_before (texts_of a) (texts_of b) c.args.i (omega arith))
+    c.octet.ensures
+    ∙ sym
+    (ap (λ z. slice_get z c.args.i) (texts_both a b) ∙ get_before (texts_of a) (texts_of b) c.args.i (omega arith))
 
 pub returns-else-i-size : goal.returns-else-i-size
 returns-else-i-size g c =
@@ -36,4 +38,6 @@ returns-else-i-size g c =
     let b = g.B.FieldsText.values c.args.self.now.1 in
     let h = c.if-i-size.false in
     let n = c.size-size.ensures in
-    c.octet-else-i-size.ensures ∙ ap (λ k. slice_get (texts_of b) (c.args.i - k)) n ∙ sym (ap (λ z. slice_get z c.args.i) (texts_both a b) ∙ get_after (texts_of a) (texts_of b) c.args.i (omega arith))
+    c.octet-else-i-size.ensures
+    ∙ ap (λ k. slice_get (texts_of b) (c.args.i - k)) n
+    ∙ sym (ap (λ z. slice_get z c.args.i) (texts_both a b) ∙ get_after (texts_of a) (texts_of b) c.args.i (omega arith))

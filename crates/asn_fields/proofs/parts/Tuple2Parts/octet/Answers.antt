@@ -28,7 +28,9 @@ returns-then-i-length g c =
     let b = g.B.Parts.values c.args.self.now.1 in
     let h = c.if-i-length.true in
     let n = c.length-length.ensures in
-    c.octet.ensures ∙ sym (ap (λ z. slice_get z c.args.i) (texts_both a b) ∙ get_before (texts_of a) (texts_of b) c.args.i (omega arith))
+    c.octet.ensures
+    ∙ sym
+    (ap (λ z. slice_get z c.args.i) (texts_both a b) ∙ get_before (texts_of a) (texts_of b) c.args.i (omega arith))
 
 pub returns-else-i-length : goal.returns-else-i-length
 returns-else-i-length g c =
@@ -36,4 +38,6 @@ returns-else-i-length g c =
     let b = g.B.Parts.values c.args.self.now.1 in
     let h = c.if-i-length.false in
     let n = c.length-length.ensures in
-    c.octet-else-i-length.ensures ∙ ap (λ k. slice_get (texts_of b) (c.args.i - k)) n ∙ sym (ap (λ z. slice_get z c.args.i) (texts_both a b) ∙ get_after (texts_of a) (texts_of b) c.args.i (omega arith))
+    c.octet-else-i-length.ensures
+    ∙ ap (λ k. slice_get (texts_of b) (c.args.i - k)) n
+    ∙ sym (ap (λ z. slice_get z c.args.i) (texts_both a b) ∙ get_after (texts_of a) (texts_of b) c.args.i (omega arith))

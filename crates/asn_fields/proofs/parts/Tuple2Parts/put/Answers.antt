@@ -14,16 +14,20 @@ pub returns-in_err-put : goal.returns-in_err-put
 returns-in_err-put g c =
     let a = g.A.Parts.values c.args.self.now.0 in
     let b = g.B.Parts.values c.args.self.now.1 in
-    framed_stop _ (texts_of a) (texts_of b) (texts_both a b) c.args.sink.now c.put.new.sink c.from_residual.result c.in_err-put.field-0.0 (search rules) c.in_err-put.ensures
+    framed_stop _ (texts_of a) (texts_of b)
+    (texts_both a b) c.args.sink.now c.put.new.sink c.from_residual.result c.in_err-put.field-0.0
+    (search rules) c.in_err-put.ensures
 
 pub put-requires-2 : goal.put-requires-2
 put-requires-2 g c =
     let a = g.A.Parts.values c.args.self.now.0 in
     let b = g.B.Parts.values c.args.self.now.1 in
-    contents_room _ (texts_of a) (texts_of b) (texts_both a b) c.args.sink.now c.put.new.sink _ c.requires c.in_ok-put.ensures
+    contents_room _ (texts_of a) (texts_of b)
+    (texts_both a b) c.args.sink.now c.put.new.sink _ c.requires c.in_ok-put.ensures
 
 pub returns : goal.returns
 returns g c =
     let a = g.A.Parts.values c.args.self.now.0 in
     let b = g.B.Parts.values c.args.self.now.1 in
-    framed_put _ (texts_of a) (texts_of b) (texts_both a b) c.args.sink.now c.put.new.sink c.put-2.new.sink c.put-2.result c.in_ok-put.ensures c.put-2.ensures
+    framed_put _ (texts_of a) (texts_of b)
+    (texts_both a b) c.args.sink.now c.put.new.sink c.put-2.new.sink c.put-2.result c.in_ok-put.ensures c.put-2.ensures

@@ -9,10 +9,16 @@ pub returns-in-InHeader : goal.returns-in-InHeader
 returns-in-InHeader g c =
     let v = g.T.DerText.value c.args.self.now.inner in
     let t = c.args.tag in
-    sym (ap (λ z. slice_get z c.args.i) (one_text t v) ∙ get_header (der_header t true (length (der v))) (der v) c.args.i c.in-InHeader.octet (subst (λ n. slice_get (der_header t true n) c.args.i ≡ Some c.in-InHeader.octet) c.size.ensures c.in-InHeader.ensures))
+    sym (ap (λ z. slice_get z c.args.i) (one_text t v)
+    ∙ get_header (der_header t true (length (der v))) (der v) c.args.i c.in-InHeader.octet
+    (subst
+    (λ n. slice_get (der_header t true n) c.args.i ≡ Some c.in-InHeader.octet) c.size.ensures c.in-InHeader.ensures))
 
 pub returns-in-InContents : goal.returns-in-InContents
 returns-in-InContents g c =
     let v = g.T.DerText.value c.args.self.now.inner in
     let t = c.args.tag in
-    c.octet.ensures ∙ sym (ap (λ z. slice_get z c.args.i) (one_text t v) ∙ get_framed (der_header t true (length (der v))) (der v) c.args.i c.in-InContents.at (subst (λ n. length (der_header t true n) + c.in-InContents.at ≡ c.args.i) c.size.ensures c.in-InContents.ensures))
+    c.octet.ensures
+    ∙ sym (ap (λ z. slice_get z c.args.i) (one_text t v)
+    ∙ get_framed (der_header t true (length (der v))) (der v) c.args.i c.in-InContents.at
+    (subst (λ n. length (der_header t true n) + c.in-InContents.at ≡ c.args.i) c.size.ensures c.in-InContents.ensures))

@@ -9,22 +9,30 @@ pub put_header-requires : goal.put_header-requires
 put_header-requires g c =
     let v = g.T.DerText.value c.args.self.now.inner in
     let t = c.args.tag in
-    header_room _ (der_header t true c.size.result) (der v) (one_text t v ∙ ap (λ n. der_header t true n ++ der v) (sym c.size.ensures)) c.args.sink.now _ c.requires
+    header_room _ (der_header t true c.size.result) (der v)
+    (one_text t v ∙ ap (λ n. der_header t true n ++ der v) (sym c.size.ensures)) c.args.sink.now _ c.requires
 
 pub returns-in_err-put_header : goal.returns-in_err-put_header
 returns-in_err-put_header g c =
     let v = g.T.DerText.value c.args.self.now.inner in
     let t = c.args.tag in
-    framed_stop _ (der_header t true c.size.result) (der v) (one_text t v ∙ ap (λ n. der_header t true n ++ der v) (sym c.size.ensures)) c.args.sink.now c.put_header.new.sink c.from_residual.result c.in_err-put_header.field-0.0 (search rules) c.in_err-put_header.ensures
+    framed_stop _ (der_header t true c.size.result) (der v)
+    (one_text t v ∙ ap (λ n. der_header t true n ++ der v) (sym c.size.ensures))
+    c.args.sink.now c.put_header.new.sink c.from_residual.result c.in_err-put_header.field-0.0
+    (search rules) c.in_err-put_header.ensures
 
 pub put-requires : goal.put-requires
 put-requires g c =
     let v = g.T.DerText.value c.args.self.now.inner in
     let t = c.args.tag in
-    contents_room _ (der_header t true c.size.result) (der v) (one_text t v ∙ ap (λ n. der_header t true n ++ der v) (sym c.size.ensures)) c.args.sink.now c.put_header.new.sink _ c.requires c.in_ok-put_header.ensures
+    contents_room _ (der_header t true c.size.result) (der v)
+    (one_text t v ∙ ap (λ n. der_header t true n ++ der v) (sym c.size.ensures))
+    c.args.sink.now c.put_header.new.sink _ c.requires c.in_ok-put_header.ensures
 
 pub returns : goal.returns
 returns g c =
     let v = g.T.DerText.value c.args.self.now.inner in
     let t = c.args.tag in
-    framed_put _ (der_header t true c.size.result) (der v) (one_text t v ∙ ap (λ n. der_header t true n ++ der v) (sym c.size.ensures)) c.args.sink.now c.put_header.new.sink c.put.new.sink c.put.result c.in_ok-put_header.ensures c.put.ensures
+    framed_put _ (der_header t true c.size.result) (der v)
+    (one_text t v ∙ ap (λ n. der_header t true n ++ der v) (sym c.size.ensures))
+    c.args.sink.now c.put_header.new.sink c.put.new.sink c.put.result c.in_ok-put_header.ensures c.put.ensures

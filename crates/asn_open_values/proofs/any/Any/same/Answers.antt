@@ -10,5 +10,7 @@ pub returns : goal.returns
 returns c =
     let self = c.args.self.now in
     let other = c.args.other.now in
-    let texts : IsTrue c.eq.result ↔ (self.text.items ≡ other.text.items) = search rules in
-    (λ equal. same_of (open_value_of self) (open_value_of other) (ap open_value (texts.0 equal)), λ same. texts.1 (sym self.whole ∙ (canonical (open_value_of self) (open_value_of other) same ∙ other.whole)))
+    let texts : IsTrue c.eq.result ↔ (self.text.items ≡ other.text.items) = search rules in (
+      λ equal. same_of (open_value_of self) (open_value_of other) (ap open_value (texts.0 equal)),
+      λ same. texts.1 (sym self.whole ∙ (canonical (open_value_of self) (open_value_of other) same ∙ other.whole)),
+    )

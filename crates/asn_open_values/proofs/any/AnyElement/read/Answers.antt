@@ -20,21 +20,30 @@ returns-in_err-oid-clause-reads g c = λ given fine is.
     let old = c.args.pull.now in
     let mid = c.next_tag.new.self in
     let s = old.state in
-    let b = begun old mid given c.in_ok-tag.field-0 c.in-Some.tag c.in-Some.constructed c.in-Some.is (c.in_ok-tag.ensures.given given fine is) c.in_ok-tag.ensures.fits in
-    let read = c.in_err-oid.ensures.reads given.tag given (fine_still old mid b.still fine) (given_still old mid given b.still is) in
-    value_err old c.read_identifier.new.pull (read_given OpenType s given) open_value_of c.from_residual-in_err-oid.result c.in_err-oid.field-0.0 (search rules)
+    let b = begun old mid given c.in_ok-tag.field-0 c.in-Some.tag c.in-Some.constructed c.in-Some.is
+    (c.in_ok-tag.ensures.given given fine is) c.in_ok-tag.ensures.fits in
+    let read = c.in_err-oid.ensures.reads given.tag given (fine_still old mid b.still fine)
+    (given_still old mid given b.still is) in
+    value_err old c.read_identifier.new.pull
+    (read_given OpenType s given) open_value_of c.from_residual-in_err-oid.result c.in_err-oid.field-0.0 (search rules)
     (hears_as _ _ _ _ _ _ _ (identifier_is s given b.fits (rw (← b.tag_is) (search rules)))
-    (unmoved_answers (λ z. read_given_leaf ObjectIdentifier given.tag z given) old mid c.read_identifier.new.pull (heard_error c.in_err-oid.field-0.0) b.still read))
+    (unmoved_answers (λ z. read_given_leaf ObjectIdentifier given.tag z given) old mid c.read_identifier.new.pull
+    (heard_error c.in_err-oid.field-0.0) b.still read))
 
 pub returns-in_err-append_open-clause-reads : goal.returns-in_err-append_open-clause-reads
 returns-in_err-append_open-clause-reads g c = λ given fine is.
     let old = c.args.pull.now in
     let mid = c.next_tag.new.self in
     let s = old.state in
-    let b = begun old mid given c.in_ok-tag.field-0 c.in-Some.tag c.in-Some.constructed c.in-Some.is (c.in_ok-tag.ensures.given given fine is) c.in_ok-tag.ensures.fits in
-    let read = c.in_err-append_open.ensures.reads mid.state.limits.depth given (fine_still old mid b.still fine) (given_still old mid given b.still is) (omega arith) in
-    value_err old c.append_open.new.pull (read_given OpenType s given) open_value_of c.from_residual-in_err-append_open.result c.in_err-append_open.field-0.0 (search rules)
-    (unmoved_answers (λ z. read_given OpenType z given) old mid c.append_open.new.pull (heard_error c.in_err-append_open.field-0.0) b.still (hears_as _ _ _ _ _ _ _ (open_is mid.state given) read))
+    let b = begun old mid given c.in_ok-tag.field-0 c.in-Some.tag c.in-Some.constructed c.in-Some.is
+    (c.in_ok-tag.ensures.given given fine is) c.in_ok-tag.ensures.fits in
+    let read = c.in_err-append_open.ensures.reads mid.state.limits.depth given (fine_still old mid b.still fine)
+    (given_still old mid given b.still is) (omega arith) in
+    value_err old c.append_open.new.pull
+    (read_given OpenType s given) open_value_of c.from_residual-in_err-append_open.result c.in_err-append_open.field-0.0
+    (search rules)
+    (unmoved_answers (λ z. read_given OpenType z given) old mid c.append_open.new.pull
+    (heard_error c.in_err-append_open.field-0.0) b.still (hears_as _ _ _ _ _ _ _ (open_is mid.state given) read))
 
 pub invariant_of-result-2 : goal.invariant_of-result-2
 invariant_of-result-2 g c =
@@ -43,13 +52,20 @@ invariant_of-result-2 g c =
     let s = old.state in
     let fine : s.error ≡ None = none_by s.error (λ e h. let r = (c.in_ok-tag.ensures.repeats e h).0 in cc) in
     let given = some_given s.given (c.requires fine) in
-    let b = begun old mid given.0 c.in_ok-tag.field-0 c.in-Some.tag c.in-Some.constructed c.in-Some.is (c.in_ok-tag.ensures.given given.0 fine given.1) c.in_ok-tag.ensures.fits in
-    let read = c.in_ok-append_open.ensures.reads mid.state.limits.depth given.0 (fine_still old mid b.still fine) (given_still old mid given.0 b.still given.1) (omega arith) in
-    let text : c.append_open.new.text.items ≡ der read.0 = read.1 ∙ ap (λ z. z ++ der read.0) c.new-text.ensures.items in
-    let known = open_read s given.0 read.0 _ _ _ _ b.fits (unmoved_answers (λ z. read_given OpenType z given.0) old mid c.append_open.new.pull (Said read.0) b.still (hears_as _ _ _ _ _ _ _ (open_is mid.state given.0) read.2)) in
+    let b = begun old mid given.0 c.in_ok-tag.field-0 c.in-Some.tag c.in-Some.constructed c.in-Some.is
+    (c.in_ok-tag.ensures.given given.0 fine given.1) c.in_ok-tag.ensures.fits in
+    let read = c.in_ok-append_open.ensures.reads mid.state.limits.depth given.0 (fine_still old mid b.still fine)
+    (given_still old mid given.0 b.still given.1) (omega arith) in
+    let text : c.append_open.new.text.items ≡ der read.0 =
+    read.1 ∙ ap (λ z. z ++ der read.0) c.new-text.ensures.items in
+    let known = open_read s given.0 read.0 _ _ _ _ b.fits
+    (unmoved_answers (λ z. read_given OpenType z given.0) old mid c.append_open.new.pull (Said read.0) b.still
+    (hears_as _ _ _ _ _ _ _ (open_is mid.state given.0) read.2)) in
     record {
       whole = subst (λ z. der (open_value z) ≡ z) (sym text) known.again.text;
-      identified = subst (λ z. None ≡ identifier_in (open_value z)) (sym text) (no_identifier given.0.tag read.0 known (rw (← b.tag_is) (search rules)));
+      identified =
+          subst (λ z. None ≡ identifier_in (open_value z)) (sym text)
+          (no_identifier given.0.tag read.0 known (rw (← b.tag_is) (search rules)));
     }
 
 pub invariant_of-result : goal.invariant_of-result
@@ -59,15 +75,22 @@ invariant_of-result g c =
     let s = old.state in
     let fine : s.error ≡ None = none_by s.error (λ e h. let r = (c.in_ok-tag.ensures.repeats e h).0 in cc) in
     let given = some_given s.given (c.requires fine) in
-    let b = begun old mid given.0 c.in_ok-tag.field-0 c.in-Some.tag c.in-Some.constructed c.in-Some.is (c.in_ok-tag.ensures.given given.0 fine given.1) c.in_ok-tag.ensures.fits in
-    let read = c.in_ok-oid.ensures.reads given.0.tag given.0 (fine_still old mid b.still fine) (given_still old mid given.0 b.still given.1) in
+    let b = begun old mid given.0 c.in_ok-tag.field-0 c.in-Some.tag c.in-Some.constructed c.in-Some.is
+    (c.in_ok-tag.ensures.given given.0 fine given.1) c.in_ok-tag.ensures.fits in
+    let read = c.in_ok-oid.ensures.reads given.0.tag given.0 (fine_still old mid b.still fine)
+    (given_still old mid given.0 b.still given.1) in
     let tag = same_tag_is (universal 6) given.0.tag (rw (← b.tag_is) (search rules)) in
-    let known = open_read s given.0 (Leaf given.0.tag c.in_ok-oid.oid) _ _ _ _ b.fits (hears_as _ _ _ _ _ _ _ (identifier_is s given.0 b.fits (rw (← b.tag_is) (search rules)))
-    (unmoved_answers (λ z. read_given_leaf ObjectIdentifier given.0.tag z given.0) old mid c.read_identifier.new.pull (Said (Leaf given.0.tag c.in_ok-oid.oid)) b.still read)) in
+    let known = open_read s given.0 (Leaf given.0.tag c.in_ok-oid.oid) _ _ _ _ b.fits
+    (hears_as _ _ _ _ _ _ _ (identifier_is s given.0 b.fits (rw (← b.tag_is) (search rules)))
+    (unmoved_answers (λ z. read_given_leaf ObjectIdentifier given.0.tag z given.0) old mid c.read_identifier.new.pull
+    (Said (Leaf given.0.tag c.in_ok-oid.oid)) b.still read)) in
     let again = subst (λ t. SaysAgain (Leaf t c.in_ok-oid.oid)) (sym tag) known.again in
     record {
       whole = subst (λ z. der (open_value z) ≡ z) (sym c.in-Ok.ensures.text) again.text;
-      identified = ap Some c.in-Ok.ensures.boxed ∙ subst (λ z. Some c.in_ok-oid.oid ≡ identifier_in (open_value z)) (sym c.in-Ok.ensures.text) (identifier_again (Leaf (universal 6) c.in_ok-oid.oid) again);
+      identified =
+          ap Some c.in-Ok.ensures.boxed
+          ∙ subst (λ z. Some c.in_ok-oid.oid ≡ identifier_in (open_value z)) (sym c.in-Ok.ensures.text)
+          (identifier_again (Leaf (universal 6) c.in_ok-oid.oid) again);
     }
 
 pub returns-in-Ok-clause-reads : goal.returns-in-Ok-clause-reads
@@ -75,35 +98,50 @@ returns-in-Ok-clause-reads g c = λ given fine is.
     let old = c.args.pull.now in
     let mid = c.next_tag.new.self in
     let s = old.state in
-    let b = begun old mid given c.in_ok-tag.field-0 c.in-Some.tag c.in-Some.constructed c.in-Some.is (c.in_ok-tag.ensures.given given fine is) c.in_ok-tag.ensures.fits in
-    let read = c.in_ok-oid.ensures.reads given.tag given (fine_still old mid b.still fine) (given_still old mid given b.still is) in
+    let b = begun old mid given c.in_ok-tag.field-0 c.in-Some.tag c.in-Some.constructed c.in-Some.is
+    (c.in_ok-tag.ensures.given given fine is) c.in_ok-tag.ensures.fits in
+    let read = c.in_ok-oid.ensures.reads given.tag given (fine_still old mid b.still fine)
+    (given_still old mid given b.still is) in
     let tag = same_tag_is (universal 6) given.tag (rw (← b.tag_is) (search rules)) in
     let whole = hears_as _ _ _ _ _ _ _ (identifier_is s given b.fits (rw (← b.tag_is) (search rules)))
-    (unmoved_answers (λ z. read_given_leaf ObjectIdentifier given.tag z given) old mid c.read_identifier.new.pull (Said (Leaf given.tag c.in_ok-oid.oid)) b.still read) in
+    (unmoved_answers (λ z. read_given_leaf ObjectIdentifier given.tag z given) old mid c.read_identifier.new.pull
+    (Said (Leaf given.tag c.in_ok-oid.oid)) b.still read) in
     let known = open_read s given (Leaf given.tag c.in_ok-oid.oid) _ _ _ _ b.fits whole in
-    let text : c.in-Ok.text.items ≡ der (Leaf given.tag c.in_ok-oid.oid) = c.in-Ok.ensures.text ∙ ap (λ t. der (Leaf t c.in_ok-oid.oid)) tag in
-    (Leaf given.tag c.in_ok-oid.oid, subst (λ z. Same (Leaf given.tag c.in_ok-oid.oid) (open_value z)) (sym text) known.again.same, whole)
+    let text : c.in-Ok.text.items ≡ der (Leaf given.tag c.in_ok-oid.oid) =
+    c.in-Ok.ensures.text ∙ ap (λ t. der (Leaf t c.in_ok-oid.oid)) tag in (
+      Leaf given.tag c.in_ok-oid.oid,
+      subst (λ z. Same (Leaf given.tag c.in_ok-oid.oid) (open_value z)) (sym text) known.again.same,
+      whole,
+    )
 
 pub returns-in-Err-clause-reads : goal.returns-in-Err-clause-reads
 returns-in-Err-clause-reads g c = λ given fine is.
     let old = c.args.pull.now in
     let mid = c.next_tag.new.self in
     let s = old.state in
-    let b = begun old mid given c.in_ok-tag.field-0 c.in-Some.tag c.in-Some.constructed c.in-Some.is (c.in_ok-tag.ensures.given given fine is) c.in_ok-tag.ensures.fits in
-    let read = c.in_ok-oid.ensures.reads given.tag given (fine_still old mid b.still fine) (given_still old mid given b.still is) in
+    let b = begun old mid given c.in_ok-tag.field-0 c.in-Some.tag c.in-Some.constructed c.in-Some.is
+    (c.in_ok-tag.ensures.given given fine is) c.in_ok-tag.ensures.fits in
+    let read = c.in_ok-oid.ensures.reads given.tag given (fine_still old mid b.still fine)
+    (given_still old mid given b.still is) in
     let first = c.no_memory.ensures.first (search rules) in
     hears_as _ _ _ _ _ _ _ (identifier_is s given b.fits (rw (← b.tag_is) (search rules)))
-    (hears_then_memory _ (Leaf given.tag c.in_ok-oid.oid) c.no_memory.result _ _ _ _ _ _ first.0 (ap (λ z. z.taken) first.1) (ap g.R.Source.remaining c.no_memory.ensures.same)
-    (unmoved_answers (λ z. read_given_leaf ObjectIdentifier given.tag z given) old mid c.read_identifier.new.pull (Said (Leaf given.tag c.in_ok-oid.oid)) b.still read))
+    (hears_then_memory _ (Leaf given.tag c.in_ok-oid.oid) c.no_memory.result _ _ _ _ _ _ first.0
+    (ap (λ z. z.taken) first.1) (ap g.R.Source.remaining c.no_memory.ensures.same)
+    (unmoved_answers (λ z. read_given_leaf ObjectIdentifier given.tag z given) old mid c.read_identifier.new.pull
+    (Said (Leaf given.tag c.in_ok-oid.oid)) b.still read))
 
 pub returns-clause-reads : goal.returns-clause-reads
 returns-clause-reads g c = λ given fine is.
     let old = c.args.pull.now in
     let mid = c.next_tag.new.self in
     let s = old.state in
-    let b = begun old mid given c.in_ok-tag.field-0 c.in-Some.tag c.in-Some.constructed c.in-Some.is (c.in_ok-tag.ensures.given given fine is) c.in_ok-tag.ensures.fits in
-    let read = c.in_ok-append_open.ensures.reads mid.state.limits.depth given (fine_still old mid b.still fine) (given_still old mid given b.still is) (omega arith) in
-    let text : c.append_open.new.text.items ≡ der read.0 = read.1 ∙ ap (λ z. z ++ der read.0) c.new-text.ensures.items in
-    let whole = unmoved_answers (λ z. read_given OpenType z given) old mid c.append_open.new.pull (Said read.0) b.still (hears_as _ _ _ _ _ _ _ (open_is mid.state given) read.2) in
+    let b = begun old mid given c.in_ok-tag.field-0 c.in-Some.tag c.in-Some.constructed c.in-Some.is
+    (c.in_ok-tag.ensures.given given fine is) c.in_ok-tag.ensures.fits in
+    let read = c.in_ok-append_open.ensures.reads mid.state.limits.depth given (fine_still old mid b.still fine)
+    (given_still old mid given b.still is) (omega arith) in
+    let text : c.append_open.new.text.items ≡ der read.0 =
+    read.1 ∙ ap (λ z. z ++ der read.0) c.new-text.ensures.items in
+    let whole = unmoved_answers (λ z. read_given OpenType z given) old mid c.append_open.new.pull (Said read.0) b.still
+    (hears_as _ _ _ _ _ _ _ (open_is mid.state given) read.2) in
     let known = open_read s given read.0 _ _ _ _ b.fits whole in
     (read.0, subst (λ z. Same read.0 (open_value z)) (sym text) known.again.same, whole)

@@ -10,7 +10,9 @@ returns-in_err-octet-clause-reads g c =
     clipped_error c.args.self.now c.octet.new.self _ c.from_residual.result c.in_err-octet.field-0.0 (search rules)
     (c.loop.invariant.reads.2.rest _ _ _
     (big_endian_error _ _ _ _ (c.args.count - (c.loop.counter + 1)) _ _ _ _ _ _ (omega arith)
-    (hears_as _ _ _ _ _ _ _ (ap (λ s. header_octet s.limits (enclosing s).nearest_end c.args.start) c.loop.invariant.moves) c.in_err-octet.ensures.reads)))
+    (hears_as _ _ _ _ _ _ _
+    (ap (λ s. header_octet s.limits (enclosing s).nearest_end c.args.start) c.loop.invariant.moves)
+    c.in_err-octet.ensures.reads)))
 
 pub loop-preserved : goal.loop-preserved
 loop-preserved g c = record {
@@ -22,10 +24,17 @@ loop-preserved g c = record {
   reads = (
     c.loop.invariant.reads.0 * 256 + c.in_ok-octet.octet,
     c.with_octet-number.ensures.clipped _ c.loop.invariant.reads.1,
-    big_endian_more _ _ _ (c.args.count - c.loop.counter) _ _ c.in_ok-octet.octet _ _ _ _ _ _ _ (omega arith) c.loop.invariant.reads.2
-        (hears_as _ _ _ _ _ _ _ (ap (λ s. header_octet s.limits (enclosing s).nearest_end c.args.start) c.loop.invariant.moves) c.in_ok-octet.ensures.reads),
+    big_endian_more _ _ _ (c.args.count - c.loop.counter) _ _ c.in_ok-octet.octet _ _ _ _ _ _ _
+        (omega arith) c.loop.invariant.reads.2
+        (hears_as _ _ _ _ _ _ _
+        (ap (λ s. header_octet s.limits (enclosing s).nearest_end c.args.start) c.loop.invariant.moves)
+        c.in_ok-octet.ensures.reads),
   );
 }
 
 pub returns-clause-reads : goal.returns-clause-reads
-returns-clause-reads g c = (c.loop.invariant.reads.0, c.loop.invariant.reads.1, c.loop.invariant.reads.2.rest _ _ _ (big_endian_done _ _ _ _ _ _ _ (omega arith)))
+returns-clause-reads g c = (
+  c.loop.invariant.reads.0,
+  c.loop.invariant.reads.1,
+  c.loop.invariant.reads.2.rest _ _ _ (big_endian_done _ _ _ _ _ _ _ (omega arith)),
+)

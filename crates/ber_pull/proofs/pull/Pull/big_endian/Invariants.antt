@@ -14,6 +14,11 @@ invariant-loop g l = record {
   forward : l.initial.self.state.taken ≤ l.self.state.taken;
   below : l.number < 2 ^ 40;
   reads : (n : ℕ) × IsClipped n l.number
-      × Continues (read_big_endian l.initial.self.state.limits (enclosing l.initial.self.state).nearest_end l.start l.count 0) l.initial.self.state.taken (g.R.Source.remaining l.initial.self.src.now)
-      (read_big_endian l.initial.self.state.limits (enclosing l.initial.self.state).nearest_end l.start (l.count - l.counter) n) l.self.state.taken (g.R.Source.remaining l.self.src.now);
+      × Continues
+      (read_big_endian l.initial.self.state.limits (enclosing l.initial.self.state).nearest_end l.start l.count 0)
+      l.initial.self.state.taken
+      (g.R.Source.remaining l.initial.self.src.now)
+      (read_big_endian l.initial.self.state.limits (enclosing l.initial.self.state).nearest_end l.start
+      (l.count - l.counter) n) l.self.state.taken
+      (g.R.Source.remaining l.self.src.now);
 }

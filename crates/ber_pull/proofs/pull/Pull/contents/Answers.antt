@@ -7,12 +7,18 @@ use Rattle.ber_pull.proofs.pull.Pull.contents.Goals as goal
 pub returns-then-is_err-clause-reads : goal.returns-then-is_err-clause-reads
 returns-then-is_err-clause-reads g c =
     let first = c.no_memory.ensures.first c.requires.live in
-    hears_memory (next_octets c.args.count) c.no_memory.result _ _ _ _ first.0 (ap (λ s. s.taken) first.1) (ap g.R.Source.remaining c.no_memory.ensures.same)
+    hears_memory (next_octets c.args.count) c.no_memory.result _ _ _ _ first.0 (ap (λ s. s.taken) first.1)
+    (ap g.R.Source.remaining c.no_memory.ensures.same)
 
 pub returns-in_err-piece-clause-reads : goal.returns-in_err-piece-clause-reads
 returns-in_err-piece-clause-reads g c =
     hears_err _ _ c.from_residual.result c.in_err-piece.field-0.0 _ _ _ _ (search rules)
-    (contents_error _ c.args.count _ _ _ c.in_err-piece.field-0.0 c.loop-octets.octets.items _ _ _ c.loop-octets.invariant.came c.loop-octets.invariant.count (omega arith) c.in_err-piece.ensures.adds)
+    (contents_error _ c.args.count _ _ _ c.in_err-piece.field-0.0 c.loop-octets.octets.items _ _ _
+    c.loop-octets.invariant.came c.loop-octets.invariant.count
+    (omega arith) c.in_err-piece.ensures.adds)
 
 pub returns-clause-reads : goal.returns-clause-reads
-returns-clause-reads g c = contents_done c.args.count _ _ c.loop-octets.octets.items _ _ c.loop-octets.invariant.came c.loop-octets.invariant.count (omega arith)
+returns-clause-reads g c =
+    contents_done c.args.count _ _ c.loop-octets.octets.items _ _ c.loop-octets.invariant.came
+    c.loop-octets.invariant.count
+    (omega arith)

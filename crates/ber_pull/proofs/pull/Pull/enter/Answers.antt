@@ -12,21 +12,31 @@ use Rattle.ber_pull.proofs.pull.Pull.enter.Goals as goal
 pub returns-then-not-given-clause-reads : goal.returns-then-not-given-clause-reads
 returns-then-not-given-clause-reads g c = λ given fine is.
     let same : c.unwrap-given.result ≡ given = cc in
-    hears_stop _ (fault given.at WrongForm) _ _ _ _ _ _ _ (c.stop.ensures.is ∙ ap (λ w. errors.Fault (fault w.at WrongForm)) same) (ap (λ s. s.taken) c.stop.ensures.stands) (ap g.R.Source.remaining c.stop.ensures.same)
+    hears_stop _ (fault given.at WrongForm) _ _ _ _ _ _ _
+    (c.stop.ensures.is ∙ ap (λ w. errors.Fault (fault w.at WrongForm)) same) (ap (λ s. s.taken) c.stop.ensures.stands)
+    (ap g.R.Source.remaining c.stop.ensures.same)
     (enter_primitive _ _ _ _ (ap (λ w. w.constructed) (sym same) ∙ no_true _ c.if-not-given.true))
 
 pub returns-in_err-form-clause-reads : goal.returns-in_err-form-clause-reads
 returns-in_err-form-clause-reads g c = λ given fine is.
     let same : c.unwrap-given.result ≡ given = cc in
     hears_err _ _ c.from_residual.result c.in_err-form.field-0.0 _ _ _ _ (search rules)
-    (enter_error c.args.self.now.state given _ _ _ _ _ (ap (λ w. w.constructed) (sym same) ∙ no_false _ c.if-not-given.false)
-    (hears_as _ _ _ _ _ _ _ (ap (λ w. read_length c.args.self.now.state.limits (enclosing c.args.self.now.state).nearest_end w.at) same) c.in_err-form.ensures.reads))
+    (enter_error c.args.self.now.state given _ _ _ _ _
+    (ap (λ w. w.constructed) (sym same) ∙ no_false _ c.if-not-given.false)
+    (hears_as _ _ _ _ _ _ _
+    (ap (λ w. read_length c.args.self.now.state.limits (enclosing c.args.self.now.state).nearest_end w.at) same)
+    c.in_err-form.ensures.reads))
 
 pub returns-clause-reads : goal.returns-clause-reads
 returns-clause-reads g c = λ given fine is.
     let same : c.unwrap-given.result ≡ given = cc in
-    let stands = c.open.ensures.stands ∙ ap (opening (form_of c.in_ok-form.form)) (c.use_given.ensures ∙ ap (used c.length.new.self.state.taken) c.in_ok-form.ensures.stands) in
+    let stands = c.open.ensures.stands
+    ∙ ap (opening (form_of c.in_ok-form.form))
+    (c.use_given.ensures ∙ ap (used c.length.new.self.state.taken) c.in_ok-form.ensures.stands) in
     hears_at _ _ _ _ _ _ _ _ (ap (λ s. s.taken) stands) (ap g.R.Source.remaining c.open.ensures.same)
     (hears_said _ _ _ _ _ _ _ (ap enclosing (sym stands))
-    (enter_opens c.args.self.now.state given (form_of c.in_ok-form.form) _ _ _ _ (ap (λ w. w.constructed) (sym same) ∙ no_false _ c.if-not-given.false)
-    (hears_as _ _ _ _ _ _ _ (ap (λ w. read_length c.args.self.now.state.limits (enclosing c.args.self.now.state).nearest_end w.at) same) c.in_ok-form.ensures.reads)))
+    (enter_opens c.args.self.now.state given (form_of c.in_ok-form.form) _ _ _ _
+    (ap (λ w. w.constructed) (sym same) ∙ no_false _ c.if-not-given.false)
+    (hears_as _ _ _ _ _ _ _
+    (ap (λ w. read_length c.args.self.now.state.limits (enclosing c.args.self.now.state).nearest_end w.at) same)
+    c.in_ok-form.ensures.reads)))

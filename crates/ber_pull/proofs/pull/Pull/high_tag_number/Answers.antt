@@ -13,39 +13,66 @@ pub returns-in_err-octet-clause-reads : goal.returns-in_err-octet-clause-reads
 returns-in_err-octet-clause-reads g c =
     hears_err _ _ c.from_residual.result c.in_err-octet.field-0.0 _ _ _ _ (search rules)
     (c.loop.invariant.reads.rest _ _ _ (high_error _ _ _ _ (4 - (c.loop.counter + 1)) _ _ _ _ _ _ (omega arith)
-    (hears_as _ _ _ _ _ _ _ (ap (λ s. header_octet s.limits (enclosing s).nearest_end c.args.start) c.loop.invariant.moves) c.in_err-octet.ensures.reads)))
+    (hears_as _ _ _ _ _ _ _
+    (ap (λ s. header_octet s.limits (enclosing s).nearest_end c.args.start) c.loop.invariant.moves)
+    c.in_err-octet.ensures.reads)))
 
 pub returns-then-octet-clause-reads : goal.returns-then-octet-clause-reads
 returns-then-octet-clause-reads g c =
-    hears_stop _ (fault c.args.start BadTag) _ _ _ _ _ _ _ c.stop.ensures.is (ap (λ s. s.taken) c.stop.ensures.stands) (ap g.R.Source.remaining c.stop.ensures.same)
-    (high_zero _ _ _ _ _ _ _ _ _ _ (high_octet _ _ _ (4 - c.loop.counter) (4 - (c.loop.counter + 1)) c.loop.number c.in_ok-octet.octet _ _ _ _ _ _ (omega arith) c.loop.invariant.reads
-    (hears_as _ _ _ _ _ _ _ (ap (λ s. header_octet s.limits (enclosing s).nearest_end c.args.start) c.loop.invariant.moves) c.in_ok-octet.ensures.reads)) c.if-number-eq0.true c.if-octet.true)
+    hears_stop _ (fault c.args.start BadTag) _ _ _ _ _ _ _ c.stop.ensures.is (ap (λ s. s.taken) c.stop.ensures.stands)
+    (ap g.R.Source.remaining c.stop.ensures.same)
+    (high_zero _ _ _ _ _ _ _ _ _ _
+    (high_octet _ _ _ (4 - c.loop.counter) (4 - (c.loop.counter + 1)) c.loop.number c.in_ok-octet.octet _ _ _ _ _ _
+    (omega arith) c.loop.invariant.reads
+    (hears_as _ _ _ _ _ _ _
+    (ap (λ s. header_octet s.limits (enclosing s).nearest_end c.args.start) c.loop.invariant.moves)
+    c.in_ok-octet.ensures.reads)) c.if-number-eq0.true c.if-octet.true)
 
 pub overflow_mul-number : goal.overflow_mul-number
-overflow_mul-number g c = let b : c.loop.number < 2097152 = digits_below _ _ (omega arith) c.loop.invariant.below in search rules
+overflow_mul-number g c =
+    let b : c.loop.number < 2097152 = digits_below _ _ (omega arith) c.loop.invariant.below in search rules
 
 pub overflow_add-number : goal.overflow_add-number
-overflow_add-number g c = let b : c.loop.number < 2097152 = digits_below _ _ (omega arith) c.loop.invariant.below in search rules
+overflow_add-number g c =
+    let b : c.loop.number < 2097152 = digits_below _ _ (omega arith) c.loop.invariant.below in search rules
 
 pub overflow_mul-number-in-loop : goal.overflow_mul-number-in-loop
-overflow_mul-number-in-loop g c = let b : c.loop.number < 2097152 = digits_below _ _ (omega arith) c.loop.invariant.below in search rules
+overflow_mul-number-in-loop g c =
+    let b : c.loop.number < 2097152 = digits_below _ _ (omega arith) c.loop.invariant.below in search rules
 
 pub overflow_add-number-in-loop : goal.overflow_add-number-in-loop
-overflow_add-number-in-loop g c = let b : c.loop.number < 2097152 = digits_below _ _ (omega arith) c.loop.invariant.below in search rules
+overflow_add-number-in-loop g c =
+    let b : c.loop.number < 2097152 = digits_below _ _ (omega arith) c.loop.invariant.below in search rules
 
 pub returns-then-number-lt31-clause-reads : goal.returns-then-number-lt31-clause-reads
 returns-then-number-lt31-clause-reads g c =
     let small : c.loop.number * 128 + c.in_ok-octet.octet < 31 = let z = c.if-number-lt31.true in omega arith in
-    hears_stop _ (fault c.args.start BadTag) _ _ _ _ _ _ _ c.stop-then-number-lt31.ensures.is (ap (λ s. s.taken) c.stop-then-number-lt31.ensures.stands) (ap g.R.Source.remaining c.stop-then-number-lt31.ensures.same)
-    (high_small _ _ _ _ _ _ _ _ _ _ (high_octet _ _ _ (4 - c.loop.counter) (4 - (c.loop.counter + 1)) c.loop.number c.in_ok-octet.octet _ _ _ _ _ _ (omega arith) c.loop.invariant.reads
-    (hears_as _ _ _ _ _ _ _ (ap (λ s. header_octet s.limits (enclosing s).nearest_end c.args.start) c.loop.invariant.moves) c.in_ok-octet.ensures.reads)) c.if-octet-lt128.true small)
+    hears_stop _ (fault c.args.start BadTag) _ _ _ _ _ _ _ c.stop-then-number-lt31.ensures.is
+    (ap (λ s. s.taken) c.stop-then-number-lt31.ensures.stands)
+    (ap g.R.Source.remaining c.stop-then-number-lt31.ensures.same)
+    (high_small _ _ _ _ _ _ _ _ _ _
+    (high_octet _ _ _ (4 - c.loop.counter) (4 - (c.loop.counter + 1)) c.loop.number c.in_ok-octet.octet _ _ _ _ _ _
+    (omega arith) c.loop.invariant.reads
+    (hears_as _ _ _ _ _ _ _
+    (ap (λ s. header_octet s.limits (enclosing s).nearest_end c.args.start) c.loop.invariant.moves)
+    c.in_ok-octet.ensures.reads)) c.if-octet-lt128.true small)
 
 pub returns-then-octet-lt128-clause-reads : goal.returns-then-octet-lt128-clause-reads
 returns-then-octet-lt128-clause-reads g c =
     let large : 31 ≤ c.loop.number * 128 + c.in_ok-octet.octet = let z = c.if-number-lt31.false in omega arith in
-    subst (λ n. Hears (read_high_number c.args.self.now.state.limits (enclosing c.args.self.now.state).nearest_end c.args.start 4 0) c.args.self.now.state.taken (g.R.Source.remaining c.args.self.now.src.now) (Said (c.loop.number * 128 + n)) c.octet.new.self.state.taken (g.R.Source.remaining c.octet.new.self.src.now)) (sym c.from.ensures)
-    (high_last _ _ _ _ _ _ _ _ _ _ (high_octet _ _ _ (4 - c.loop.counter) (4 - (c.loop.counter + 1)) c.loop.number c.in_ok-octet.octet _ _ _ _ _ _ (omega arith) c.loop.invariant.reads
-    (hears_as _ _ _ _ _ _ _ (ap (λ s. header_octet s.limits (enclosing s).nearest_end c.args.start) c.loop.invariant.moves) c.in_ok-octet.ensures.reads)) c.if-octet-lt128.true large)
+    subst (λ n.
+    Hears
+    (read_high_number c.args.self.now.state.limits (enclosing c.args.self.now.state).nearest_end c.args.start 4 0)
+    c.args.self.now.state.taken
+    (g.R.Source.remaining c.args.self.now.src.now) (Said (c.loop.number * 128 + n)) c.octet.new.self.state.taken
+    (g.R.Source.remaining c.octet.new.self.src.now))
+    (sym c.from.ensures)
+    (high_last _ _ _ _ _ _ _ _ _ _
+    (high_octet _ _ _ (4 - c.loop.counter) (4 - (c.loop.counter + 1)) c.loop.number c.in_ok-octet.octet _ _ _ _ _ _
+    (omega arith) c.loop.invariant.reads
+    (hears_as _ _ _ _ _ _ _
+    (ap (λ s. header_octet s.limits (enclosing s).nearest_end c.args.start) c.loop.invariant.moves)
+    c.in_ok-octet.ensures.reads)) c.if-octet-lt128.true large)
 
 pub returns-then-octet-lt128-clause-below : goal.returns-then-octet-lt128-clause-below
 returns-then-octet-lt128-clause-below g c =
@@ -59,12 +86,19 @@ loop-preserved g c = record {
   moves = search rules;
   forward = search rules;
   below = digits_more _ _ _ c.loop.invariant.below (omega arith);
-  reads = high_more _ _ _ _ _ c.in_ok-octet.octet _ _ _ _ _ (high_octet _ _ _ (4 - c.loop.counter) (4 - (c.loop.counter + 1)) c.loop.number c.in_ok-octet.octet _ _ _ _ _ _ (omega arith) c.loop.invariant.reads
-      (hears_as _ _ _ _ _ _ _ (ap (λ s. header_octet s.limits (enclosing s).nearest_end c.args.start) c.loop.invariant.moves) c.in_ok-octet.ensures.reads))
-      c.in_ok-octet.ensures.octet c.if-octet-lt128.false (no_first_zero _ _ c.else-number-eq0.either) c.from-in-loop.ensures;
+  reads =
+      high_more _ _ _ _ _ c.in_ok-octet.octet _ _ _ _ _
+      (high_octet _ _ _ (4 - c.loop.counter) (4 - (c.loop.counter + 1)) c.loop.number c.in_ok-octet.octet _ _ _ _ _ _
+      (omega arith) c.loop.invariant.reads
+      (hears_as _ _ _ _ _ _ _
+      (ap (λ s. header_octet s.limits (enclosing s).nearest_end c.args.start) c.loop.invariant.moves)
+      c.in_ok-octet.ensures.reads))
+      c.in_ok-octet.ensures.octet c.if-octet-lt128.false
+      (no_first_zero _ _ c.else-number-eq0.either) c.from-in-loop.ensures;
 }
 
 pub returns-clause-reads : goal.returns-clause-reads
 returns-clause-reads g c =
-    hears_stop _ (fault c.args.start BadTag) _ _ _ _ _ _ _ c.stop-2.ensures.is (ap (λ s. s.taken) c.stop-2.ensures.stands) (ap g.R.Source.remaining c.stop-2.ensures.same)
+    hears_stop _ (fault c.args.start BadTag) _ _ _ _ _ _ _ c.stop-2.ensures.is
+    (ap (λ s. s.taken) c.stop-2.ensures.stands) (ap g.R.Source.remaining c.stop-2.ensures.same)
     (high_long _ _ _ _ _ _ _ _ _ (omega arith) c.loop.invariant.reads)

@@ -12,6 +12,11 @@ invariant-loop g l = record {
   moves : l.self.state ≡ moved l.self.state.taken l.initial.self.state;
   forward : l.initial.self.state.taken ≤ l.self.state.taken;
   below : l.number < 128 ^ l.counter;
-  reads : Continues (read_high_number l.initial.self.state.limits (enclosing l.initial.self.state).nearest_end l.start 4 0) l.initial.self.state.taken (g.R.Source.remaining l.initial.self.src.now)
-      (read_high_number l.initial.self.state.limits (enclosing l.initial.self.state).nearest_end l.start (4 - l.counter) l.number) l.self.state.taken (g.R.Source.remaining l.self.src.now);
+  reads : Continues
+      (read_high_number l.initial.self.state.limits (enclosing l.initial.self.state).nearest_end l.start 4 0)
+      l.initial.self.state.taken
+      (g.R.Source.remaining l.initial.self.src.now)
+      (read_high_number l.initial.self.state.limits (enclosing l.initial.self.state).nearest_end l.start
+      (4 - l.counter) l.number) l.self.state.taken
+      (g.R.Source.remaining l.self.src.now);
 }

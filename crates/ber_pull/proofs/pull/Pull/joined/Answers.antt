@@ -14,7 +14,15 @@ pub returns-in_err-segment-clause-reads : goal.returns-in_err-segment-clause-rea
 returns-in_err-segment-clause-reads g c = λ given is.
     let same : c.unwrap-given.result ≡ given = cc in
     joined_error c.args.self.now c.segment.new.self _ c.from_residual.result c.in_err-segment.field-0.0 (search rules)
-    (hears_as _ _ _ _ _ _ _ (ap (λ b. read_one_segment (segment_number b) c.args.self.now.state.limits (enclosing c.args.self.now.state) [] c.unwrap-given.result.at) c.new-joined.ensures.kind ∙ ap (λ w. read_one_segment (segment_number c.args.is_bits) c.args.self.now.state.limits (enclosing c.args.self.now.state) [] w.at) same ∙ segments_one (segment_number c.args.is_bits) c.args.self.now.state given (ap (λ w. w.constructed) (sym same) ∙ no_true _ c.if-not-given.true))
+    (hears_as _ _ _ _ _ _ _
+    (ap (λ b.
+    read_one_segment (segment_number b) c.args.self.now.state.limits
+    (enclosing c.args.self.now.state) [] c.unwrap-given.result.at) c.new-joined.ensures.kind
+    ∙ ap (λ w.
+    read_one_segment (segment_number c.args.is_bits) c.args.self.now.state.limits
+    (enclosing c.args.self.now.state) [] w.at) same
+    ∙ segments_one (segment_number c.args.is_bits) c.args.self.now.state given
+    (ap (λ w. w.constructed) (sym same) ∙ no_true _ c.if-not-given.true))
     (c.in_err-segment.ensures.reads [] c.new-joined.ensures.none))
 
 pub returns-then-not-given-clause-reads : goal.returns-then-not-given-clause-reads
@@ -23,14 +31,25 @@ returns-then-not-given-clause-reads g c = λ given is.
     let came = c.in_ok-segment.ensures.reads [] c.new-joined.ensures.none in (
       came.0,
       came.1,
-      hears_as _ _ _ _ _ _ _ (ap (λ b. read_one_segment (segment_number b) c.args.self.now.state.limits (enclosing c.args.self.now.state) [] c.unwrap-given.result.at) c.new-joined.ensures.kind ∙ ap (λ w. read_one_segment (segment_number c.args.is_bits) c.args.self.now.state.limits (enclosing c.args.self.now.state) [] w.at) same ∙ segments_one (segment_number c.args.is_bits) c.args.self.now.state given (ap (λ w. w.constructed) (sym same) ∙ no_true _ c.if-not-given.true)) came.2,
+      hears_as _ _ _ _ _ _ _
+          (ap (λ b.
+          read_one_segment (segment_number b) c.args.self.now.state.limits
+          (enclosing c.args.self.now.state) [] c.unwrap-given.result.at) c.new-joined.ensures.kind
+          ∙ ap (λ w.
+          read_one_segment (segment_number c.args.is_bits) c.args.self.now.state.limits
+          (enclosing c.args.self.now.state) [] w.at) same
+          ∙ segments_one (segment_number c.args.is_bits) c.args.self.now.state given
+          (ap (λ w. w.constructed) (sym same) ∙ no_true _ c.if-not-given.true)) came.2,
     )
 
 pub returns-in_err-enter-clause-reads : goal.returns-in_err-enter-clause-reads
 returns-in_err-enter-clause-reads g c = λ given is.
     let same : c.unwrap-given.result ≡ given = cc in
-    joined_error c.args.self.now c.enter.new.self _ c.from_residual-in_err-enter.result c.in_err-enter.field-0.0 (search rules)
-    (segments_error (segment_number c.args.is_bits) c.args.self.now.state given _ _ _ _ _ (ap (λ w. w.constructed) (sym same) ∙ no_false _ c.if-not-given.false) (c.in_err-enter.ensures.reads given c.requires.live is))
+    joined_error c.args.self.now c.enter.new.self _ c.from_residual-in_err-enter.result c.in_err-enter.field-0.0
+    (search rules)
+    (segments_error (segment_number c.args.is_bits) c.args.self.now.state given _ _ _ _ _
+    (ap (λ w. w.constructed) (sym same) ∙ no_false _ c.if-not-given.false)
+    (c.in_err-enter.ensures.reads given c.requires.live is))
 
 pub loop-alloc-init : goal.loop-alloc-init
 loop-alloc-init g c = record {
@@ -45,13 +64,27 @@ loop-alloc-init g c = record {
       let stands = c.in_ok-enter.ensures.stands.1 in
       let limits : c.enter.new.self.state.limits ≡ c.args.self.now.state.limits = ap (λ w. w.limits) stands in
       let some : 0 < c.enter.new.self.state.taken = omega (arith, c.in_ok-enter.ensures.advances) in
-      let levels = level c.args.self.now.state.limits.depth c.args.self.now.state.limits.octets (enclosing c.enter.new.self.state) ∷ [] in
+      let levels = level c.args.self.now.state.limits.depth c.args.self.now.state.limits.octets
+      (enclosing c.enter.new.self.state)
+      ∷ [] in
       record {
         levels = levels;
         segments = [];
-        stacked = subst (λ w. Stacked c.enter.new.self.state c.args.self.now.state.containers (level c.args.self.now.state.limits.depth c.args.self.now.state.limits.octets (enclosing_of w) ∷ []) w) (ap (λ w. w.containers) (sym stands)) (stack_start c.enter.new.self.state (used c.enter.new.self.state.taken c.args.self.now.state) form c.args.self.now.state.limits c.args.self.now.state.containers limits some);
+        stacked =
+            subst (λ w.
+            Stacked c.enter.new.self.state c.args.self.now.state.containers
+            (level c.args.self.now.state.limits.depth c.args.self.now.state.limits.octets (enclosing_of w) ∷ []) w)
+            (ap (λ w. w.containers) (sym stands))
+            (stack_start c.enter.new.self.state
+            (used c.enter.new.self.state.taken c.args.self.now.state)
+            form c.args.self.now.state.limits c.args.self.now.state.containers limits some);
         joins = c.new-joined.ensures.none;
-        reads = continues_as _ _ _ _ _ _ _ _ refl (ap (λ w. read_rest (segment_number c.args.is_bits) w levels []) (sym limits)) (segments_into (segment_number c.args.is_bits) c.args.self.now.state given _ _ _ _ _ (ap (λ w. w.constructed) (sym same) ∙ no_false _ c.if-not-given.false) (c.in_ok-enter.ensures.reads given c.requires.live is));
+        reads =
+            continues_as _ _ _ _ _ _ _ _ refl
+            (ap (λ w. read_rest (segment_number c.args.is_bits) w levels []) (sym limits))
+            (segments_into (segment_number c.args.is_bits) c.args.self.now.state given _ _ _ _ _
+            (ap (λ w. w.constructed) (sym same) ∙ no_false _ c.if-not-given.false)
+            (c.in_ok-enter.ensures.reads given c.requires.live is));
       };
 }
 
@@ -63,26 +96,54 @@ loop-alloc-preserved g c = record {
   forward = search rules;
   kind = search rules;
   reads = λ given is.
-      let more : length c.args.self.now.state.containers < length c.loop-alloc.self.state.containers = let z = c.loop-alloc-test.true in omega arith in
-      walk_on c.args.self.now c.loop-alloc.self c.step.new.self c.args.self.now.state.containers (segment_number c.args.is_bits) _ c.loop-alloc.joined c.step.new.joined (Ok tt) (c.loop-alloc.invariant.reads given is) more
-      (λ v vs segments stacked joins. subst (λ b. Steps c.loop-alloc.self c.step.new.self c.args.self.now.state.containers (segment_number b) (read_rest (segment_number b) c.loop-alloc.self.state.limits (v ∷ vs) segments) c.step.new.joined (Ok tt)) c.loop-alloc.invariant.kind (c.in_ok-step.ensures.reads c.args.self.now.state.containers v vs segments stacked joins));
+      let more : length c.args.self.now.state.containers < length c.loop-alloc.self.state.containers =
+      let z = c.loop-alloc-test.true in omega arith in
+      walk_on c.args.self.now c.loop-alloc.self c.step.new.self c.args.self.now.state.containers
+      (segment_number c.args.is_bits) _ c.loop-alloc.joined c.step.new.joined (Ok tt)
+      (c.loop-alloc.invariant.reads given is) more
+      (λ v vs segments stacked joins.
+      subst (λ b.
+      Steps c.loop-alloc.self c.step.new.self c.args.self.now.state.containers (segment_number b)
+      (read_rest (segment_number b) c.loop-alloc.self.state.limits (v ∷ vs) segments) c.step.new.joined (Ok tt))
+      c.loop-alloc.invariant.kind
+      (c.in_ok-step.ensures.reads c.args.self.now.state.containers v vs segments stacked joins));
 }
 
 pub returns-in_err-step-clause-reads : goal.returns-in_err-step-clause-reads
 returns-in_err-step-clause-reads g c = λ given is.
-    let more : length c.args.self.now.state.containers < length c.loop-alloc.self.state.containers = let z = c.loop-alloc-test.true in omega arith in
-    joined_error c.args.self.now c.step.new.self _ c.from_residual-in_err-step.result c.in_err-step.field-0.0 (search rules)
-    (walk_on c.args.self.now c.loop-alloc.self c.step.new.self c.args.self.now.state.containers (segment_number c.args.is_bits) (read_segments (segment_number c.args.is_bits) c.args.self.now.state given) c.loop-alloc.joined c.step.new.joined (Err c.in_err-step.field-0.0) (c.loop-alloc.invariant.reads given is) more
-    (λ v vs segments stacked joins. subst (λ b. Steps c.loop-alloc.self c.step.new.self c.args.self.now.state.containers (segment_number b) (read_rest (segment_number b) c.loop-alloc.self.state.limits (v ∷ vs) segments) c.step.new.joined (Err c.in_err-step.field-0.0)) c.loop-alloc.invariant.kind (c.in_err-step.ensures.reads c.args.self.now.state.containers v vs segments stacked joins)))
+    let more : length c.args.self.now.state.containers < length c.loop-alloc.self.state.containers =
+    let z = c.loop-alloc-test.true in omega arith in
+    joined_error c.args.self.now c.step.new.self _ c.from_residual-in_err-step.result c.in_err-step.field-0.0
+    (search rules)
+    (walk_on c.args.self.now c.loop-alloc.self c.step.new.self c.args.self.now.state.containers
+    (segment_number c.args.is_bits)
+    (read_segments (segment_number c.args.is_bits) c.args.self.now.state given) c.loop-alloc.joined c.step.new.joined
+    (Err c.in_err-step.field-0.0) (c.loop-alloc.invariant.reads given is) more
+    (λ v vs segments stacked joins.
+    subst (λ b.
+    Steps c.loop-alloc.self c.step.new.self c.args.self.now.state.containers (segment_number b)
+    (read_rest (segment_number b) c.loop-alloc.self.state.limits (v ∷ vs) segments) c.step.new.joined
+    (Err c.in_err-step.field-0.0)) c.loop-alloc.invariant.kind
+    (c.in_err-step.ensures.reads c.args.self.now.state.containers v vs segments stacked joins)))
 
 pub returns-clause-reads : goal.returns-clause-reads
 returns-clause-reads g c = λ given is.
     let on = c.loop-alloc.invariant.reads given is in
-    let over : length c.loop-alloc.self.state.containers ≤ length c.args.self.now.state.containers = let z = c.loop-alloc-test.false in omega arith in
-    (on.segments, on.joins, on.reads.rest _ _ _ (walk_done c.loop-alloc.self.state c.args.self.now.state.containers (segment_number c.args.is_bits) on.levels on.segments c.loop-alloc.self.state.containers _ _ on.stacked over))
+    let over : length c.loop-alloc.self.state.containers ≤ length c.args.self.now.state.containers =
+    let z = c.loop-alloc-test.false in omega arith in (
+      on.segments,
+      on.joins,
+      on.reads.rest _ _ _
+          (walk_done c.loop-alloc.self.state c.args.self.now.state.containers
+          (segment_number c.args.is_bits) on.levels on.segments c.loop-alloc.self.state.containers _ _ on.stacked over),
+    )
 
 pub returns-clause-stands : goal.returns-clause-stands
 returns-clause-stands g c =
     let on = c.loop-alloc.invariant.reads c.unwrap-given.result (sym c.given.ensures.value ∙ c.unwrap-given.ensures) in
-    let over : length c.loop-alloc.self.state.containers ≤ length c.args.self.now.state.containers = let z = c.loop-alloc-test.false in omega arith in
-    c.loop-alloc.invariant.stands ∙ ap (λ w. record (used c.loop-alloc.self.state.taken c.args.self.now.state) { containers = w }) (around_left c.loop-alloc.self.state c.args.self.now.state.containers on.levels c.loop-alloc.self.state.containers on.stacked over)
+    let over : length c.loop-alloc.self.state.containers ≤ length c.args.self.now.state.containers =
+    let z = c.loop-alloc-test.false in omega arith in
+    c.loop-alloc.invariant.stands
+    ∙ ap (λ w. record (used c.loop-alloc.self.state.taken c.args.self.now.state) { containers = w })
+    (around_left c.loop-alloc.self.state c.args.self.now.state.containers on.levels c.loop-alloc.self.state.containers
+    on.stacked over)

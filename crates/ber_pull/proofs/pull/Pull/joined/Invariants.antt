@@ -13,7 +13,9 @@ invariant-loop-alloc g l = record {
   stands : l.self.state ≡ among l.self.state l.fn.self.state;
   forward : l.fn.self.state.taken ≤ l.self.state.taken;
   kind : l.joined.is_bits ≡ l.is_bits;
-  reads : (given : Given) → l.fn.self.state.given ≡ Some given → GoesOn l.fn.self l.self l.fn.self.state.containers (segment_number l.is_bits) (read_segments (segment_number l.is_bits) l.fn.self.state given) l.joined;
+  reads : (given : Given) → l.fn.self.state.given ≡ Some given
+      → GoesOn l.fn.self l.self l.fn.self.state.containers (segment_number l.is_bits)
+      (read_segments (segment_number l.is_bits) l.fn.self.state given) l.joined;
 }
 
 abbrev pub decreases-loop-alloc : goal.decreases-loop-alloc

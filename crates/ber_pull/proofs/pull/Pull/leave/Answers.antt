@@ -13,16 +13,29 @@ use Rattle.ber_pull.proofs.pull.Pull.leave.Goals as goal
 
 pub returns-in_err-next_tag-clause-reads : goal.returns-in_err-next_tag-clause-reads
 returns-in_err-next_tag-clause-reads g c = λ fine.
-    hears_err _ _ c.from_residual.result c.in_err-next_tag.field-0.0 _ _ _ _ (search rules) (leave_error _ _ _ _ _ _ (c.in_err-next_tag.ensures.reads fine))
+    hears_err _ _ c.from_residual.result c.in_err-next_tag.field-0.0 _ _ _ _ (search rules)
+    (leave_error _ _ _ _ _ _ (c.in_err-next_tag.ensures.reads fine))
 
 pub returns-in-Some-2-clause-reads : goal.returns-in-Some-2-clause-reads
 returns-in-Some-2-clause-reads g c = λ fine.
-    let next = subst (λ w. Hears (read_next c.args.self.now.state) c.args.self.now.state.taken (g.R.Source.remaining c.args.self.now.src.now) (Said (next_at (place c.args.self.now.state) w)) c.next_tag.new.self.state.taken (g.R.Source.remaining c.next_tag.new.self.src.now)) c.in-Some-2.is (c.in_ok-next_tag.ensures.reads fine) in
+    let next = subst
+    (λ w.
+    Hears (read_next c.args.self.now.state) c.args.self.now.state.taken (g.R.Source.remaining c.args.self.now.src.now)
+    (Said (next_at (place c.args.self.now.state) w)) c.next_tag.new.self.state.taken
+    (g.R.Source.remaining c.next_tag.new.self.src.now)) c.in-Some-2.is
+    (c.in_ok-next_tag.ensures.reads fine) in
     let first = c.refuse.ensures.first (search rules) in
-    hears_stop _ (fault (place c.args.self.now.state) Extra) _ _ _ _ _ _ _ (first.0 ∙ ap (λ p. errors.Fault (fault p Extra)) c.at-at.ensures.value) (ap (λ s. s.taken) first.1) (ap g.R.Source.remaining c.refuse.ensures.same)
+    hears_stop _ (fault (place c.args.self.now.state) Extra) _ _ _ _ _ _ _
+    (first.0 ∙ ap (λ p. errors.Fault (fault p Extra)) c.at-at.ensures.value) (ap (λ s. s.taken) first.1)
+    (ap g.R.Source.remaining c.refuse.ensures.same)
     (leave_extra _ _ _ _ _ _ _ _ next)
 
 pub returns-clause-reads : goal.returns-clause-reads
 returns-clause-reads g c = λ fine.
-    let next = subst (λ w. Hears (read_next c.args.self.now.state) c.args.self.now.state.taken (g.R.Source.remaining c.args.self.now.src.now) (Said (next_at (place c.args.self.now.state) w)) c.next_tag.new.self.state.taken (g.R.Source.remaining c.next_tag.new.self.src.now)) c.in_default-2.is (c.in_ok-next_tag.ensures.reads fine) in
+    let next = subst
+    (λ w.
+    Hears (read_next c.args.self.now.state) c.args.self.now.state.taken (g.R.Source.remaining c.args.self.now.src.now)
+    (Said (next_at (place c.args.self.now.state) w)) c.next_tag.new.self.state.taken
+    (g.R.Source.remaining c.next_tag.new.self.src.now)) c.in_default-2.is
+    (c.in_ok-next_tag.ensures.reads fine) in
     hears_at _ _ _ _ _ _ _ _ (ap (λ s. s.taken) c.close.ensures) refl (leave_ended _ _ _ _ _ _ next)

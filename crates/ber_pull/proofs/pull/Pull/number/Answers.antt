@@ -9,7 +9,8 @@ pub returns-then-first-lt128-clause-reads : goal.returns-then-first-lt128-clause
 unfolding read_number
 returns-then-first-lt128-clause-reads g c =
     let t : nat_lt c.args.first 128 ≡ true = let z = c.if-first-lt128.true in grind (arith, nat_tests) in
-    hears_then _ _ c.args.first _ _ _ _ _ _ _ (hears_first _ _ _ _ _ _ _ _ t (hears_done _ _ _)) (c.fit.ensures.reads c.args.first (inl c.from.ensures))
+    hears_then _ _ c.args.first _ _ _ _ _ _ _ (hears_first _ _ _ _ _ _ _ _ t (hears_done _ _ _))
+    (c.fit.ensures.reads c.args.first (inl c.from.ensures))
 
 pub returns-in_err-number-clause-reads : goal.returns-in_err-number-clause-reads
 unfolding read_number
@@ -24,4 +25,6 @@ returns-clause-reads g c =
     let t : nat_lt c.args.first 128 ≡ false = let z = c.if-first-lt128.false in grind (arith, nat_tests) in
     let n = c.in_ok-number.ensures.reads.0 in
     hears_then _ _ n _ _ _ _ _ _ _ (hears_second _ _ _ _ _ _ _ _ t c.in_ok-number.ensures.reads.2)
-    (hears_as _ _ _ _ _ _ _ (ap (λ s. fit_contents s.limits (enclosing s).nearest_end c.args.start n) c.in_ok-number.ensures.stands) (c.fit-2.ensures.reads n c.in_ok-number.ensures.reads.1))
+    (hears_as _ _ _ _ _ _ _
+    (ap (λ s. fit_contents s.limits (enclosing s).nearest_end c.args.start n) c.in_ok-number.ensures.stands)
+    (c.fit-2.ensures.reads n c.in_ok-number.ensures.reads.1))

@@ -6,7 +6,8 @@ use Rattle.ber_pull.proofs.pull.Pull.primitive_contents.Goals as goal
 pub returns-in_err-count-clause-reads : goal.returns-in_err-count-clause-reads
 unfolding primitive_contents
 returns-in_err-count-clause-reads g c =
-    hears_err _ _ c.from_residual.result c.in_err-count.field-0.0 _ _ _ _ (search rules) (hears_error _ _ _ _ _ _ _ c.in_err-count.ensures.reads)
+    hears_err _ _ c.from_residual.result c.in_err-count.field-0.0 _ _ _ _ (search rules)
+    (hears_error _ _ _ _ _ _ _ c.in_err-count.ensures.reads)
 
 pub returns-in_err-contents-clause-reads : goal.returns-in_err-contents-clause-reads
 unfolding primitive_contents

@@ -13,7 +13,9 @@ pub returns-then-given-clause-reads : goal.returns-then-given-clause-reads
 unfolding read_primitive
 returns-then-given-clause-reads g c = λ given fine is.
     let same : c.unwrap-given.result ≡ given = cc in
-    hears_stop _ (fault given.at WrongForm) _ _ _ _ _ _ _ (c.stop.ensures.is ∙ ap (λ w. errors.Fault (fault w.at WrongForm)) same) (ap (λ s. s.taken) c.stop.ensures.stands) (ap g.R.Source.remaining c.stop.ensures.same)
+    hears_stop _ (fault given.at WrongForm) _ _ _ _ _ _ _
+    (c.stop.ensures.is ∙ ap (λ w. errors.Fault (fault w.at WrongForm)) same) (ap (λ s. s.taken) c.stop.ensures.stands)
+    (ap g.R.Source.remaining c.stop.ensures.same)
     (hears_off _ _ _ _ _ (ap (λ w. not w.constructed) (sym same) ∙ ap not c.if-given.true))
 
 pub returns-clause-reads : goal.returns-clause-reads
@@ -21,4 +23,6 @@ unfolding read_primitive
 returns-clause-reads g c = λ given fine is.
     let same : c.unwrap-given.result ≡ given = cc in
     hears_on _ _ _ _ _ _ _ _ (ap (λ w. not w.constructed) (sym same) ∙ ap not c.if-given.false)
-    (hears_as _ _ _ _ _ _ _ (ap (λ w. primitive_contents c.args.self.now.state.limits (enclosing c.args.self.now.state) w.at) same) c.primitive_contents.ensures.reads)
+    (hears_as _ _ _ _ _ _ _
+    (ap (λ w. primitive_contents c.args.self.now.state.limits (enclosing c.args.self.now.state) w.at) same)
+    c.primitive_contents.ensures.reads)

@@ -12,22 +12,31 @@ use Rattle.ber_pull.proofs.pull.Pull.segment.Goals as goal
 pub returns-in_err-primitive_contents-clause-reads : goal.returns-in_err-primitive_contents-clause-reads
 unfolding read_one_segment
 returns-in_err-primitive_contents-clause-reads g c = λ s joins.
-    added_error c.args.self.now c.primitive_contents.new.self _ c.args.joined.now c.from_residual.result c.in_err-primitive_contents.field-0.0 (search rules) (hears_error _ _ _ _ _ _ _ c.in_err-primitive_contents.ensures.reads)
+    added_error c.args.self.now c.primitive_contents.new.self _ c.args.joined.now c.from_residual.result
+    c.in_err-primitive_contents.field-0.0
+    (search rules) (hears_error _ _ _ _ _ _ _ c.in_err-primitive_contents.ensures.reads)
 
 pub returns-then-not-may_follow-clause-reads : goal.returns-then-not-may_follow-clause-reads
 unfolding read_one_segment
 returns-then-not-may_follow-clause-reads g c = λ s joins.
-    let test = subst (λ w. is_next_segment (segment_number c.args.joined.now.is_bits) s w ≡ false) c.deref.ensures.value (sym (follows c.args.joined.now.is_bits c.args.joined.now.unused s c.deref.result.now joins.unused) ∙ sym c.may_follow.ensures ∙ c.if-not-may_follow.true) in
-    hears_stop _ (fault c.args.start BadBits) _ _ _ _ _ _ _ c.stop.ensures.is (ap (λ s. s.taken) c.stop.ensures.stands) (ap g.R.Source.remaining c.stop.ensures.same)
-    (hears_then _ _ c.primitive_contents.new.octets.items _ _ _ _ _ _ _ c.in_ok-primitive_contents.ensures.reads (hears_off _ _ _ _ _ test))
+    let test = subst (λ w. is_next_segment (segment_number c.args.joined.now.is_bits) s w ≡ false) c.deref.ensures.value
+    (sym (follows c.args.joined.now.is_bits c.args.joined.now.unused s c.deref.result.now joins.unused)
+    ∙ sym c.may_follow.ensures ∙ c.if-not-may_follow.true) in
+    hears_stop _ (fault c.args.start BadBits) _ _ _ _ _ _ _ c.stop.ensures.is (ap (λ s. s.taken) c.stop.ensures.stands)
+    (ap g.R.Source.remaining c.stop.ensures.same)
+    (hears_then _ _ c.primitive_contents.new.octets.items _ _ _ _ _ _ _ c.in_ok-primitive_contents.ensures.reads
+    (hears_off _ _ _ _ _ test))
 
 pub returns-in-Ok-clause-reads : goal.returns-in-Ok-clause-reads
 unfolding read_one_segment
 returns-in-Ok-clause-reads g c = λ s joins.
-    let test = subst (λ w. is_next_segment (segment_number c.args.joined.now.is_bits) s w ≡ true) c.deref.ensures.value (sym (follows c.args.joined.now.is_bits c.args.joined.now.unused s c.deref.result.now joins.unused) ∙ sym c.may_follow.ensures ∙ c.if-not-may_follow.false) in (
+    let test = subst (λ w. is_next_segment (segment_number c.args.joined.now.is_bits) s w ≡ true) c.deref.ensures.value
+    (sym (follows c.args.joined.now.is_bits c.args.joined.now.unused s c.deref.result.now joins.unused)
+    ∙ sym c.may_follow.ensures ∙ c.if-not-may_follow.false) in (
       s ++ (c.primitive_contents.new.octets.items ∷ []),
       c.in-Ok.ensures.more s joins,
-      hears_then _ _ c.primitive_contents.new.octets.items _ _ _ _ _ _ _ c.in_ok-primitive_contents.ensures.reads (hears_on _ _ _ _ _ _ _ _ test (hears_done _ _ _)),
+      hears_then _ _ c.primitive_contents.new.octets.items _ _ _ _ _ _ _ c.in_ok-primitive_contents.ensures.reads
+          (hears_on _ _ _ _ _ _ _ _ test (hears_done _ _ _)),
     )
 
 pub returns-in-Err-clause-reads : goal.returns-in-Err-clause-reads
@@ -35,4 +44,6 @@ unfolding read_one_segment
 returns-in-Err-clause-reads g c = λ s joins.
     let first = c.no_memory.ensures.first (search rules) in
     hears_error _ _ c.no_memory.result _ _ _ _
-    (hears_then_memory _ c.primitive_contents.new.octets.items c.no_memory.result _ _ _ _ _ _ first.0 (ap (λ s. s.taken) first.1) (ap g.R.Source.remaining c.no_memory.ensures.same) c.in_ok-primitive_contents.ensures.reads)
+    (hears_then_memory _ c.primitive_contents.new.octets.items c.no_memory.result _ _ _ _ _ _ first.0
+    (ap (λ s. s.taken) first.1)
+    (ap g.R.Source.remaining c.no_memory.ensures.same) c.in_ok-primitive_contents.ensures.reads)

@@ -5,4 +5,5 @@ use Rattle.ber_pull.proofs.state.State.depth.Goals as goal
 pub returns-clause-value : goal.returns-clause-value
 returns-clause-value c =
     let fits : c.self.inside.depth ≤ length c.self.inside.containers = omega arith in
-    sym (ap (λ s. length s.containers) (sym c.self.view_is) ∙ depth_is c.self.inside.depth c.self.inside.containers fits)
+    sym
+    (ap (λ s. length s.containers) (sym c.self.view_is) ∙ depth_is c.self.inside.depth c.self.inside.containers fits)

@@ -8,4 +8,5 @@ pub returns : goal.returns
 returns c =
     let some : 0 < c.self.inside.depth = omega (arith, c.if-self-eq0.false) in
     let fits : c.self.inside.depth ≤ length c.self.inside.containers = omega arith in
-    sym (ap (λ s. first_of s.containers) (sym c.self.view_is) ∙ ap first_of (reverse_last c.self.inside.depth c.self.inside.containers (Definite 0) some fits))
+    sym (ap (λ s. first_of s.containers) (sym c.self.view_is)
+    ∙ ap first_of (reverse_last c.self.inside.depth c.self.inside.containers (Definite 0) some fits))

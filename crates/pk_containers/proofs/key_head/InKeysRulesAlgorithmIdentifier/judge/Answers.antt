@@ -12,9 +12,11 @@ returns-then-not-is_ec_public_key c =
 pub returns-in-Some : goal.returns-in-Some
 returns-in-Some c =
     let fields = c.args.value.now.0.value.fields in
-    sym (parameters_judged fields.0.0 fields.1.0 true true (search rules) (found_named _ _ _ _ c.named_in.ensures c.parameters.ensures.value ∙ (search rules)))
+    sym (parameters_judged fields.0.0 fields.1.0 true true (search rules)
+    (found_named _ _ _ _ c.named_in.ensures c.parameters.ensures.value ∙ (search rules)))
 
 pub returns-in-None : goal.returns-in-None
 returns-in-None c =
     let fields = c.args.value.now.0.value.fields in
-    sym (parameters_judged fields.0.0 fields.1.0 true false (search rules) (found_named _ _ _ _ c.named_in.ensures c.parameters.ensures.value ∙ (search rules)))
+    sym (parameters_judged fields.0.0 fields.1.0 true false (search rules)
+    (found_named _ _ _ _ c.named_in.ensures c.parameters.ensures.value ∙ (search rules)))

@@ -7,7 +7,8 @@ pub returns-then-is_ec_public_key : goal.returns-then-is_ec_public_key
 returns-then-is_ec_public_key c =
     let ruled = c.args.self.now.0.1.0 in
     let fields = ruled.value.0.value.fields in
-    curve_here _ fields.0.0 [] fields.1.0 ruled.judged (search rules) ∙ ap curve_octets (sym (c.named_in.ensures ∙ ap identifier_of (search rules)))
+    curve_here _ fields.0.0 [] fields.1.0 ruled.judged (search rules)
+    ∙ ap curve_octets (sym (c.named_in.ensures ∙ ap identifier_of (search rules)))
 
 pub returns-else-is_ec_public_key : goal.returns-else-is_ec_public_key
 returns-else-is_ec_public_key c =

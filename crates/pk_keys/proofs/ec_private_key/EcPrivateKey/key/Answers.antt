@@ -11,5 +11,6 @@ returns-clause-fits c =
     let ruled = c.args.self.now.0 in
     let key = ruled.value.fields.0 in
     let fits : has_length (named_length (option_map (λ t. t.inner) key.1.0.0)) (length (octets_of key.0.1.0)) ≡ true =
-    ec_fits (λ t. t.inner) (λ t. bit_string_of t.inner) (key.0.0.0.number ∷ []) (octets_of key.0.1.0) key.1.0.0 key.1.1.0 ruled.judged in
+    ec_fits (λ t. t.inner) (λ t. bit_string_of t.inner) (key.0.0.0.number ∷ [])
+    (octets_of key.0.1.0) key.1.0.0 key.1.1.0 ruled.judged in
     search rules

@@ -12,7 +12,9 @@ returns-in-Some c =
     let it = c.args.self.now in
     let lists = c.in-Some.lists.now in
     let lines = flat_map extensions_lines (map list_items (set_items lists)) in
-    in_words c.push_lists.result (string_bytes c.push_lists.new.text) (string_bytes c.args.text.now) (attribute_line c.id.result.now (length (set_items lists)) ++ lines) (request_attribute_lines it) c.push_lists.ensures
+    in_words c.push_lists.result (string_bytes c.push_lists.new.text) (string_bytes c.args.text.now)
+    (attribute_line c.id.result.now (length (set_items lists)) ++ lines)
+    (request_attribute_lines it) c.push_lists.ensures
     (ap (λ id. attribute_line id (length (set_items lists)) ++ lines) c.id.ensures
     ∙ lists_shown (request_attribute_type_of it) (request_attribute_values_of it) lists c.in-Some.ensures.value)
 

@@ -20,13 +20,16 @@ returns c =
     let version = line (codes "version: ") (decimal c.from.result) in
     let algorithm = algorithm_lines (codes "algorithm: ") (codes "parameters: ") c.algorithm.result.now in
     let key = private_key_lines (key_seen c.private_key.result) in
-    let attributes = attributes_lines attribute_lines (option_map (λ set. set_items set) (option_map (λ r. r.now) c.attributes.result)) in
+    let attributes =
+    attributes_lines attribute_lines
+    (option_map (λ set. set_items set) (option_map (λ r. r.now) c.attributes.result)) in
     let public = line (codes "public key: ") (optional bits_said (option_map (λ r. r.now) c.public_key.result)) in
     in_words r new old ((((version ++ algorithm) ++ key) ++ attributes) ++ public) (key_lines c.args.self.now)
     (past r new with_attributes old (((version ++ algorithm) ++ key) ++ attributes) public
     (further with_attributes with_key old ((version ++ algorithm) ++ key) attributes
     (further with_key with_algorithm old (version ++ algorithm) key
-    (further with_algorithm with_version old version algorithm c.in_ok-push_number_line.ensures c.in_ok-push_algorithm.ensures)
+    (further with_algorithm with_version old version algorithm c.in_ok-push_number_line.ensures
+    c.in_ok-push_algorithm.ensures)
     c.in_ok-push_private_key.ensures)
     c.in_ok-push_attributes.ensures)
     c.push_optional_bits_line.ensures)

@@ -4,7 +4,10 @@ use Rattle.pkix_values.proofs.Rules.{parameters_allowed, parameters_refused}
 use Rattle.pkix_values.proofs.algorithm.AlgorithmFormRulesRecordAlgorithmForm.judge.Goals as goal
 
 pub returns-then-is_some-2 : goal.returns-then-is_some-2
-returns-then-is_some-2 c = sym (parameters_refused open_value_of c.args.value.now.fields.0.0 c.args.value.now.fields.1.0 (search rules) (search rules))
+returns-then-is_some-2 c =
+    sym (parameters_refused open_value_of c.args.value.now.fields.0.0 c.args.value.now.fields.1.0 (search rules)
+    (search rules))
 
 pub returns-else-is_some : goal.returns-else-is_some
-returns-else-is_some c = sym (parameters_allowed open_value_of c.args.value.now.fields.0.0 c.args.value.now.fields.1.0 (search rules))
+returns-else-is_some c =
+    sym (parameters_allowed open_value_of c.args.value.now.fields.0.0 c.args.value.now.fields.1.0 (search rules))

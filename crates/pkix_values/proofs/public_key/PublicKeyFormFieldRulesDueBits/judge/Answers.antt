@@ -8,10 +8,14 @@ use Rattle.pkix_values.proofs.public_key.PublicKeyFormFieldRulesDueBits.judge.Go
 
 pub returns-then-is_key_of : goal.returns-then-is_key_of
 returns-then-is_key_of g c =
-    let fits : key_fits (leaf_at (0 ∷ 0 ∷ []) (g.T.DerText.value c.args.earlier.now.0 ∷ [])) (bit_string_of c.args.field.now) ≡ true = search rules in
+    let fits : key_fits (leaf_at (0 ∷ 0 ∷ []) (g.T.DerText.value c.args.earlier.now.0 ∷ []))
+    (bit_string_of c.args.field.now)
+    ≡ true = search rules in
     sym (ap (λ b. else_refused b KeyLength) fits)
 
 pub returns-else-is_key_of : goal.returns-else-is_key_of
 returns-else-is_key_of g c =
-    let off : key_fits (leaf_at (0 ∷ 0 ∷ []) (g.T.DerText.value c.args.earlier.now.0 ∷ [])) (bit_string_of c.args.field.now) ≡ false = search rules in
+    let off : key_fits (leaf_at (0 ∷ 0 ∷ []) (g.T.DerText.value c.args.earlier.now.0 ∷ []))
+    (bit_string_of c.args.field.now)
+    ≡ false = search rules in
     sym (ap (λ b. else_refused b KeyLength) off)

@@ -7,5 +7,6 @@ use Rattle.pkix_values.proofs.public_key.SubjectPublicKeyInfo.key.Goals as goal
 pub returns-clause-fits : goal.returns-clause-fits
 returns-clause-fits c =
     let info = c.args.self.now.0.fields in
-    let fits : key_fits info.fields.0.0.0.value.fields.0.0 (bit_string_of info.fields.1.0) ≡ true = key_is_fit info.fields.0.0.0.value.fields.0.0 (bit_string_of info.fields.1.0) _ info.judged in
+    let fits : key_fits info.fields.0.0.0.value.fields.0.0 (bit_string_of info.fields.1.0) ≡ true =
+    key_is_fit info.fields.0.0.0.value.fields.0.0 (bit_string_of info.fields.1.0) _ info.judged in
     search rules

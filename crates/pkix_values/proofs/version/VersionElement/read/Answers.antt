@@ -14,7 +14,10 @@ use Rattle.pkix_values.proofs.version.VersionElement.read.Goals as goal
 
 pub returns-in_err-integer-clause-reads : goal.returns-in_err-integer-clause-reads
 returns-in_err-integer-clause-reads g c = λ given fine is.
-    value_err c.args.pull.now c.read.new.pull (read_given (version (versions g.row.LEAST g.row.MOST)) c.args.pull.now.state given) _ c.from_residual.result c.in_err-integer.field-0.0 (search rules)
+    value_err c.args.pull.now c.read.new.pull
+    (read_given (version (versions g.row.LEAST g.row.MOST)) c.args.pull.now.state given)
+    _ c.from_residual.result c.in_err-integer.field-0.0
+    (search rules)
     (ruled_error _ _ _ _ _ _ _ _ _ _ _ _ _ (c.in_err-integer.ensures.reads given fine is))
 
 pub returns-in_default-clause-reads : goal.returns-in_default-clause-reads
@@ -24,9 +27,12 @@ returns-in_default-clause-reads g c = λ given fine is.
     let same = subst (λ o. Same r.0 (Leaf (universal 2) o)) (sym c.content.ensures.value) r.1 in
     let first = c.refuse.ensures.first (search rules) in
     let at : c.at-at.result ≡ given.at = c.at-at.ensures.value ∙ place_given c.args.pull.now.state given is in
-    refused_by (read_given (version allowed) c.args.pull.now.state given) c.args.pull.now c.read.new.pull c.refuse.new.self (fault given.at Version) c.refuse.result
+    refused_by
+    (read_given (version allowed) c.args.pull.now.state given) c.args.pull.now c.read.new.pull c.refuse.new.self
+    (fault given.at Version) c.refuse.result
     (first.0 ∙ ap (λ p. errors.Fault (fault p Version)) at) first.1 c.refuse.ensures.same
-    (ruled _ _ _ _ _ _ _ _ _ _ _ _ _ _ _ _ r.2 (rule_refuses _ _ _ _ _ _ (version_refused allowed c.content.result.now r.0 same c.in_default.ensures.listed)))
+    (ruled _ _ _ _ _ _ _ _ _ _ _ _ _ _ _ _ r.2
+    (rule_refuses _ _ _ _ _ _ (version_refused allowed c.content.result.now r.0 same c.in_default.ensures.listed)))
 
 pub returns-clause-reads : goal.returns-clause-reads
 returns-clause-reads g c = λ given fine is.
@@ -35,5 +41,6 @@ returns-clause-reads g c = λ given fine is.
     let same = subst (λ o. Same r.0 (Leaf (universal 2) o)) (sym c.content.ensures.value) r.1 in (
       r.0,
       subst (λ o. Same r.0 (Leaf (universal 2) o)) c.in-Some.ensures.is same,
-      ruled _ _ _ _ _ _ _ _ _ _ _ _ _ _ _ _ r.2 (rule_holds _ _ _ _ _ (version_holds allowed c.content.result.now r.0 same c.in-Some.ensures.listed)),
+      ruled _ _ _ _ _ _ _ _ _ _ _ _ _ _ _ _ r.2
+          (rule_holds _ _ _ _ _ (version_holds allowed c.content.result.now r.0 same c.in-Some.ensures.listed)),
     )

@@ -9,7 +9,12 @@ push_leading_base128-requires t c = (omega arith, (omega arith, omega (arith, le
 
 pub push-requires : goal.push-requires
 push-requires t c =
-    omega (arith, leading_room c.args.n c.if-n-gt0.true, ap length c.push_leading_base128.ensures, length-append c.args.self.now (leading_base128 (c.args.n / 128) (c.args.n / 128)))
+    omega (
+      arith,
+      leading_room c.args.n c.if-n-gt0.true,
+      ap length c.push_leading_base128.ensures,
+      length-append c.args.self.now (leading_base128 (c.args.n / 128) (c.args.n / 128)),
+    )
 
 pub returns-then-n-gt0 : goal.returns-then-n-gt0
 returns-then-n-gt0 t c = leading_pushed _ _ _ c.args.n c.if-n-gt0.true c.push_leading_base128.ensures c.push.ensures

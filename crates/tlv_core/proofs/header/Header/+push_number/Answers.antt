@@ -9,7 +9,12 @@ push_number-requires t c = (omega arith, omega (arith, number_room c.args.n c.if
 
 pub push-requires : goal.push-requires
 push-requires t c =
-    omega (arith, number_room c.args.n c.if-n-gt0.true, ap length c.push_number.ensures, length-append c.args.self.now (number_octets (c.args.n / 256) (c.args.n / 256)))
+    omega (
+      arith,
+      number_room c.args.n c.if-n-gt0.true,
+      ap length c.push_number.ensures,
+      length-append c.args.self.now (number_octets (c.args.n / 256) (c.args.n / 256)),
+    )
 
 pub returns-then-n-gt0 : goal.returns-then-n-gt0
 returns-then-n-gt0 t c = number_pushed _ _ _ c.args.n c.if-n-gt0.true c.push_number.ensures c.push.ensures

@@ -9,10 +9,16 @@ overflow_add-number_size c = omega (arith, eight_octets c.args.content c.ranges.
 
 pub push_number-requires : goal.push_number-requires
 push_number-requires c =
-    omega (arith, eight_octets c.args.content c.ranges.content.fits, ap length c.push-else-content-lt128.ensures, length-append c.args.self.now ((128 + c.number_size.result) ∷ []))
+    omega (
+      arith,
+      eight_octets c.args.content c.ranges.content.fits,
+      ap length c.push-else-content-lt128.ensures,
+      length-append c.args.self.now ((128 + c.number_size.result) ∷ []),
+    )
 
 pub returns-then-content-lt128 : goal.returns-then-content-lt128
-returns-then-content-lt128 c = c.push.ensures ∙ ap (λ s. c.args.self.now ++ s) (sym (shortest_brief c.args.content c.if-content-lt128.true))
+returns-then-content-lt128 c =
+    c.push.ensures ∙ ap (λ s. c.args.self.now ++ s) (sym (shortest_brief c.args.content c.if-content-lt128.true))
 
 pub returns-else-content-lt128 : goal.returns-else-content-lt128
 returns-else-content-lt128 c =

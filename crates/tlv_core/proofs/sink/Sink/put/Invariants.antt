@@ -8,7 +8,8 @@ invariant-loop-at g l =
     × (l.self.failed ≡ false)
     × (l.at ≤ length l.octets)
     × (l.self.written ≡ l.initial.self.written + l.at)
-    × Appends (g.W.Target.contents l.initial.self.target.now) (g.W.Target.contents l.self.target.now) (take l.at l.octets)
+    × Appends (g.W.Target.contents l.initial.self.target.now) (g.W.Target.contents l.self.target.now)
+    (take l.at l.octets)
 
 abbrev pub decreases-loop-at : goal.decreases-loop-at
 decreases-loop-at g l = length l.octets - l.at
