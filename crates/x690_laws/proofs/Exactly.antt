@@ -24,7 +24,8 @@ use Rattle.x690.specs.Takes.{Proper, Takes}
 use Rattle.x690.specs.TypeTerms.{ChoiceType, ContainingType, Default, DefinedByType, EndOfFields, Fields, LeafType, OpenType, Optional, RefusedType, Required, RuledType, SequenceOfType, SequenceType, SetOfType, TypeTerm, fits_tag}
 use Rattle.x690.specs.Values.{Leaf, Same, Sequence, SetOf, Value}
 use Rattle.x690_laws.proofs.Complete.{leaf_test, leaf_untest}
-use Rattle.x690_laws.proofs.ContentsFaulting.{leaf_halts, open_halts, opens_later, opens_within, proper_inside}
+use Rattle.x690_laws.proofs.ContentsFaulting.{leaf_halts, opens_later, opens_within, proper_inside}
+use Rattle.x690_laws.proofs.OpenFaulting.{open_halts}
 use Rattle.x690_laws.proofs.HeaderFaulting.{ends_run, fail_on, require_off, stands_of, stands_run, tag_halts}
 use Rattle.x690_laws.proofs.HeaderGives.{done_on, require_on, choose_first, choose_second}
 use Rattle.x690_laws.proofs.Judging.{complete, complete_with, each_refl, exclusive}

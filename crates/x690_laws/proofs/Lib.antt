@@ -40,8 +40,10 @@ pub mod ShortTexts
 -- The fault that stops an element is the one that it finds, and there is one (`faults`); what every fault looks like
 -- (`reading`). With groups 4 and 5 each single step is as the definitions have it (`steps`).
 pub mod HeaderFaulting
+pub mod LengthFaulting
 pub mod Members
 pub mod ContentsFaulting
+pub mod OpenFaulting
 pub mod SingleSteps
 pub mod Stopping
 pub mod Exactly

@@ -9,7 +9,8 @@ use Rattle.x690.specs.HeaderFaults.{EndsHere, Opens, Stands, StopsInForm}
 use Rattle.x690.specs.Points.{Enclosing}
 use Rattle.x690.specs.ReadHeaders.{ContainerEnds, ElementStands, Ended, Next, each_member, entered, in_container, next_tag, read_length}
 use Rattle.x690.specs.Reading.{Done, Halted, Outcome, Reading, Took, Where, run, ◌>>=◌}
-use Rattle.x690_laws.proofs.HeaderFaulting.{ends_of, ends_run, form_run, form_stands, require_off, length_halts, length_stops, stands_of, stands_run, tag_halts, tag_stops}
+use Rattle.x690_laws.proofs.HeaderFaulting.{ends_of, ends_run, require_off, stands_of, stands_run, tag_halts, tag_stops}
+use Rattle.x690_laws.proofs.LengthFaulting.{form_run, form_stands, length_halts, length_stops}
 use Rattle.x690_laws.proofs.HeaderGives.{done_on, require_on, where_on}
 use Rattle.x690.proofs.Runs.{halt_bind, halted_bind, halted_done, halted_require, no_less, run_bind, took_bind, took_done, took_fail, took_require, took_where}
 

@@ -22,7 +22,8 @@ use Rattle.x690.specs.Stops.{MembersStop, Stops, StopsBehind, StopsFields}
 use Rattle.x690.specs.Takes.{Takes}
 use Rattle.x690.specs.TypeTerms.{ChoiceType, ContainingType, Default, DefinedByType, EndOfFields, Fields, LeafType, OpenType, Optional, RefusedType, Required, RuledType, SequenceOfType, SequenceType, SetOfType, TypeTerm}
 use Rattle.x690.specs.Values.{Leaf, Same, Value, leaf_contents}
-use Rattle.x690_laws.proofs.ContentsFaulting.{leaf_stops, open_stops, opens_within}
+use Rattle.x690_laws.proofs.ContentsFaulting.{leaf_stops, opens_within}
+use Rattle.x690_laws.proofs.OpenFaulting.{open_stops}
 use Rattle.x690_laws.proofs.Gives.{id_some}
 use Rattle.x690_laws.proofs.HeaderFaulting.{ends_of, stands_of, stands_run, tag_stops}
 use Rattle.x690_laws.proofs.HeaderGives.{require_on}
