@@ -1,9 +1,8 @@
 -- How long the text of a field is that was read.
-use Rattle.std.proofs.Common.{◌<◌, ◌≤◌, ◌^◌, Bool, List, [], ℕ, IfSome, None, Some, Option, ap, append-nil, length, arith}
-use Rattle.std.specs.Option.{option_map}
+use Rattle.std.proofs.Common.{◌<◌, ◌^◌, Bool, List, [], ℕ, IfSome, None, Some, Option, ap, length, arith}
 use Rattle.tlv_core.specs.Identifier.{Tag}
 use Rattle.tlv_core.specs.Limits.{Limits}
-use Rattle.x690.specs.DerTexts.{der, texts_of}
+use Rattle.x690.specs.DerTexts.{der}
 use Rattle.x690.specs.Points.{Enclosing}
 use Rattle.x690.specs.ReadHeaders.{ElementStands, next_tag}
 use Rattle.x690.specs.ReadTypes.{read_type}
@@ -14,7 +13,6 @@ use Rattle.x690_laws.proofs.HeaderSound.{next_took}
 use Rattle.x690_laws.proofs.ShortTexts.{read_texts}
 use Rattle.x690_laws.proofs.Texts.{canonical}
 use Rattle.asn_fields.specs.Insides.{BeginsBefore}
-use Rattle.asn_fields.specs.FieldReadings.{with_field}
 use Rattle.ber_pull.specs.Hears.{Hears, next_at}
 use Rattle.ber_pull.specs.Standing.{IsGiven, Standing, enclosing}
 use Rattle.ber_pull.proofs.Hearing.{hears_given}

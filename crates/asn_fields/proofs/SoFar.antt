@@ -18,13 +18,12 @@ use Rattle.x690.specs.Reads.{Refused, Said}
 use Rattle.x690.specs.TypeTerms.{Default, DefinedByType, EndOfFields, Fields, Optional, Required, Rule, RuledType, SequenceType, TypeTerm, fits_tag}
 use Rattle.x690.specs.Values.{Leaf, Same, Sequence, SetOf, Value, leaf_at, values_of}
 use Rattle.x690_laws.proofs.OneValue.{leaf_at_same}
-use Rattle.x690_laws.proofs.Judging.{each_refl}
 use Rattle.asn_fields.specs.Insides.{Inside, Within}
 use Rattle.asn_fields.specs.FieldReadings.{but_default, read_begin, read_due, read_end, read_optional, read_take, with_field}
 use Rattle.ber_pull.specs.Hears.{Continues, Hears, heard_error, next_at}
 use Rattle.ber_pull.specs.Standing.{Standing, enclosing}
 use Rattle.asn_fields.proofs.FieldReadings as rules
-use Rattle.asn_elements.proofs.RuledReadings.{ruled_error, rule_holds, rule_refuses}
+use Rattle.asn_elements.proofs.RuledReadings.{rule_refuses}
 use Rattle.ber_pull.proofs.Hearing.{hears_done, hears_error, hears_same, hears_then}
 use Rattle.x690.proofs.Runs.{bind_same}
 use Rattle.asn_fields.specs.Fields.{SameField}

@@ -3,10 +3,8 @@ use Rattle.std.specs.Prelude.{Bool, List, MatchResult, None, Option, Result, Som
 use Rattle.std.specs.Option.{option_map}
 use Rattle.tlv_core.specs.Identifier.{Tag}
 use Rattle.tlv_core.specs.declared.fault.ReadError.{ReadError}
-use Rattle.tlv_core.specs.declared.reason.Reason.{Reason}
 use Rattle.tlv_core.specs.declared.source.Source.{Ghosts}
 use Rattle.x690.specs.Layouts.{universal}
-use Rattle.x690.specs.Lists.{Each}
 use Rattle.x690.specs.Points.{Enclosing}
 use Rattle.x690.specs.ReadHeaders as headers
 use Rattle.x690.specs.ReadHeaders.{next_tag}

@@ -1,7 +1,6 @@
 -- The curve that a container names.
 use Rattle.std.proofs.Common.{◌≡◌, ◌∙◌, ◌||◌, ◌∷◌, Bool, List, None, Option, Some, [], ap, false, not, refl, sym, true, ℕ}
 use Rattle.std.specs.Option.{is_some, option_map}
-use Rattle.tlv_core.specs.Identifier.{Tag}
 use Rattle.tlv_core.specs.declared.reason.Reason.TheVariants.{Parameters}
 use Rattle.x690.specs.Layouts.{same_tag, universal}
 use Rattle.x690.specs.Lists.{one_of}

@@ -1,12 +1,12 @@
 -- What the rules say of the keys that are contained.
-use Rattle.std.proofs.Common.{◌≡◌, ◌∙◌, ◌==◌, ◌∷◌, Bool, List, None, Option, Some, [], ap, false, length, refl, sym, true, ℕ}
+use Rattle.std.proofs.Common.{◌≡◌, ◌∙◌, ◌==◌, Bool, List, None, Option, Some, ap, false, length, refl, sym, true, ℕ}
 use Rattle.std.specs.Option.{option_map}
 use Rattle.tlv_core.specs.declared.reason.Reason.TheVariants.{Curve, KeyLength}
 use Rattle.tlv_core.specs.declared.reason.Reason.{Reason}
 use Rattle.x690.specs.Lists.{same_octets}
 use Rattle.x690.specs.Values.{Value, leaf_at}
 use Rattle.pkix_types.specs.Identifiers.{curve_lengths, length_under}
-use Rattle.pkix_types.specs.Rules.{container_curve, ec_length, else_refused, has_length, inner_ec_rule, own_curve}
+use Rattle.pkix_types.specs.Rules.{container_curve, else_refused, has_length, inner_ec_rule}
 use Rattle.pk_keys.proofs.Rules.{ec_key}
 use Rattle.pk_containers.specs.Keys.{curve_octets}
 

@@ -1,5 +1,5 @@
 -- The values of an attribute of a request, by its readers.
-use Rattle.std.proofs.Common.{◌≡◌, ℕ, Bool, true, false, not, List, Option, Some, None, ◌++◌, ap, subst, sym, ◌∙◌, flat_map, length, map}
+use Rattle.std.proofs.Common.{◌≡◌, ℕ, Bool, true, false, not, List, Some, ◌++◌, ap, sym, ◌∙◌, flat_map, length, map}
 use Rattle.std.proofs.lemmas.Bool.{false≢true}
 use Rattle.std.specs.Option.{option_map}
 use Rattle.std.proofs.lemmas.List.{length-map}

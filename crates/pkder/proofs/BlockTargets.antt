@@ -1,5 +1,5 @@
 -- The octets that came to a target in blocks: those that are out, and those that wait.
-use Rattle.std.proofs.Common.{◌≡◌, ◌∙◌, ◌+◌, ◌-◌, ◌<◌, ◌≤◌, ◌==◌, ◌⊎◌, ◌++◌, Bool, List, [], ◌∷◌, None, Option, Some, ap, append-nil, arith, false, inl, inr, length, length-append, refl, subst, sym, take, true, ℕ}
+use Rattle.std.proofs.Common.{◌≡◌, ◌∙◌, ◌+◌, ◌-◌, ◌≤◌, ◌==◌, ◌++◌, Bool, List, [], ◌∷◌, None, Option, Some, ap, append-nil, arith, false, inl, inr, length, length-append, refl, subst, sym, take, true, ℕ}
 use Rattle.std.proofs.lemmas.Bool.Decides.{nat_tests}
 use Rattle.std.proofs.KnownBytes.{Keeps-refl}
 use Rattle.std.specs.Io.KnownBytes.{Appends, Keeps, append_known}

@@ -1,5 +1,5 @@
 -- The reply of a run whose octets waited in a block, after they were handed on.
-use Rattle.std.proofs.Common.{◌≡◌, ◌∙◌, ◌≤◌, ◌⊎◌, ◌++◌, arith, Bool, List, [], None, Option, Some, ap, append-nil, drop, false, inl, inr, length, length-append, refl, subst, sym, take, take-append-drop, true, ℕ}
+use Rattle.std.proofs.Common.{◌≡◌, ◌∙◌, ◌≤◌, ◌⊎◌, ◌++◌, arith, Bool, List, [], None, Option, Some, ap, append-nil, drop, false, inl, inr, length, length-append, refl, subst, sym, take, take-append-drop, ℕ}
 use Rattle.std.proofs.lemmas.List.{take-append-le}
 use Rattle.std.specs.Io.KnownBytes.{Appends, Keeps}
 use Rattle.tlv_core.specs.Limits.{Limits}

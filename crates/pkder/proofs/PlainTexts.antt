@@ -5,7 +5,7 @@ use Rattle.std.proofs.lemmas.List.Elements.{All-append, All-cons, All-head, All-
 use Rattle.std.proofs.lemmas.Nat.{mod_below}
 use Rattle.std.proofs.lemmas.Str.{encode_ascii}
 use Rattle.std.specs.Char.{digit_char, encode_utf8}
-use Rattle.std.specs.Char.Escape.{backslash, escape_default, escape_or, escape_unicode, hex_digit_at, short_escape}
+use Rattle.std.specs.Char.Escape.{backslash, escape_default, escape_unicode, hex_digit_at, short_escape}
 use Rattle.std.specs.Int.{IsInRange}
 use Rattle.std.specs.Prelude.{OnOk, if◌then◌else◌, nat_lt, ◌==◌}
 use Rattle.std.specs.Result.{is_ok}

@@ -1,6 +1,6 @@
 -- What is answered and written, as replies.
-use Rattle.std.proofs.Common.{◌≡◌, ◌∙◌, ◌≤◌, ◌++◌, arith, Bool, Err, IfOk, List, None, Ok, Option, Result, Some, ap, false, inl, inr, length, refl, subst, sym, take, ℕ}
-use Rattle.std.specs.Io.KnownBytes.{Appends, Consumes, IsAtEnd}
+use Rattle.std.proofs.Common.{◌≡◌, ◌∙◌, ◌≤◌, ◌++◌, arith, Bool, Err, IfOk, List, None, Ok, Option, Result, Some, ap, false, inl, length, refl, subst, sym, ℕ}
+use Rattle.std.specs.Io.KnownBytes.{Consumes, IsAtEnd}
 use Rattle.tlv_core.specs.declared.fault.ReadError.{ReadError}
 use Rattle.tlv_core.specs.declared.fault.ReadError.TheVariants.{Fault as FaultRead, Read as ReadAt, Memory as MemoryRead}
 use Rattle.tlv_core.specs.Limits.{IsLimits, Limits}
@@ -10,7 +10,7 @@ use Rattle.x690.specs.Premises.{Lawful}
 use Rattle.x690.specs.TypeTerms.{TypeTerm}
 use Rattle.x690.specs.Values.{Same, Value}
 use Rattle.asn_documents.specs.Checked.{CheckedAs}
-use Rattle.asn_documents.specs.Normalised.{FailedAs, IsRead, Took}
+use Rattle.asn_documents.specs.Normalised.{FailedAs, IsRead}
 use Rattle.asn_documents.specs.ReadValues.{ReadsValue}
 use Rattle.asn_documents.specs.WholeInputs.{RefusedWhole}
 use Rattle.asn_documents.specs.WrittenValues.{WritesText}

@@ -6,7 +6,7 @@ use Rattle.tlv_core.specs.declared.reason.Reason.{Reason}
 use Rattle.x690.specs.Layouts.{context_specific, same_tag, universal}
 use Rattle.x690.specs.Lists.{Each, one_of, same_octets}
 use Rattle.x690.specs.Premises.{FairRule}
-use Rattle.x690.specs.Values.{Leaf, Same, Sequence, SetOf, Value, leaf_at, sequence_members, value_tag}
+use Rattle.x690.specs.Values.{Leaf, Same, Sequence, SetOf, Value, sequence_members, value_tag}
 use Rattle.x690_laws.proofs.Complete.{each_length}
 use Rattle.x690_laws.proofs.OneValue.{leaf_at_same, members_same, octets_same}
 use Rattle.pkix_types.specs.Identifiers.{curve_lengths, ec_public_key, length_under, rfc8410_algorithms, rfc8410_lengths}

@@ -8,7 +8,6 @@ use Rattle.x690.specs.Layouts.{context_specific, same_tag, universal}
 use Rattle.x690.specs.Lists.{same_octets}
 use Rattle.x690.specs.Premises.{Fair, Honest, HonestReason, HonestRule, Lawful}
 use Rattle.x690.specs.TypeTerms.{Distinct, fields_fit_tag, fits_tag}
-use Rattle.x690.specs.Values.{leaf_at}
 use Rattle.pkix_types.specs.DocumentLaws.{DocumentsAreLawful}
 use Rattle.pkix_types.specs.DocumentTypes.{AlgorithmIdentifier, AsymmetricKeyPackage, Attribute, CertificationRequest, CertificationRequestInfo, ECPrivateKey, EncryptedPrivateKeyInfo, Extension, Name, NameItem, OneAsymmetricKey, OtherPrimeInfo, RSAPrivateKey, RequestAttribute, SubjectPublicKeyInfo, private_key}
 use Rattle.pkix_types.specs.Rules.{container_curve, ec_length, ec_parameters_rule, ec_rule, else_refused, inner_curve_rule, inner_ec_rule, key_bits_rule, key_version_rule, own_curve, parameters_rule, rsa_version_rule, version_rule}

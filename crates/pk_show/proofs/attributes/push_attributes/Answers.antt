@@ -1,4 +1,4 @@
-use Rattle.std.proofs.Common.{Bor, Option, Some, ◌∙◌, ◌++◌, ap, codes, decimal, flat_map, length, string_bytes, sym}
+use Rattle.std.proofs.Common.{Bor, Option, ◌∙◌, ◌++◌, ap, codes, decimal, flat_map, string_bytes, sym}
 use Rattle.std.specs.Option.{option_map}
 use Rattle.asn_containers.specs.Containers.{set_items}
 use Rattle.asn_containers.specs.declared.set_of.SetOf.{SetOf}

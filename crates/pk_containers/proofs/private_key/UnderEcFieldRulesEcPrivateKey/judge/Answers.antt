@@ -1,5 +1,4 @@
-use Rattle.std.proofs.Common.{rules, ◌≡◌, ◌∙◌, ◌∷◌, [], ap, false, sym, true}
-use Rattle.std.specs.Option.{option_map}
+use Rattle.std.proofs.Common.{rules, ◌∙◌, ◌∷◌, [], ap, false, sym, true}
 use Rattle.asn_elements.specs.Leaves.{bit_string_of, octets_of}
 use Rattle.pk_containers.specs.Keys.{curve_octets}
 use Rattle.pk_containers.proofs.InnerKeys.{another_curve, of_no_curve}
