@@ -10,7 +10,7 @@ use Rattle.x690.specs.Fitting.{Spells}
 use Rattle.x690.specs.Premises.{Lawful}
 use Rattle.x690.specs.TypeTerms.{TypeTerm}
 use Rattle.x690.specs.Values.{Same, Value}
-use Rattle.x690_laws.proofs.Answering.{inside_of_answers, refused_is_spelled_by_none, spelling_is_answered, texts_tell_values}
+use Rattle.x690_laws.proofs.DocumentAnswers.{inside_of_answers, refused_is_spelled_by_none, spelling_is_answered, texts_tell_values}
 use Rattle.x690_laws.proofs.Headers.{split_alone}
 use Rattle.x690_laws.proofs.Refit.{text_spells}
 use Rattle.x690_laws.proofs.Sames.{equivalence}

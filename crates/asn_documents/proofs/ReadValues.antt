@@ -19,7 +19,7 @@ use Rattle.x690.specs.TypeTerms.{TypeTerm}
 use Rattle.x690.specs.Values.{Same, Value}
 use Rattle.x690.proofs.Needs.{longer}
 use Rattle.x690.proofs.Runs.{taken}
-use Rattle.x690_laws.proofs.Answering.{answered, fits_text, halted_is, judged, long_text, one_answer, rest_apart, spelled_place}
+use Rattle.x690_laws.proofs.DocumentAnswers.{answered, fits_text, halted_is, judged, long_text, one_answer, rest_apart, spelled_place}
 use Rattle.x690_laws.proofs.Judging.{sound}
 use Rattle.x690_laws.proofs.Texts.{same_der}
 use Rattle.ber_pull.specs.Hears.{Hears, heard_error}

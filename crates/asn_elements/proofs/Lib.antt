@@ -1,4 +1,4 @@
-pub mod Answering
+pub mod ReaderAnswers
 pub mod ArrangedTexts
 pub mod Ascending
 pub mod BitReadings

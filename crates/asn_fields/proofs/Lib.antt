@@ -1,8 +1,8 @@
 pub mod FieldReadings
 pub mod FieldTags
-pub mod Handing
+pub mod FieldAnswers
 pub mod Insides
 pub mod PartTexts
 pub mod Refusing
 pub mod ShortFields
-pub mod SoFar
+pub mod BegunSequence

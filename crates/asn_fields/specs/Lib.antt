@@ -1,6 +1,6 @@
 pub mod Fields
 pub mod ApartLaws
 pub mod Apart
-pub mod SoFar
+pub mod BegunSequence
 pub mod FieldReadings
 pub mod Insides

@@ -8,7 +8,7 @@ ghost use Rattle.x690.specs.Values.{Value};
 ghost use Rattle.ber_pull.specs.View.{standing, SameSource, Keeps, ReadsFail, Onward};
 ghost use Rattle.asn_fields.specs.Fields.{IsInside, StaysInside};
 ghost use Rattle.asn_fields.specs.Apart.{BeginsAsTyped, Tells};
-ghost use Rattle.asn_fields.specs.SoFar.{ReadsFields, ReadsFirst};
+ghost use Rattle.asn_fields.specs.BegunSequence.{ReadsFields, ReadsFirst};
 ghost use Rattle.asn_fields.specs.ApartLaws.{both_begin, both_tell};
 
 use crate::fields::Next;

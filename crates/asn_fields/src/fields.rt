@@ -1,7 +1,7 @@
 //! The fields of a SEQUENCE, one call each, in the order of its ASN.1 (X.690 8.9).
 //!
 //! A reader of a type is a list of these calls: `begin` with the type's tag, then `due` or `optional` for each field,
-//! then `end`. Its proof is a list of the rules of `proofs/SoFar.antt` in the same order: `after_` each call that gave
+//! then `end`. Its proof is a list of the rules of `proofs/BegunSequence.antt` in the same order: `after_` each call that gave
 //! a value, which keep in a record what was read so far and what is left, and `answered`, or `stopped_at_` the call
 //! that failed, where it returns. A rule on a field is tested between `take` and `ahead`, which `due` is put together
 //! from; one on the whole value behind `end`. `take`, `due` and `optional` also tell that the text of a field is short.

@@ -30,7 +30,7 @@ use Rattle.asn_elements.specs.Reading.{kind_of, read_given_leaf}
 use Rattle.asn_elements.specs.declared.leaf_reading.Kind.{Kind}
 use Rattle.asn_open_values.specs.declared.open_form.OpenForm.{OpenForm}
 use Rattle.asn_open_values.specs.declared.open_form.OpenForm.TheVariants as coded
-use Rattle.asn_elements.proofs.Answering.{fine_still, given_still, refused_by, unmoved_answers}
+use Rattle.asn_elements.proofs.ReaderAnswers.{fine_still, given_still, refused_by, unmoved_answers}
 
 -- the octets of a primitive element, as a leaf
 pub hears_octets : (own : Tag) (p : Reading (List ℕ)) (contents : List ℕ) (r : Result (Unit {0}) ReadError) (k i : ℕ)

@@ -49,7 +49,7 @@ pub mod Stopping
 pub mod Exactly
 pub mod Honesty
 -- 8. The answer to a whole document (`answers`).
-pub mod Answering
+pub mod DocumentAnswers
 -- 9. What contracts of readers and writers cite of values and types: which are told apart by their texts, which need no
 -- earlier field, which are told by their tags; that character strings and times are of a type as the laws ask
 -- (`types`).

@@ -14,7 +14,7 @@ use Rattle.asn_fields.proofs.Insides.{field_given}
 use Rattle.asn_fields.specs.Apart.{may_begin}
 use Rattle.asn_fields.specs.Fields.{next_of}
 use Rattle.asn_fields.proofs.FieldTags.{field_tagged_behind, stands_there}
-use Rattle.asn_fields.proofs.Handing.{of_value, value_through}
+use Rattle.asn_fields.proofs.FieldAnswers.{of_value, value_through}
 use Rattle.asn_fields.proofs.ShortFields.{field_short_behind}
 use Rattle.asn_contained.proofs.Dependents.{there_as}
 use Rattle.asn_contained.proofs.dependent.take_dependent.Goals as goal

@@ -10,7 +10,7 @@ use Rattle.x690.specs.Values.{Sequence, values_of}
 use Rattle.ber_pull.proofs.Hearing.{hears_as, hears_done, hears_error, hears_off, hears_on, hears_then, hears_then_memory}
 use Rattle.asn_containers.specs.Containers.{list_items}
 use Rattle.asn_elements.specs.Reading.{ended, read_given, read_given_members}
-use Rattle.asn_elements.proofs.Answering.{fine_still, given_still, refused_by, unmoved_answers, value_err}
+use Rattle.asn_elements.proofs.ReaderAnswers.{fine_still, given_still, refused_by, unmoved_answers, value_err}
 use Rattle.x690_laws.proofs.Complete.{each_length}
 use Rattle.asn_elements.proofs.SameMembers.{same_lists}
 use Rattle.asn_elements.proofs.TypeReadings.{list_of, list_type_is}

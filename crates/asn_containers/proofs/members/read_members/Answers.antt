@@ -6,7 +6,7 @@ use Rattle.ber_pull.specs.Standing.{after_next, enclosing, IsGiven, place}
 use Rattle.ber_pull.specs.declared.state.Given.{Given}
 use Rattle.ber_pull.proofs.Hearing.{hears_at, hears_said}
 use Rattle.asn_elements.specs.Reading.{ended, read_given_members}
-use Rattle.asn_elements.proofs.Answering.{members_err, none_by, some_given}
+use Rattle.asn_elements.proofs.ReaderAnswers.{members_err, none_by, some_given}
 use Rattle.asn_elements.proofs.MemberReadings.{Inside, member_reads, inside_ends, inside_error, inside_here, inside_memory, inside_more, inside_never, inside_start, inside_stops, all_used, left, still_open}
 use Rattle.x690.specs.Lists.{Each}
 use Rattle.x690.specs.Values.{Same}

@@ -1,7 +1,7 @@
 use Rattle.std.proofs.Common.{rules, ◌≡◌, ap, true}
 use Rattle.x690.specs.Layouts.{same_tag}
 use Rattle.ber_pull.proofs.Hearing.{hears_at, hears_done, hears_on}
-use Rattle.asn_elements.proofs.Answering.{wrong_tag}
+use Rattle.asn_elements.proofs.ReaderAnswers.{wrong_tag}
 use Rattle.asn_elements.proofs.leaf_reading.expect_tag.Goals as goal
 
 pub returns-then-not-is_same_tag-clause-stops : goal.returns-then-not-is_same_tag-clause-stops

@@ -3,7 +3,7 @@ use Rattle.std.proofs.lemmas.Str.{IsUtf8-from_is_utf8, is_utf8-from_IsUtf8}
 use Rattle.std.specs.Str.{is_utf8}
 use Rattle.x690.specs.ReadContents as reading
 use Rattle.asn_elements.specs.Reading.{string_kind}
-use Rattle.asn_elements.proofs.Answering.{both_ways}
+use Rattle.asn_elements.proofs.ReaderAnswers.{both_ways}
 use Rattle.asn_elements.proofs.leaf_reading.is_string.Goals as goal
 
 pub returns-else-not-utf8 : goal.returns-else-not-utf8

@@ -3,7 +3,7 @@ use Rattle.x690.specs.Values.{Leaf}
 use Rattle.ber_pull.specs.Calls.{read_bits}
 use Rattle.ber_pull.proofs.Hearing.{hears_done, hears_err, hears_error, hears_said, hears_same, hears_then, hears_then_memory}
 use Rattle.asn_elements.specs.BitStrings.{IsDerBits}
-use Rattle.asn_elements.proofs.Answering.{none_by, some_given}
+use Rattle.asn_elements.proofs.ReaderAnswers.{none_by, some_given}
 use Rattle.asn_elements.proofs.BitReadings.{bits_heard}
 use Rattle.asn_elements.proofs.LeafReadings.{bits_leaf, bits_leaf_is}
 use Rattle.asn_elements.proofs.leaf_reading.read_bits_leaf.Goals as goal

@@ -4,7 +4,7 @@ use Rattle.x690.specs.Values.{Leaf}
 use Rattle.x690_laws.proofs.Sames.{equivalence}
 use Rattle.ber_pull.proofs.Hearing.{hears_as, hears_on}
 use Rattle.asn_elements.specs.Reading.{kind_of, read_given, read_given_leaf}
-use Rattle.asn_elements.proofs.Answering.{fine_still, given_still, unmoved_answers, value_err}
+use Rattle.asn_elements.proofs.ReaderAnswers.{fine_still, given_still, unmoved_answers, value_err}
 use Rattle.asn_elements.proofs.TypeReadings.{leaf_type_is}
 use Rattle.asn_elements.proofs.leaf_reading.read_leaf_as.Goals as goal
 

@@ -6,7 +6,7 @@ use Rattle.x690.specs.ReadContents as reading
 use Rattle.ber_pull.specs.Calls.{read_octets}
 use Rattle.ber_pull.proofs.Hearing.{hears_done, hears_err, hears_error, hears_off, hears_on, hears_same, hears_then}
 use Rattle.asn_elements.specs.Reading.{string_kind}
-use Rattle.asn_elements.proofs.Answering.{place_given, refused_by}
+use Rattle.asn_elements.proofs.ReaderAnswers.{place_given, refused_by}
 use Rattle.asn_elements.proofs.LeafReadings.{octets_leaf, string_leaf_is}
 use Rattle.asn_elements.proofs.leaf_reading.read_octets_leaf.Goals as goal
 

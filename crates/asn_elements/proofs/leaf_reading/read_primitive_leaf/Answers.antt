@@ -6,7 +6,7 @@ use Rattle.ber_pull.specs.Calls.{read_primitive}
 use Rattle.ber_pull.proofs.Hearing.{hears_as, hears_done, hears_err, hears_error, hears_off, hears_on, hears_said, hears_then}
 use Rattle.x690.specs.Values.{Leaf}
 use Rattle.asn_elements.specs.Reading.{kind_of}
-use Rattle.asn_elements.proofs.Answering.{place_given, refused_by}
+use Rattle.asn_elements.proofs.ReaderAnswers.{place_given, refused_by}
 use Rattle.asn_elements.proofs.LeafReadings.{judged, leaf_is}
 use Rattle.asn_elements.proofs.leaf_reading.read_primitive_leaf.Goals as goal
 

@@ -7,7 +7,7 @@ use Rattle.x690.specs.Points.{fault}
 use Rattle.x690.specs.ReadContents.{is_object_identifier}
 use Rattle.ber_pull.specs.Calls.{read_primitive}
 use Rattle.ber_pull.proofs.Hearing.{hears_as, hears_done, hears_err, hears_error, hears_off, hears_on, hears_then}
-use Rattle.asn_elements.proofs.Answering.{place_given, refused_by}
+use Rattle.asn_elements.proofs.ReaderAnswers.{place_given, refused_by}
 use Rattle.asn_elements.proofs.LeafReadings.{judged, leaf_is}
 use Rattle.asn_elements.proofs.ObjectIdentifierContents.{identifier_off, identifier_on}
 use Rattle.asn_elements.proofs.object_identifier.read_identifier_into.Goals as goal

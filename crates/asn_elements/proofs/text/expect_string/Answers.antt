@@ -1,7 +1,7 @@
 use Rattle.std.proofs.Common.{rules}
 use Rattle.x690.specs.StringTypes.{string_types}
 use Rattle.x690.specs.TypeTerms.{fits_tag}
-use Rattle.asn_elements.proofs.Answering.{wrong_tag}
+use Rattle.asn_elements.proofs.ReaderAnswers.{wrong_tag}
 use Rattle.asn_elements.proofs.text.expect_string.Goals as goal
 
 pub returns-then-not-is_string_tag-clause-stops : goal.returns-then-not-is_string_tag-clause-stops

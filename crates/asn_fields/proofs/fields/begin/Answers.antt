@@ -5,7 +5,7 @@ use Rattle.asn_fields.proofs.Insides.{opens_within}
 use Rattle.ber_pull.specs.Calls.{read_entering}
 use Rattle.asn_fields.specs.Insides.{Inside}
 use Rattle.ber_pull.specs.Standing.{enclosing, opening, used}
-use Rattle.asn_elements.proofs.Answering.{fine_still, given_still, unmoved_answers}
+use Rattle.asn_elements.proofs.ReaderAnswers.{fine_still, given_still, unmoved_answers}
 use Rattle.asn_fields.specs.Fields.{next_of}
 use Rattle.asn_fields.proofs.fields.begin.Goals as goal
 

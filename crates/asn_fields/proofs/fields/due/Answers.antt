@@ -3,7 +3,7 @@ use Rattle.asn_fields.proofs.FieldReadings.{take_then}
 use Rattle.ber_pull.proofs.Hearing.{hears_done, hears_error, hears_then}
 use Rattle.asn_fields.proofs.Insides.{within_none}
 use Rattle.asn_fields.specs.Fields.{next_of}
-use Rattle.asn_fields.proofs.Handing.{with_error}
+use Rattle.asn_fields.proofs.FieldAnswers.{with_error}
 use Rattle.asn_fields.proofs.fields.due.Goals as goal
 
 pub returns-in_err-field-clause-reads : goal.returns-in_err-field-clause-reads

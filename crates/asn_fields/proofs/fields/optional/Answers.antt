@@ -9,7 +9,7 @@ use Rattle.asn_fields.specs.Fields.{next_of}
 use Rattle.asn_fields.specs.Insides.{BeginsBefore}
 use Rattle.asn_fields.proofs.FieldTags.{field_tagged, stands_there}
 use Rattle.asn_fields.proofs.ShortFields.{field_short}
-use Rattle.asn_fields.proofs.Handing.{with_error}
+use Rattle.asn_fields.proofs.FieldAnswers.{with_error}
 use Rattle.asn_fields.proofs.fields.optional.Goals as goal
 
 pub returns-in-None-clause-reads : goal.returns-in-None-clause-reads

@@ -14,7 +14,7 @@ use Rattle.asn_fields.specs.Fields.{next_of}
 use Rattle.asn_fields.specs.Insides.{BeginsBefore}
 use Rattle.asn_fields.proofs.FieldTags.{field_tagged, stands_there}
 use Rattle.asn_fields.proofs.ShortFields.{field_short}
-use Rattle.asn_fields.proofs.Handing.{of_value, value_through}
+use Rattle.asn_fields.proofs.FieldAnswers.{of_value, value_through}
 use Rattle.asn_fields.proofs.fields.take.Goals as goal
 
 pub returns-in-None-clause-reads : goal.returns-in-None-clause-reads

@@ -11,7 +11,7 @@ use Rattle.ber_pull.specs.Hears.{heard_error}
 use Rattle.ber_pull.specs.Standing.{enclosing}
 use Rattle.ber_pull.specs.View.{Answers, standing}
 use Rattle.ber_pull.proofs.Hearing.{hears_at}
-use Rattle.asn_elements.proofs.Answering.{fine_still, refused_by, value_err}
+use Rattle.asn_elements.proofs.ReaderAnswers.{fine_still, refused_by, value_err}
 use Rattle.asn_fields.proofs.Refusing.{refused_as, refused_here}
 use Rattle.asn_fields.proofs.refused.read_refused.Goals as goal
 

@@ -1,6 +1,6 @@
 use Rattle.std.proofs.Common.{rules, refl}
-use Rattle.asn_fields.proofs.Handing.{with_error}
-use Rattle.asn_fields.proofs.SoFar.{after_begin, after_end, answered, stopped_at_begin, stopped_at_end}
+use Rattle.asn_fields.proofs.FieldAnswers.{with_error}
+use Rattle.asn_fields.proofs.BegunSequence.{after_begin, after_end, answered, stopped_at_begin, stopped_at_end}
 use Rattle.asn_fields.proofs.sequence.read_sequence_as.Goals as goal
 
 pub returns-in_err-next-clause-reads : goal.returns-in_err-next-clause-reads

@@ -16,7 +16,7 @@ use Rattle.ber_pull.proofs.Hearing.{hears_at, hears_done, hears_error, hears_sai
 use Rattle.asn_open_values.specs.OpenTexts.{container, form_of, read_given_container, read_given_contents, read_given_open_members}
 use Rattle.asn_elements.specs.Reading.{ended}
 use Rattle.asn_elements.specs.Framing.{framed}
-use Rattle.asn_elements.proofs.Answering.{none_by, place_given, some_given}
+use Rattle.asn_elements.proofs.ReaderAnswers.{none_by, place_given, some_given}
 use Rattle.asn_elements.proofs.MemberReadings.{all_used, inside_ends, inside_error, inside_memory, inside_never, inside_start, left}
 use Rattle.asn_elements.proofs.MemberTexts.{stand_more}
 use Rattle.asn_open_values.proofs.OpenMembers.{Members, member_more, member_stops, room_now}

@@ -9,7 +9,7 @@ use Rattle.ber_pull.specs.Standing.{enclosing}
 use Rattle.ber_pull.specs.View.{Answers}
 use Rattle.asn_elements.proofs.RuledReadings.{rule_holds}
 use Rattle.asn_elements.specs.Reading.{read_given}
-use Rattle.asn_elements.proofs.Answering.{value_err}
+use Rattle.asn_elements.proofs.ReaderAnswers.{value_err}
 use Rattle.asn_contained.specs.Contained.{read_given_contained}
 use Rattle.asn_contained.proofs.Contained.{containing, containing_error, same_octets_inside}
 use Rattle.asn_contained.proofs.containing.ContainingElement.read.Goals as goal

@@ -3,7 +3,7 @@ use Rattle.x690.specs.Lists.{one_of}
 use Rattle.x690.specs.TypeTerms.{DefinedByType}
 use Rattle.x690.specs.Values.{leaf_at}
 use Rattle.ber_pull.specs.Standing.{enclosing}
-use Rattle.asn_elements.proofs.Answering.{value_err}
+use Rattle.asn_elements.proofs.ReaderAnswers.{value_err}
 use Rattle.asn_fields.specs.ApartLaws.{either_of}
 use Rattle.asn_contained.specs.Dependents.{read_given_behind}
 use Rattle.asn_contained.proofs.Dependents.{as_first_type, as_second_type}

@@ -1,8 +1,8 @@
 use Rattle.std.proofs.Common.{rules, ◌∷◌, [], ap, append-nil, arith, length}
 use Rattle.x690.specs.DerTexts.{der}
-use Rattle.asn_fields.proofs.Handing.{with_error}
+use Rattle.asn_fields.proofs.FieldAnswers.{with_error}
 use Rattle.asn_fields.proofs.PartTexts.{length_both}
-use Rattle.asn_fields.proofs.SoFar.{after_due_behind, stopped_at_due_behind}
+use Rattle.asn_fields.proofs.BegunSequence.{after_due_behind, stopped_at_due_behind}
 use Rattle.asn_contained.proofs.dependent.DependentFirstFields.read_first.Goals as goal
 
 pub returns-in_err-earlier-clause-reads : goal.returns-in_err-earlier-clause-reads

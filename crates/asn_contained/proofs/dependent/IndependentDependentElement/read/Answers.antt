@@ -1,7 +1,7 @@
 use Rattle.std.proofs.Common.{rules, sym}
 use Rattle.ber_pull.specs.Standing.{enclosing}
 use Rattle.ber_pull.proofs.Hearing.{hears_as}
-use Rattle.asn_elements.proofs.Answering.{value_err}
+use Rattle.asn_elements.proofs.ReaderAnswers.{value_err}
 use Rattle.asn_contained.specs.Dependents.{read_given_behind}
 use Rattle.asn_contained.proofs.dependent.IndependentDependentElement.read.Goals as goal
 

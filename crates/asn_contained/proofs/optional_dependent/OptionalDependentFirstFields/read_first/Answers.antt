@@ -1,9 +1,9 @@
 use Rattle.std.proofs.Common.{rules, [], arith}
 use Rattle.std.specs.Option.{option_map}
 use Rattle.asn_fields.specs.FieldReadings.{with_field}
-use Rattle.asn_fields.proofs.Handing.{with_error}
+use Rattle.asn_fields.proofs.FieldAnswers.{with_error}
 use Rattle.asn_fields.proofs.PartTexts.{length_both}
-use Rattle.asn_fields.proofs.SoFar.{after_optional_behind, stopped_at_optional_behind}
+use Rattle.asn_fields.proofs.BegunSequence.{after_optional_behind, stopped_at_optional_behind}
 use Rattle.asn_contained.proofs.Dependents.{optional_text_short}
 use Rattle.asn_contained.proofs.optional_dependent.OptionalDependentFirstFields.read_first.Goals as goal
 

@@ -5,7 +5,7 @@ use Rattle.x690.specs.TypeTerms.{RuledType}
 use Rattle.ber_pull.specs.Standing.{enclosing}
 use Rattle.asn_elements.proofs.RuledReadings.{rule_holds, rule_refuses, ruled, ruled_error}
 use Rattle.ber_pull.proofs.Hearing.{hears_as}
-use Rattle.asn_elements.proofs.Answering.{place_given, refused_by, value_err}
+use Rattle.asn_elements.proofs.ReaderAnswers.{place_given, refused_by, value_err}
 use Rattle.asn_contained.specs.Dependents.{read_given_behind}
 use Rattle.asn_contained.proofs.ruled_behind.RuledBehindDependentElement.read.Goals as goal
 

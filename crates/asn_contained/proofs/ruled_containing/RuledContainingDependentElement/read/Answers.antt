@@ -10,7 +10,7 @@ use Rattle.ber_pull.specs.Hears.{heard_error}
 use Rattle.ber_pull.specs.Standing.{enclosing}
 use Rattle.ber_pull.specs.View.{Answers}
 use Rattle.asn_elements.proofs.RuledReadings.{rule_holds, rule_refuses}
-use Rattle.asn_elements.proofs.Answering.{place_given, refused_by, value_err}
+use Rattle.asn_elements.proofs.ReaderAnswers.{place_given, refused_by, value_err}
 use Rattle.asn_contained.specs.Contained.{read_given_contained}
 use Rattle.asn_contained.specs.Dependents.{read_given_behind}
 use Rattle.asn_contained.proofs.Contained.{containing, containing_error, same_octets_inside}

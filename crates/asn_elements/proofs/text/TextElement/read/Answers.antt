@@ -13,7 +13,7 @@ use Rattle.ber_pull.specs.declared.pull.Pull.{Pull}
 use Rattle.ber_pull.specs.declared.state.Given.{Given}
 use Rattle.ber_pull.proofs.Hearing.{hears_as, hears_on}
 use Rattle.asn_elements.specs.Reading.{kind_of, read_given, read_given_leaf, string_kind}
-use Rattle.asn_elements.proofs.Answering.{fine_still, given_still, unmoved_answers, value_err}
+use Rattle.asn_elements.proofs.ReaderAnswers.{fine_still, given_still, unmoved_answers, value_err}
 use Rattle.asn_elements.proofs.StringReadings.{string_is}
 use Rattle.asn_elements.proofs.text.TextElement.read.Goals as goal
 

@@ -2,9 +2,9 @@ use Rattle.std.proofs.Common.{rules, ◌≡◌, ◌∷◌, [], ap, append-nil, a
 use Rattle.x690.specs.DerTexts.{der}
 use Rattle.x690.specs.Lists.{one_of}
 use Rattle.x690.specs.Values.{leaf_at}
-use Rattle.asn_fields.proofs.Handing.{with_error}
+use Rattle.asn_fields.proofs.FieldAnswers.{with_error}
 use Rattle.asn_fields.proofs.PartTexts.{length_both}
-use Rattle.asn_fields.proofs.SoFar.{after_due, as_first, as_second, stopped_at_due}
+use Rattle.asn_fields.proofs.BegunSequence.{after_due, as_first, as_second, stopped_at_due}
 use Rattle.asn_fields.proofs.chosen.ChosenFirstFields.read_first.Goals as goal
 
 pub returns-in_err-earlier-clause-reads : goal.returns-in_err-earlier-clause-reads

@@ -1,6 +1,6 @@
 use Rattle.std.proofs.Common.{rules}
-use Rattle.asn_fields.proofs.Handing.{with_error}
-use Rattle.asn_fields.proofs.SoFar.{after_default, fields_as, stopped_at_default}
+use Rattle.asn_fields.proofs.FieldAnswers.{with_error}
+use Rattle.asn_fields.proofs.BegunSequence.{after_default, fields_as, stopped_at_default}
 use Rattle.asn_fields.proofs.default_false.DefaultFalseFields.read.Goals as goal
 
 pub returns-in_err-field-clause-reads : goal.returns-in_err-field-clause-reads

@@ -1,6 +1,6 @@
 use Rattle.std.proofs.Common.{rules, arith}
-use Rattle.asn_fields.proofs.Handing.{with_error}
-use Rattle.asn_fields.proofs.SoFar.{behind_both}
+use Rattle.asn_fields.proofs.FieldAnswers.{with_error}
+use Rattle.asn_fields.proofs.BegunSequence.{behind_both}
 use Rattle.asn_fields.proofs.PartTexts.{length_both}
 use Rattle.asn_fields.proofs.field_list.Tuple2Fields.read.Goals as goal
 

@@ -1,5 +1,5 @@
 use Rattle.std.proofs.Common.{rules, arith}
-use Rattle.asn_fields.proofs.Handing.{with_error}
+use Rattle.asn_fields.proofs.FieldAnswers.{with_error}
 use Rattle.asn_fields.proofs.PartTexts.{length_both}
 use Rattle.asn_fields.proofs.field_list.Tuple2FirstFields.read_first.Goals as goal
 

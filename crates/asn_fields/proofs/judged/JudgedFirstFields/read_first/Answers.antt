@@ -3,9 +3,9 @@ use Rattle.x690.specs.DerTexts.{der}
 use Rattle.x690.specs.Points.{fault}
 use Rattle.ber_pull.proofs.Hearing.{hears_stop}
 use Rattle.asn_fields.proofs.Insides.{within_none}
-use Rattle.asn_fields.proofs.Handing.{with_error}
+use Rattle.asn_fields.proofs.FieldAnswers.{with_error}
 use Rattle.asn_fields.proofs.PartTexts.{length_both}
-use Rattle.asn_fields.proofs.SoFar.{after_ahead, after_take_to_judge, passed, stopped_at_ahead, stopped_at_take_to_judge, turned_down}
+use Rattle.asn_fields.proofs.BegunSequence.{after_ahead, after_take_to_judge, passed, stopped_at_ahead, stopped_at_take_to_judge, turned_down}
 use Rattle.asn_fields.proofs.judged.JudgedFirstFields.read_first.Goals as goal
 
 pub returns-in_err-earlier-clause-reads : goal.returns-in_err-earlier-clause-reads

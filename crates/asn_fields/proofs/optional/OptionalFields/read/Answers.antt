@@ -1,6 +1,6 @@
 use Rattle.std.proofs.Common.{rules}
-use Rattle.asn_fields.proofs.Handing.{with_error}
-use Rattle.asn_fields.proofs.SoFar.{after_optional, stopped_at_optional}
+use Rattle.asn_fields.proofs.FieldAnswers.{with_error}
+use Rattle.asn_fields.proofs.BegunSequence.{after_optional, stopped_at_optional}
 use Rattle.asn_fields.proofs.optional.OptionalFields.read.Goals as goal
 
 pub returns-in_err-field-clause-reads : goal.returns-in_err-field-clause-reads

@@ -3,7 +3,7 @@ use Rattle.tlv_core.specs.declared.fault.ReadError.TheVariants as errors
 use Rattle.x690.specs.Points.{fault}
 use Rattle.x690.specs.TypeTerms.{RuledType}
 use Rattle.asn_elements.proofs.RuledReadings.{rule_holds, rule_refuses, ruled, ruled_error}
-use Rattle.asn_elements.proofs.Answering.{place_given, refused_by, value_err}
+use Rattle.asn_elements.proofs.ReaderAnswers.{place_given, refused_by, value_err}
 use Rattle.asn_elements.specs.Reading.{read_given}
 use Rattle.asn_fields.proofs.ruled.RuledElement.read.Goals as goal
 

@@ -1,5 +1,5 @@
 use Rattle.std.proofs.Common.{rules}
-use Rattle.asn_fields.proofs.Handing.{with_error}
+use Rattle.asn_fields.proofs.FieldAnswers.{with_error}
 use Rattle.pk_containers.proofs.key_head.KeyHeadFirstFields.read_first.Goals as goal
 
 pub returns-in_err-read_first-clause-reads : goal.returns-in_err-read_first-clause-reads

@@ -1,5 +1,5 @@
 use Rattle.std.proofs.Common.{rules}
-use Rattle.asn_fields.proofs.Handing.{with_error}
+use Rattle.asn_fields.proofs.FieldAnswers.{with_error}
 use Rattle.pk_keys.proofs.ec_fields.EcFieldsFirstFields.read_first.Goals as goal
 
 pub returns-in_err-fields-clause-reads : goal.returns-in_err-fields-clause-reads

@@ -6,7 +6,7 @@ use Rattle.x690.specs.Layouts.{universal}
 use Rattle.x690.specs.Points.{fault}
 use Rattle.x690.specs.Values.{Leaf, Same}
 use Rattle.asn_elements.proofs.RuledReadings.{rule_holds, rule_refuses, ruled, ruled_error}
-use Rattle.asn_elements.proofs.Answering.{place_given, refused_by, value_err}
+use Rattle.asn_elements.proofs.ReaderAnswers.{place_given, refused_by, value_err}
 use Rattle.asn_elements.specs.Reading.{read_given}
 use Rattle.pkix_values.specs.Versions.{versions}
 use Rattle.pkix_values.proofs.VersionTests.{version_holds, version_refused}

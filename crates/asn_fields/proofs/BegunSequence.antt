@@ -27,7 +27,7 @@ use Rattle.asn_elements.proofs.RuledReadings.{rule_refuses}
 use Rattle.ber_pull.proofs.Hearing.{hears_done, hears_error, hears_same, hears_then}
 use Rattle.x690.proofs.Runs.{bind_same}
 use Rattle.asn_fields.specs.Fields.{SameField}
-use Rattle.asn_fields.specs.SoFar.{SoFar}
+use Rattle.asn_fields.specs.BegunSequence.{BegunSequence}
 use Rattle.asn_elements.proofs.SameMembers.{each_last, same_lists}
 
 -- the values of a SEQUENCE as its value
@@ -42,7 +42,8 @@ pub after_begin : {own own' : Tag} {fields : Fields} {outer new : Standing} {ins
     → Hears (read_begin outer.limits own' (enclosing outer) p tag constructed) outer.taken s
     (Said (inside, next)) new.taken u
     → Inside outer inside new next
-    → SoFar outer.taken s (read_type outer.limits (SequenceType own fields) earlier (enclosing outer) p tag constructed)
+    → BegunSequence outer.taken s
+    (read_type outer.limits (SequenceType own fields) earlier (enclosing outer) p tag constructed)
     (as_sequence own) fields [] next new u
 after_begin {own} {own'} {fields} {outer} {new} {inside} {next} {u} earlier p tag constructed s is x stands = record {
   values = [];
@@ -68,7 +69,7 @@ stopped_at_begin {own} {own'} fields earlier l c p tag constructed e k i s u is 
 
 module _ {k : ℕ} {s : Option (List ℕ)} {whole : Reading Value} {finish : List Value → Reading Value} {rest : Fields}
     {T : TypeTerm} {ws : List Value} {next : Next} {now : Standing} {t : Option (List ℕ)}
-    (a : SoFar k s whole finish (Required T rest) ws next now t) where
+    (a : BegunSequence k s whole finish (Required T rest) ws next now t) where
   -- which looks at the earlier fields
   pub after_due_behind : {next' : Next} {new : Standing} {u : Option (List ℕ)} (w : Value)
       → ((fields : List Value) → Each Same fields ws → (outer : Standing) (inside : Enclosing)
@@ -76,7 +77,7 @@ module _ {k : ℕ} {s : Option (List ℕ)} {whole : Reading Value} {finish : Lis
       → (v : Value) × Same v w
       × Hears (read_due outer.limits T fields inside next) now.taken t (Said (v, next')) new.taken u)
       → ((outer : Standing) (inside : Enclosing) → Inside outer inside now next → Inside outer inside new next')
-      → SoFar k s whole finish rest (ws ++ (w ∷ [])) next' new u
+      → BegunSequence k s whole finish rest (ws ++ (w ∷ [])) next' new u
   after_due_behind {next'} {new} {u} w reads stands =
       let f = reads a.values a.same a.outer a.inside a.stands in record {
         values = a.values ++ (f.0 ∷ []);
@@ -109,7 +110,7 @@ module _ {k : ℕ} {s : Option (List ℕ)} {whole : Reading Value} {finish : Lis
       → (v : Value) × Same v w
       × Hears (read_due outer.limits T earlier inside next) now.taken t (Said (v, next')) new.taken u)
       → ((outer : Standing) (inside : Enclosing) → Inside outer inside now next → Inside outer inside new next')
-      → SoFar k s whole finish rest (ws ++ (w ∷ [])) next' new u
+      → BegunSequence k s whole finish rest (ws ++ (w ∷ [])) next' new u
   after_due w reads stands = after_due_behind w (λ fields same. reads fields) stands
 
   pub stopped_at_due : (e : ReadError) (i : ℕ) (u : Option (List ℕ))
@@ -121,16 +122,16 @@ module _ {k : ℕ} {s : Option (List ℕ)} {whole : Reading Value} {finish : Lis
 -- the values of fields, and of those behind them
 pub behind_both : {k : ℕ} {s : Option (List ℕ)} {whole : Reading Value} {finish : List Value → Reading Value}
     {rest : Fields} {next : Next} {now : Standing} {t : Option (List ℕ)} (ws vs vs' : List Value)
-    → SoFar k s whole finish rest ((ws ++ vs) ++ vs') next now t
-    → SoFar k s whole finish rest (ws ++ (vs ++ vs')) next now t
+    → BegunSequence k s whole finish rest ((ws ++ vs) ++ vs') next now t
+    → BegunSequence k s whole finish rest (ws ++ (vs ++ vs')) next now t
 behind_both {k} {s} {whole} {finish} {rest} {next} {now} {t} ws vs vs' a =
-    subst (λ z. SoFar k s whole finish rest z next now t) (append_assoc ws vs vs') a
+    subst (λ z. BegunSequence k s whole finish rest z next now t) (append_assoc ws vs vs') a
 
 -- A field that is due, by itself: a rule on it is tested before what stands behind it is looked at.
 
 -- An element was read for a field that is due: `w`. Nothing behind it was looked at; `judge` of it, and what
 -- is left, answer the whole.
-pub record InHand (k : ℕ) (s : Option (List ℕ)) (whole : Reading Value) (finish : List Value → Reading Value)
+pub record FieldTaken (k : ℕ) (s : Option (List ℕ)) (whole : Reading Value) (finish : List Value → Reading Value)
     (judge : List Value → Value → Reading Value) (rest : Fields) (ws : List Value) (w : Value) (now : Standing)
     (t : Option (List ℕ)) : Type 0 where
   pub values : List Value
@@ -154,12 +155,12 @@ judged p rule earlier value = apply_rule p (rule earlier value) value
 
 module _ {k : ℕ} {s : Option (List ℕ)} {whole : Reading Value} {finish : List Value → Reading Value} {rest : Fields}
     {T : TypeTerm} {ws : List Value} {next : Next} {now : Standing} {t : Option (List ℕ)}
-    (a : SoFar k s whole finish (Required T rest) ws next now t) where
+    (a : BegunSequence k s whole finish (Required T rest) ws next now t) where
   pub after_take : {new : Standing} {u : Option (List ℕ)} (w : Value)
       → ((earlier : List Value) (outer : Standing) (inside : Enclosing) → Inside outer inside now next
       → (v : Value) × Same v w × Hears (read_take outer.limits T earlier inside next) now.taken t (Said v) new.taken u)
       → ((outer : Standing) (inside : Enclosing) → Inside outer inside now next → Within outer inside new)
-      → InHand k s whole finish unjudged rest ws w new u
+      → FieldTaken k s whole finish unjudged rest ws w new u
   unfolding ◌>>=◌
   after_take {new} {u} w reads stands =
       let f = reads a.values a.outer a.inside a.stands in record {
@@ -188,13 +189,13 @@ module _ {k : ℕ} {s : Option (List ℕ)} {whole : Reading Value} {finish : Lis
 module _ {k : ℕ} {s : Option (List ℕ)} {whole : Reading Value} {finish : List Value → Reading Value} {rule : Rule}
     {rest : Fields} {T : TypeTerm} {ws : List Value} {now : Standing} {t : Option (List ℕ)} (p : ℕ)
     (n : Option (Tag × Bool))
-    (a : SoFar k s whole finish (Required (RuledType rule T) rest) ws (next_at p n) now t) where
+    (a : BegunSequence k s whole finish (Required (RuledType rule T) rest) ws (next_at p n) now t) where
   pub after_take_to_judge : {new : Standing} {u : Option (List ℕ)} (w : Value)
       → ((earlier : List Value) (outer : Standing) (inside : Enclosing) → Inside outer inside now (next_at p n)
       → (v : Value) × Same v w
       × Hears (read_take outer.limits T earlier inside (next_at p n)) now.taken t (Said v) new.taken u)
       → ((outer : Standing) (inside : Enclosing) → Inside outer inside now (next_at p n) → Within outer inside new)
-      → InHand k s whole finish (judged p rule) rest ws w new u
+      → FieldTaken k s whole finish (judged p rule) rest ws w new u
   after_take_to_judge {new} {u} w reads stands =
       let f = reads a.values a.outer a.inside a.stands in record {
         values = a.values;
@@ -222,9 +223,9 @@ module _ {k : ℕ} {s : Option (List ℕ)} {whole : Reading Value} {finish : Lis
 
 module _ {k : ℕ} {s : Option (List ℕ)} {whole : Reading Value} {finish : List Value → Reading Value} {rest : Fields}
     {ws : List Value} {w : Value} {now : Standing} {t : Option (List ℕ)} (p : ℕ) (rule : Rule) (fair : FairRule rule)
-    (a : InHand k s whole finish (judged p rule) rest ws w now t) where
+    (a : FieldTaken k s whole finish (judged p rule) rest ws w now t) where
   -- the rule lets it pass
-  pub passed : rule ws w ≡ None → InHand k s whole finish unjudged rest ws w now t
+  pub passed : rule ws w ≡ None → FieldTaken k s whole finish unjudged rest ws w now t
   unfolding apply_rule
   passed e = record {
     values = a.values;
@@ -254,12 +255,12 @@ module _ {k : ℕ} {s : Option (List ℕ)} {whole : Reading Value} {finish : Lis
 
 module _ {k : ℕ} {s : Option (List ℕ)} {whole : Reading Value} {finish : List Value → Reading Value} {rest : Fields}
     {ws : List Value} {w : Value} {now : Standing} {t : Option (List ℕ)}
-    (a : InHand k s whole finish unjudged rest ws w now t) where
+    (a : FieldTaken k s whole finish unjudged rest ws w now t) where
   pub after_ahead : {next : Next} {new : Standing} {u : Option (List ℕ)}
       → ((outer : Standing) (inside : Enclosing) → Within outer inside now
       → Hears (next_tag outer.limits inside) now.taken t (Said next) new.taken u)
       → ((outer : Standing) (inside : Enclosing) → Within outer inside now → Inside outer inside new next)
-      → SoFar k s whole finish rest (ws ++ (w ∷ [])) next new u
+      → BegunSequence k s whole finish rest (ws ++ (w ∷ [])) next new u
   unfolding ◌>>=◌
   after_ahead {next} {new} {u} reads stands = record {
     values = a.values ++ (a.value ∷ []);
@@ -295,8 +296,9 @@ module _ {k : ℕ} {s : Option (List ℕ)} {whole : Reading Value} {finish : Lis
 module _ {k : ℕ} {s : Option (List ℕ)} {whole : Reading Value} {finish : List Value → Reading Value} {path : List ℕ}
     {octets : List (List ℕ)} {first second : TypeTerm} {rest : Fields} {ws : List Value} {next : Next} {now : Standing}
     {t : Option (List ℕ)} (alike : (tag : Tag) → fits_tag second tag ≡ fits_tag first tag)
-    (a : SoFar k s whole finish (Required (DefinedByType path octets first second) rest) ws next now t) where
-  pub as_first : one_of (leaf_at path ws) octets ≡ true → SoFar k s whole finish (Required first rest) ws next now t
+    (a : BegunSequence k s whole finish (Required (DefinedByType path octets first second) rest) ws next now t) where
+  pub as_first : one_of (leaf_at path ws) octets ≡ true
+      → BegunSequence k s whole finish (Required first rest) ws next now t
   as_first e = record {
     values = a.values;
     same = a.same;
@@ -310,7 +312,8 @@ module _ {k : ℕ} {s : Option (List ℕ)} {whole : Reading Value} {finish : Lis
     };
   }
 
-  pub as_second : one_of (leaf_at path ws) octets ≡ false → SoFar k s whole finish (Required second rest) ws next now t
+  pub as_second : one_of (leaf_at path ws) octets ≡ false
+      → BegunSequence k s whole finish (Required second rest) ws next now t
   as_second e = record {
     values = a.values;
     same = a.same;
@@ -342,7 +345,7 @@ field_first vs more (Some v) = append_assoc vs (v ∷ []) more
 
 module _ {k : ℕ} {s : Option (List ℕ)} {whole : Reading Value} {finish : List Value → Reading Value} {rest : Fields}
     {T : TypeTerm} {ws : List Value} {next : Next} {now : Standing} {t : Option (List ℕ)}
-    (a : SoFar k s whole finish (Optional T rest) ws next now t) where
+    (a : BegunSequence k s whole finish (Optional T rest) ws next now t) where
   -- which looks at the earlier fields
   pub after_optional_behind : {next' : Next} {new : Standing} {u : Option (List ℕ)} (w : Option Value)
       → ((fields : List Value) → Each Same fields ws → (outer : Standing) (inside : Enclosing)
@@ -350,7 +353,7 @@ module _ {k : ℕ} {s : Option (List ℕ)} {whole : Reading Value} {finish : Lis
       → (v : Option Value) × SameField v w
       × Hears (read_optional outer.limits T fields inside next) now.taken t (Said (v, next')) new.taken u)
       → ((outer : Standing) (inside : Enclosing) → Inside outer inside now next → Inside outer inside new next')
-      → SoFar k s whole finish rest (ws ++ with_field w []) next' new u
+      → BegunSequence k s whole finish rest (ws ++ with_field w []) next' new u
   after_optional_behind {next'} {new} {u} w reads stands =
       let f = reads a.values a.same a.outer a.inside a.stands in record {
         values = a.values ++ with_field f.0 [];
@@ -383,7 +386,7 @@ module _ {k : ℕ} {s : Option (List ℕ)} {whole : Reading Value} {finish : Lis
       → (v : Option Value) × SameField v w
       × Hears (read_optional outer.limits T earlier inside next) now.taken t (Said (v, next')) new.taken u)
       → ((outer : Standing) (inside : Enclosing) → Inside outer inside now next → Inside outer inside new next')
-      → SoFar k s whole finish rest (ws ++ with_field w []) next' new u
+      → BegunSequence k s whole finish rest (ws ++ with_field w []) next' new u
   after_optional w reads stands = after_optional_behind w (λ fields same. reads fields) stands
 
   pub stopped_at_optional : (e : ReadError) (i : ℕ) (u : Option (List ℕ))
@@ -395,10 +398,10 @@ module _ {k : ℕ} {s : Option (List ℕ)} {whole : Reading Value} {finish : Lis
 -- a field that may be absent, and is said in another way
 pub fields_as : {k : ℕ} {s : Option (List ℕ)} {whole : Reading Value} {finish : List Value → Reading Value}
     {rest : Fields} {next : Next} {now : Standing} {t : Option (List ℕ)} {o o' : Option Value} (ws : List Value)
-    → o ≡ o' → SoFar k s whole finish rest (ws ++ with_field o' []) next now t
-    → SoFar k s whole finish rest (ws ++ with_field o []) next now t
+    → o ≡ o' → BegunSequence k s whole finish rest (ws ++ with_field o' []) next now t
+    → BegunSequence k s whole finish rest (ws ++ with_field o []) next now t
 fields_as {k} {s} {whole} {finish} {rest} {next} {now} {t} ws e a =
-    subst (λ z. SoFar k s whole finish rest (ws ++ with_field z []) next now t) (sym e) a
+    subst (λ z. BegunSequence k s whole finish rest (ws ++ with_field z []) next now t) (sym e) a
 
 -- A field with a DEFAULT.
 
@@ -433,13 +436,13 @@ default_same own octets (Some v) (Some w) h =
 
 module _ {k : ℕ} {s : Option (List ℕ)} {whole : Reading Value} {finish : List Value → Reading Value} {own : Tag}
     {octets : List ℕ} {rest : Fields} {T : TypeTerm} {ws : List Value} {next : Next} {now : Standing}
-    {t : Option (List ℕ)} (a : SoFar k s whole finish (Default own octets T rest) ws next now t) where
+    {t : Option (List ℕ)} (a : BegunSequence k s whole finish (Default own octets T rest) ws next now t) where
   pub after_default : {next' : Next} {new : Standing} {u : Option (List ℕ)} (w : Option Value)
       → ((earlier : List Value) (outer : Standing) (inside : Enclosing) → Inside outer inside now next
       → (v : Option Value) × SameField v w
       × Hears (read_optional outer.limits T earlier inside next) now.taken t (Said (v, next')) new.taken u)
       → ((outer : Standing) (inside : Enclosing) → Inside outer inside now next → Inside outer inside new next')
-      → SoFar k s whole finish rest (ws ++ with_field (but_default own octets w) []) next' new u
+      → BegunSequence k s whole finish rest (ws ++ with_field (but_default own octets w) []) next' new u
   after_default {next'} {new} {u} w reads stands =
       let f = reads a.values a.outer a.inside a.stands in
       let kept = but_default own octets f.0 in record {
@@ -476,7 +479,8 @@ pub record AllRead (k : ℕ) (s : Option (List ℕ)) (whole : Reading Value) (fi
   pub onward : Continues whole k s (finish values) j t
 
 module _ {k : ℕ} {s : Option (List ℕ)} {whole : Reading Value} {finish : List Value → Reading Value} {ws : List Value}
-    {next : Next} {now : Standing} {t : Option (List ℕ)} (a : SoFar k s whole finish EndOfFields ws next now t) where
+    {next : Next} {now : Standing} {t : Option (List ℕ)}
+    (a : BegunSequence k s whole finish EndOfFields ws next now t) where
   pub after_end : {j : ℕ} {u : Option (List ℕ)}
       → ((outer : Standing) (inside : Enclosing) → Inside outer inside now next
       → Hears (read_end next) now.taken t (Said tt) j u)

@@ -20,7 +20,7 @@ use Rattle.asn_fields.specs.declared.fields.Next as code
 -- `whole` was begun at place `k`, with the octets `s` told. It stands inside, before `next`, with `t` told;
 -- `ws` were read, and these fields are left: what is answered of them from here on, with `finish` of all
 -- values, answers the whole.
-pub record SoFar (k : ℕ) (s : Option (List ℕ)) (whole : Reading Value) (finish : List Value → Reading Value)
+pub record BegunSequence (k : ℕ) (s : Option (List ℕ)) (whole : Reading Value) (finish : List Value → Reading Value)
     (fields : Fields) (ws : List Value) (next : Next) (now : Standing) (t : Option (List ℕ)) : Type 0 where
   pub values : List Value
   pub same : Each Same values ws
@@ -37,8 +37,9 @@ abbrev pub ReadsFields : {R A : Type 0} {s : Ghosts R} → Pull R s → Pull R s
 ReadsFields old new next next' fields values result =
     (k : ℕ) (s : Option (List ℕ)) (whole : Reading Value) (finish : List Value → Reading Value) (rest : Fields)
     (ws : List Value)
-    → SoFar k s whole finish (fields rest) ws (next_of next) old.state (told old)
-    → MatchResult result (λ x. SoFar k s whole finish rest (ws ++ values x) (next_of next') new.state (told new))
+    → BegunSequence k s whole finish (fields rest) ws (next_of next) old.state (told old)
+    → MatchResult result
+    (λ x. BegunSequence k s whole finish rest (ws ++ values x) (next_of next') new.state (told new))
     (λ e. Hears whole k s (heard_error e) new.state.taken (told new))
 
 -- The same of the first fields of the container.
@@ -46,6 +47,6 @@ abbrev pub ReadsFirst : {R A : Type 0} {s : Ghosts R} → Pull R s → Pull R s 
     → (A → List Value) → Result A ReadError → Type 0
 ReadsFirst old new next next' fields values result =
     (k : ℕ) (s : Option (List ℕ)) (whole : Reading Value) (finish : List Value → Reading Value) (rest : Fields)
-    → SoFar k s whole finish (fields rest) [] (next_of next) old.state (told old)
-    → MatchResult result (λ x. SoFar k s whole finish rest (values x) (next_of next') new.state (told new))
+    → BegunSequence k s whole finish (fields rest) [] (next_of next) old.state (told old)
+    → MatchResult result (λ x. BegunSequence k s whole finish rest (values x) (next_of next') new.state (told new))
     (λ e. Hears whole k s (heard_error e) new.state.taken (told new))
