@@ -42,6 +42,7 @@ pub fn element_size(tag: Tag, content: u64) -> u64
 }
 
 /// Writes the header of an element with so many contents octets.
+#[inline(always)]
 pub fn put_header<W: Target>(
     tag: Tag,
     constructed: bool,

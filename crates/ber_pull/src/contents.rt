@@ -18,6 +18,7 @@ const PIECE: usize = 1024;
 /// Pieces of no more than these get rooms of their own, since clearing the great one takes longer than reading them.
 const SHORT: usize = 32;
 
+/// Longer pieces of no more than these, as keys and signatures of curves are, get the next larger ones.
 const MIDDLE: usize = 160;
 
 impl<R: Source> Pull<'_, R> {

@@ -149,6 +149,7 @@ impl<R: Source> Pull<'_, R> {
     }
 
     /// The length of an element that may be constructed.
+    #[inline(always)]
     pub(crate) fn length(&mut self, start: u32) -> Result<LengthForm, ReadError>
         requires { (standing self.old).error ≡ None }
         ensures same_source { SameSource self.old self.new }

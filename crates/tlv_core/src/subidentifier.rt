@@ -13,9 +13,35 @@ pub(crate) fn first_subidentifier(octets: &[u8]) -> Option<(u128, usize)>
     ensures none { IsNone result → (n : ℕ) (rest : List ℕ) → n < 2 ^ 128
         → octets.now ≡ base128 n ++ rest → ⊥ }
 {
-    let mut number: u128 = 0;
+    let mut number: u64 = 0;
     for (i, octet) in octets.iter().enumerate() {
         if number == 0 && *octet == 128 {
+            return None;
+        }
+        if number >= 1 << 57 {
+            return wide_subidentifier(octets);
+        }
+        number = number * 128 + u64::from(*octet % 128);
+        if *octet < 128 {
+            return Some((u128::from(number), i + 1));
+        }
+    }
+    None
+}
+
+/// The same, in numbers of 128 bits.
+#[cold]
+fn wide_subidentifier(octets: &[u8]) -> Option<(u128, usize)>
+    ensures some { IfSome result (λ found. 0 < found.1) }
+    ensures within { IfSome result (λ found. found.1 ≤ length octets.now) }
+    ensures below { IfSome result (λ found. found.0 < 2 ^ 128) }
+    ensures digits { IfSome result (λ found. take found.1 octets.now ≡ base128 found.0) }
+    ensures none { IsNone result → (n : ℕ) (rest : List ℕ) → n < 2 ^ 128
+        → octets.now ≡ base128 n ++ rest → ⊥ }
+{
+    let mut number: u128 = 0;
+    for (i, octet) in octets.iter().enumerate() {
+        if *octet == 128 && number == 0 {
             return None;
         }
         if number >= 1 << 121 {

@@ -1,7 +1,7 @@
 use Rattle.std.proofs.Common.{arith, refl, sym, ap, ◌∙◌, ◌+◌, ◌*◌, ◌<◌, ℕ, get_or, drop, ◌∷◌}
 use Rattle.std.proofs.lemmas.List.{drop_more, drop_all}
 use Rattle.tlv_core.proofs.Digits.{leading_none}
-use Rattle.tlv_core.proofs.ObjectIdentifiers.{too_great, no_last, needless_zero, digit_next, digit_last}
+use Rattle.tlv_core.proofs.ObjectIdentifiers.{no_last, needless_zero, digit_next, digit_last}
 use Rattle.tlv_core.proofs.subidentifier.first_subidentifier.Goals as goal
 use Rattle.tlv_core.proofs.subidentifier.first_subidentifier.Goals.{else-number-eq0-via-then-number-eq0+else-octet, else-number-eq0-via-else-number-eq0}
 
@@ -15,14 +15,10 @@ returns-then-octet-clause-none c = λ _.
     needless_zero octets i c.loop-i.number (drop (i + 1) octets) c.loop-i.invariant c.if-number-eq0.true
     (drop_more octets i 0 c.loop-i-test.true ∙ ap (λ (x : ℕ). x ∷ drop (i + 1) octets) c.if-octet.true)
 
-pub returns-then-number-clause-none : goal.returns-then-number-clause-none
-returns-then-number-clause-none c =
-    λ _. too_great c.args.octets.now c.loop-i.i c.loop-i.number c.loop-i.invariant c.if-number.true
-
 pub returns-then-octet-lt128-clause-digits : goal.returns-then-octet-lt128-clause-digits
 returns-then-octet-lt128-clause-digits c =
     digit_last _ _ _ _ _ c.loop-i-test.true c.loop-i.invariant refl c.if-octet-lt128.true
-    (ap (λ (x : ℕ). c.loop-i.number * 128 + x) c.from.ensures)
+    (c.from-then-octet-lt128.ensures ∙ ap (λ (x : ℕ). c.loop-i.number * 128 + x) c.from.ensures)
 
 pub loop-i-preserved : goal.loop-i-preserved
 loop-i-preserved c =
