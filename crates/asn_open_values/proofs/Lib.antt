@@ -1,3 +1,4 @@
+pub mod KeptValues
 pub mod OpenMembers
 pub mod OpenReadings
 pub mod TextValues

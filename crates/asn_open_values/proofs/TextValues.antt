@@ -133,7 +133,7 @@ open_tag (Primitive t o) v f = ⊎_elim (λ a. ap value_tag a.is) (λ a. ap valu
 open_tag (Constructed t rs) v f =
     ⊎_elim (λ a. ap value_tag a.is) (λ a. ⊎_elim (λ b. ap value_tag b.2) (λ b. ap value_tag b.2) a) f
 
-identifier_same : (v w : Value) → Same v w → identifier_in v ≡ identifier_in w
+pub identifier_same : (v w : Value) → Same v w → identifier_in v ≡ identifier_in w
 unfolding Same
 identifier_same (Leaf t o) (Leaf t' o') h = rw (h.0, h.1) refl
 identifier_same (Leaf t o) (Sequence t' vs') h = absurd h

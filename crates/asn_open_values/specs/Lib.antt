@@ -1,3 +1,4 @@
+pub mod KeptValues
 pub mod OpenTexts
 pub mod OpenValues
 pub mod TextValues

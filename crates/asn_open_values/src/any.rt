@@ -2,25 +2,25 @@
 //!
 //! Universal tags say their types (X.680 8.6); elements of other classes keep their octets where they are primitive,
 //! and their elements in order where they are constructed. An open value is kept as its DER text, so that writing and
-//! comparing it is a matter of octets.
+//! comparing it is a matter of octets; an OBJECT IDENTIFIER by its contents alone.
 ghost use Rattle.std.proofs.Common.{ap, sym, ◌∙◌};
 ghost use Rattle.x690_laws.proofs.OneValue.{same_of};
-ghost use Rattle.std.specs.Prelude.{◌≡◌, ◌↔◌, IfOk, IsTrue};
+ghost use Rattle.std.specs.Prelude.{◌≡◌, ◌↔◌, IsTrue};
 ghost use Rattle.std.specs.Option.{option_map};
 ghost use Rattle.x690.specs.DerTexts.{der};
-ghost use Rattle.x690.specs.Layouts.{universal};
 ghost use Rattle.x690.specs.TypeTerms.{OpenType};
 ghost use Rattle.x690_laws.proofs.ClosedTypes.{open_closed};
-ghost use Rattle.x690.specs.Values.{Leaf, Same};
+ghost use Rattle.x690.specs.Values.{Same};
 ghost use Rattle.asn_open_values.specs.TextValues.{identifier_in, open_value};
+ghost use Rattle.asn_open_values.specs.KeptValues.{identifier_kept, text_kept};
 
 use crate::open_value::append_open;
-use asn_elements::der_text::{DerText, der_text};
+use asn_elements::der_text::DerText;
 use asn_elements::element::Element;
 use asn_elements::object_identifier::read_identifier;
 use asn_elements::tags::{is_same_tag, universal_tag};
 use ber_pull::pull::Pull;
-use std::alloc::{AllocError, Global};
+use std::alloc::Global;
 use tlv_core::fault::ReadError;
 use tlv_core::oid::Oid;
 use tlv_core::sink::{Sink, WriteError};
@@ -28,15 +28,20 @@ use tlv_core::source::Source;
 use tlv_core::tag::Tag;
 use tlv_core::target::Target;
 
+/// What is kept of an open value.
+#[derive(Drop)]
+enum Kept {
+    Identifier(Oid),
+    /// The DER text of a value that is no OBJECT IDENTIFIER.
+    Text(Vec<u8>),
+}
+
 /// An open value.
 #[derive(Drop)]
 pub struct Any {
-    /// Its DER text.
-    text: Vec<u8>,
-    /// There where it is an OBJECT IDENTIFIER; boxed, so that other values take less memory.
-    oid: Option<Box<Oid>>,
-    ghost whole: { der (open_value text.items) ≡ text.items },
-    ghost identified: { option_map (λ b. b.value) oid ≡ identifier_in (open_value text.items) },
+    kept: Kept,
+    ghost whole: { der (open_value (text_kept kept)) ≡ text_kept kept },
+    ghost identified: { identifier_kept kept ≡ identifier_in (open_value (text_kept kept)) },
 }
 
 impl Any {
@@ -46,25 +51,22 @@ impl Any {
     pub fn oid(&self) -> Option<&Oid>
         ensures { option_map (λ r. r.now) result ≡ identifier_in (open_value_of self.now) }
     {
-        self.oid.as_deref()
+        match &self.kept {
+            Kept::Identifier(oid) => Some(oid),
+            Kept::Text(_) => None,
+        }
     }
 
     /// Whether the two are the same.
     pub fn same(&self, other: &Any) -> bool
         ensures { IsTrue result ↔ Same (open_value_of self.now) (open_value_of other.now) }
     {
-        self.text == other.text
+        match (&self.kept, &other.kept) {
+            (Kept::Identifier(oid), Kept::Identifier(other_oid)) => oid.same(other_oid),
+            (Kept::Text(text), Kept::Text(other_text)) => text == other_text,
+            _ => false,
+        }
     }
-}
-
-/// The text of an identifier, and the identifier in a box.
-fn boxed_with_text(alloc: Global, oid: Oid) -> Result<(Vec<u8>, Box<Oid>), AllocError>
-    ensures text { IfOk result (λ both. both.0.items ≡ der (Leaf (universal 6) oid)) }
-    ensures boxed { IfOk result (λ both. both.1.value ≡ oid) }
-{
-    let text = der_text(alloc, &oid)?;
-    let boxed = Box::new(alloc, oid)?;
-    Ok((text, boxed))
 }
 
 impl DerText for Any {
@@ -76,18 +78,29 @@ impl DerText for Any {
         (ap open_value (sym x.whole ∙ e ∙ y.whole)) };
 
     fn size(&self) -> u64 {
-        self.text.len() as u64
+        match &self.kept {
+            Kept::Identifier(oid) => oid.size(),
+            Kept::Text(text) => text.len() as u64,
+        }
     }
 
     fn put<W: Target>(&self, sink: &mut Sink<'_, W>) -> Result<(), WriteError> {
-        sink.put(&self.text)
+        match &self.kept {
+            Kept::Identifier(oid) => oid.put(sink),
+            Kept::Text(text) => sink.put(text),
+        }
     }
 
     fn octet(&self, i: u64) -> Option<u8> {
-        if i < self.text.len() as u64 {
-            Some(self.text[i as usize])
-        } else {
-            None
+        match &self.kept {
+            Kept::Identifier(oid) => oid.octet(i),
+            Kept::Text(text) => {
+                if i < text.len() as u64 {
+                    Some(text[i as usize])
+                } else {
+                    None
+                }
+            }
         }
     }
 }
@@ -108,17 +121,15 @@ impl Element for Any {
         };
         if is_same_tag(universal_tag(6), tag) {
             let oid = read_identifier(alloc, pull)?;
-            return match boxed_with_text(alloc, oid) {
-                Ok((text, boxed)) => Ok(Any {
-                    text,
-                    oid: Some(boxed),
-                }),
-                Err(_) => Err(pull.no_memory()),
-            };
+            return Ok(Any {
+                kept: Kept::Identifier(oid),
+            });
         }
         let mut room = Vec::new(alloc);
         let mut text = Vec::new(alloc);
         append_open(alloc, pull, &mut room, &mut text, tag, constructed)?;
-        Ok(Any { text, oid: None })
+        Ok(Any {
+            kept: Kept::Text(text),
+        })
     }
 }

@@ -1,4 +1,4 @@
-use Rattle.std.proofs.Common.{rules, arith, ◌≡◌, ◌∙◌, ◌++◌, None, Some, ap, subst, sym}
+use Rattle.std.proofs.Common.{rules, arith, ◌≡◌, ◌∙◌, ◌++◌, None, ap, subst, sym}
 use Rattle.x690.specs.Contents.{ObjectIdentifier}
 use Rattle.x690.specs.DerTexts.{der}
 use Rattle.x690.specs.Layouts.{universal}
@@ -6,7 +6,7 @@ use Rattle.x690.specs.Reads.{Said}
 use Rattle.x690.specs.TypeTerms.{OpenType}
 use Rattle.x690.specs.Values.{Leaf, Same}
 use Rattle.ber_pull.specs.Hears.{heard_error}
-use Rattle.ber_pull.proofs.Hearing.{hears_as, hears_then_memory}
+use Rattle.ber_pull.proofs.Hearing.{hears_as}
 use Rattle.asn_open_values.specs.TextValues.{identifier_in, open_value}
 use Rattle.asn_open_values.specs.OpenValues.{open_value_of}
 use Rattle.asn_elements.specs.Reading.{read_given, read_given_leaf}
@@ -85,16 +85,10 @@ invariant_of-result g c =
     (unmoved_answers (λ z. read_given_leaf ObjectIdentifier given.0.tag z given.0) old mid c.read_identifier.new.pull
     (Said (Leaf given.0.tag c.in_ok-oid.oid)) b.still read)) in
     let again = subst (λ t. SaysAgain (Leaf t c.in_ok-oid.oid)) (sym tag) known.again in
-    record {
-      whole = subst (λ z. der (open_value z) ≡ z) (sym c.in-Ok.ensures.text) again.text;
-      identified =
-          ap Some c.in-Ok.ensures.boxed
-          ∙ subst (λ z. Some c.in_ok-oid.oid ≡ identifier_in (open_value z)) (sym c.in-Ok.ensures.text)
-          (identifier_again (Leaf (universal 6) c.in_ok-oid.oid) again);
-    }
+    record { whole = again.text; identified = identifier_again (Leaf (universal 6) c.in_ok-oid.oid) again }
 
-pub returns-in-Ok-clause-reads : goal.returns-in-Ok-clause-reads
-returns-in-Ok-clause-reads g c = λ given fine is.
+pub returns-then-is_same_tag-clause-reads : goal.returns-then-is_same_tag-clause-reads
+returns-then-is_same_tag-clause-reads g c = λ given fine is.
     let old = c.args.pull.now in
     let mid = c.next_tag.new.self in
     let s = old.state in
@@ -106,29 +100,12 @@ returns-in-Ok-clause-reads g c = λ given fine is.
     let whole = hears_as _ _ _ _ _ _ _ (identifier_is s given b.fits (rw (← b.tag_is) (search rules)))
     (unmoved_answers (λ z. read_given_leaf ObjectIdentifier given.tag z given) old mid c.read_identifier.new.pull
     (Said (Leaf given.tag c.in_ok-oid.oid)) b.still read) in
-    let known = open_read s given (Leaf given.tag c.in_ok-oid.oid) _ _ _ _ b.fits whole in
-    let text : c.in-Ok.text.items ≡ der (Leaf given.tag c.in_ok-oid.oid) =
-    c.in-Ok.ensures.text ∙ ap (λ t. der (Leaf t c.in_ok-oid.oid)) tag in (
+    let known = open_read s given (Leaf given.tag c.in_ok-oid.oid) _ _ _ _ b.fits whole in (
       Leaf given.tag c.in_ok-oid.oid,
-      subst (λ z. Same (Leaf given.tag c.in_ok-oid.oid) (open_value z)) (sym text) known.again.same,
+      subst (λ t. Same (Leaf given.tag c.in_ok-oid.oid) (open_value (der (Leaf t c.in_ok-oid.oid)))) (sym tag)
+          known.again.same,
       whole,
     )
-
-pub returns-in-Err-clause-reads : goal.returns-in-Err-clause-reads
-returns-in-Err-clause-reads g c = λ given fine is.
-    let old = c.args.pull.now in
-    let mid = c.next_tag.new.self in
-    let s = old.state in
-    let b = begun old mid given c.in_ok-tag.field-0 c.in-Some.tag c.in-Some.constructed c.in-Some.is
-    (c.in_ok-tag.ensures.given given fine is) c.in_ok-tag.ensures.fits in
-    let read = c.in_ok-oid.ensures.reads given.tag given (fine_still old mid b.still fine)
-    (given_still old mid given b.still is) in
-    let first = c.no_memory.ensures.first (search rules) in
-    hears_as _ _ _ _ _ _ _ (identifier_is s given b.fits (rw (← b.tag_is) (search rules)))
-    (hears_then_memory _ (Leaf given.tag c.in_ok-oid.oid) c.no_memory.result _ _ _ _ _ _ first.0
-    (ap (λ z. z.taken) first.1) (ap g.R.Source.remaining c.no_memory.ensures.same)
-    (unmoved_answers (λ z. read_given_leaf ObjectIdentifier given.tag z given) old mid c.read_identifier.new.pull
-    (Said (Leaf given.tag c.in_ok-oid.oid)) b.still read))
 
 pub returns-clause-reads : goal.returns-clause-reads
 returns-clause-reads g c = λ given fine is.
