@@ -182,3 +182,9 @@ too_long l T v w k (Some s) (Some u) same lt x =
       answers_fault l T s (fault 0 TextTooLong)
           (answered l T s (Took v k u) x.1 ∙ long_text l v k u (subst (λ z. l.octets < length z) text lt)),
     )
+
+-- the text of a value that was read is within the limit
+pub text_within : (l : Limits) (type : TypeTerm) (v : Value) (before after : Option (List ℕ)) (taken : ℕ)
+    → ReadsValue l type v before after taken → length (der v) ≤ l.octets
+text_within l type v before after taken r =
+    omega (arith, r.spells.text_fits, ap length (same_der r.spelled v r.same))

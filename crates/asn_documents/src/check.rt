@@ -7,7 +7,7 @@ ghost use Rattle.asn_documents.specs.Checked.{CheckedAs, Unchecked};
 ghost use Rattle.asn_documents.specs.Keepings.{failed, kept, reference, source, whole};
 ghost use Rattle.asn_documents.specs.ReadValues.{ReadsValue, StopsReading};
 
-use crate::difference::first_difference;
+use crate::difference::difference_from_text;
 use crate::document::read_value;
 use crate::keeping::Keeping;
 use asn_elements::element::Element;
@@ -42,7 +42,7 @@ pub fn check_value<R: Source, T: Element>(
     let mut keeping = Keeping::new(src, &mut octets);
     let answer = read_keeping::<R, T>(alloc, &mut keeping, limits);
     match answer {
-        Ok((value, taken)) => Ok((taken, first_difference(&value, keeping.kept))),
+        Ok((value, taken)) => Ok((taken, difference_from_text(&value, keeping.kept))),
         Err(error) => {
             if keeping.refused {
                 return Err(ReadError::Memory);

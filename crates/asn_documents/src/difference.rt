@@ -1,9 +1,9 @@
 //! Where octets differ from the DER text of a value.
-ghost use Rattle.std.specs.Prelude.{◌≡◌, ◌≤◌, ◌≢◌, ◌<◌, ℕ, [], Some, IsSome, true, false, length, slice_get, drop, take};
+ghost use Rattle.std.specs.Prelude.{◌≡◌, ◌≤◌, ◌≢◌, ◌<◌, ◌^◌, ℕ, [], Some, IsSome, true, false, length, slice_get, drop, take};
 ghost use Rattle.x690.specs.DerTexts.{der};
 ghost use Rattle.asn_documents.specs.Differences.{Differs};
 
-use crate::document::write_value;
+use crate::document::write_text;
 use asn_elements::der_text::DerText;
 use tlv_core::source::Failed;
 use tlv_core::target::Target;
@@ -100,8 +100,17 @@ fn alike(octets: &[u8], piece: &[u8]) -> usize
 pub fn first_difference<T: DerText>(value: &T, octets: &[u8]) -> Option<u64>
     ensures { Differs octets.now (der (T.value value.now)) result }
 {
+    let _size = value.size();
+    difference_from_text(value, octets)
+}
+
+/// The same, where the text is known to have fewer than 2^64 octets: its length isn't asked for.
+pub(crate) fn difference_from_text<T: DerText>(value: &T, octets: &[u8]) -> Option<u64>
+    requires { length (der (T.value value.now)) < 2 ^ 64 }
+    ensures { Differs octets.now (der (T.value value.now)) result }
+{
     let mut comparing = Comparing::new(octets);
-    let _ = write_value(value, &mut comparing);
+    let _ = write_text(value, &mut comparing);
     if comparing.other.is_some() {
         return Some(comparing.at as u64);
     }

@@ -1,5 +1,5 @@
 //! One value of a type: read from the start of what a source tells, and written to a target.
-ghost use Rattle.std.specs.Prelude.{◌≡◌, MatchResult, false};
+ghost use Rattle.std.specs.Prelude.{◌≡◌, ◌<◌, ◌^◌, MatchResult, false, length};
 ghost use Rattle.x690.specs.DerTexts.{der};
 ghost use Rattle.asn_elements.specs.Whole.{IsFailedRead};
 ghost use Rattle.asn_documents.specs.ReadValues.{ReadsValue, StopsReading};
@@ -56,10 +56,20 @@ pub fn write_value<T: DerText, W: Target>(value: &T, dst: &mut W) -> Result<u64,
     ensures { WritesText (der (T.value value.now)) (W.contents dst.old) (W.contents dst.new)
         (W.has_failed dst.new) result }
 {
-    let size = value.size();
+    let _size = value.size();
+    write_text(value, dst)
+}
+
+/// The same, where the text is known to have fewer than 2^64 octets: its length isn't asked for.
+pub(crate) fn write_text<T: DerText, W: Target>(value: &T, dst: &mut W) -> Result<u64, WriteError>
+    requires writable { W.has_failed dst.old ≡ false }
+    requires short { length (der (T.value value.now)) < 2 ^ 64 }
+    ensures { WritesText (der (T.value value.now)) (W.contents dst.old) (W.contents dst.new)
+        (W.has_failed dst.new) result }
+{
     let mut sink = Sink::new(dst);
     value.put(&mut sink)?;
-    Ok(size)
+    Ok(sink.written())
 }
 
 /// Writes octets as they are, and answers their number. No memory is taken.

@@ -5,7 +5,7 @@ ghost use Rattle.x690.specs.Values.{Value};
 ghost use Rattle.asn_documents.specs.Normalised.{Failures, IsRead, NormalisedAs, RefusedAs};
 ghost use Rattle.asn_documents.specs.declared.normalise.NormaliseError.TheVariants.{Read as unread, Write as unwritten};
 
-use crate::document::{read_value, write_value};
+use crate::document::{read_value, write_text};
 use asn_elements::element::Element;
 use std::alloc::Global;
 use thiserror::Error;
@@ -66,6 +66,6 @@ pub fn normalise_value<R: Source, W: Target, T: Element>(
     ensures frame { R.frame src.new ≡ R.frame src.old }
 {
     let (value, taken) = read_value::<R, T>(alloc, src, limits)?;
-    let written = write_value(&value, dst)?;
+    let written = write_text(&value, dst)?;
     Ok((taken, written))
 }

@@ -10,7 +10,7 @@ ghost use Rattle.asn_documents.specs.ReadValues.{ReadsValue};
 ghost use Rattle.asn_documents.specs.WholeInputs.{EndsAfter, Followed, RefusedWhole, StopsWhole};
 
 use crate::check::check_value;
-use crate::document::{read_value, write_value};
+use crate::document::{read_value, write_text};
 use crate::normalise::NormaliseError;
 use asn_elements::element::Element;
 use std::alloc::Global;
@@ -90,7 +90,7 @@ pub fn normalise_whole<R: Source, W: Target, T: Element>(
     ensures frame { R.frame src.new ≡ R.frame src.old }
 {
     let (value, taken) = read_whole_input::<R, T>(alloc, src, limits)?;
-    let written = write_value(&value, dst)?;
+    let written = write_text(&value, dst)?;
     Ok((taken, written))
 }
 

@@ -1,5 +1,6 @@
 use Rattle.std.proofs.Common.{rules}
 use Rattle.tlv_core.specs.declared.fault.ReadError.TheVariants as errors
+use Rattle.asn_documents.proofs.ReadValues.{text_within}
 use Rattle.asn_documents.proofs.CheckValues.{checked_still, failed_still, fine_still, no_memory, unchecked_still}
 use Rattle.asn_documents.proofs.check.check_value.Goals as goal
 
@@ -8,7 +9,7 @@ returns-in-Ok-clause-checked g c =
     checked_still g.R.Source.remaining c.args.limits g.T.Element.type_term
     (g.T.DerText.value c.in-Ok.value) c.args.src.now c.new-keeping.result.src.now
     c.read_keeping-answer.new.keeping.src.now _ c.in-Ok.taken c.read_keeping-answer.new.keeping.kept.now.items
-    c.new-keeping.result.kept.now.items c.first_difference.result
+    c.new-keeping.result.kept.now.items c.difference_from_text.result
     c.new-keeping.ensures.same (search rules) (search rules) c.requires.lawful
     (search rules) c.in-Ok.ensures.reads c.in-Ok.ensures.whole (search rules)
 
@@ -41,3 +42,9 @@ returns-clause-read g c =
     c.read_keeping-answer.new.keeping.failed c.read_keeping-answer.new.keeping.refused c.in-Err.error
     (search rules) c.read_keeping-answer.new.keeping.live c.read_keeping-answer.new.keeping.broken
     (search rules) c.in-Err.ensures.read
+
+pub difference_from_text-requires : goal.difference_from_text-requires
+difference_from_text-requires g c =
+    let within = text_within c.args.limits g.T.Element.type_term (g.T.DerText.value c.in-Ok.value) _ _ c.in-Ok.taken
+    c.in-Ok.ensures.reads in
+    search rules

@@ -1,4 +1,5 @@
 use Rattle.std.proofs.Common.{rules}
+use Rattle.asn_documents.proofs.ReadValues.{text_within}
 use Rattle.asn_documents.proofs.Normalising.{in_part, normalised_as, unread_as}
 use Rattle.asn_documents.proofs.normalise.normalise_value.Goals as goal
 
@@ -14,7 +15,7 @@ returns-in_err-written-clause-refused g c =
     let part = in_part c.args.limits g.T.Element.type_term (g.T.DerText.value c.in_ok-value.value)
     (g.R.Source.remaining c.args.src.now) (g.R.Source.remaining c.read_value.new.src)
     (g.W.Target.contents c.args.dst.now)
-    (g.W.Target.contents c.write_value.new.dst) c.in_ok-value.taken c.in_err-written.field-0.0.written c.requires.lawful
+    (g.W.Target.contents c.write_text.new.dst) c.in_ok-value.taken c.in_err-written.field-0.0.written c.requires.lawful
     (search rules) c.in_ok-value.ensures.reads
     c.in_err-written.ensures.0 c.in_err-written.ensures.1 in
     search rules
@@ -25,3 +26,9 @@ returns-clause-normalised g c =
     (g.T.DerText.value c.in_ok-value.value) _ _ _ _ c.in_ok-value.taken c.in_ok-written.written c.requires.lawful
     (search rules) c.in_ok-value.ensures.reads
     c.in_ok-written.ensures.1 c.in_ok-written.ensures.0
+
+pub write_text-requires-clause-short : goal.write_text-requires-clause-short
+write_text-requires-clause-short g c =
+    let within = text_within c.args.limits g.T.Element.type_term (g.T.DerText.value c.in_ok-value.value)
+    (g.R.Source.remaining c.args.src.now) _ c.in_ok-value.taken c.in_ok-value.ensures.reads in
+    search rules
