@@ -51,10 +51,10 @@ impl<R: Source> Source for Keeping<'_, R> {
             return Err(Failed);
         }
         match self.src.read(room) {
-            Ok(count) => match self.kept.extend_from_slice(&room[..count]) {
-                Ok(()) => Ok(count),
-                Err(_) => unreachable!(),
-            },
+            Ok(count) => {
+                keep(self.kept, &room[..count]);
+                Ok(count)
+            }
             Err(Failed) => {
                 self.failed = true;
                 Err(Failed)
@@ -64,5 +64,23 @@ impl<R: Source> Source for Keeping<'_, R> {
 
     fn failed(&self) -> bool {
         self.failed
+    }
+}
+
+ghost use Rattle.std.specs.Prelude.{◌++◌, ◌+◌, ◌≤◌, length};
+ghost use Rattle.std.specs.Vec.{vec_capacity, vec_len};
+
+/// Octets that there is room for, behind those kept. One alone, as those of headers come, needs no call that copies.
+#[inline(always)]
+fn keep(kept: &mut Vec<u8>, octets: &[u8])
+    requires { vec_len kept.old + length octets.now ≤ vec_capacity kept.old }
+    ensures { kept.new.items ≡ kept.old.items ++ octets.now }
+{
+    if octets.len() == 1 {
+        return kept.push_reserved(octets[0]);
+    }
+    match kept.extend_from_slice(octets) {
+        Ok(()) => {}
+        Err(_) => unreachable!(),
     }
 }

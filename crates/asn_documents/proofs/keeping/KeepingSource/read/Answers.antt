@@ -2,8 +2,8 @@ use Rattle.std.proofs.Common.{rules}
 use Rattle.asn_documents.proofs.CheckValues.{frame_on, frame_still}
 use Rattle.asn_documents.proofs.keeping.KeepingSource.read.Goals as goal
 
-pub returns-in-Ok-extend_from_slice-clause-frame : goal.returns-in-Ok-extend_from_slice-clause-frame
-returns-in-Ok-extend_from_slice-clause-frame g c =
+pub returns-in-Ok-clause-frame : goal.returns-in-Ok-clause-frame
+returns-in-Ok-clause-frame g c =
     frame_on _ _ _ _ _ _ _ _ _ (search rules)
     (search rules) c.in-Ok.ensures.silent c.in-Ok.ensures.octets.0 c.in-Ok.ensures.frame
 
