@@ -116,7 +116,7 @@ pub texts_last : (vs : List Value) (v : Value) → texts_of (vs ++ v ∷ []) ≡
 texts_last [] v = append-nil (der v)
 texts_last (w ∷ vs) v = ap (λ z. der w ++ z) (texts_last vs v) ∙ sym (append_assoc (der w) (texts_of vs) (der v))
 
-starts_last : (n : ℕ) (vs : List Value) (v : Value)
+pub starts_last : (n : ℕ) (vs : List Value) (v : Value)
     → starts_from n (vs ++ v ∷ []) ≡ starts_from n vs ++ (n + length (texts_of vs)) ∷ []
 starts_last n [] v = ap (λ k. k ∷ []) (let e : n ≡ n + 0 = omega arith in e)
 starts_last n (w ∷ vs) v =

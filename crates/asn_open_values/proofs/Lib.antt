@@ -1,3 +1,4 @@
+pub mod HeaderRoom
 pub mod KeptValues
 pub mod OpenMembers
 pub mod OpenReadings

@@ -1,8 +1,9 @@
--- One turn of the loop over the members of an open container.
-use Rattle.std.proofs.Common.{◌≡◌, ◌∷◌, ◌++◌, ◌+◌, ◌<◌, ◌≤◌, Bool, List, [], None, Some, ℕ, ap, arith, suc, length}
+-- Members of open containers: their texts, and one turn of the loop over them.
+use Rattle.std.proofs.Common.{◌≡◌, ◌∙◌, ◌∷◌, ◌++◌, ◌+◌, ◌<◌, ◌≤◌, Bool, List, [], None, Some, ℕ, ap, append_assoc, arith, length-append, refl, suc, sym, true, length}
 use Rattle.tlv_core.specs.Identifier.{Tag}
 use Rattle.tlv_core.specs.declared.fault.ReadError.{ReadError}
 use Rattle.tlv_core.specs.declared.source.Source.{Ghosts}
+use Rattle.x690.specs.DerTexts.{der, texts_of}
 use Rattle.x690.specs.Points.{Enclosing}
 use Rattle.x690.specs.ReadContents.{read_open}
 use Rattle.x690.specs.ReadHeaders.{ElementStands}
@@ -15,8 +16,10 @@ use Rattle.ber_pull.specs.Standing.{IsGiven, after_next, enclosing, place}
 use Rattle.ber_pull.specs.View.{Answers, SameSource, Uses}
 use Rattle.ber_pull.specs.declared.pull.Pull.{Pull}
 use Rattle.ber_pull.specs.declared.state.Given.{Given}
-use Rattle.asn_open_values.specs.OpenTexts.{read_given_open, read_given_open_members}
+use Rattle.asn_open_values.specs.OpenTexts.{StandBehind, read_given_open, read_given_open_members}
+use Rattle.asn_elements.specs.Members.{StandIn, starts_from}
 use Rattle.asn_elements.proofs.MemberReadings.{Inside, inside_here, inside_more, inside_stops, member_reads}
+use Rattle.asn_elements.proofs.MemberTexts.{starts_last, texts_last}
 use Rattle.asn_open_values.proofs.OpenReadings.{open_short}
 
 -- an open value inside a container that `start` stood before
@@ -70,3 +73,34 @@ module _ {R : Type 0} {s : Ghosts R} (deep : ℕ) (start now mid new : Pull R s)
       (inside_here (member deep start) _ start now vs i mid _ next) y in
       inside_more (member deep start) _ start now vs i mid new
       (place now.state) tag form v next same stands moves y same' uses fine on short most
+
+-- one text more behind the others
+pub behind_more : (is_set : Bool) (before text starts text' starts' : List ℕ) (vs : List Value) (v : Value) (start : ℕ)
+    → StandBehind is_set vs before text starts → text' ≡ text ++ der v
+    → (is_set ≡ true → starts' ≡ starts ++ start ∷ []) → start ≡ length text
+    → StandBehind is_set (vs ++ v ∷ []) before text' starts'
+behind_more is_set before text starts text' starts' vs v start are t s n = (
+  t
+      ∙ (ap (λ z. z ++ der v) are.0
+      ∙ (append_assoc before (texts_of vs) (der v) ∙ ap (λ z. before ++ z) (sym (texts_last vs v)))),
+  λ yes.
+      s yes
+      ∙ (ap (λ z. z ++ start ∷ []) (are.1 yes)
+      ∙ (ap (λ k. starts_from (length before) vs ++ k ∷ [])
+      (let e : start ≡ length before + length (texts_of vs) =
+      omega (arith, n, ap length are.0, length-append before (texts_of vs)) in e)
+      ∙ sym (starts_last (length before) vs v))),
+)
+
+-- with nothing in front of them
+pub stand_first : (values : List Value) (before after starts : List ℕ) → before ≡ []
+    → StandBehind true values before after starts → StandIn values after starts
+stand_first values before after starts none are =
+    (are.0 ∙ ap (λ b. b ++ texts_of values) none, are.1 refl ∙ ap (λ b. starts_from (length b) values) none)
+
+-- behind room for a header
+pub behind_header : (values : List Value) (is_set : Bool) (before room text after starts : List ℕ)
+    → text ≡ before ++ room → StandBehind is_set values text after starts
+    → after ≡ before ++ (room ++ texts_of values)
+behind_header values is_set before room text after starts e are =
+    are.0 ∙ (ap (λ t. t ++ texts_of values) e ∙ append_assoc before room (texts_of values))

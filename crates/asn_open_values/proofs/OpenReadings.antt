@@ -24,7 +24,7 @@ use Rattle.ber_pull.specs.Standing.{Standing, enclosing, failed_with}
 use Rattle.ber_pull.specs.View.{Answers, Unmoved, source, standing}
 use Rattle.ber_pull.specs.declared.pull.Pull.{Pull}
 use Rattle.ber_pull.specs.declared.state.Given.{Given}
-use Rattle.ber_pull.proofs.Hearing.{hears_as, hears_done, hears_error, hears_fail, hears_given, hears_then, hears_then_memory}
+use Rattle.ber_pull.proofs.Hearing.{hears_as, hears_done, hears_error, hears_fail, hears_given, hears_memory, hears_then, hears_then_memory}
 use Rattle.asn_open_values.specs.OpenTexts.{AnswersText, AnswersTexts, container, form_of, read_given_container, read_given_contents, read_given_octets, read_given_open}
 use Rattle.asn_elements.specs.Reading.{kind_of, read_given_leaf}
 use Rattle.asn_elements.specs.declared.leaf_reading.Kind.{Kind}
@@ -48,10 +48,20 @@ pub text_err : {R : Type 0} {s : Ghosts R} (old new : Pull R s) (p : Reading Val
     → r ≡ Err e → Answers old new p (heard_error e) → AnswersText old new p before after r
 text_err old new p before after r e h x = subst (AnswersText old new p before after) (sym h) x
 
-pub texts_err : {R A : Type 0} {s : Ghosts R} (old new : Pull R s) (p : Reading (Ended (List Value)))
-    (octets starts : A → List ℕ) (r : Result A ReadError) (e : ReadError)
-    → r ≡ Err e → Answers old new p (heard_error e) → AnswersTexts old new p octets starts r
-texts_err old new p octets starts r e h x = subst (AnswersTexts old new p octets starts) (sym h) x
+pub texts_err : {R : Type 0} {s : Ghosts R} (old new : Pull R s) (p : Reading (Ended (List Value))) (is_set : Bool)
+    (before after starts : List ℕ) (r : Result (Unit {0}) ReadError) (e : ReadError)
+    → r ≡ Err e → Answers old new p (heard_error e) → AnswersTexts old new p is_set before after starts r
+texts_err old new p is_set before after starts r e h x =
+    subst (AnswersTexts old new p is_set before after starts) (sym h) x
+
+-- memory ran out before anything was read
+pub text_memory : {R : Type 0} {s : Ghosts R} (old new : Pull R s) (p : Reading Value) (before after : List ℕ)
+    (r : Result (Unit {0}) ReadError) (e : ReadError)
+    → r ≡ Err e → e ≡ errors.Memory → source new ≡ source old → standing new ≡ failed_with e (standing old)
+    → AnswersText old new p before after r
+text_memory {R} {s} old new p before after r e h is told stands =
+    text_err old new p before after r e h
+    (hears_memory p e _ _ _ _ is (ap (λ z. z.taken) stands) (ap s.remaining told))
 
 text_as : {R : Type 0} {s : Ghosts R} (old new : Pull R s) (p q : Reading Value) (before after : List ℕ)
     (r : Result (Unit {0}) ReadError)

@@ -1,10 +1,10 @@
 -- What readers of open values append, by the plain reading at their point.
-use Rattle.std.specs.Prelude.{Bool, IfSome, List, MatchResult, Result, false, true, ℕ, ◌++◌, ◌≡◌}
+use Rattle.std.specs.Prelude.{Bool, IfSome, List, MatchResult, Result, false, length, true, ℕ, ◌++◌, ◌≡◌}
 use Rattle.tlv_core.specs.Identifier.{Tag}
 use Rattle.tlv_core.specs.declared.fault.ReadError.{ReadError}
 use Rattle.tlv_core.specs.declared.source.Source.{Ghosts}
 use Rattle.x690.specs.Contents as kinds
-use Rattle.x690.specs.DerTexts.{der}
+use Rattle.x690.specs.DerTexts.{der, texts_of}
 use Rattle.x690.specs.OpenValues as forms
 use Rattle.x690.specs.ReadContents.{all_members, read_open}
 use Rattle.x690.specs.ReadHeaders.{Ended}
@@ -17,7 +17,7 @@ use Rattle.ber_pull.specs.Standing.{IsGiven, Standing, enclosing}
 use Rattle.ber_pull.specs.View.{Answers}
 use Rattle.ber_pull.specs.declared.pull.Pull.{Pull}
 use Rattle.ber_pull.specs.declared.state.Given.{Given}
-use Rattle.asn_elements.specs.Members.{StandIn}
+use Rattle.asn_elements.specs.Members.{starts_from}
 use Rattle.asn_elements.specs.Reading.{ended, kind_of, read_given_leaf}
 use Rattle.asn_open_values.specs.declared.open_form.OpenForm.{OpenForm}
 use Rattle.asn_open_values.specs.declared.open_form.OpenForm.TheVariants as coded
@@ -73,12 +73,17 @@ AnswersText old new p before after result =
     MatchResult result (λ _. (v : Value) × (after ≡ before ++ der v) × Answers old new p (Said v))
     (λ e. Answers old new p (heard_error e))
 
--- the texts of the members that the reading gives, and where each begins, or the error is what it gives
-abbrev pub AnswersTexts : {R A : Type 0} {s : Ghosts R} → Pull R s → Pull R s → Reading (Ended (List Value))
-    → (A → List ℕ) → (A → List ℕ) → Result A ReadError → Type 0
-AnswersTexts old new p octets starts result =
+-- The texts of the values stand behind what stood there, and in a SET it is told where each begins.
+abbrev pub StandBehind : Bool → List Value → List ℕ → List ℕ → List ℕ → Type 0
+StandBehind is_set values before after starts =
+    (after ≡ before ++ texts_of values) × (is_set ≡ true → starts ≡ starts_from (length before) values)
+
+-- The texts of the members that the reading gives were put behind what stood there, or the error is what it gives.
+abbrev pub AnswersTexts : {R : Type 0} {s : Ghosts R} → Pull R s → Pull R s → Reading (Ended (List Value)) → Bool
+    → List ℕ → List ℕ → List ℕ → Result (Unit {0}) ReadError → Type 0
+AnswersTexts old new p is_set before after starts result =
     MatchResult result
-    (λ x.
-    (values : List Value) × (place : ℕ) × StandIn values (octets x) (starts x)
+    (λ _.
+    (values : List Value) × (place : ℕ) × StandBehind is_set values before after starts
     × Answers old new p (Said (ended values place)))
     (λ e. Answers old new p (heard_error e))

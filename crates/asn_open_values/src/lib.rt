@@ -1,6 +1,7 @@
 //! Open values (X.690 8.15): elements that stand where any type may. `asn_values` passes all of it on.
 //!
-//! An `Any` holds its text in DER, with the members of each SET inside in their order.
+//! An `Any` holds its text in DER, with the members of each SET inside in their order, or the contents of an OBJECT
+//! IDENTIFIER.
 //!
 //! Proved here: a reader answers what the plain reading of an open value gives for the octets taken, whatever the
 //! layout: the text of a value that is the same up to the order in SET OF, or the first fault; that text says the value

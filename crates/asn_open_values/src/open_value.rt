@@ -1,11 +1,11 @@
 // Reading open values (X.690; profile): elements that stand where any type may, kept as their text in DER.
-ghost use Rattle.std.specs.Prelude.{◌≡◌, ◌++◌, ◌+◌, ◌<◌, ◌≤◌, Bool, List, ℕ, None, Ok, Some, IfErr, IfOk, IsSome, OnOk, false, length, suc};
+ghost use Rattle.std.specs.Prelude.{◌≡◌, ◌++◌, ◌+◌, ◌<◌, ◌≤◌, Bool, List, [], ℕ, None, Ok, Some, IfErr, IfOk, IsSome, OnOk, false, true, length, suc};
 ghost use Rattle.tlv_core.specs.Header.{der_header};
 ghost use Rattle.tlv_core.specs.Identifier.{Tag as Identified};
 ghost use Rattle.tlv_core.specs.declared.fault.ReadError.TheVariants.{Memory};
 ghost use Rattle.x690.specs.DerTexts.{der};
 ghost use Rattle.x690.specs.ReadContents.{read_open};
-ghost use Rattle.x690.specs.Values.{Leaf, Value, values_of};
+ghost use Rattle.x690.specs.Values.{Leaf, SetOf, Value, values_of};
 ghost use Rattle.ber_pull.specs.Hears.{heard};
 ghost use Rattle.ber_pull.specs.Standing.{enclosing, failed_with};
 ghost use Rattle.ber_pull.specs.View.{standing, source, SameSource, Repeats, Keeps, ReadsFail, Onward, Answers, Uses, Unmoved};
@@ -13,7 +13,7 @@ ghost use Rattle.ber_pull.specs.declared.state.Given.{Given};
 ghost use Rattle.asn_elements.specs.Framing.{framed};
 ghost use Rattle.asn_open_values.specs.declared.open_form.OpenForm.TheVariants.{Identifier};
 ghost use Rattle.asn_elements.specs.Members.{StandIn};
-ghost use Rattle.asn_open_values.specs.OpenTexts.{AnswersText, AnswersTexts, IsNext, container, read_given_container, read_given_contents, read_given_open, read_given_open_members};
+ghost use Rattle.asn_open_values.specs.OpenTexts.{AnswersText, AnswersTexts, IsNext, StandBehind, read_given_container, read_given_contents, read_given_open, read_given_open_members};
 
 use crate::open_form::{OpenForm, open_form};
 use crate::texts::in_order;
@@ -129,11 +129,10 @@ fn append_leaf<R: Source>(
     append_element(pull, text, tag, false, room)
 }
 
-/// The texts of the members as their container has them: those of a SET OF in order (X.690 11.6).
+/// The texts of the members of a SET, in the order of SET OF (X.690 11.6).
 fn arranged<R: Source>(
     alloc: Global,
     pull: &mut Pull<'_, R>,
-    is_set: bool,
     octets: Vec<u8>,
     starts: &[u64],
 ) -> Result<Vec<u8>, ReadError>
@@ -142,8 +141,7 @@ fn arranged<R: Source>(
     ensures same_source { SameSource pull.old pull.new }
     ensures is { IfOk result (λ contents. (values : List Value) (tag : Identified)
         → StandIn values octets.items starts.now
-        → der (container is_set tag (values_of values)) ≡ framed tag contents.items) }
-    ensures other { is_set ≡ false → result ≡ Ok octets }
+        → der (SetOf tag (values_of values)) ≡ framed tag contents.items) }
     ensures still { OnOk result (pull.new ≡ pull.old) }
     ensures stops { IfErr result (λ e. (e ≡ Memory) × (source pull.new ≡ source pull.old)
         × (standing pull.new ≡ failed_with e (standing pull.old))) }
@@ -151,57 +149,80 @@ fn arranged<R: Source>(
     ensures read { ReadsFail pull.old pull.new result }
     ensures onward { Onward pull.old pull.new }
 {
-    if !is_set {
-        return Ok(octets);
-    }
     match in_order(alloc, octets, starts) {
         Ok(sorted) => Ok(sorted),
         Err(_) => Err(pull.no_memory()),
     }
 }
 
-/// The texts of the members of the container that is given, and where each begins.
+/// The header of a constructed element in place of the two octets at `start`, in front of the contents behind them.
+fn set_header(text: &mut Vec<u8>, start: usize, tag: Tag) -> Result<(), AllocError>
+    requires { start + 2 ≤ length text.old.items }
+    ensures { OnOk result ((before room contents : List ℕ) → length before ≡ start → length room ≡ 2
+        → text.old.items ≡ before ++ (room ++ contents)
+        → text.new.items ≡ before ++ framed tag contents) }
+{
+    let behind = start + 2;
+    match short_header(tag, true, (text.len() - behind) as u64) {
+        Some(octets) => {
+            text[start] = octets[0];
+            text[start + 1] = octets[1];
+            Ok(())
+        }
+        None => {
+            let contents = text.split_off(behind)?;
+            text.truncate(start);
+            push_element(text, tag, true, &contents)
+        }
+    }
+}
+
+/// Appends the texts of the members of the container that is given; of a SET, where each begins goes into `starts`.
 #[cycle(open)]
-fn read_members<R: Source>(
+fn append_members<R: Source>(
     alloc: Global,
     pull: &mut Pull<'_, R>,
     room: &mut Vec<u8>,
-) -> Result<(Vec<u8>, Vec<u64>), ReadError>
-    requires { (standing pull.old).error ≡ None → IsSome (standing pull.old).given }
+    text: &mut Vec<u8>,
+    starts: &mut Vec<u64>,
+    is_set: bool,
+) -> Result<(), ReadError>
+    requires given { (standing pull.old).error ≡ None → IsSome (standing pull.old).given }
+    requires none { starts.old.items ≡ [] }
     ensures same_source { SameSource pull.old pull.new }
     ensures repeats { Repeats pull.old pull.new result }
     ensures reads { (deep : ℕ) (g : Given) → (standing pull.old).error ≡ None
         → (standing pull.old).given ≡ Some g
         → (standing pull.old).limits.depth ≤ suc deep + length (standing pull.old).containers
         → AnswersTexts pull.old pull.new (read_given_open_members deep (standing pull.old) g)
-        (λ r. r.0.items) (λ r. r.1.items) result }
-    ensures texts { IfOk result (λ r. (values : List Value) × StandIn values r.0.items r.1.items) }
+        is_set text.old.items text.new.items starts.new.items result }
+    ensures texts { OnOk result ((values : List Value)
+        × StandBehind is_set values text.old.items text.new.items starts.new.items) }
     ensures stands { OnOk result (Uses pull.old pull.new) }
     ensures keeps { Keeps pull.new result }
     ensures read { ReadsFail pull.old pull.new result }
     ensures onward { Onward pull.old pull.new }
 {
     pull.enter()?;
-    let mut octets = Vec::new(alloc);
-    let mut starts = Vec::new(alloc);
     while let Some((tag, constructed)) = pull.next_tag()? {
-        let start = octets.len() as u64;
-        append_open(alloc, pull, room, &mut octets, tag, constructed)?;
-        keep(pull, &mut starts, start)?;
+        let start = text.len() as u64;
+        append_open(alloc, pull, room, text, tag, constructed)?;
+        if is_set {
+            keep(pull, starts, start)?;
+        }
     }
     pull.leave()?;
-    Ok((octets, starts))
+    Ok(())
 }
 
-/// Appends the text of the container that is given.
+/// Appends the text of the SET that is given.
 #[cycle(open)]
-fn append_container<R: Source>(
+fn append_set<R: Source>(
     alloc: Global,
     pull: &mut Pull<'_, R>,
     room: &mut Vec<u8>,
     text: &mut Vec<u8>,
     tag: Tag,
-    is_set: bool,
 ) -> Result<(), ReadError>
     requires { (standing pull.old).error ≡ None → IsSome (standing pull.old).given }
     ensures same_source { SameSource pull.old pull.new }
@@ -210,16 +231,54 @@ fn append_container<R: Source>(
         → (standing pull.old).given ≡ Some g
         → (standing pull.old).limits.depth ≤ suc deep + length (standing pull.old).containers
         → AnswersText pull.old pull.new
-        (read_given_container deep is_set tag (standing pull.old) g) text.old.items
+        (read_given_container deep true tag (standing pull.old) g) text.old.items
         text.new.items result }
     ensures stands { OnOk result (Uses pull.old pull.new) }
     ensures keeps { Keeps pull.new result }
     ensures read { ReadsFail pull.old pull.new result }
     ensures onward { Onward pull.old pull.new }
 {
-    let (octets, starts) = read_members(alloc, pull, room)?;
-    let contents = arranged(alloc, pull, is_set, octets, &starts)?;
+    let mut octets = Vec::new(alloc);
+    let mut starts = Vec::new(alloc);
+    append_members(alloc, pull, room, &mut octets, &mut starts, true)?;
+    let contents = arranged(alloc, pull, octets, &starts)?;
     append_element(pull, text, tag, true, &contents)
+}
+
+/// Appends the text of the container that is given, whose members stay in their order. They are put behind `text` at
+/// once, with room for a header of two octets in front.
+#[cycle(open)]
+fn append_sequence<R: Source>(
+    alloc: Global,
+    pull: &mut Pull<'_, R>,
+    room: &mut Vec<u8>,
+    text: &mut Vec<u8>,
+    tag: Tag,
+) -> Result<(), ReadError>
+    requires { (standing pull.old).error ≡ None → IsSome (standing pull.old).given }
+    ensures same_source { SameSource pull.old pull.new }
+    ensures repeats { Repeats pull.old pull.new result }
+    ensures reads { (deep : ℕ) (g : Given) → (standing pull.old).error ≡ None
+        → (standing pull.old).given ≡ Some g
+        → (standing pull.old).limits.depth ≤ suc deep + length (standing pull.old).containers
+        → AnswersText pull.old pull.new
+        (read_given_container deep false tag (standing pull.old) g) text.old.items
+        text.new.items result }
+    ensures stands { OnOk result (Uses pull.old pull.new) }
+    ensures keeps { Keeps pull.new result }
+    ensures read { ReadsFail pull.old pull.new result }
+    ensures onward { Onward pull.old pull.new }
+{
+    let start = text.len();
+    let mut starts = Vec::new(alloc);
+    if text.extend_from_slice(&[0, 0]).is_err() {
+        return Err(pull.no_memory());
+    }
+    append_members(alloc, pull, room, text, &mut starts, false)?;
+    match set_header(text, start, tag) {
+        Ok(()) => Ok(()),
+        Err(_) => Err(pull.no_memory()),
+    }
 }
 
 /// Appends the text of the open value that is given, of this tag and form. Contents of leaves are read in `room`, which
@@ -257,9 +316,9 @@ pub fn append_open<R: Source>(
             Err(pull.refuse(at, Reason::LeftOut, None))
         }
         OpenForm::Leaf(_) | OpenForm::Identifier => append_leaf(alloc, pull, room, text, tag, form),
-        OpenForm::Sequence => append_container(alloc, pull, room, text, tag, false),
-        OpenForm::SetOf => append_container(alloc, pull, room, text, tag, true),
-        OpenForm::Plain if constructed => append_container(alloc, pull, room, text, tag, false),
+        OpenForm::Sequence => append_sequence(alloc, pull, room, text, tag),
+        OpenForm::SetOf => append_set(alloc, pull, room, text, tag),
+        OpenForm::Plain if constructed => append_sequence(alloc, pull, room, text, tag),
         OpenForm::Plain => append_leaf(alloc, pull, room, text, tag, form),
     }
 }
