@@ -1,5 +1,5 @@
 -- What was read from a source, by the answer to its octets.
-use Rattle.std.proofs.Common.{◌≡◌, ◌∙◌, ◌+◌, ◌++◌, ◌∷◌, ◌<◌, ◌≤◌, ⊎_elim, List, None, Option, Some, [], ℕ, ap, append-nil, arith, length, refl, subst, sym}
+use Rattle.std.proofs.Common.{◌≡◌, ◌∙◌, ◌+◌, ◌*◌, ◌++◌, ◌∷◌, ◌<◌, ◌≤◌, ⊎_elim, List, None, Option, Some, [], ℕ, ap, append-nil, arith, length, refl, subst, sym}
 use Rattle.std.proofs.lemmas.Bool.{cases_lt}
 use Rattle.std.specs.Io.KnownBytes.{Consumes}
 use Rattle.tlv_core.specs.Limits.{Limits}
@@ -21,8 +21,10 @@ use Rattle.x690.proofs.Needs.{longer}
 use Rattle.x690.proofs.Runs.{taken}
 use Rattle.x690_laws.proofs.DocumentAnswers.{answered, fits_text, halted_is, judged, long_text, one_answer, rest_apart, spelled_place}
 use Rattle.x690_laws.proofs.Judging.{sound}
+use Rattle.x690_laws.proofs.ShortTexts.{read_texts}
 use Rattle.x690_laws.proofs.Texts.{same_der}
 use Rattle.ber_pull.specs.Hears.{Hears, heard_error}
+use Rattle.ber_pull.proofs.Hearing.{hears_given}
 use Rattle.asn_documents.specs.ReadValues.{AnswersFault, ReadsValue, StopsReading}
 
 -- what the plain reading answers is the answer by the definitions
@@ -167,6 +169,14 @@ said l T v w k (Some s) None same le x = absurd x
 said l T v w k (Some s) (Some u) same le x =
     let t = taken (read_element l T [] outermost) 0 s v k u x.1 in
     whole l T v w (Some s) (Some u) t.octets k same le t.is t.place t.any_rest
+
+-- Its text has at most twice the octets that were taken.
+pub at_most_doubled : (l : Limits) (T : TypeTerm) (v w : Value) (k : ℕ) (s u : Option (List ℕ)) → Same v w
+    → l.octets ≤ 2147483647 → Hears (read_element l T [] outermost) 0 s (Said v) k u → length (der w) ≤ 2 * k
+at_most_doubled l T v w k s u same most x =
+    let given = hears_given (read_element l T [] outermost) v 0 k s u x in
+    let two = (read_texts.element l T [] outermost 0 given.0 v k [] (omega arith) given.2).by_two in
+    omega (arith, two, ap length (same_der v w same))
 
 -- its text is too long
 pub too_long : (l : Limits) (T : TypeTerm) (v w : Value) (k : ℕ) (s u : Option (List ℕ)) → Same v w

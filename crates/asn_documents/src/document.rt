@@ -38,7 +38,9 @@ pub fn read_value<R: Source, T: Element>(
     ensures frame { R.frame src.new ≡ R.frame src.old }
 {
     let (value, taken) = read_element::<R, T>(alloc, src, limits)?;
-    if value.size() > u64::from(limits.octets()) {
+    let most = u64::from(limits.octets());
+    // A DER text has at most twice the octets of its document, so a short one's value needs no walk for its size.
+    if taken > most / 2 && value.size() > most {
         return Err(ReadError::Fault(Fault {
             at: 0,
             why: Reason::TextTooLong,

@@ -1,7 +1,8 @@
 use Rattle.std.proofs.Common.{rules, ◌<◌, ◌≤◌, arith, length}
 use Rattle.x690.specs.DerTexts.{der}
-use Rattle.asn_documents.proofs.ReadValues.{said, stopped, too_long}
+use Rattle.asn_documents.proofs.ReadValues.{at_most_doubled, said, stopped, too_long}
 use Rattle.asn_documents.proofs.document.read_value.Goals as goal
+use Rattle.asn_documents.proofs.document.read_value.Goals.{else-taken-most-via-then-taken-most+else-size-most, else-taken-most-via-else-taken-most}
 
 pub returns-in_err-value-clause-reads : goal.returns-in_err-value-clause-reads
 returns-in_err-value-clause-reads g c =
@@ -9,18 +10,24 @@ returns-in_err-value-clause-reads g c =
     let stops = stopped c.args.limits g.T.Element.type_term c.in_err-value.field-0.0 x.0 _ _ x.1 in
     search rules
 
-pub returns-then-size-from-clause-reads : goal.returns-then-size-from-clause-reads
-returns-then-size-from-clause-reads g c =
+pub returns-then-size-most-clause-reads : goal.returns-then-size-most-clause-reads
+returns-then-size-most-clause-reads g c =
     let l = c.args.limits in
     let x = c.in_ok-value.ensures.reads in
     let long : l.octets < length (der (g.T.DerText.value c.in_ok-value.value)) =
-    omega (arith, c.if-size-from.true, c.size.ensures, c.from.ensures, c.octets.ensures.value) in
+    omega (arith, c.if-size-most.true, c.size.ensures, c.from-most.ensures, c.octets.ensures.value) in
     too_long l g.T.Element.type_term x.0 (g.T.DerText.value c.in_ok-value.value) _ _ _ x.1 long x.2
 
 pub returns-clause-reads : goal.returns-clause-reads
 returns-clause-reads g c =
     let l = c.args.limits in
     let x = c.in_ok-value.ensures.reads in
-    let short : length (der (g.T.DerText.value c.in_ok-value.value)) ≤ l.octets =
-    omega (arith, c.if-size-from.false, c.size.ensures, c.from.ensures, c.octets.ensures.value) in
-    said l g.T.Element.type_term x.0 (g.T.DerText.value c.in_ok-value.value) _ _ _ x.1 short x.2
+    let v = g.T.DerText.value c.in_ok-value.value in
+    let doubled = at_most_doubled l g.T.Element.type_term x.0 v _ _ _ x.1 (search rules) x.2 in
+    let short : length (der v) ≤ l.octets = elim c.else-taken-most.branch [
+      | else-taken-most-via-then-taken-most+else-size-most w ↦
+          omega (arith, w.if-size-most.false, w.size.ensures, c.from-most.ensures, c.octets.ensures.value)
+      | else-taken-most-via-else-taken-most w ↦
+          omega (arith, w.if-taken-most.false, doubled, c.from-most.ensures, c.octets.ensures.value)
+    ] in
+    said l g.T.Element.type_term x.0 v _ _ _ x.1 short x.2
