@@ -7,6 +7,7 @@ ghost use Rattle.x690.specs.Lists.{one_of, same_octets};
 use tlv_core::oid::Oid;
 
 /// Whether the identifier has these contents.
+#[inline(always)]
 pub fn has_contents(id: &Oid, contents: &[u8]) -> bool
     ensures { result ≡ same_octets id.now contents.now }
 {
