@@ -1,11 +1,11 @@
 #!/usr/bin/env python3
-"""count_documents.py [shapes | FILE..]: the instructions of one call on documents, by valgrind's callgrind.
+"""count_documents.py [shapes | members | FILE..]: the instructions of one call on documents, by valgrind's callgrind.
 
 Without words it counts documents of each kind in examples/, and then those that grow; FILE is one of examples/ that is
 normalised in its answers.tsv. What is counted is the difference between so many calls in one process and twice as many,
 so neither its start nor its end; malloc's instructions are in it. Of documents that grow it prints the instructions for
-each octet, of one and of those with two and four times the parts. By hand, after bench/build.sh values; the gate
-doesn't run it."""
+each octet, of one and of those with two and four times the parts; and with `members` what an octet of small elements
+in one open value takes. By hand, after bench/build.sh values; the gate doesn't run it."""
 import csv
 import os
 import re
@@ -75,11 +75,22 @@ def made(name, parts):
     return subprocess.run([COUNTED, "make", name, str(parts)], capture_output=True, check=True).stdout
 
 
+def told(word):
+    """The kind, the parts and the name of each document that the program tells by this word."""
+    lines = subprocess.run([COUNTED, word], capture_output=True, text=True, check=True).stdout.splitlines()
+    return [line.split(maxsplit=2) for line in lines]
+
+
+def count_members():
+    documents = [(made(name, int(parts)), kind) for kind, parts, name in told("members")]
+    print("| Elements of one value | " + " | ".join(OURS) + " |")
+    for (_, _, name), (document, _), row in zip(told("members"), documents, counts(documents, OURS)):
+        print(f"| {name} | " + " | ".join(f"{it / len(document):.1f}" for it in row) + " |", flush=True)
+
+
 def count_shapes():
-    told = subprocess.run([COUNTED, "shapes"], capture_output=True, text=True, check=True).stdout
-    shapes = [line.split() for line in told.splitlines()]
     print("| Document | Kind | Octets | " + " | ".join(OURS) + " |")
-    for kind, parts, name in shapes:
+    for kind, parts, name in told("shapes"):
         documents = [(made(name, int(parts) * it), kind) for it in (1, 2, 4)]
         rows = [[it / len(document) for it in row] for (document, _), row in zip(documents, counts(documents, OURS))]
         octets = ", ".join(f"{len(document):,}" for document, _ in documents)
@@ -88,7 +99,9 @@ def count_shapes():
 
 
 def main(words):
-    if words != ["shapes"]:
+    if words == ["members"]:
+        count_members()
+    elif words != ["shapes"]:
         count_files([os.path.basename(it).removesuffix(".der") for it in words] or FILES)
     if words in ([], ["shapes"]):
         count_shapes()

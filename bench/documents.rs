@@ -1,6 +1,6 @@
 //! Documents of each kind: keys of many attribute values timed beside OpenSSL, and, for count_documents.py, documents
 //! that grow and calls made so many times.
-use crate::{Call, Shuffled, compare, element, openssl, openssl_copy};
+use crate::{Call, Shuffled, compare, element, openssl, openssl_copy, small_elements, small_members};
 use std::hint::black_box;
 use std::io::{Read, Write};
 
@@ -65,6 +65,11 @@ fn nests_of_sets(count: usize) -> Vec<u8> {
     key_with(&[attribute(&shuffled(count, 4, |octets| sets_out_of_order(59, element(4, octets))))])
 }
 
+/// A key with a value of small elements.
+fn elements_in_one_value(count: usize) -> Vec<u8> {
+    key_with(&[attribute(&[element(0x30, &small_elements().repeat(count))])])
+}
+
 /// A key with a value of identifiers.
 fn identifiers(count: usize) -> Vec<u8> {
     key_with(&[attribute(&[element(0x30, &[6, 2, 0x2A, 3].repeat(count))])])
@@ -113,18 +118,32 @@ fn values_of_one_attribute(count: usize) -> Vec<u8> {
     key_with(&[attribute(&strings(count))])
 }
 
+fn one_each(values: &[Vec<u8>]) -> Vec<Vec<u8>> {
+    values.chunks(1).map(attribute).collect()
+}
+
 fn attributes_of_one_value(count: usize) -> Vec<u8> {
-    key_with(&strings(count).chunks(1).map(attribute).collect::<Vec<_>>())
+    key_with(&one_each(&strings(count)))
+}
+
+fn nulls(count: usize) -> Vec<Vec<u8>> {
+    vec![vec![5, 0]; count]
+}
+
+fn attributes_of_one_null(count: usize) -> Vec<u8> {
+    key_with(&one_each(&nulls(count)))
 }
 
 type Make = fn(usize) -> Vec<u8>;
 
 /// Documents that grow: their names, their kinds, and as many parts as a small one has.
-const SHAPES: [(&str, &str, usize, Make); 10] = [
+const SHAPES: [(&str, &str, usize, Make); 12] = [
     ("values-of-one-attribute", "key", 5_000, values_of_one_attribute),
     ("attributes-of-one-value", "key", 5_000, attributes_of_one_value),
+    ("attributes-of-one-null", "key", 10_000, attributes_of_one_null),
     ("sets-60-deep-round-strings", "key", 5_000, sets_round_strings),
     ("values-of-sets-59-deep", "key", 500, nests_of_sets),
+    ("elements-in-one-value", "key", 5_000, elements_in_one_value),
     ("identifiers-in-one-value", "key", 50_000, identifiers),
     ("arcs-of-one-identifier", "key", 250_000, arcs),
     ("segments-of-one-octet", "encrypted", 50_000, segments),
@@ -133,18 +152,29 @@ const SHAPES: [(&str, &str, usize, Make); 10] = [
     ("name-items-in-a-set-each", "request", 5_000, items_in_a_set_each),
 ];
 
+/// The document of this name that has so many parts.
+fn made(name: &str, parts: usize) -> Vec<u8> {
+    match SHAPES.iter().find(|it| it.0 == name) {
+        Some((.., make)) => make(parts),
+        None => {
+            let members = small_members();
+            let (_, member) = members.iter().find(|it| it.0 == name).expect("a shape");
+            key_with(&[attribute(&[element(0x30, &member.repeat(parts))])])
+        }
+    }
+}
+
 /// Does what the words ask for, if they do:
 ///   shapes                            prints the kind and the parts of each document that grows, and its name
+///   members                           prints the same of keys with a value of small elements
 ///   make SHAPE PARTS                  writes one that has so many parts
 ///   repeat KIND CALL TIMES < DOCUMENT makes a call so many times; of `write` that is writing alone
 pub fn answered(words: &[String]) -> bool {
     let words: Vec<&str> = words.iter().map(String::as_str).collect();
     match words[..] {
         ["shapes"] => SHAPES.iter().for_each(|(name, kind, parts, _)| println!("{kind} {parts} {name}")),
-        ["make", shape, parts] => {
-            let (.., make) = SHAPES.iter().find(|(name, ..)| *name == shape).expect("a shape");
-            std::io::stdout().write_all(&make(parts.parse().unwrap())).unwrap();
-        }
+        ["members"] => small_members().iter().for_each(|(name, it)| println!("key {} {name}", 100_000 / it.len())),
+        ["make", name, parts] => std::io::stdout().write_all(&made(name, parts.parse().unwrap())).unwrap(),
         ["repeat", kind, call, times] => repeat(kind, call, times.parse().unwrap()),
         _ => return false,
     }
@@ -174,21 +204,24 @@ fn repeat(kind: &str, call: &str, times: u32) {
     }
 }
 
-/// Keys of many attribute values, shuffled, by OpenSSL and by pk_documents.
+/// Keys of many attribute values, by OpenSSL and by pk_documents.
 pub fn keys(wanted: impl Fn(&str) -> bool) {
-    let shapes: [(&str, fn(&[Vec<u8>]) -> Vec<Vec<u8>>); 2] = [
-        ("key: one attribute", |values| vec![attribute(values)]),
-        ("key: attributes of one value", |values| values.chunks(1).map(attribute).collect()),
+    type Values = fn(usize) -> Vec<Vec<u8>>;
+    type Attributes = fn(&[Vec<u8>]) -> Vec<Vec<u8>>;
+    let shapes: [(&str, usize, Values, Attributes); 3] = [
+        ("key: one attribute", 20_000, strings, |values| vec![attribute(values)]),
+        ("key: attributes of one value", 20_000, strings, one_each),
+        ("key: attributes of one NULL", 10_000, nulls, one_each),
     ];
     let sorted = |mut members: Vec<Vec<u8>>| {
         members.sort();
         members
     };
-    for (name, attributes) in shapes {
+    for (name, most, made, attributes) in shapes {
         if wanted(name) {
             let calls: [(&str, Call); 2] = [("OpenSSL", openssl::<KEY>), ("normalise", normalise_key)];
-            let [times, twice] = [20_000, 40_000].map(|count| {
-                let values = strings(count);
+            let [times, twice] = [most, 2 * most].map(|count| {
+                let values = made(count);
                 let given = key_with(&attributes(&values));
                 let due = key_with(&sorted(attributes(&sorted(values))));
                 compare(&format!("{name}, {count} values"), &given, &due, &calls)

@@ -108,14 +108,19 @@ fn row(name: &str, call: Call, make: impl Fn(usize) -> Vec<u8>) {
     );
 }
 
-fn any_of_small_elements(wanted: impl Fn(&str) -> bool) {
-    let integers = [&element(2, &[5])[..], &element(2, &[1, 2]), &element(2, &[1, 2, 3]), &element(2, &[1, 2, 3, 4])].concat();
-    let sets = element(0x31, &[element(0x31, &[element(4, &[9; 3]), element(2, &[7])].concat()), element(1, &[255])].concat());
+/// Small elements of every kind, as they stand in certificates.
+fn small_elements() -> Vec<u8> {
     let algorithm = element(0x30, &[element(6, &[0x2A, 0x86, 0x48, 0x86, 0xF7, 0x0D, 1, 1, 11]), element(5, &[])].concat());
     let name = element(0x31, &element(0x30, &[element(6, &[0x55, 4, 3]), element(0x13, b"Test key")].concat()));
-    let mixed = [algorithm, name, element(2, &[1, 2, 3, 4]), element(4, &[0xAA; 8]), element(3, &[0, 1, 2]), element(1, &[255])].concat();
-    let shapes = [
-        ("small: of every kind, as in certificates", mixed),
+    [algorithm, name, element(2, &[1, 2, 3, 4]), element(4, &[0xAA; 8]), element(3, &[0, 1, 2]), element(1, &[255])].concat()
+}
+
+/// What documents of small elements repeat.
+fn small_members() -> Vec<(&'static str, Vec<u8>)> {
+    let integers = [&element(2, &[5])[..], &element(2, &[1, 2]), &element(2, &[1, 2, 3]), &element(2, &[1, 2, 3, 4])].concat();
+    let sets = element(0x31, &[element(0x31, &[element(4, &[9; 3]), element(2, &[7])].concat()), element(1, &[255])].concat());
+    vec![
+        ("small: of every kind, as in certificates", small_elements()),
         ("small: SEQUENCEs of INTEGERs of 1 to 4 octets", element(0x30, &integers)),
         ("small: INTEGERs of 1 to 4 octets", integers),
         ("small: OCTET STRINGs of 8 octets", element(4, &[0xAA; 8])),
@@ -124,8 +129,11 @@ fn any_of_small_elements(wanted: impl Fn(&str) -> bool) {
         ("small: OBJECT IDENTIFIERs of 3 arcs", vec![6, 2, 0x2A, 3]),
         ("small: BIT STRINGs of 2 octets", vec![3, 3, 0, 1, 2]),
         ("small: empty SEQUENCEs", vec![0x30, 0]),
-    ];
-    for (name, member) in shapes {
+    ]
+}
+
+fn any_of_small_elements(wanted: impl Fn(&str) -> bool) {
+    for (name, member) in small_members() {
         if wanted(name) {
             row(name, values_bench_any, |n| filled(0x30, &member, n * MIB));
             // OpenSSL doesn't look into containers.
