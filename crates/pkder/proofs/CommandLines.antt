@@ -9,7 +9,8 @@ use Rattle.clap.specs.declared.error.kind.ErrorKind.TheVariants as errors
 use Rattle.clap.specs.declared.parser.matches.ArgMatches.{ArgMatches}
 use Rattle.clap.specs.declared.parser.matches.Found.{Found}
 use Rattle.clap.proofs.WalkLemmas.{first_value-rows}
-use Rattle.pkder.specs.CommandLines.{Asks, AsksNothing, BadTask, IsFaultOf, IsPlainLine, Means, MeansBy, MeansNothing, TellsWhy, bad_value_line, has_control, program, value_of}
+use Rattle.pkder.proofs.PlainTexts.{controls_plain}
+use Rattle.pkder.specs.CommandLines.{Asks, AsksNothing, BadTask, IsFaultOf, IsPlainLine, Means, MeansBy, MeansNothing, TellsWhy, bad_value_line, controls_line, has_control, program, value_of}
 use Rattle.pkder.specs.declared.line.BadValue.{BadValue}
 use Rattle.pkder.specs.declared.line.LineFault.{LineFault}
 use Rattle.pkder.specs.declared.line.LineFault.TheVariants as faults
@@ -29,9 +30,11 @@ none_among kind (k ∷ ks) h e = cc
 
 -- one of the words has a control character
 pub controlled : (words : List Text) (text : String Global) → list_any has_control words ≡ true
-    → IsPlainLine (string_bytes text) → AsksNothing words (faults.Line text)
-controlled words text has plain =
-    (λ task a. let none : list_any has_control words ≡ false = a.0 in cc, inl (has, plain))
+    → string_bytes text ≡ controls_line words → AsksNothing words (faults.Line text)
+controlled words text has is = (
+  λ task a. let none : list_any has_control words ≡ false = a.0 in cc,
+  inl (has, is, subst IsPlainLine (sym is) (controls_plain words)),
+)
 
 -- a line that clap takes
 pub asked : (app : App) (words : List Text) (m : ArgMatches) (r : Result Task LineFault)

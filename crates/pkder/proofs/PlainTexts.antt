@@ -1,5 +1,5 @@
--- Texts of printable ASCII, and that the escape of a character is one.
-use Rattle.std.proofs.Common.{◌≡◌, ◌∙◌, ◌⊎◌, ◌++◌, ◌<◌, ◌+◌, Bool, List, [], ◌∷◌, ap, append-nil, append_assoc, arith, cond, false, inl, inr, map, refl, Result, Ok, Err, subst, sym, true, ℕ}
+-- Texts of printable ASCII: the escape of a character, and what is told of words with control characters.
+use Rattle.std.proofs.Common.{Global, String, ◌≡◌, ◌∙◌, ◌⊎◌, ◌++◌, ◌<◌, ◌+◌, Bool, List, [], ◌∷◌, ap, append_assoc, arith, cond, false, inl, inr, map, refl, subst, sym, true, ℕ}
 use Rattle.std.proofs.lemmas.Bool.Decides.{nat_tests}
 use Rattle.std.proofs.lemmas.List.Elements.{All-append, All-cons, All-head, All-nil, All-rest}
 use Rattle.std.proofs.lemmas.Nat.{mod_below}
@@ -7,26 +7,17 @@ use Rattle.std.proofs.lemmas.Str.{encode_ascii}
 use Rattle.std.specs.Char.{digit_char, encode_utf8}
 use Rattle.std.specs.Char.Escape.{backslash, escape_default, escape_unicode, hex_digit_at, short_escape}
 use Rattle.std.specs.Int.{IsInRange}
-use Rattle.std.specs.Prelude.{OnOk, if◌then◌else◌, nat_lt, ◌==◌}
-use Rattle.std.specs.Result.{is_ok}
+use Rattle.std.specs.List.{filter, flat_map}
+use Rattle.std.specs.Prelude.{codes, string_bytes, nat_lt, ◌==◌}
+use Rattle.std.specs.Str.{chars}
 use Rattle.clap.specs.Words.{Text}
-use Rattle.pkder.specs.CommandLines.{AppendsPlain, IsPlain}
+use Rattle.pkder.specs.CommandLines.{IsPlain, IsPlainLine, controls_line, has_control, quoted}
+use Rattle.pkder.specs.Outcomes.{line_feed}
 
 abbrev Printable : ℕ → Type 0
 Printable c = IsInRange 32 126 c
 
--- ---- what is appended
-
-pub plain_none : (text : Text) → AppendsPlain text text
-plain_none text = ([], sym (append-nil text), All-nil Printable)
-
-pub plain_then : (a b c : Text) → AppendsPlain a b → AppendsPlain b c → AppendsPlain a c
-plain_then a b c h k =
-    (h.0 ++ k.0, k.1 ∙ ap (λ t. t ++ k.0) h.1 ∙ append_assoc a h.0 k.0, All-append Printable h.0 k.0 h.2 k.2)
-
-pub plain_char : (a b : Text) (c : ℕ) → Printable c → b ≡ a ++ encode_utf8 c → AppendsPlain a b
-plain_char a b c h e =
-    (c ∷ [], e ∙ ap (λ t. a ++ t) (encode_ascii c (omega (arith, h.1))), All-cons Printable c [] h (All-nil Printable))
+-- ---- what is still to come
 
 -- the first of what is still to come, and the others
 pub plain_first : (xs ys : Text) (x : ℕ) → xs ≡ x ∷ ys → IsPlain xs → Printable x
@@ -34,6 +25,13 @@ plain_first xs ys x e h = All-head Printable x ys (subst IsPlain e h)
 
 pub plain_others : (xs ys : Text) (x : ℕ) → xs ≡ x ∷ ys → IsPlain xs → IsPlain ys
 plain_others xs ys x e h = All-rest Printable x ys xs e h
+
+-- one of them goes behind the text
+pub goes_on : (text longer before behind : Text) (x : ℕ) → Printable x → before ≡ x ∷ behind
+    → longer ≡ text ++ encode_utf8 x → longer ++ behind ≡ text ++ before
+goes_on text longer before behind x plain is e =
+    ap (λ t. t ++ behind) (e ∙ ap (λ t. text ++ t) (encode_ascii x (omega (arith, plain.1))))
+    ∙ append_assoc text (x ∷ []) behind ∙ ap (λ t. text ++ t) (sym is)
 
 -- ---- the escape of a character
 
@@ -115,14 +113,26 @@ pub plain_by : (text : Text) → are_plain text ≡ true → IsPlain text
 plain_by [] e = All-nil Printable
 plain_by (x ∷ xs) e = plain_before x xs (nat_lt x 32) (nat_lt x 127) refl refl (plain_by xs) e
 
-pub plain_text : (a b text : Text) → are_plain text ≡ true → b ≡ a ++ text → AppendsPlain a b
-plain_text a b text e is = (text, is, plain_by text e)
+-- ---- what is told of words with control characters
 
-pub plain_on : (a b : Text) → IsPlain a → AppendsPlain a b → IsPlain b
-plain_on a b before h = subst IsPlain (sym h.1) (All-append Printable a h.0 before h.2)
+abbrev pub told : List (String Global) → Text
+told words = flat_map quoted (filter has_control (map (λ word. string_bytes word) words))
 
--- what holds where it was appended
-pub where_ok : {T E : Type 0} {P : Type 0} (r : Result T E) (new whole old : Text)
-    → new ≡ (if is_ok r then whole else old) → (new ≡ whole → P) → OnOk r P
-where_ok (Ok t) new whole old is holds = holds is
-where_ok (Err e) new whole old is holds = tt
+each_plain : {X : Type 0} (f : X → Text) → ((x : X) → IsPlain (f x)) → (xs : List X) → IsPlain (flat_map f xs)
+each_plain f plain [] = All-nil Printable
+each_plain f plain (x ∷ xs) = All-append Printable (f x) (flat_map f xs) (plain x) (each_plain f plain xs)
+
+quoted_plain : (word : Text) → IsPlain (quoted word)
+quoted_plain word =
+    All-append Printable (codes " \"") _ (plain_by (codes " \"") refl)
+    (All-append Printable (flat_map escape_default (chars word)) _ (each_plain escape_default escape_plain (chars word))
+    (plain_by (codes "\"") refl))
+
+pub controls_plain : (words : List Text) → IsPlainLine (controls_line words)
+controls_plain words =
+    let head = codes "error: a word has control characters:" in
+    let others = flat_map quoted (filter has_control words) in (
+      head ++ others,
+      sym (append_assoc head others line_feed),
+      All-append Printable head others (plain_by head refl) (each_plain quoted quoted_plain (filter has_control words)),
+    )

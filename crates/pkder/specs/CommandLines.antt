@@ -2,8 +2,9 @@
 -- command is `subcommand_of`.
 use Rattle.std.specs.Prelude.{All, ◌≡◌, ◌≤◌, ◌⊎◌, ◌++◌, ℕ, Bool, List, [], ◌∷◌, None, Option, Some, codes, false, string_bytes, true, unwrap_or}
 use Rattle.std.specs.Char.{is_control}
+use Rattle.std.specs.Char.Escape.{escape_default}
 use Rattle.std.specs.Int.{IsInRange}
-use Rattle.std.specs.List.{list_any}
+use Rattle.std.specs.List.{filter, flat_map, list_any}
 use Rattle.std.specs.Str.{chars}
 use Rattle.std.specs.Str.Parse.{IsNumeral, digits_value, without_leading_plus}
 use Rattle.clap.specs.Words.{App, IsAmong, Row, Rule, Shape, Text, fault_of, first_of, new_app, new_rule, subcommand_of, with_rule, with_subcommand}
@@ -185,12 +186,19 @@ has_control word = list_any is_control (chars word)
 abbrev pub IsPlain : Text → Type 0
 IsPlain text = All (IsInRange 32 126) text
 
-abbrev pub AppendsPlain : Text → Text → Type 0
-AppendsPlain old new = (more : Text) × (new ≡ old ++ more) × IsPlain more
-
 -- one line of it
 abbrev pub IsPlainLine : Text → Type 0
 IsPlainLine text = (line : Text) × (text ≡ line ++ line_feed) × IsPlain line
+
+-- A word in quotes. A character that is a quote or isn't printable ASCII stands as its escape, as Rust's
+-- `char::escape_default` has it: `\n`, `\u{1b}`.
+abbrev pub quoted : Text → Text
+quoted word = codes " \"" ++ (flat_map escape_default (chars word) ++ codes "\"")
+
+-- what is told of words of which some have control characters: those that do
+abbrev pub controls_line : List Text → Text
+controls_line words =
+    codes "error: a word has control characters:" ++ (flat_map quoted (filter has_control words) ++ line_feed)
 
 -- The words ask for the task: none has a control character, clap takes them, and the subcommand
 -- that they name means it.
@@ -206,11 +214,11 @@ IsRefusal kind = (kind ≡ errors.OutOfMemory → ⊥) × (kind ≡ errors.Displ
 abbrev pub IsRefused : List Text → Type 0
 IsRefused words = (kind : ErrorKind) × IsAmong kind (fault_of program words) × IsRefusal kind
 
--- Why words are refused: one has a control character, and none is told; or clap refuses them; or it takes them, and a
--- value isn't one of its option.
+-- Why words are refused: some have control characters, none of which is told as it is; or clap refuses them; or it
+-- takes them, and a value isn't one of its option.
 abbrev pub TellsFault : List Text → Text → Type 0
 TellsFault words line =
-    ((list_any has_control words ≡ true) × IsPlainLine line)
+    ((list_any has_control words ≡ true) × (line ≡ controls_line words) × IsPlainLine line)
     ⊎ (IsRefused words ⊎ ((fault_of program words ≡ []) × TellsWhy (subcommand_of program words) line))
 
 -- Why words ask for nothing that can be done: they ask for no task and are refused, or they ask

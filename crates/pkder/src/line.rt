@@ -1,8 +1,9 @@
 //! What a command line asks for.
-ghost use Rattle.std.specs.Prelude.{◌≡◌, ◌≤◌, ℕ, IfErr, IfOk, MatchOption, MatchResult, OnOk, codes, map, string_bytes};
+ghost use Rattle.std.specs.Prelude.{◌≡◌, ◌++◌, ◌≤◌, ℕ, IfErr, IfOk, MatchOption, MatchResult, OnOk, codes, map, string_bytes};
+ghost use Rattle.std.specs.Char.Escape.{escape_default};
 ghost use Rattle.std.specs.List.{list_any};
 ghost use Rattle.clap.specs.Words.{found_of, kind_of, rows_of, subcommand_rows_of};
-ghost use Rattle.pkder.specs.CommandLines.{AppendsPlain, Asks, AsksNothing, BadKind, BadLimit, BadPart, BadTask, IsFaultOf, IsNumber, IsPlainLine, Means, MeansBy, MeansNothing, ReadsLimits, bad_value_line, has_control, kind_name, part_name, value_of};
+ghost use Rattle.pkder.specs.CommandLines.{Asks, AsksNothing, BadKind, BadLimit, BadPart, BadTask, IsFaultOf, IsNumber, Means, MeansBy, MeansNothing, ReadsLimits, bad_value_line, controls_line, has_control, kind_name, part_name, quoted, value_of};
 ghost use Rattle.pkder.specs.declared.line.LineFault.TheVariants.{Memory};
 
 use crate::command::command;
@@ -109,7 +110,7 @@ fn is_controlling(word: &str) -> bool
 
 /// Says which words have control characters, without writing them as they are.
 fn controls_text(alloc: Global, words: &[String]) -> Result<String, AllocError>
-    ensures { IfOk result (λ text. IsPlainLine (string_bytes text)) }
+    ensures { IfOk result (λ text. string_bytes text ≡ controls_line (map string_bytes words.now)) }
 {
     let mut text = String::from_str(alloc, "error: a word has control characters:")?;
     for word in words {
@@ -123,7 +124,7 @@ fn controls_text(alloc: Global, words: &[String]) -> Result<String, AllocError>
 
 /// Appends a word in quotes, with what isn't printable ASCII escaped.
 fn push_quoted(text: &mut String, word: &str) -> Result<(), AllocError>
-    ensures { OnOk result (AppendsPlain (string_bytes text.old) (string_bytes text.new)) }
+    ensures { OnOk result (string_bytes text.new ≡ string_bytes text.old ++ quoted word.now) }
 {
     text.push_str(" \"")?;
     for c in word.chars() {
@@ -134,7 +135,7 @@ fn push_quoted(text: &mut String, word: &str) -> Result<(), AllocError>
 
 /// Appends a character, or its escape where it isn't printable ASCII.
 fn push_escaped(text: &mut String, c: char) -> Result<(), AllocError>
-    ensures { OnOk result (AppendsPlain (string_bytes text.old) (string_bytes text.new)) }
+    ensures { OnOk result (string_bytes text.new ≡ string_bytes text.old ++ escape_default c) }
 {
     for shown in c.escape_default() {
         text.push(shown)?;
