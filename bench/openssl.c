@@ -143,7 +143,8 @@ void *__wrap_malloc(size_t size) {
     return at;
 }
 
-// Where the octets move, old and new ones are there at once; chunks of 128 KiB and more are moved by mapping pages anew.
+// Where the octets move, old and new ones are there at once; chunks of 128 KiB and more are moved by mapping pages
+// anew.
 void *__wrap_realloc(void *old, size_t size) {
     size_t before = counts ? chunk(old) : 0;
     void *at = __real_realloc(old, size);

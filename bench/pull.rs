@@ -9,6 +9,12 @@ unsafe extern "C" {
     fn ber_pull_bench_octets(src: *const u8, len: usize) -> u64;
 }
 
+type Call = unsafe extern "C" fn(*const u8, usize) -> u64;
+
+fn called(call: Call, octets: &[u8]) -> u64 {
+    unsafe { call(black_box(octets.as_ptr()), octets.len()) }
+}
+
 fn length(n: usize) -> Vec<u8> {
     if n < 128 {
         return vec![n as u8];
@@ -71,10 +77,9 @@ fn main() {
         for size in [1 << 20, 2 << 20] {
             let given = document(member, size);
             let wanted = count(&given);
-            let walked = unsafe { ber_pull_bench_walk(given.as_ptr(), given.len()) };
-            assert_eq!(walked, wanted);
+            assert_eq!(called(ber_pull_bench_walk, &given), wanted);
             let text = format!("{name}, {} MiB", size >> 20);
-            times.push(best(&text, given.len(), || unsafe { ber_pull_bench_walk(black_box(given.as_ptr()), given.len()) }));
+            times.push(best(&text, given.len(), || called(ber_pull_bench_walk, &given)));
             if size == 1 << 20 {
                 best("  the same, lengths alone, in Rust", given.len(), || count(black_box(&given)));
             }
@@ -82,20 +87,20 @@ fn main() {
         println!("  twice the size takes {:.2} times as long", times[1] / times[0]);
     }
     let headers = document(&vec![0x30, 0x00], 1 << 20);
-    assert_eq!(unsafe { ber_pull_bench_headers(headers.as_ptr(), headers.len()) }, count(&headers));
-    best("headers, nothing allocated", headers.len(), || unsafe { ber_pull_bench_headers(black_box(headers.as_ptr()), headers.len()) });
+    assert_eq!(called(ber_pull_bench_headers, &headers), count(&headers));
+    best("headers, nothing allocated", headers.len(), || called(ber_pull_bench_headers, &headers));
     for size in [1 << 20, 2 << 20] {
         let string = element(4, &vec![0x55; size]);
-        assert_eq!(unsafe { ber_pull_bench_octets(string.as_ptr(), string.len()) }, size as u64);
+        assert_eq!(called(ber_pull_bench_octets, &string), size as u64);
         let text = format!("a primitive string of {} MiB", size >> 20);
-        best(&text, string.len(), || unsafe { ber_pull_bench_octets(black_box(string.as_ptr()), string.len()) });
+        best(&text, string.len(), || called(ber_pull_bench_octets, &string));
     }
     let segments = element(0x24, &element(4, &[0x55; 1000]).repeat(1040));
-    assert_eq!(unsafe { ber_pull_bench_octets(segments.as_ptr(), segments.len()) }, 1040 * 1000);
-    best("a string in segments of 1000 octets", segments.len(), || unsafe { ber_pull_bench_octets(black_box(segments.as_ptr()), segments.len()) });
+    assert_eq!(called(ber_pull_bench_octets, &segments), 1040 * 1000);
+    best("a string in segments of 1000 octets", segments.len(), || called(ber_pull_bench_octets, &segments));
     let mut nested = vec![0x24, 0x80].repeat(30);
     nested.extend(element(4, &[0x55; 8]).repeat(100_000));
     nested.extend([0; 60]);
-    assert_eq!(unsafe { ber_pull_bench_octets(nested.as_ptr(), nested.len()) }, 800_000);
-    best("a string 30 deep in segments of 8 octets", nested.len(), || unsafe { ber_pull_bench_octets(black_box(nested.as_ptr()), nested.len()) });
+    assert_eq!(called(ber_pull_bench_octets, &nested), 800_000);
+    best("a string 30 deep in segments of 8 octets", nested.len(), || called(ber_pull_bench_octets, &nested));
 }

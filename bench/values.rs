@@ -1,8 +1,8 @@
 // Values of asn_values and private keys read from octets in memory and their texts written: how long it takes, how that
 // grows with the document, and how much memory is taken for each octet. Times are the least of many runs, in time of
 // the processor, since machines are shared.
-// `values` runs all; `values NAME` runs the rows whose name begins so, for a profiler. What documents.rs does with other
-// words is for count_documents.py.
+// `values` runs all; `values NAME` runs the rows whose name begins so, for a profiler. What documents.rs does with
+// other words is for count_documents.py.
 mod documents;
 
 use std::hint::black_box;
@@ -110,15 +110,18 @@ fn row(name: &str, call: Call, make: impl Fn(usize) -> Vec<u8>) {
 
 /// Small elements of every kind, as they stand in certificates.
 fn small_elements() -> Vec<u8> {
-    let algorithm = element(0x30, &[element(6, &[0x2A, 0x86, 0x48, 0x86, 0xF7, 0x0D, 1, 1, 11]), element(5, &[])].concat());
+    let sha256_with_rsa = element(6, &[0x2A, 0x86, 0x48, 0x86, 0xF7, 0x0D, 1, 1, 11]);
+    let algorithm = element(0x30, &[sha256_with_rsa, element(5, &[])].concat());
     let name = element(0x31, &element(0x30, &[element(6, &[0x55, 4, 3]), element(0x13, b"Test key")].concat()));
-    [algorithm, name, element(2, &[1, 2, 3, 4]), element(4, &[0xAA; 8]), element(3, &[0, 1, 2]), element(1, &[255])].concat()
+    let leaves = [element(2, &[1, 2, 3, 4]), element(4, &[0xAA; 8]), element(3, &[0, 1, 2]), element(1, &[255])];
+    [algorithm, name, leaves.concat()].concat()
 }
 
 /// What documents of small elements repeat.
 fn small_members() -> Vec<(&'static str, Vec<u8>)> {
-    let integers = [&element(2, &[5])[..], &element(2, &[1, 2]), &element(2, &[1, 2, 3]), &element(2, &[1, 2, 3, 4])].concat();
-    let sets = element(0x31, &[element(0x31, &[element(4, &[9; 3]), element(2, &[7])].concat()), element(1, &[255])].concat());
+    let integers = [1, 2, 3, 4].map(|octets| element(2, &[1, 2, 3, 4][..octets])).concat();
+    let inner = element(0x31, &[element(4, &[9; 3]), element(2, &[7])].concat());
+    let sets = element(0x31, &[inner, element(1, &[255])].concat());
     vec![
         ("small: of every kind, as in certificates", small_elements()),
         ("small: SEQUENCEs of INTEGERs of 1 to 4 octets", element(0x30, &integers)),
@@ -173,8 +176,8 @@ fn any_of_hostile_shapes(wanted: impl Fn(&str) -> bool) {
     }
 }
 
-/// Members of one type, also hostile ones: what a list and a set hold for each. One more than a power of two is an unlucky number, since
-/// a vector that grows has doubled.
+/// Members of one type, also hostile ones: what a list and a set hold for each. One more than a power of two is an
+/// unlucky number, since a vector that grows has doubled.
 fn members(wanted: impl Fn(&str) -> bool) {
     let rows: [(&str, Call, u8, &[u8], usize); 11] = [
         ("List of OCTET STRINGs of none", values_bench_list, 0x30, &[4, 0], MIB / 2),
@@ -186,8 +189,8 @@ fn members(wanted: impl Fn(&str) -> bool) {
         ("SetOf of 2^17 + 1 OCTET STRINGs of 1 octet", values_bench_set, 0x31, &[4, 1, 9], (1 << 17) + 1),
         ("SetOf of open NULLs", values_bench_open_set, 0x31, &[5, 0], MIB / 2),
         ("SetOf of 2^18 + 1 open NULLs", values_bench_open_set, 0x31, &[5, 0], (1 << 18) + 1),
-        ("SetOf of open OBJECT IDENTIFIERs of 2 arcs", values_bench_open_set, 0x31, &[6, 1, 0x2A], MIB / 3),
-        ("SetOf of 2^17 + 1 open OBJECT IDENTIFIERs of 2 arcs", values_bench_open_set, 0x31, &[6, 1, 0x2A], (1 << 17) + 1),
+        ("SetOf of open identifiers of 2 arcs", values_bench_open_set, 0x31, &[6, 1, 0x2A], MIB / 3),
+        ("SetOf of 2^17 + 1 open identifiers of 2 arcs", values_bench_open_set, 0x31, &[6, 1, 0x2A], (1 << 17) + 1),
     ];
     for (name, call, tag, member, count) in rows {
         if wanted(name) {

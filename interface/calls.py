@@ -1,12 +1,12 @@
 #!/usr/bin/env python3
-"""calls.py TABLE.tsv..: the rows of the program's tables that a call of the library answers, in one form for all callers.
+"""calls.py TABLE.tsv..: rows of the program's tables that a call of the library answers, in one form for all callers.
 
-Each line has six cells between tabs: rule, words, input, status, output, error. The words are a command and its options,
-none left out, as
+Each line has six cells between tabs: rule, words, input, status, output, error. The words are a command and its
+options, none left out, as
   normalise --kind key --depth 32 --octets 1048576
 (check and show the same; signed has --part in place of --kind). Input and output are in hex, and the error is a line.
-tools/rows.py reads such a table too. Left out are help and command lines that are refused, which no call has, rows whose
-reads or writes fail, and rows that state no answer."""
+tools/rows.py reads such a table too. Left out are help and command lines that are refused, which no call has, rows
+whose reads or writes fail, and rows that state no answer."""
 import os
 import sys
 

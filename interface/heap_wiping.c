@@ -19,7 +19,7 @@ static tried answer(void *at) {
     return result;
 }
 
-/* New memory of n octets; align is 1 to 16 and divides what malloc aligns to. Of no octets it is a block all the same. */
+/* New memory of n octets, a block even of none; align is 1 to 16 and divides what malloc aligns to. */
 tried rattle_alloc(size_t n, size_t align) {
     return answer(malloc(n != 0 ? n : align));
 }
@@ -31,8 +31,8 @@ void rattle_dealloc(void *at) {
     }
 }
 
-/* A block of n octets that begins with the first `kept` of the old one, which is wiped. Where there is no memory the old
- * one stays. */
+/* A block of n octets that begins with the first `kept` of the old one, which is wiped. Where there is no memory the
+ * old one stays. */
 tried rattle_realloc(void *old, size_t kept, size_t n, size_t align) {
     tried result = rattle_alloc(n, align);
     if (result.ok) {

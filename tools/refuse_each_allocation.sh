@@ -1,7 +1,7 @@
 #!/bin/sh
-# refuse_each_allocation.sh PROGRAM INPUT WORD..: the program with each allocation refused in turn. Each run answers as with
-# ample memory, or says "out of memory" with status 3 and writes nothing; the last ones meet no refusal. The last line counts those
-# that were answered as want of memory.
+# refuse_each_allocation.sh PROGRAM INPUT WORD..: the program with each allocation refused in turn. Each run answers as
+# with ample memory, or says "out of memory" with status 3 and writes nothing; the last ones meet no refusal. The last
+# line counts those that were answered as want of memory.
 set -u
 program=$1 input=$2
 shift 2

@@ -3,8 +3,8 @@
 
 A row is a line of cells between tabs; cells left out are empty, and a line that begins with # is a title:
   rule      what the row shows
-  words     the arguments, \\xNN being the octet NN; under --line the first line of standard input, for programs that test
-            libraries
+  words     the arguments, \\xNN being the octet NN; under --line the first line of standard input, for programs that
+            test libraries
   input     standard input
   status    the exit status, 0 if left out
   output    standard output; = for the input, "TEXT" for lines of text, \\n between them, * for any that isn't empty
