@@ -1,6 +1,7 @@
 #!/bin/sh
 # test.sh: the library, built by build.sh, and tried from C, C++, Python, Rust and Go. What the machine has no compiler
 # or interpreter for is left out, and said. The last line is 'interface: N passed, M failed', a command counting once.
+# LIBRARY=built takes the library that stands in interface/out.
 # By hand: ROUNDS=5000 DOCUMENTS=20000 sh interface/test.sh probes for minutes (200 and 500 unless said otherwise);
 # HEAP=wiping has the wiping heap tried.
 set -u
@@ -107,7 +108,7 @@ random_documents() {
     if [ -f "$top/crates/pkder/out/pkder" ]; then
         set -- "$@" "$top/crates/pkder/out/pkder"
     else
-        echo "left out: no program beside random documents (run 'rt run -- --version' in crates/pkder)"
+        echo "left out: no program beside random documents (run 'python3 tools/build.py')"
     fi
     try "random documents" python3 "$top/tools/random_documents.py" --count "${DOCUMENTS:-500}" --whole "$@"
 }
@@ -259,7 +260,15 @@ tools() {
     done
 }
 
-try "build" sh "$here/build.sh"
+made() {
+    if [ "${LIBRARY:-}" = built ]; then
+        ls "$out/libpkder.a" "$out/libpkder.so.0"
+    else
+        sh "$here/build.sh"
+    fi
+}
+
+try "build" made
 if [ "$failed" = 0 ] && tools; then
     python3 "$here/calls.py" "$top"/tests/pkder/*.tsv "$top/examples/answers.tsv" > "$work/calls.tsv"
     printf '#include <pkder.h>\nint main() { return pkder_interface() == PKDER_INTERFACE ? 0 : 1; }\n' > "$work/main.cc"

@@ -1,7 +1,8 @@
 #!/bin/sh
-# Puts the program and its man page in place, or the library, or both:
+# Puts the program and its man page in place, or the library, or both, as tools/build.py made them:
 #   [DESTDIR=FOLDER] [PREFIX=/usr/local] [LIBDIR=PREFIX/lib] sh tools/install.sh [program] [library]
-# The library is libpkder.a, libpkder.so.0, pkder.h, pkder.pc, man pages and three pages of docs/ that they name.
+# With either goes PROVED-BY, which says what proved it. The library is libpkder.a, libpkder.so.0, pkder.h, pkder.pc, man
+# pages and three pages of docs/ that they name.
 set -eu
 top=$(cd "$(dirname "$0")/.." && pwd)
 prefix=${PREFIX:-/usr/local}
@@ -14,12 +15,24 @@ needs() {
     exit 1
 }
 
+# PROVED-BY, where it names the file, as tools/build.py wrote it.
+put_proved_by() {
+    by=$top/crates/pkder/out/PROVED-BY sum=$(sha256sum < "$1")
+    if ! grep -qs "^${sum%% *}  " "$by"; then
+        echo "install.sh: nothing says what proved $1: no PROVED-BY has its sum" >&2
+        return
+    fi
+    mkdir -p "$root$prefix/share/doc/pkder"
+    install -m 644 "$by" "$root$prefix/share/doc/pkder/PROVED-BY"
+}
+
 put_program() {
     program=$top/crates/pkder/out/pkder
-    needs "$program" "run 'rt run -- --version' in crates/pkder"
+    needs "$program" "run 'python3 tools/build.py'"
     mkdir -p "$root$prefix/bin" "$root$prefix/share/man/man1"
     install -m 755 "$program" "$root$prefix/bin/pkder"
     install -m 644 "$top/docs/pkder.1" "$root$prefix/share/man/man1/pkder.1"
+    put_proved_by "$program"
 }
 
 # The folder as pkder.pc has it, which a packager may move.
@@ -32,7 +45,7 @@ under_prefix() {
 
 put_library() {
     from=$top/interface man=$root$prefix/share/man/man3 docs=$root$prefix/share/doc/pkder
-    needs "$from/out/libpkder.so.0" "run 'sh interface/build.sh'"
+    needs "$from/out/libpkder.so.0" "run 'python3 tools/build.py'"
     mkdir -p "$root$prefix/include" "$root$libdir/pkgconfig" "$man" "$docs"
     install -m 644 "$from/pkder.h" "$root$prefix/include/pkder.h"
     install -m 644 "$from/out/libpkder.a" "$from/out/libpkder.so.0" "$root$libdir"
@@ -40,6 +53,7 @@ put_library() {
     sed -e "s|@PREFIX@|$prefix|" -e "s|@LIBDIR@|$(under_prefix "$libdir")|" \
         -e "s|@INCLUDEDIR@|$(under_prefix "$prefix/include")|" "$from/pkder.pc.in" > "$root$libdir/pkgconfig/pkder.pc"
     install -m 644 "$top/docs/library.md" "$top/docs/manual.md" "$top/docs/formats.md" "$docs"
+    put_proved_by "$from/out/libpkder.so.0"
     install -m 644 "$top/docs/pkder.3" "$man/pkder.3"
     for name in $(sed -n 's/^ *\(pkder_[a-z_]*\);$/\1/p' "$from/pkder.map"); do
         ln -sf pkder.3 "$man/$name.3"

@@ -2,8 +2,10 @@
 """test.py [PART..]: every test of the repository, or of these parts, and what each part took.
 
 Each part ends with a line "N passed, M failed", a word with a colon before it or not. One that doesn't, or whose
-status is not 0, has failed. The last line counts over all parts. The first two run side by side, the edits of a crate
-once `rt ci` has proved it, with what the proofs leave of the processors; the others run programs that `rt ci` built."""
+status is not 0, has failed. The last line counts over all parts. Those before the proofs take seconds; where one of
+them fails, or the proofs do, nothing behind it is begun. The edits are tried over the libraries that `rt ci` left,
+beside the parts behind them, which run the programs that it built."""
+import functools
 import glob
 import os
 import re
@@ -13,13 +15,14 @@ import time
 from concurrent.futures import ThreadPoolExecutor
 
 PROGRAM = "crates/pkder/out/pkder"
+FIRST = ("logic", "records", "proofs")
 ROWS = ["python3", "tools/rows.py"]
 GROWTHS = ["python3", "tools/refused_growths.py"]
 TRANSCRIPTS = ["python3", "tools/transcripts.py", "README.md", "docs/manual.md"]
 ALLOCATIONS = ["sh", "tools/refuse_each_allocation.sh", PROGRAM]
-# every crate from nothing, a few edits by the toolchain's own means, each program's stored run
-PROOFS = ["rt", "ci"]
-EDITS = ["nice", "-n", "19", "python3", "tools/edits.py", "--beside-gate"]
+# `rt ci` (every crate, a few edits by the toolchain's own means, each program's stored run), and the library
+PROOFS = ["python3", "tools/build.py", "--again"]
+EDITS = ["nice", "-n", "19", "python3", "tools/edits.py", "--quarter"]
 
 
 def built(name):
@@ -27,9 +30,14 @@ def built(name):
     return f"crates/{name}/out/{name}"
 
 
+@functools.cache
 def builds(program):
-    """The program as each of the toolchain's two compilers makes it."""
-    return [program, f"{program}.by-rattle"]
+    """The program as the toolchain's compiler makes it, and as its second one does, where there is that."""
+    second = f"{program}.by-rattle"
+    if os.path.isfile(second):
+        return [program, second]
+    print(f"left out: there is no {second}, which the toolchain's second compiler makes", flush=True)
+    return [program]
 
 
 def tables(name):
@@ -56,19 +64,22 @@ def allocating():
 
 
 def parts():
-    """The parts behind the proofs and edits by their names, each of several commands."""
+    """The parts by their names and in their order, each with what says its commands once it is its turn."""
     return {
-        "rows": [rows_of(it) for it in sorted(os.listdir("tests"))],
-        "transcripts": [[*TRANSCRIPTS, *builds(PROGRAM)]],
-        "allocations": [[*ALLOCATIONS, *words] for words in allocating()],
-        "version": [["sh", "tools/proved_by.sh", PROGRAM]],
-        "reader": [
+        "logic": lambda: [["python3", "tools/logic.py"]],
+        "records": lambda: [["python3", "tools/edits.py", "--check"]],
+        "proofs": lambda: [PROOFS],
+        "edits": lambda: [EDITS],
+        "rows": lambda: [rows_of(it) for it in sorted(os.listdir("tests"))],
+        "transcripts": lambda: [[*TRANSCRIPTS, *builds(PROGRAM)]],
+        "allocations": lambda: [[*ALLOCATIONS, *words] for words in allocating()],
+        "reader": lambda: [
             ["python3", "tools/try_reader.py", *tables("pkder"), "examples/answers.tsv"],
             ["python3", "tools/random_documents.py", *builds(PROGRAM)],
             ["python3", "tools/hostile_families.py", *builds(PROGRAM)],
         ],
-        "growths": [[*GROWTHS, built(it), *tables(it)] for it in ("library_rows", "sequence_rows")],
-        "interface": [["sh", "interface/test.sh"]],
+        "growths": lambda: [[*GROWTHS, built(it), *tables(it)] for it in ("library_rows", "sequence_rows")],
+        "interface": lambda: [["sh", "interface/test.sh"]],
     }
 
 
@@ -83,14 +94,13 @@ class Count:
         return Count(*(one + more for one, more in both))
 
 
-def run(words, given=subprocess.DEVNULL, hear=lambda line: None):
+def run(words):
     """Runs a command, shows what it says, and counts its tests."""
     began, last = time.monotonic(), ""
-    how = {"stdin": given, "stdout": subprocess.PIPE, "stderr": subprocess.STDOUT, "errors": "replace"}
+    how = {"stdin": subprocess.DEVNULL, "stdout": subprocess.PIPE, "stderr": subprocess.STDOUT, "errors": "replace"}
     ran = subprocess.Popen(words, **how)
     for line in ran.stdout:
         print(line, end="", flush=True)
-        hear(line)
         last = line.strip() or last
     _, status, used = os.wait4(ran.pid, 0)
     ran.returncode = os.waitstatus_to_exitcode(status)
@@ -100,36 +110,36 @@ def run(words, given=subprocess.DEVNULL, hear=lambda line: None):
     return Count(passed, failed, time.monotonic() - began, used.ru_utime + used.ru_stime)
 
 
-def prove_and_edit():
-    """Runs the proofs, and beside them the edits, which are told each crate that is proved."""
-    told, teller = os.pipe()
-    with ThreadPoolExecutor(1) as beside, open(teller, "w", encoding="utf-8") as names:
-        edits = beside.submit(run, EDITS, told)
+def run_part(commands):
+    """Runs a part's commands, and counts its tests."""
+    return sum(map(run, commands()), Count())
 
-        def hear(line):
-            proved = re.fullmatch(r"rt: (\w+) (?:proved|is kept: .*)", line.strip())
-            if proved and not edits.done():
-                print(proved[1], file=names, flush=True)
 
-        proofs = run(PROOFS, hear=hear)
-        names.close()
-        os.close(told)
-        return {"proofs": proofs, "edits": edits.result()}
+def run_all(asked):
+    """Runs these parts, the edits beside those behind them, and returns what each counted."""
+    counts, later = {}, {}
+    with ThreadPoolExecutor(1) as beside:
+        for name, commands in parts().items():
+            if name not in asked:
+                continue
+            if name == "edits":
+                later[name] = beside.submit(run_part, commands)
+                continue
+            counts[name] = run_part(commands)
+            if counts[name].failed and name in FIRST:
+                print(f"{name}: failed, so nothing behind it is begun")
+                break
+            if name == "proofs":
+                os.environ["LIBRARY"] = "built"
+    return counts | {name: it.result() for name, it in later.items()}
 
 
 def main(asked):
     os.chdir(os.path.dirname(os.path.dirname(os.path.realpath(__file__))))
-    found, counts = parts(), {}
-    if {*asked} - {"proofs", *found}:
-        sys.exit(f"the parts are proofs, {', '.join(found)}")
-    if not asked or "proofs" in asked:
-        counts = prove_and_edit()
-        # (for interface/build.sh, so that it doesn't prove them again)
-        os.environ["LIBRARIES"] = "proved"
-    for name, commands in found.items():
-        # (where the proofs failed there may be no program)
-        if name in asked or not asked and not counts["proofs"].failed:
-            counts[name] = sum(map(run, commands), Count())
+    known = [*parts()]
+    if {*asked} - {*known}:
+        sys.exit(f"the parts are {', '.join(known)}")
+    counts = run_all({"logic", *asked} if asked else known)
     print("by the clock, of processors, part:")
     for name, it in counts.items():
         print(f"{it.clock:7.0f} s {it.processors:7.0f} s  {name}: {it.passed} passed, {it.failed} failed")

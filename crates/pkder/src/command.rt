@@ -7,8 +7,8 @@ ghost use Rattle.pkder.specs.CommandLines.{depth_rule, kind_rule, kind_shape, oc
 use clap::{Arg, Command};
 use std::alloc::{AllocError, Global};
 
-/// The program's version, and what proved it: behind the words "proved by" stands what `rt version` prints.
-pub const VERSION: &str = "1.0.0, proved by rattle-kit-13f logic dac8208d650f15bf";
+/// The program's version, and the logic that its proofs are for, by the name that `rt version` has for it.
+pub const VERSION: &str = "1.1.0, for logic dac8208d650f15bf";
 
 const KINDS_HELP: &str = "\
 Kinds, by the line that their PEM files begin with:

@@ -1,0 +1,111 @@
+#!/usr/bin/env python3
+"""build.py [--again]: proves every crate by `rt ci`, and makes the program and the library from what it proved.
+
+It leaves the program crates/pkder/out/pkder, the library for C in interface/out, and beside the program PROVED-BY,
+which says what proved these files. Where they stand as PROVED-BY has it, and are of this commit and this toolchain,
+nothing is done; --again proves and makes them all the same. HEAP and CPU are as for interface/build.sh.
+
+Its last line is 'build: N passed, M failed': what `rt ci` counts, and the library."""
+import hashlib
+import os
+import re
+import shutil
+import subprocess
+import sys
+
+import logic
+
+PROGRAM = "crates/pkder/out/pkder"
+MADE = (PROGRAM, "interface/out/libpkder.a", "interface/out/libpkder.so.0")
+PROVED_BY = "crates/pkder/out/PROVED-BY"
+CHANGED = ", with changes that are in no commit"
+
+
+def git(*words):
+    """What git says, or nothing where there is no repository."""
+    try:
+        ran = subprocess.run(["git", *words], capture_output=True, text=True)
+    except OSError:
+        return ""
+    return ran.stdout.strip() if ran.returncode == 0 else ""
+
+
+def commit():
+    """The commit that stands here, and whether files differ from it."""
+    return (git("rev-parse", "HEAD") or "not known") + (CHANGED if git("status", "--porcelain") else "")
+
+
+def sum_of(name):
+    with open(name, "rb") as it:
+        return hashlib.file_digest(it, "sha256").hexdigest()
+
+
+def record(of_commit):
+    """The text of PROVED-BY for the files that stand, of which each has a line as sha256sum writes it."""
+    sums = "".join(f"{sum_of(it)}  {os.path.basename(it)}\n" for it in MADE)
+    return f"commit: {of_commit}\ntoolchain: {logic.toolchain()}\n{sums}"
+
+
+def stands():
+    """Whether program and library stand as this commit and this toolchain gave them."""
+    here = commit()
+    if not all(map(os.path.isfile, (*MADE, PROVED_BY))) or not re.fullmatch("[0-9a-f]+", here):
+        return False
+    with open(PROVED_BY, encoding="utf-8") as it:
+        return it.read() == record(here)
+
+
+def proofs():
+    """Proves every crate, and returns how many tests of `rt ci` passed and failed."""
+    # (`rt ci` gives back libraries of earlier checks at its end, and those that it proved are wanted)
+    for name in os.listdir("crates"):
+        shutil.rmtree(f"crates/{name}/out/rlib", ignore_errors=True)
+    last = ""
+    with subprocess.Popen(["rt", "ci"], stdout=subprocess.PIPE, stderr=subprocess.STDOUT, errors="replace") as ran:
+        for line in ran.stdout:
+            print(line, end="", flush=True)
+            last = line.strip() or last
+    found = re.fullmatch(r"([0-9]+) passed, ([0-9]+) failed", last)
+    passed, failed = (int(it) for it in found.groups()) if found else (0, 1)
+    return passed, max(failed, 1) if ran.returncode or not passed else failed
+
+
+def library():
+    """Makes the library over the crates as `rt ci` left them, and returns how many passed and failed."""
+    made = subprocess.run(["sh", "interface/build.sh"], env={**os.environ, "LIBRARIES": "proved"})
+    return (0, 1) if made.returncode else (1, 0)
+
+
+def build():
+    """Proves and makes everything, and returns how many tests passed and failed."""
+    if os.path.exists(PROVED_BY):
+        os.remove(PROVED_BY)
+    began, (passed, failed) = commit(), proofs()
+    if not failed:
+        more, failed = library()
+        passed += more
+    if not failed:
+        with open(PROVED_BY, "w", encoding="utf-8") as it:
+            it.write(record(began if commit() == began else began.removesuffix(CHANGED) + CHANGED))
+    return passed, failed
+
+
+def main(words):
+    os.chdir(logic.TOP)
+    if set(words) - {"--again"}:
+        sys.exit(__doc__)
+    why = logic.of_toolchain()
+    if why:
+        sys.exit(f"{why}\nbuild: 0 passed, 1 failed")
+    if stands() and not words:
+        print(f"{PROGRAM} and interface/out stand as {PROVED_BY} says")
+        return 0
+    passed, failed = build()
+    if not failed:
+        print(f"{PROGRAM} and interface/out are made; {PROVED_BY} says what proved them")
+    print(f"build: {passed} passed, {failed} failed", flush=True)
+    return 1 if failed else 0
+
+
+if __name__ == "__main__":
+    sys.exit(main(sys.argv[1:]))
