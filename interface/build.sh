@@ -1,16 +1,26 @@
 #!/bin/sh
-# build.sh: proves crates/pkder_c and makes libpkder.a, libpkder.so.0 and pkder.pc in interface/out.
-# HEAP=wiping puts heap_wiping.c in the place of the toolchain's heap: it wipes what it frees, and isn't proved. CPU is
-# the processor: x86-64, or x86-64-v2 or -v3 for later ones alone (nothing looks at the one that it runs on).
-# LIBRARIES=proved takes the libraries below as `rt ci` left them just before, where `rt lib` proves them all again.
+# build.sh: proves crates/pkder_c and makes libpkder.a, libpkder.so.0 and pkder.pc in interface/out. It takes no words;
+# tools/build.py calls it once `rt ci` has proved every crate. By the environment:
+#   HEAP=wiping       heap_wiping.c in the place of the toolchain's heap: it wipes what it frees, and isn't proved
+#   CPU=x86-64        the processor; x86-64-v2 or x86-64-v3 for later ones alone (nothing looks at the one it runs on)
+#   LIBRARIES=proved  over the libraries as `rt ci` left them just before, where `rt lib` proves them all again
 set -eu
+
+# refuse WHAT: says what is refused and how to call this, before anything is done
+refuse() {
+    echo "build.sh: $1" >&2
+    sed -n '2,/^set /s/^# //p' "$0" >&2
+    exit 1
+}
+
+[ "${1:-}" != --help ] || { sed -n '2,/^set /s/^# //p' "$0" && exit; }
+[ $# = 0 ] || refuse "there is no word '$1'"
+case ${HEAP:-} in "" | wiping) ;; *) refuse "HEAP is wiping or not set" ;; esac
+case ${LIBRARIES:-} in "" | proved) ;; *) refuse "LIBRARIES is proved or not set" ;; esac
+case ${CPU:-x86-64} in x86-64 | x86-64-v2 | x86-64-v3) ;; *) refuse "CPU is x86-64, x86-64-v2 or x86-64-v3" ;; esac
 here=$(cd "$(dirname "$0")" && pwd)
 crate=$here/../crates/pkder_c
 out=$here/out
-case ${HEAP:-} in
-    "" | wiping) ;;
-    *) echo "build.sh: HEAP is wiping or not set" >&2 && exit 1 ;;
-esac
 kit=$(dirname "$(rt doc)")
 
 # What `rt lib` runs for pkder_c alone, over the libraries that stand in crates/.
@@ -51,7 +61,7 @@ else
     ar x "$kit/c/liblibc_c.a" heap.pic.o
 fi
 # One object whose only global names are those of pkder.map, so that a program can link two libraries that are made so.
-ld -r -o whole *.o
+ld -r -o whole ./*.o
 sed -n 's/^ *\(pkder_[a-z_]*\);$/\1/p' "$here/pkder.map" > names
 objcopy --keep-global-symbols=names --strip-unneeded whole pkder.o
 rm -f "$out/libpkder.a"

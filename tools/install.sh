@@ -62,8 +62,15 @@ put_library() {
 
 for what in "${@:-program}"; do
     case $what in
-        program) put_program ;;
-        library) put_library ;;
-        *) echo "install.sh: what is to be put in place is program or library" >&2 && exit 1 ;;
+        program | library) ;;
+        --help) sed -n '2,/^set /s/^# //p' "$0" && exit ;;
+        *)
+            echo "install.sh: $what can't be put in place: program or library" >&2
+            sed -n '2,/^set /s/^# //p' "$0" >&2
+            exit 1
+            ;;
     esac
+done
+for what in "${@:-program}"; do
+    "put_$what"
 done
