@@ -22,6 +22,7 @@ linked() {
 beside_openssl() {
     program=$1 malloc=$2
     shift 2
+    # shellcheck disable=SC2086 # (a flag, or none)
     cc -O2 -Wall $malloc -c -o "$here/out/$program.o" "$here/openssl.c"
     linked "$program" values.rs -l crypto -C link-arg="$here/out/$program.o" "$@"
 }

@@ -1,5 +1,6 @@
 // What the benchmarks need of C: values of a type read and written by OpenSSL, the octets of memory that are taken, and
-// the processor's time.
+// the processor's time. Not laid out by clang-format, which takes OpenSSL's macros of types for statements.
+// clang-format off
 #include <malloc.h>
 #include <openssl/asn1t.h>
 #include <openssl/x509.h>

@@ -224,11 +224,12 @@ fn compare_sets(name: &str, members: &[Vec<u8>]) -> Vec<f64> {
     let mut sorted = members.to_vec();
     sorted.sort();
     let (given, due) = (element(0x31, &members.concat()), element(0x31, &sorted.concat()));
-    compare(name, &given, &due, &[
-        ("OpenSSL", openssl::<SET_OF_STRINGS>),
-        ("SetOf", values_bench_set),
-        ("Any", values_bench_any),
-    ])
+    compare(
+        name,
+        &given,
+        &due,
+        &[("OpenSSL", openssl::<SET_OF_STRINGS>), ("SetOf", values_bench_set), ("Any", values_bench_any)],
+    )
 }
 
 fn sets(wanted: impl Fn(&str) -> bool) {

@@ -92,12 +92,12 @@ extern "C" {
 #define PKDER_BAD_CALL 4u  /* no kind, or no part, has that number, or the limits are out of range */
 #define PKDER_NOT_DER 5u   /* pkder_check alone: the octets are a document, and not in DER */
 
-/* A number that a status doesn't use is 0, the spare one always. */
+/* A number that a status doesn't use is 0. */
 typedef struct pkder_outcome {
     uint32_t status;        /* PKDER_ACCEPTED to PKDER_NOT_DER */
     uint32_t reason;        /* of a fault: the number of its reason, 1 to 27 */
     uint32_t inside_reason; /* of a fault inside an OCTET STRING (PKDER_REASON_INNER): the number of its reason */
-    uint32_t spare;
+    uint32_t spare;         /* 0 */
     uint64_t at;            /* of a fault: its place in src; not in DER: the first place where the DER text has another
                              * octet */
     uint64_t inside_at;     /* of a fault inside an OCTET STRING: its place in the octets that the string holds, which

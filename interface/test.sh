@@ -4,6 +4,7 @@
 # LIBRARY=built takes the library that stands in interface/out.
 # By hand: ROUNDS=5000 DOCUMENTS=20000 sh interface/test.sh probes for minutes (200 and 500 unless said otherwise);
 # HEAP=wiping has the wiping heap tried.
+# shellcheck disable=SC2086 # (lists of flags)
 set -u
 here=$(cd "$(dirname "$0")" && pwd)
 top=$(dirname "$here") out=$here/out
@@ -203,6 +204,7 @@ in_rust() {
 
 in_go() {
     cp -r "$here/go" "$work/go"
+    # shellcheck disable=SC2016 # (for the inner shell)
     set -- env "GOCACHE=$work/gocache" "PKDER_CALLS=$work/calls.tsv" GOPROXY=off sh -c 'cd "$0" && exec go "$@"' \
         "$work/go"
     try "rows in Go" env "PKG_CONFIG_PATH=$out" "LD_LIBRARY_PATH=$out" "$@" test -count=1 .

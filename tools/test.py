@@ -15,7 +15,7 @@ import time
 from concurrent.futures import ThreadPoolExecutor
 
 PROGRAM = "crates/pkder/out/pkder"
-FIRST = ("logic", "records", "proofs")
+FIRST = ("logic", "records", "lint", "proofs")
 ROWS = ["python3", "tools/rows.py"]
 GROWTHS = ["python3", "tools/refused_growths.py"]
 TRANSCRIPTS = ["python3", "tools/transcripts.py", "README.md", "docs/manual.md"]
@@ -68,6 +68,7 @@ def parts():
     return {
         "logic": lambda: [["python3", "tools/logic.py"]],
         "records": lambda: [["python3", "tools/edits.py", "--check"]],
+        "lint": lambda: [["python3", "tools/lint.py"]],
         "proofs": lambda: [PROOFS],
         "edits": lambda: [EDITS],
         "rows": lambda: [rows_of(it) for it in sorted(os.listdir("tests"))],

@@ -175,6 +175,7 @@ static void check_each(const struct task *task, const uint8_t *src, size_t len, 
 /* Numbers out of range, some of which are in range by their last octets. */
 static void try_bad_calls(void) {
     static const uint8_t src[2] = {0x30, 0};
+    /* clang-format off */
     static const struct task rows[] = {
         {NULL, 0, 32, 100},         {NULL, 7, 32, 100},          {NULL, 257, 32, 100},
         {NULL, 0x10001, 32, 100},   {NULL, UINT32_MAX, 32, 100}, {NULL, 1, 0, 100},
@@ -183,6 +184,7 @@ static void try_bad_calls(void) {
         {NULL, 1, 32, UINT32_MAX},  {NULL, 1, 32, UINT64_C(0x100000064)},
         {NULL, 1, 32, UINT64_MAX},  {NULL, 0, 0, 0},
     };
+    /* clang-format on */
     const pkder_outcome due = {PKDER_BAD_CALL, 0, 0, 0, 0, 0, 0, 0};
     for (size_t i = 0; i < sizeof rows / sizeof *rows; i++) {
         check_each(&rows[i], src, sizeof src, &due);
@@ -212,6 +214,7 @@ static void try_nothing(void) {
 
 /* The reasons have the names of their numbers in pkder.h. */
 static void try_names(void) {
+    /* clang-format off */
     static const char *const names[] = {
         [PKDER_REASON_TRUNCATED] = "Truncated",     [PKDER_REASON_TOO_LONG] = "TooLong",
         [PKDER_REASON_BAD_TAG] = "BadTag",          [PKDER_REASON_PAST_END] = "PastEnd",
@@ -228,6 +231,7 @@ static void try_names(void) {
         [PKDER_REASON_VERSION_RULE] = "VersionRule", [PKDER_REASON_TEXT_TOO_LONG] = "TextTooLong",
         [PKDER_REASON_TRAILING] = "Trailing",
     };
+    /* clang-format on */
     uint8_t name[32];
     for (uint32_t reason = 0; reason < 300; reason++) {
         const char *due = reason < sizeof names / sizeof *names && names[reason] != NULL ? names[reason] : "";

@@ -17,6 +17,7 @@ struct shape {
     uint8_t before[20], behind[24];
 };
 
+/* clang-format off */
 static const struct shape shapes[] = {
     {PKDER_PUBLIC, 2, 0x30, 7, 8, {0x30, 0x80, 0x30, 0x80, 6, 1, 42}, {0, 0, 3, 2, 0, 1}},
     {PKDER_PUBLIC, 2, 0x31, 7, 8, {0x30, 0x80, 0x30, 0x80, 6, 1, 42}, {0, 0, 3, 2, 0, 1}},
@@ -30,6 +31,7 @@ static const struct shape shapes[] = {
     {PKDER_REQUEST, 4, 0x31, 16, 24, {0x30, 0x80, 0x30, 0x80, 2, 1, 0, 0x30, 0, 0x30, 0x80, 0x30, 0x80, 6, 1, 42},
      {0, 0, 3, 2, 0, 1, 0, 0, 0xA0, 0x80, 0, 0, 0, 0, 0x30, 3, 6, 1, 42, 3, 1, 0}},
 };
+/* clang-format on */
 
 static uint8_t deep[300000];
 static size_t deep_len;

@@ -29,13 +29,31 @@ type TextFunction = unsafe extern "C" fn(u32, u32, u64, *const u8, usize, *mut u
 
 extern "C" {
     fn pkder_normalise(
-        kind: u32, depth: u32, octets: u64, src: *const u8, src_len: usize, dst: *mut u8, dst_len: usize,
+        kind: u32,
+        depth: u32,
+        octets: u64,
+        src: *const u8,
+        src_len: usize,
+        dst: *mut u8,
+        dst_len: usize,
     ) -> Outcome;
     fn pkder_signed(
-        part: u32, depth: u32, octets: u64, src: *const u8, src_len: usize, dst: *mut u8, dst_len: usize,
+        part: u32,
+        depth: u32,
+        octets: u64,
+        src: *const u8,
+        src_len: usize,
+        dst: *mut u8,
+        dst_len: usize,
     ) -> Outcome;
     fn pkder_show(
-        kind: u32, depth: u32, octets: u64, src: *const u8, src_len: usize, dst: *mut u8, dst_len: usize,
+        kind: u32,
+        depth: u32,
+        octets: u64,
+        src: *const u8,
+        src_len: usize,
+        dst: *mut u8,
+        dst_len: usize,
     ) -> Outcome;
     fn pkder_check(kind: u32, depth: u32, octets: u64, src: *const u8, src_len: usize) -> Outcome;
     fn pkder_reason_name(reason: u32, dst: *mut u8, dst_len: usize) -> usize;

@@ -1,0 +1,65 @@
+#!/usr/bin/env python3
+"""lint.py: what is written in Python, shell, C, Rust, Go and for man pages, looked at by the usual tool of each.
+
+A tool that the machine lacks is left out, and said. The last line is 'lint: N passed, M failed', a tool counting once.
+How each is to look stands in .flake8, .shellcheckrc, .clang-format and interface/rust/rustfmt.toml."""
+import fnmatch
+import os
+import shutil
+import subprocess
+import sys
+from concurrent.futures import ThreadPoolExecutor
+
+TOP = os.path.dirname(os.path.dirname(os.path.realpath(__file__)))
+PARSED = "import ast, sys; [ast.parse(open(it).read(), it) for it in sys.argv[1:]]"
+RUSTFMT = ("rustfmt", "--config-path", "interface/rust", "--check", "--color", "never", "--edition")
+# the files, the command, and the package of Debian that has it
+LOOKS = [
+    (("*.py",), ("python3", "-c", PARSED), "python3"),
+    (("*.py",), ("flake8",), "flake8"),
+    (("*.sh", ".ci/run"), ("shellcheck",), "shellcheck"),
+    (("*.c", "*.h"), ("clang-format", "--dry-run", "-Werror"), "clang-format"),
+    (("interface/rust/*.rs",), (*RUSTFMT, "2021"), "rustfmt"),
+    (("bench/*.rs",), (*RUSTFMT, "2024"), "none; rustup has a later rustfmt"),
+    (("*.go",), ("gofmt", "-d"), "golang-go"),
+    (("*.1", "*.3"), ("mandoc", "-T", "lint"), "mandoc"),
+]
+
+
+def can_run(command):
+    """Whether the machine has the tool, and the tool knows the edition."""
+    if not shutil.which(command[0]):
+        return False
+    return command[0] != "rustfmt" or not subprocess.run([*command, "--version"], capture_output=True).returncode
+
+
+def looked(files, patterns, command):
+    """What the command says of these files, nothing where all is well, and None where it can't be run."""
+    if not can_run(command):
+        return None
+    found = [it for it in files if any(fnmatch.fnmatch(it, pattern) for pattern in patterns)]
+    ran = subprocess.run([*command, *found], capture_output=True, text=True, errors="replace")
+    # (mandoc's standard error is of the machine's other pages)
+    if ran.returncode or ran.stdout or not found:
+        return f"{ran.stdout}{ran.stderr}status {ran.returncode}, {len(found)} files"
+    return ""
+
+
+def main():
+    os.chdir(TOP)
+    listed = subprocess.run(["git", "ls-files", "-co", "--exclude-standard"], capture_output=True, text=True)
+    files = [it for it in listed.stdout.splitlines() if os.path.isfile(it)]
+    with ThreadPoolExecutor() as side_by_side:
+        said = [*side_by_side.map(lambda it: looked(files, *it[:2]), LOOKS)]
+    for (_, command, package), text in zip(LOOKS, said):
+        if text is None:
+            print(f"left out: no {' '.join(command)} (Debian: {package})")
+        elif text:
+            print(f"{command[0]}:\n{text}")
+    passed, failed = sum(it == "" for it in said), sum(bool(it) for it in said)
+    print(f"lint: {passed} passed, {failed} failed")
+    return 1 if failed else 0
+
+
+if __name__ == "__main__":
+    sys.exit(main())
