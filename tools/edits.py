@@ -1,470 +1,545 @@
 #!/usr/bin/env python3
-"""edits.py [--beside-gate | --over-kept] [--all-counts] [--anew] [NAME | NAME/EDIT ..]: bugs planted in the code, which
-the proofs must refuse.
+"""edits.py WORD..: bugs planted in the code, which the proofs must refuse, and the record that all were refused.
 
-The edits stand in crates/NAME/edits, written as those of must-fail/ are. Without names all are tried, and the control.
+  --check      says in a second, and proves nothing, which crates' records are stale: 'records: N passed, M failed'
+  --quarter    tries the crates whose records are stale, and a quarter of all, which goes round with the commits
+  --stale      tries the crates whose records are stale, and writes the record
+  --all        tries all crates, and writes the record
+  NAME ..      tries these crates, and writes the record; NAME/EDIT tries one edit, and writes nothing
+  --jobs N     how many processors to use (all)
 
-A round is one check of the crate with many edits in it, at most one in a function, over what the rounds before it
-proved; the first one looks at the whole crate, the others at the functions with edits alone. A function's proof rests
-on the contracts of what it calls and on its own code alone, so each edit is judged by what the check says of its own
-function:
+A table of edits, crates/NAME/edits.toml, has for each edit its name, the function whose proof must refuse it, the file,
+what stands there once, and what is put there in its place. An edit of several texts has its name over each, as
+[[NAME]]. One that names no function is tried alone, in a check of the whole crate.
+
+A round is one check with many edits in it, at most one for a function, over what the rounds before it proved, of these
+functions and what they call. A function's proof rests on the contracts of what it calls and on its own code alone, so
+each edit is judged by what the check says of its own function:
   refused    a part of the function's own proof failed
   waits      the function calls one that has no proof in this round, so the edit comes again in the next one
-What this doesn't tell is tried alone, as `rt ci` tries the edits of must-fail/: an edit outside of functions, one whose
-function is proved with it, those of a round that can't be read, or in which a function failed that none of them is in.
+What this doesn't tell is tried alone. An edit that only a name tells, as where a proof cites what the edit took away,
+says little of the contract: it has failed, as one that is not refused has.
 
 Searches get half of their counts (--margin): most of an edit's time is a search that finds nothing. So that it is the
-edit which is refused and not a long proof, the crate as it stands has to be proved with half of them, too; where it
-isn't, and under --all-counts, its edits are tried with all of them.
+edit which is refused and not a long proof, a function in which a search gave up has to be proved as it stands with half
+of them, too; where it isn't, its edits are tried with all of them.
 
---beside-gate is for use beside `rt ci`: standard input names each crate once it is proved, and the libraries are those
-that `rt ci` left. Else the crate is proved first, with --over-kept over what `rt check` kept. The script reads the
-lines of the toolchain's check and calls its script `rt`, of this kit both.
+The record, tools/edits_refused.tsv, has for each crate how many edits were refused, and the sum of the program logic
+(not of the kit that it comes in), the crate's files and its table. What the crate stands on isn't in it: a contract
+below that gets too weak to refuse an edit is found by the quarter that comes to the crate, and so is a false record.
 
-An edit that is refused stays so wherever the same is tried, so it is kept on this machine as `rt ci` keeps what it
-proved: by the sum of the toolchain, of this script, of the crate, of those below it and of the edit. A later run takes
-it over, and tries what has changed; --anew tries all. What was tried beside `rt ci` isn't taken from another run.
+LIBRARIES=proved takes the libraries below a crate as `rt ci` left them just before. Without it, and where the toolchain
+doesn't take them so, `rt check` proves them first.
 
-Each edit has a line, and the last line is 'edits: N passed, M failed'."""
+Each edit has a line; the last line is 'edits: N passed, M failed'."""
+import concurrent.futures
 import hashlib
-import importlib.machinery
-import importlib.util
 import os
 import re
 import shutil
+import subprocess
 import sys
 import tempfile
-from concurrent.futures import ThreadPoolExecutor
+import threading
+import tomllib
 
-sys.dont_write_bytecode = True
 TOOLS = os.path.dirname(os.path.realpath(__file__))
-CONTROL = f"{TOOLS}/edits_control"
-# How the name of an edit of the control begins, and what is due of it.
-CONTROLLED = {"refused": "refused", "proved": "NOT REFUSED", "bad": "BAD EDIT"}
-FUNCTION = re.compile(r"( *)(?:pub(?:\([^)]*\))? )?(?:const )?(?:unsafe )?(?:extern \"C\" )?fn (\w+)")
-CYCLE = re.compile(r" *#\[cycle\((\w+)\)\]")
-IMPL = re.compile(r"impl\b(?:<[^{]*?>)? (?:[^{]*\bfor )?&?(?:'\w+ )?(?:mut )?(?:\w+::)*(\w+)")
-ALONE = "to be tried alone"
+RECORD = "tools/edits_refused.tsv"
+# Edits of one crate that show whether this script tells apart what it must: how the name of each begins, and how what
+# is said of it must begin.
+CONTROL, CONTROL_CRATE = "tools/edits_control.toml", "tlv_core"
+CONTROLLED = {"refused": "refused: ", "proved": "NOT REFUSED", "bad": "BAD EDIT", "named": "refused by a name alone"}
+PARTS = ("src", "specs", "proofs")
+NAME = re.compile(r"[A-Za-z0-9_-]+")
 HALF = "--margin"
-# How a proof fails that names what an edit took away, which says little of the contract.
+# How a proof fails that names what an edit took away, and what such a failure takes with it.
 BY_NAME = re.compile(r"proofs/.*(has no field|is not in scope|has no `)")
-
-
-def toolchain():
-    loader = importlib.machinery.SourceFileLoader("rt_of_the_kit", os.path.realpath(shutil.which("rt")))
-    made = importlib.util.module_from_spec(importlib.util.spec_from_loader("rt_of_the_kit", loader))
-    loader.exec_module(made)
-    return made
-
-
-class Share:
-    """The processors between the crates that are tried: one each, and more for the last ones."""
-
-    def __init__(self):
-        self.trials, self.is_whole = [], False
-
-    def each(self):
-        """How many processors a crate has."""
-        count = sum(not it.done() for it in self.trials) if self.is_whole else rt.processors()
-        return max(1, rt.processors() // max(1, count))
-
-    def rounds(self):
-        """How many rounds of a crate run at once: a round alone can't keep many processors busy."""
-        return min(2, self.each())
-
-    def jobs(self):
-        """The words that give a check its share."""
-        return ["--jobs", str(max(1, self.each() // self.rounds()))]
-
-
-rt = toolchain()
-rtlib = rt.rtlib
-share = Share()
+CITED = "was not admitted"
+# How a check says that a text can't be read, where an edit that only makes a statement false reads well.
+UNREAD = re.compile(r"is not in scope|has no field|is no name|operand is missing|expected the end|cannot continue")
+# What a check says of a goal that is false, however long a search looks.
+FALSE = "allow values at which this goal is false"
+SAYING = threading.Lock()
 
 
 def say(text):
-    print(text, flush=True)
+    with SAYING:
+        print(text, flush=True)
 
 
-def functions_in(text):
-    """Returns of each function in a file its first and last line, its type, if it has one, its name and its cycle."""
-    lines, found, cycle, of_type = text.split("\n"), [], None, None
-    for at, line in enumerate(lines):
-        named, head, impl = CYCLE.match(line), FUNCTION.match(line), IMPL.match(line)
-        cycle = named[1] if named else cycle
-        of_type = impl[1] if impl else None if line == "}" else of_type
-        if head:
-            # (the last brace stands under the first word; a function of a trait may have no body)
-            ends = [lines[i] == f"{head[1]}}}" or bool(FUNCTION.match(lines[i])) for i in range(at + 1, len(lines))]
-            end = at + 1 + ends.index(True) if True in ends else len(lines)
-            found.append((at, end, of_type if head[1] else None, head[2], cycle))
-            cycle = None
+def text_of(file):
+    with open(file, encoding="utf-8") as it:
+        return it.read()
+
+
+class Crate:
+    """A crate by its line in crates.txt."""
+
+    def __init__(self, line):
+        head, _, uses = line.partition(":")
+        self.line, self.uses = line, uses.split()
+        self.name, *self.words = head.split()
+        self.folder, self.below = f"crates/{self.name}", []
+
+    def files(self):
+        """The files of its parts by their paths in its folder, in order."""
+        walked = (found for part in PARTS for found in os.walk(f"{self.folder}/{part}"))
+        return sorted(os.path.relpath(f"{at}/{it}", self.folder) for at, _, names in walked for it in names)
+
+    def edits(self):
+        return edits_in(f"{self.folder}/edits.toml")
+
+    def cycles(self):
+        """The cycle of each function that is in one, by its name: such functions have one proof."""
+        texts = "".join(text_of(f"{self.folder}/{it}") for it in self.files() if it.startswith("src/"))
+        return {name: cycle for cycle, name in re.findall(r"#\[cycle\((\w+)\)\][^;{]*?\bfn (\w+)", texts)}
+
+
+def crates_here():
+    """The crates of the repository by name, each with all that stand below it, lowest first."""
+    lines = (it.partition("#")[0].strip() for it in text_of("crates.txt").split("\n"))
+    found = {it.name: it for it in map(Crate, filter(None, lines))}
+
+    def settle(crate):
+        for dep in (found[use] for use in crate.uses if use in found):
+            settle(dep)
+            crate.below += [it for it in [*dep.below, dep] if it not in crate.below]
+
+    for it in found.values():
+        if not it.below:
+            settle(it)
     return found
 
 
-class Code:
-    """The functions of a crate, by where they stand and by the paths that a check names them by."""
+class Edit:
+    """An edit: its name, and its changes of texts."""
 
-    def __init__(self, crate):
-        self.crate, self.paths, self.cycles = crate, set(), {}
-        walked = os.walk(f"{crate.folder}/src")
-        files = [f"{at}/{it}" for at, _, names in walked for it in names if it.endswith(".rt")]
-        self.texts = {self.module_in(os.path.relpath(it, crate.folder)): rtlib.text_of(it) for it in files}
+    def __init__(self, name, changes):
+        self.name, self.changes = name, changes
+        self.functions = {it["function"] for it in changes if "function" in it}
+        forms = ({"function", "file", "old", "new"}, {"file", "old", "new"})
+        good = all(it.keys() in forms and all(isinstance(text, str) for text in it.values()) for it in changes)
+        self.why = None if good and NAME.fullmatch(name) else "it has not the form of an edit"
 
-    def look(self, said):
-        """Reads the functions' paths off a check of the whole crate, and which have their proof together."""
-        self.paths = set(re.findall(rf"(?m)^fn {self.crate.name}::(\S+): ", said))
-        for module, text in self.texts.items():
-            for _, _, of_type, name, cycle in functions_in(text):
-                self.cycles.update({it: cycle for it in self.paths_of(module, of_type, name) if cycle})
 
-    def module_in(self, file):
-        inside = file[len("src/") : -len(".rt")].replace("/", "::")
-        return "" if inside in ("lib", "main") else inside
+def edits_in(file):
+    """The edits of a table, which may be none."""
+    if not os.path.isfile(file):
+        return []
+    try:
+        found = tomllib.loads(text_of(file))
+    except tomllib.TOMLDecodeError as error:
+        sys.exit(f"{file}: {error}")
+    return [Edit(name, it if isinstance(it, list) else [it]) for name, it in found.items()]
 
-    def module_of(self, path):
-        inside = path.split("::")
-        above = ["::".join(inside[:it]) for it in range(len(inside))]
-        return [it for it in above if it in self.texts or not it][-1]
 
-    def paths_of(self, module, of_type, name):
-        """The paths that a function of a file may have: under the file's module, or else under that of its type."""
-        named = [it for it in self.paths if it.split("::")[-1] == name]
-        near = {it for it in named if self.module_of(it) == module}
-        return near or {it for it in named if of_type and f"::{it}".rsplit("::", 2)[-2].startswith(of_type)}
+def applied(edits, folder):
+    """Returns the texts of the files that edits change, or says why they can't be applied."""
+    texts = {}
+    for change in (it for edit in edits for it in edit.changes):
+        path, old = change["file"], change["old"]
+        if os.path.normpath(path) != path or not path.startswith(tuple(f"{part}/" for part in PARTS)):
+            return None, f"a file is none below {', '.join(PARTS)}"
+        if not os.path.isfile(f"{folder}/{path}"):
+            return None, f"there is no file {path}"
+        text = texts.get(path) or text_of(f"{folder}/{path}")
+        count = text.count(old) if old else 0
+        if count != 1:
+            return None, f"an old text is in {path} {count} times, and not once"
+        texts[path] = text.replace(old, change["new"])
+    return texts, None
+
+
+# The record.
+
+
+class Record:
+    """How many edits of each crate were refused, and at what sum."""
+
+    def __init__(self, crates):
+        said = subprocess.run(["rt", "version"], stdout=subprocess.PIPE, text=True, check=True).stdout
+        logic = re.search(r"\blogic (\w+)", said)
+        if not logic:
+            sys.exit(f"`rt version` names no logic: {said.strip()}")
+        self.logic, rows = logic[1], []
+        if os.path.isfile(RECORD):
+            rows = [it.split("\t") for it in text_of(RECORD).splitlines() if not it.startswith("#")]
+        self.rows = {name: (int(count), of_all) for name, count, of_all in rows}
+        self.crates = {it.name: it for it in crates.values() if os.path.isfile(f"{it.folder}/edits.toml")}
+        self.due = {name: self.sum_of(it) for name, it in self.crates.items()}
+
+    def sum_of(self, crate):
+        made = hashlib.sha256(f"{self.logic}\n{crate.line}\n".encode())
+        for file in [*crate.files(), "edits.toml"]:
+            text = text_of(f"{crate.folder}/{file}").encode()
+            made.update(b"%s %d\n%s" % (file.encode(), len(text), text))
+        return made.hexdigest()
+
+    def why_stale(self, name):
+        """What is wrong with the record of a crate, or None."""
+        if name not in self.rows:
+            return "has no record"
+        if name not in self.due:
+            return "has a record, and no edits"
+        count, of_all = self.rows[name]
+        if of_all != self.due[name]:
+            return "has changed since its edits were tried"
+        known = len(self.crates[name].edits())
+        return None if count == known else f"has {known} edits, its record {count}"
+
+    def stale(self):
+        """The crates whose records are stale, and why."""
+        return {it: why for it in {**self.due, **self.rows} if (why := self.why_stale(it))}
+
+    def quarter(self):
+        """The crates whose turn it is: each fourth one by the number of edits, from where the count of commits says."""
+        words = ["git", "rev-list", "--count", "HEAD"]
+        count = int(subprocess.run(words, stdout=subprocess.PIPE, text=True, check=True).stdout)
+        named = sorted(self.due, key=lambda it: (-len(self.crates[it].edits()), it))
+        return named[count % 4 :: 4]
+
+    def note(self, crate, refused):
+        """Records of a crate how many edits were refused just now, None where not all were."""
+        if self.sum_of(crate) != self.due[crate.name]:
+            say(f"{crate.name} was changed meanwhile, so nothing is recorded")
+            return
+        self.rows.pop(crate.name, None)
+        if refused is not None:
+            self.rows[crate.name] = refused, self.due[crate.name]
+        rows = (f"{it}\t{count}\t{of_all}\n" for it, (count, of_all) in sorted(self.rows.items()) if it in self.due)
+        with open(f"{RECORD}.new", "w", encoding="utf-8") as it:
+            it.write("# crate\tedits that were refused\tthe sum of what that stands on (tools/edits.py)\n")
+            it.writelines(rows)
+        os.replace(f"{RECORD}.new", RECORD)
+
+    def check(self):
+        """Says of each crate whose record is stale why, and counts."""
+        stale = self.stale()
+        for it, why in stale.items():
+            say(f"{it} {why}: python3 tools/edits.py --stale tries its edits, and writes {RECORD}")
+        passed = len(self.due) - len([it for it in stale if it in self.due])
+        say(f"records: {passed} passed, {len(stale) + (not self.due)} failed")
+        return 1 if stale or not self.due else 0
+
+
+# Checks.
+
+
+class Share:
+    """The processors between the crates that are tried side by side."""
+
+    def __init__(self, jobs):
+        self.jobs, self.left, self.lock = jobs, 0, threading.Lock()
+
+    def words(self):
+        """The words that give a check its share."""
+        return ["--jobs", str(max(1, self.jobs // max(1, min(self.left, self.jobs))))]
+
+
+def output_of(words, folder):
+    how = {"stdin": subprocess.DEVNULL, "stdout": subprocess.PIPE, "stderr": subprocess.STDOUT, "errors": "replace"}
+    return subprocess.run(words, cwd=folder, text=True, check=False, **how).stdout
+
+
+class OverLibraries:
+    """Checks of a crate over the libraries that `rt ci` left, as interface/build.sh builds over them."""
+
+    def __init__(self, crate, room):
+        self.crate, self.folder, self.kept = crate, f"{room}/{crate.name}", f"{room}/{crate.name}.kept"
+        for part in PARTS:
+            if os.path.isdir(f"{crate.folder}/{part}"):
+                shutil.copytree(f"{crate.folder}/{part}", f"{self.folder}/{part}")
+        self.kit = os.path.dirname(subprocess.run(["rt", "doc"], stdout=subprocess.PIPE, text=True, check=True).stdout)
+
+    def libraries(self):
+        of_kit = {use: f"{self.kit}/rlibs/{use}.rlib" for use in ["std", *self.crate.uses]}
+        built = {it.name: os.path.abspath(f"{it.folder}/out/rlib/{it.name}.rlib") for it in self.crate.below}
+        for use in ["std", *self.crate.uses]:
+            yield from ("--extern", f"{use}={built.get(use) or of_kit[use]}")
+        for it in [f"{self.kit}/rlibs", *map(os.path.dirname, built.values())]:
+            yield from ("-L", f"dependency={it}")
+
+    def check(self, words):
+        top = "main" if os.path.isfile(f"{self.folder}/src/main.rt") else "lib"
+        kind = ["--crate-type", "staticlib"] if "staticlib" in self.crate.words else []
+        words = [f"{self.kit}/bin/rattle", "check", "--crate-name", self.crate.name, f"src/{top}.rt", *kind,
+                 *self.libraries(), "--antt-project", f"{self.kit}/rattle/logic/antt-project.json",
+                 "--logic-built", f"{self.kit}/logic_built", "--incremental", self.kept, *words]
+        return output_of(words, self.folder)
+
+    def serves(self):
+        """Whether the toolchain takes them so."""
+        try:
+            return verdict_in(self.check(["--only", ""])).startswith("only=0")
+        except OSError:
+            return False
+
+
+class OverRt:
+    """Checks of a crate by `rt`, which proves all below it first, in a copy of what it stands on."""
+
+    def __init__(self, crate, room):
+        root = f"{room}/{crate.name}.root"
+        self.folder = f"{root}/{crate.folder}"
+        os.makedirs(root)
+        with open(f"{root}/crates.txt", "w", encoding="utf-8") as it:
+            it.writelines(f"{one.line}\n" for one in [*crate.below, crate])
+        for one in [*crate.below, crate]:
+            for part in PARTS:
+                if os.path.isdir(f"{one.folder}/{part}"):
+                    shutil.copytree(f"{one.folder}/{part}", f"{root}/{one.folder}/{part}")
+
+    def check(self, words):
+        return output_of(["rt", "check", *words], self.folder)
+
+
+def checks_of(crate, room):
+    """Returns how the crate is checked."""
+    if os.environ.get("LIBRARIES") == "proved":
+        found = OverLibraries(crate, room)
+        if found.serves():
+            return found
+        say(f"{crate.name}: the libraries below can't be taken as they are, so rt proves them")
+    return OverRt(crate, room)
+
+
+def verdict_in(said):
+    """The line of a check that gives its verdict: '' where it gave none."""
+    found = [it for it in said.split("\n") if it.startswith(("logic=", "only="))]
+    return found[-1] if found else ""
+
+
+class Said:
+    """What a check says of the functions of a crate."""
+
+    def __init__(self, crate, text):
+        self.cycles = crate.cycles()
+        self.lines = [it for it in text.split("\n") if not it.startswith("so far: ")]
+        self.verdict, self.proved, self.failed, notes = verdict_in(text), set(), {}, []
+        for line in self.lines:
+            ended = re.match(rf"fn {crate.name}::(\S+): (.*)", line)
+            if ended and ended[2] == "proved":
+                self.proved.add(ended[1])
+            elif ended:
+                self.failed[ended[1]] = self.why(*ended.groups(), notes)
+            notes = [*notes, line] if line.startswith("note: src/") else [] if ended else notes
+
+    def why(self, path, verdict, notes):
+        """Returns what is wrong with a function's own proof, or None where it only waits for another one's."""
+        above, _, name = path.replace("::", "/").rpartition("/")
+        # (the proof of a function that calls itself, or of some that call each other, stands under a name with a +)
+        folder = rf"{re.escape(above)}{'/' * bool(above)}(?:\+?{name}|\+{self.cycles.get(name, name)})"
+        own = re.compile(rf"(?:\./)?proofs/{folder}/\S*: error: ")
+        errors = [it for it in self.lines if own.match(it) and CITED not in it]
+        told, named = ([it for it in errors if bool(BY_NAME.search(it)) == is_named] for is_named in (False, True))
+        # (where a function waits no search has looked at some of its goals, so a name may not be all)
+        is_waiting = "it calls " in verdict or "it waits " in verdict
+        return (told + [None] if is_waiting else told + notes + named + [verdict])[0]
+
+    def unread(self, changed):
+        """The first line which says that a text of src/, specs/ or a changed file couldn't be read, or None."""
+        for line in self.lines:
+            at = re.match(r"(?:\./)?(\S+?):\d+:\d+: error: (?:(`[^`]*`): )?(.*)", line)
+            if at and (at[1] in changed or at[1].startswith(("src/", "specs/"))):
+                if not at[2] or UNREAD.search(re.sub(r"`[^`]*`", "", at[3])):
+                    return line
+        return None
+
+    def first(self):
+        """The first thing that failed."""
+        told = [it for it in self.lines if re.match(r"(note: src/|\S+:\d+:\d+: error)", it)]
+        best = [it for it in told if not BY_NAME.search(it) and CITED not in it]
+        return [*best, *told, self.verdict][0]
+
+
+def refusal(why):
+    return f"refused{' by a name alone' if BY_NAME.search(why) else ''}: {why[:200]}"
+
+
+class Trial:
+    """The edits of one crate."""
+
+    def __init__(self, crate, room, share):
+        self.crate, self.share, self.checks, self.cycles = crate, share, checks_of(crate, room), crate.cycles()
 
     def proof_of(self, path):
-        """What the function's proof is named by: functions of a cycle have theirs together."""
-        return f"+{self.cycles[path]}" if path in self.cycles else path
+        """What a function's proof is named by: those of a cycle have theirs together."""
+        above, _, name = path.rpartition("::")
+        return f"{above}::+{self.cycles[name]}" if name in self.cycles else path
 
-    def own_errors(self, path, lines):
-        """Returns the errors in the files of the function's own proof."""
-        above, _, name = path.replace("::", "/").rpartition("/")
-        folders = [f"{above}/{name}".lstrip("/"), f"{above}/+{name}".lstrip("/")]
-        of_cycle = rf"(?:\S*/)?{re.escape(self.proof_of(path))}"
-        folders = [re.escape(it) for it in folders] + [of_cycle] * (path in self.cycles)
-        own = re.compile(rf"(?:\./)?proofs/(?:{'|'.join(folders)})/\S*: error: ")
-        # (that a callee has no proof is no error of the function's own)
-        return [it for it in lines if own.match(it) and "was not admitted" not in it]
-
-    def is_in(self, path, paths):
+    def is_of(self, path, paths):
         """Whether this is one of the functions, a closure inside one, or has its proof together with one."""
         proofs = {self.proof_of(it) for it in paths}
         return self.proof_of(path) in proofs or any(path.startswith(f"{it}::") for it in paths)
 
+    def check(self, texts, functions, flags):
+        """Checks functions, or with none the crate, with these texts in the place of its own."""
+        for path, text in texts.items():
+            with open(f"{self.checks.folder}/{path}", "w", encoding="utf-8") as it:
+                it.write(text)
+        only = [word for it in sorted(functions) for word in ("--only", it)]
+        said = self.checks.check([*flags, *self.share.words(), *only])
+        for path in texts:
+            shutil.copyfile(f"{self.crate.folder}/{path}", f"{self.checks.folder}/{path}")
+        return Said(self.crate, said)
 
-class Edit:
-    """An edit: its text, and the functions that it is in."""
+    def alone(self, edit, flags):
+        """Returns what a check with this edit alone says of it."""
+        texts, why = applied([edit], self.crate.folder)
+        if edit.why or why:
+            return f"BAD EDIT: {edit.why or why}"
+        said = self.check(texts, edit.functions, flags)
+        if said.unread(texts) or not said.verdict:
+            return f"BAD EDIT: its text can't be read: {said.unread(texts) or ' / '.join(said.lines[-5:])[:400]}"
+        is_proved = edit.functions <= said.proved if edit.functions else said.verdict.startswith("logic=proved")
+        return "NOT REFUSED: all is proved with this edit" if is_proved else refusal(said.first())
 
-    def __init__(self, code, file):
-        self.code, self.file, self.name = code, file, os.path.basename(file)[: -len(".edit")]
-        self.text = rtlib.text_of(file) or ""
-        self.why = rt.read_edit(file, code.crate.folder)[1]
-
-    def functions(self):
-        """Returns module, type, name and cycle of the functions that it is in; none where a part of it is in none."""
-        found, path, done = set(), "", ""
-        for line in [] if self.why else self.text.split("\n"):
-            if line.startswith("file: "):
-                path = line[len("file: ") :].strip()
-            elif line.startswith("old: "):
-                texts = rt.edited(done, self.code.crate.folder)[0] or {}
-                text = texts.get(path) or rtlib.text_of(f"{self.code.crate.folder}/{path}")
-                at = next(i for i, it in enumerate(text.split("\n")) if line[len("old: ") :] in it)
-                around = [it[2:] for it in functions_in(text) if it[0] <= at <= it[1]]
-                if not around or not path.startswith("src/"):
-                    return set()
-                found.add((self.code.module_in(path), *around[-1]))
-            done += f"{line}\n"
-        return found
-
-    def paths(self):
-        """Returns the paths of these functions."""
-        return set().union(*(self.code.paths_of(*it[:3]) for it in self.functions()))
-
-
-def failures(code, said):
-    """Returns, for each function that isn't proved, what is wrong with its own proof, or None where it only waits."""
-    found, notes, lines = {}, [], said.split("\n")
-    for line in lines:
-        named = re.match(rf"fn {code.crate.name}::(\S+): (.*)", line)
-        if not named:
-            notes += [line] if line.startswith("note: src/") else []
-            continue
-        path, verdict = named.groups()
-        if verdict.startswith(("not proved", "no proof")):
-            errors = sorted(code.own_errors(path, lines), key=lambda it: bool(BY_NAME.search(it)))
-            is_waiting = "it calls " in verdict or "it waits " in verdict
-            found[path] = (errors + notes + [verdict])[0] if errors or not is_waiting else None
-        elif verdict != "proved":
-            found[path] = verdict
-        notes = []
-    return found
-
-
-def state(code, paths, failed):
-    """Returns why the check refuses an edit of these functions, None where it waits, or ALONE."""
-    own = [why for path, why in failed.items() if code.is_in(path, paths)]
-    refused = [why for why in own if why and not why.startswith("could not tell")]
-    return refused[0] if refused else None if own and not any(own) else ALONE
-
-
-class Refusals:
-    """The edits that earlier runs on this machine saw refused, by the sum of all that such an answer stands on."""
-
-    def __init__(self, crates, options):
-        # (a gate's libraries are its own, so it takes nothing from other runs)
-        self.kept, self.beside = rt.Kept(crates, "--anew" in options), "--beside-gate" in options
-        with open(os.path.realpath(__file__), "rb") as it:
-            self.script, seen = hashlib.sha256(it.read()).hexdigest(), {}
-        self.sums = {it.name: rt.stamp_of(it, seen) for it in crates}
-
-    def name(self, edit):
-        return self.kept.of_edit(edit.file, f"{self.script} {self.beside} {self.sums[edit.code.crate.name]}")
-
-    def known(self, edits):
-        """Returns what was said of those edits that are kept."""
-        told = {it: self.kept.tried(self.name(it)) for it in edits}
-        return {it: found[1] for it, found in told.items() if found}
-
-    def keep(self, crate, said):
-        """Keeps what was said of edits that were refused, unless a file that this stands on was changed meanwhile."""
-        if all(self.kept.is_untouched(it) for it in [crate, *crate.below()]):
-            for edit, text in said.items():
-                self.kept.keep_tried(self.name(edit), rt.REFUSED, text)
-
-
-def refusal(why):
-    return f"refused{' by a name alone' if BY_NAME.search(why) else ''}: {why[:160]}"
-
-
-class Trial:
-    """The edits of one crate, tried over what the rounds before proved."""
-
-    def __init__(self, code, room, options, refusals):
-        self.code, self.crate, self.room, self.kept, self.refusals = code, code.crate, room, f"{room}/0", refusals
-        os.mkdir(self.kept)
-        if "--over-kept" in options and os.path.isdir(f"{self.crate.folder}/out/incremental"):
-            shutil.copytree(f"{self.crate.folder}/out/incremental", self.kept, dirs_exist_ok=True)
-        self.flags = [HALF] * ("--all-counts" not in options)
-        self.is_settled = "--beside-gate" not in options and self.settles()
-
-    def settles(self):
-        """Whether the crate as it stands is proved, with half of the searches' counts or else with all of them."""
-        is_proved = self.proves()
-        if is_proved or HALF not in self.flags:
-            return is_proved
-        say(f"{self.crate.name}: its edits are tried with all of the searches' counts")
-        self.flags.remove(HALF)
-        return self.proves()
-
-    def proves(self):
-        """Whether the crate as it stands is proved."""
-        ran = rt.checked(self.crate, {}, self.flags + share.jobs(), self.kept)
-        self.code.look(ran.stdout)
-        return ran.returncode == 0
-
-    def check(self, batch, kept):
-        """Returns what a check says of the crate with these edits in it, or None where it can't be read."""
-        texts, why = rt.edited("\n".join(it.text for it in batch), self.crate.folder)
-        if why:
-            return None
-        # (once the paths are known the edits' functions are looked at alone, and what they call)
-        paths = sorted(set().union(*(it.paths() for it in batch)))
-        only = [word for it in paths for word in ("--only", it)]
-        said = rt.checked(self.crate, texts, self.flags + share.jobs() + only, kept).stdout
-        lines = said.rstrip("\n").split("\n")
-        if rtlib.STALE.search(said) or any(rt.unread(it, texts) for it in lines):
-            return None
-        return said if lines[-1].startswith("only=" if only else "logic=") else None
-
-    def round(self, batch, kept):
-        """Returns the state of each edit after a check of all."""
-        said = self.check(batch, kept)
-        if said is None:
+    def round(self, batch, flags):
+        """Returns of each edit why a check of all of them refuses it: None where it waits, '' where that isn't told."""
+        texts, why = applied(batch, self.crate.folder)
+        asked = set().union(*(it.functions for it in batch))
+        said = None if why else self.check(texts, asked, flags)
+        if not said or not said.verdict or said.unread(texts):
             half = len(batch) // 2
-            return {**self.round(batch[:half], kept), **self.round(batch[half:], kept)} if half else {batch[0]: ALONE}
-        if not self.code.paths:
-            self.code.look(said)
-        failed, paths = failures(self.code, said), {it: it.paths() for it in batch}
-        is_edited = lambda path: any(self.code.is_in(path, it) for it in paths.values())
-        strange = [path for path, why in failed.items() if why and not is_edited(path)]
+            return {**self.round(batch[:half], flags), **self.round(batch[half:], flags)} if half else {batch[0]: ""}
+        strange = [it for it, why in said.failed.items() if why and not self.is_of(it, asked)]
+        if strange and flags:
+            return self.round(batch, [])
         if strange:
             say(f"{self.crate.name}: {strange[0]} failed, and no edit is in it")
-            return dict.fromkeys(batch, ALONE)
-        return {it: state(self.code, paths[it], failed) for it in batch}
+            return dict.fromkeys(batch, "")
+        return {it: self.state(it, said) for it in batch}
 
-    def batch_of(self, left):
-        """Returns edits that are in no function that another one is in, functions of a cycle counting as one."""
-        batch, taken = [], set()
-        for it, functions in left.items():
-            proofs = {cycle or (module, of_type, name) for module, of_type, name, cycle in functions}
-            if not proofs & taken:
-                batch.append(it)
-                taken |= proofs
-        return batch
+    def state(self, edit, said):
+        """Why a check refuses an edit of these functions: None where it waits, '' where that isn't told."""
+        whys = [why for it, why in said.failed.items() if self.is_of(it, edit.functions)]
+        told = [it for it in whys if it and not it.startswith("could not tell")]
+        return told[0] if told else None if whys and not any(whys) else ""
 
-    def batches_of(self, left):
-        """Returns the edits of the rounds that run next: of one, until the functions' paths are known."""
-        batches, rest = [], {**left}
-        while rest and len(batches) < (share.rounds() if self.is_settled and self.code.paths else 1):
-            batches.append(self.batch_of(rest))
-            rest = {it: functions for it, functions in rest.items() if it not in batches[-1]}
-        return batches
-
-    def rounds(self, batches):
-        """Returns the states of the edits of rounds side by side, each over a copy of its own of what is kept."""
-        rooms = [f"{self.room}/{i}" for i in range(len(batches))]
-        for room in rooms[1:]:
-            if not os.path.isdir(room):
-                shutil.copytree(self.kept, room)
-        with ThreadPoolExecutor(len(batches)) as lanes:
-            states = [*lanes.map(self.round, batches, rooms)]
-        return {it: why for of_round in states for it, why in of_round.items()}
-
-    def tried(self, edits):
-        """Returns of each edit whether it is refused, and what to say of it."""
-        ended = {it: (False, f"BAD EDIT: {it.why}") for it in edits if it.why}
-        left = {it: it.functions() for it in edits if not it.why}
-        alone = [it for it, functions in left.items() if not functions]
-        left = {it: functions for it, functions in left.items() if functions}
+    def rounds(self, edits, flags):
+        """Returns what rounds say of edits: why each is refused, '' where it has to be tried alone."""
+        ended, left = {}, [*edits]
         while left:
-            counts = [*self.flags]
-            batches = self.batches_of(left)
-            states = self.rounds(batches)
-            if not self.is_settled:
-                # (over the first round, which proved what no edit is in, this takes little)
-                self.is_settled = self.settles()
-                if not self.is_settled:
-                    say(f"{self.crate.name} is not proved, so its edits aren't tried")
-                    return ended
-                if self.flags != counts:
-                    continue
+            batch, taken = [], set()
+            for it in left:
+                proofs = {self.proof_of(path) for path in it.functions}
+                # (one whose text another one changes has a round of its own)
+                if not proofs & taken and not applied([*batch, it], self.crate.folder)[1]:
+                    batch.append(it)
+                    taken |= proofs
+            states = self.round(batch, flags)
             # (where all wait, each for another one, no further round would tell more)
             is_stuck = not any(states.values())
-            alone += [it for it, why in states.items() if why == ALONE or is_stuck]
-            refused = {it: refusal(why) for it, why in states.items() if why and why != ALONE}
-            self.refusals.keep(self.crate, refused)
-            ended.update({it: (True, text) for it, text in refused.items()})
-            left = {it: functions for it, functions in left.items() if it not in ended and it not in alone}
-            count = "a round" if len(batches) == 1 else f"{len(batches)} rounds"
-            say(f"{self.crate.name}: {len(states)} edits in {count}; {len(left)} left, {len(alone)} {ALONE}")
-        for it in alone:
-            kind, text = rt.must_fail(self.crate, it.file, self.flags + share.jobs(), self.kept)
-            ended[it] = kind in (rt.REFUSED, rt.AT_LIMIT), text.partition(".edit: ")[2]
-            if kind == rt.REFUSED:
-                self.refusals.keep(self.crate, {it: ended[it][1]})
+            ended.update({it: why or "" for it, why in states.items() if why is not None or is_stuck})
+            left = [it for it in left if it not in ended]
+            say(f"{self.crate.name}: {len(batch)} edits in a round, {len(left)} left")
         return ended
 
+    def unsettled(self, whys):
+        """The edits whose function isn't proved as it stands with half of the searches' counts."""
+        doubtful = [it for it, why in whys.items() if why and FALSE not in why and ": error: " not in why]
+        functions = set().union(*(it.functions for it in doubtful))
+        said = self.check({}, functions, [HALF]) if doubtful else None
+        return [it for it in doubtful if not it.functions <= said.proved]
 
-def edits_in(code, folder):
-    names = sorted(os.listdir(folder)) if os.path.isdir(folder) else []
-    strange = [it for it in names if not re.fullmatch(r"[A-Za-z0-9_-]+\.edit", it)]
-    if strange:
-        rtlib.stop(f"{folder}/{strange[0]}: the name of an edit is of letters, digits, _ and -, and ends in .edit")
-    return [Edit(code, f"{folder}/{it}") for it in names]
+    def tried(self, edits):
+        """Returns what to say of each edit."""
+        apart = [it for it in edits if it.why or not it.functions or applied([it], self.crate.folder)[1]]
+        whys = self.rounds([it for it in edits if it not in apart], [HALF])
+        again = self.unsettled(whys)
+        if again:
+            say(f"{self.crate.name}: {len(again)} edits are tried with all of the searches' counts")
+            whys.update(self.rounds(again, []))
+        return {it: refusal(whys[it]) if whys.get(it) else self.alone(it, []) for it in edits}
 
 
-def passes_control(trial):
+def is_well(text):
+    return text.startswith("refused: ")
+
+
+def controlled(trial):
     """Whether the edits of the control end as their names say, and there is one of each kind."""
-    ended = trial.tried(edits_in(trial.code, f"{CONTROL}/{trial.crate.name}"))
-    kinds = {it: it.name.partition("-")[0] for it in ended}
-    wrong = [it for it, (_, text) in ended.items() if not text.startswith(CONTROLLED.get(kinds[it], "?"))]
+    kinds = {it: it.name.partition("-")[0] for it in edits_in(CONTROL)}
+    # (those that can't be read would tear apart the rounds of the others, which stand beside each other on purpose)
+    groups = ([it for it in kinds if (kinds[it] == "bad") == is_bad] for is_bad in (False, True))
+    ended = {it: text for group in groups for it, text in trial.tried(group).items()}
+    wrong = [it for it, text in ended.items() if not text.startswith(CONTROLLED.get(kinds[it], "?"))]
     for it in wrong:
-        say(f"control {it.name}: {ended[it][1]}")
+        say(f"control {it.name}: WRONG: {ended[it]}")
     say(f"control: {len(ended) - len(wrong)} of {len(ended)} edits ended as they must")
     return not wrong and {*kinds.values()} == {*CONTROLLED}
 
 
-def try_crate(code, edits, has_control, options, refusals):
-    """Returns how many of its edits, the control counting as one, passed and failed."""
-    name, known, count = code.crate.name, refusals.known(edits), {True: 0, False: 0}
-    if known:
-        say(f"{name}: {len(known)} of its {len(edits)} edits were refused in an earlier run, and nothing has changed")
-    ended, left = {it: (True, text) for it, text in known.items()}, [it for it in edits if it not in known]
-    with tempfile.TemporaryDirectory(prefix="edits-kept-") as room:
-        trial = Trial(code, room, options, refusals) if left or has_control else None
-        if trial and not trial.is_settled and "--beside-gate" not in options:
-            say(f"{name} is not proved, so none of its {len(edits)} edits is tried")
-            return 0, len(edits) + has_control
-        ended.update(trial.tried(left) if left else {})
-        for it, (well, text) in sorted(ended.items(), key=lambda it: it[0].name):
-            say(f"edit {name}/{it.name}: {text}")
-            count[well] += 1
-        count[False] += len(edits) - len(ended)
-        if has_control:
-            count[passes_control(trial)] += 1
-    return count[True], count[False]
+def try_crate(crate, edits, has_control, room, share):
+    """Returns how many edits are refused, how many not, and whether the control ended well."""
+    try:
+        trial = Trial(crate, room, share)
+        ended = trial.tried(edits)
+        for it, text in sorted(ended.items(), key=lambda it: it[0].name):
+            say(f"edit {crate.name}/{it.name}: {text}")
+        well = sum(map(is_well, ended.values()))
+        return well, len(ended) - well, controlled(trial) if has_control else None
+    finally:
+        with share.lock:
+            share.left -= 1
 
 
-def make_libraries(crates):
-    """Brings the libraries below up to date."""
-    below = list(dict.fromkeys(dep for crate in crates for dep in crate.below()))
-    if any(it.build_rlib(["--jobs", "2"], anew=False) for it in below):
-        rtlib.stop("a library below is not proved")
+def run(record, chosen, jobs, writes):
+    """Tries edits, {crate: (all edits, those that are asked for)}, and says and records how it went."""
+    crates, share = crates_here(), Share(jobs)
+    wanted = {crates[it]: edits for it, edits in chosen.items()}
+    wanted.setdefault(crates[CONTROL_CRATE], [])
+    share.left, ended = len(wanted), {}
+    with tempfile.TemporaryDirectory(prefix="edits-") as room, concurrent.futures.ThreadPoolExecutor(jobs) as lanes:
+        # (the crates with the most to do first, since nothing runs beside the last one)
+        for it in sorted(wanted, key=lambda it: -len(wanted[it]) * len(it.below)):
+            ended[it] = lanes.submit(try_crate, it, wanted[it], it.name == CONTROL_CRATE, room, share)
+        ended = {it: came.result() for it, came in ended.items()}
+    is_controlled = any(control for _, _, control in ended.values())
+    for crate, (well, ill, _) in ended.items():
+        if ill and crate.name in record.rows and not record.why_stale(crate.name):
+            say(f"FALSE RECORD: {crate.name}: its record says that all of its edits are refused")
+        if writes and is_controlled and crate.name in chosen:
+            record.note(crate, None if ill else well)
+    if not is_controlled:
+        say("the control failed, so nothing that is said here counts")
+    passed, failed = (sum(it[i] for it in ended.values()) for i in (0, 1))
+    say(f"edits: {passed + is_controlled} passed, {failed + (not is_controlled)} failed")
+    return 0 if is_controlled and not failed else 1
 
 
-def proved_ones(crates, room):
-    """Yields each crate once standard input has named it and those below, whose libraries then have copies here."""
-    known, named = {it.name: it for crate in crates for it in [crate, *crate.below()]}, set()
-    left = [*crates]
-    for line in sys.stdin:
-        it = known.get(line.strip())
-        named.add(line.strip())
-        if it and it.makes_rlib():
-            shutil.copytree(it.rlib, f"{room}/{it.name}.rlib")
-            it.rlib = f"{room}/{it.name}.rlib"
-        ready = [crate for crate in left if {crate.name, *(dep.name for dep in crate.below())} <= named]
-        left = [crate for crate in left if crate not in ready]
-        yield from ready
-
-
-def chosen_of(crate, names):
-    """Returns the crate's code, those of its edits that the names ask for, and whether its control runs."""
-    code = Code(crate)
-    edits = edits_in(code, f"{crate.folder}/edits")
-    asked = [it for it in edits if not names or {crate.name, f"{crate.name}/{it.name}"} & names]
-    return code, asked, not names and os.path.isdir(f"{CONTROL}/{crate.name}")
-
-
-def chosen(names):
-    """Returns the crates with edits that the names ask for, or with all, and what to try of each."""
-    found = {crate: chosen_of(crate, names) for crate in rtlib.crates_below(os.getcwd())}
-    found = {crate: it for crate, it in found.items() if it[1] or it[2]}
-    known = {f"{crate.name}/{it.name}" for crate in found for it in found[crate][1]} | {crate.name for crate in found}
-    if names - known or not found:
-        rtlib.stop(f"there is no such edit: {' '.join(sorted(names - known))}")
+def asked(names, record):
+    """The edits that names ask for, by crate."""
+    found = {}
+    for it in names:
+        crate, _, edit = it.partition("/")
+        known = record.crates[crate].edits() if crate in record.crates else []
+        known = [one for one in known if edit in ("", one.name)]
+        if not known:
+            sys.exit(f"there is no such edit: {it}")
+        found[crate] = [*found.get(crate, []), *known]
     return found
 
 
 def main(words):
-    options = {it for it in words if it.startswith("--")}
-    if options - {"--over-kept", "--beside-gate", "--all-counts", "--anew"}:
-        rtlib.stop(__doc__)
     os.chdir(os.path.dirname(TOOLS))
-    # (its first call sets a signal's handler, which only the main thread may)
-    rtlib.guarded()
-    found, counts = chosen({*words} - options), {}
-    refusals = Refusals({it for crate in found for it in [crate, *crate.below()]}, options)
-    # (two more than processors: the last crates have the most edits, and would wait for all before them)
-    lane_count = rt.processors() + 2
-    with tempfile.TemporaryDirectory(prefix="edits-libraries-") as room, ThreadPoolExecutor(lane_count) as lanes:
-        if "--beside-gate" in options:
-            crates = proved_ones(found, room)
-        else:
-            make_libraries(found)
-            crates = sorted(found, key=lambda it: -it.count(rb"\n") - 40 * len(found[it][1]))
-        for crate in crates:
-            counts[crate] = lanes.submit(try_crate, *found[crate], options, refusals)
-            share.trials.append(counts[crate])
-        share.is_whole = True
-    passed, failed = (sum(it.result()[i] for it in counts.values()) for i in (0, 1))
-    for crate, (_, edits, _) in found.items():
-        if crate not in counts:
-            say(f"{crate.name} is not proved, so none of its {len(edits)} edits is tried")
-            failed += len(edits)
-    say(f"edits: {passed} passed, {failed} failed")
-    return 1 if failed or not passed else 0
+    jobs = len(os.sched_getaffinity(0))
+    if "--jobs" in words[:-1]:
+        at = words.index("--jobs")
+        jobs, words = int(words[at + 1]), words[:at] + words[at + 2 :]
+    modes, names = [it for it in words if it.startswith("--")], [it for it in words if not it.startswith("--")]
+    if len(modes) + bool(names) != 1 or not {*modes} <= {"--check", "--quarter", "--stale", "--all"}:
+        sys.exit(__doc__)
+    record = Record(crates_here())
+    if modes == ["--check"]:
+        return record.check()
+    if names:
+        return run(record, asked(names, record), jobs, writes=not any("/" in it for it in names))
+    picked = [] if modes == ["--all"] else [it for it in record.stale() if it in record.due]
+    picked = {*record.due} if modes == ["--all"] else {*picked, *(record.quarter() if modes == ["--quarter"] else [])}
+    if not picked:
+        return record.check()
+    return run(record, {it: record.crates[it].edits() for it in picked}, jobs, writes=modes != ["--quarter"])
 
 
 if __name__ == "__main__":

@@ -22,7 +22,7 @@ TRANSCRIPTS = ["python3", "tools/transcripts.py", "README.md", "docs/manual.md"]
 ALLOCATIONS = ["sh", "tools/refuse_each_allocation.sh", PROGRAM]
 # `rt ci` (every crate, a few edits by the toolchain's own means, each program's stored run), and the library
 PROOFS = ["python3", "tools/build.py", "--again"]
-EDITS = ["nice", "-n", "19", "python3", "tools/edits.py", "--quarter"]
+EDITS = ["env", "LIBRARIES=proved", "nice", "-n", "19", "python3", "tools/edits.py", "--quarter"]
 
 
 def built(name):
@@ -67,7 +67,7 @@ def parts():
     """The parts by their names and in their order, each with what says its commands once it is its turn."""
     return {
         "logic": lambda: [["python3", "tools/logic.py"]],
-        "records": lambda: [["python3", "tools/edits.py", "--check"]],
+        "records": lambda: [["python3", "tools/edits.py", "--check"], ["python3", "tools/try_edits.py"]],
         "lint": lambda: [["python3", "tools/lint.py"]],
         "proofs": lambda: [PROOFS],
         "edits": lambda: [EDITS],

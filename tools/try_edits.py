@@ -1,0 +1,179 @@
+#!/usr/bin/env python3
+"""try_edits.py: tries tools/edits.py over a small repository and a stand-in for the toolchain. The last line counts."""
+import os
+import re
+import shutil
+import subprocess
+import sys
+import tempfile
+
+TOOLS = os.path.dirname(os.path.realpath(__file__))
+SOURCE = """impl A {
+    pub fn new() -> u8
+        ensures { P }
+    {
+        1
+    }
+
+    fn near() -> u8 {
+        far() + 2
+    }
+}
+
+impl B {
+    pub fn new() -> u8 {
+        3
+    }
+}
+
+pub fn far() -> u8 {
+    4
+}
+"""
+CONTROL = (
+    ("refused-one", "A::new", "        1", "        BUG 1"),
+    ("proved-beside-it", "B::new", "        3", "        3 "),
+    ("proved-above-it", "A::near", "far() + 2", "far() + 2 "),
+    ("refused-below", "far", "    4", "    BUG 4"),
+    ("named-one", "B::new", "        3", "        NAME 3"),
+    ("bad-one", "far", "    4", "    UNREADABLE"),
+)
+EDITS = (("one", "far", "    4", "    BUG"), ("two", "A::new", "        1", "        BUG"))
+
+
+def table(edits):
+    """A table of edits, (name, function, old, new)."""
+    form = "[{}]\nfunction = '{}'\nfile = 'src/lib.rt'\nold = '{}'\nnew = '{}'\n"
+    return "\n".join(form.format(*it) for it in edits)
+
+
+class Repository:
+    """Three crates with edits, one above the other, and what came out otherwise than it must."""
+
+    def __init__(self, folder):
+        self.folder, self.top, self.wrong, self.count, self.said, self.log = folder, f"{folder}/top", [], 0, "", ""
+        os.makedirs(f"{folder}/kit/bin")
+        for name in ("rt", "kit/bin/rattle"):
+            shutil.copy(f"{TOOLS}/stand_in_rt.py", f"{folder}/{name}")
+            os.chmod(f"{folder}/{name}", 0o755)
+        for name in ("tlv_core", "middle", "upper"):
+            self.write(f"crates/{name}/src/lib.rt", SOURCE)
+            self.write(f"crates/{name}/edits.toml", table(EDITS))
+        self.write("crates.txt", "tlv_core:\nmiddle: tlv_core\nupper: tlv_core middle hex\n")
+        self.write("tools/edits_control.toml", table(CONTROL))
+        shutil.copy(f"{TOOLS}/edits.py", f"{self.top}/tools/edits.py")
+        self.git("init", "-q")
+        self.commit()
+
+    def git(self, *words):
+        subprocess.run(["git", "-c", "user.name=a", "-c", "user.email=a@b", *words], cwd=self.top, check=True)
+
+    def commit(self):
+        self.git("commit", "-q", "--allow-empty", "-m", "a")
+
+    def write(self, path, text):
+        os.makedirs(os.path.dirname(f"{self.top}/{path}"), exist_ok=True)
+        with open(f"{self.top}/{path}", "w", encoding="utf-8") as it:
+            it.write(text)
+
+    def change(self, path, old, new):
+        with open(f"{self.top}/{path}", encoding="utf-8") as it:
+            text = it.read()
+        assert text.count(old) == 1, (path, old)
+        self.write(path, text.replace(old, new))
+
+    def run(self, *words, **around):
+        """Runs the script, and returns its status and its last line."""
+        log = f"{self.folder}/log"
+        with open(log, "w", encoding="utf-8"):
+            pass
+        stand_in = {"STAND_IN_LOG": log, "STAND_IN_PAGE": f"{self.folder}/kit/page.md"}
+        path = f"{self.folder}:{os.environ['PATH']}"
+        env = {**os.environ, "PATH": path, "PYTHONDONTWRITEBYTECODE": "1", **stand_in, **around}
+        words = [sys.executable, "tools/edits.py", *words]
+        ran = subprocess.run(words, cwd=self.top, env=env, capture_output=True, text=True, check=False)
+        with open(log, encoding="utf-8") as it:
+            self.log = it.read()
+        self.said = ran.stdout + ran.stderr
+        return ran.returncode, self.said.strip().split("\n")[-1]
+
+    def see(self, what, came, due, *parts):
+        """Holds status, last line, and what else is said to what they must be."""
+        self.count += 1
+        lacking = [it for it in parts if not re.search(it, self.said)]
+        if came != due or lacking:
+            self.wrong.append(what)
+            print(f"WRONG {what}: {came}, not {due}; lacks {lacking}\n{self.said}")
+
+
+def try_records(it):
+    """What makes a record stale, and what doesn't."""
+    it.see("no record yet", it.run("--check"), (1, "records: 0 passed, 3 failed"))
+    it.see("all are tried", it.run("--stale", "--jobs", "2"), (0, "edits: 7 passed, 0 failed"), "control: 6 of 6")
+    it.see("all are recorded", it.run("--check"), (0, "records: 3 passed, 0 failed"))
+    it.see("nothing is left to try", (*it.run("--stale"), it.log), (0, "records: 3 passed, 0 failed", ""))
+    it.see("another kit", it.run("--check", STAND_IN_KIT="two"), (0, "records: 3 passed, 0 failed"))
+    it.see("another logic", it.run("--check", STAND_IN_LOGIC="ff"), (1, "records: 0 passed, 3 failed"))
+    it.change("crates/tlv_core/src/lib.rt", "\n    4", "\n    5 - 1;\n    4")
+    it.see("a body", it.run("--check"), (1, "records: 2 passed, 1 failed"), "tlv_core has changed")
+    it.see("its crate alone", it.run("--stale"), (0, "edits: 3 passed, 0 failed"), "(?!.*edit middle)edit tlv_core")
+    it.write("crates/middle/edits.toml", table(EDITS[:1]))
+    it.see("a table", it.run("--check"), (1, "records: 2 passed, 1 failed"), "middle has changed")
+    it.see("it is tried", it.run("--stale"), (0, "edits: 2 passed, 0 failed"))
+
+
+def try_edits(it):
+    """What fails an edit, and what a false record comes to."""
+    proved = ("none", "A::new", "        1", "        1 ")
+    it.write("crates/middle/edits.toml", table((*EDITS[:1], proved)))
+    it.see("one that proves", it.run("--stale"), (1, "edits: 2 passed, 1 failed"), "middle/none: NOT REFUSED")
+    it.see("isn't recorded", it.run("--check"), (1, "records: 2 passed, 1 failed"), "middle has no record")
+    forge = "import sys; sys.path.insert(0, 'tools'); import edits as e; r = e.Record(e.crates_here());"
+    forge += "r.note(r.crates['middle'], 2)"
+    env = {**os.environ, "PATH": f"{it.folder}:{os.environ['PATH']}", "PYTHONDONTWRITEBYTECODE": "1"}
+    subprocess.run([sys.executable, "-c", forge], cwd=it.top, env=env, check=True)
+    it.see("a false record isn't seen", it.run("--check"), (0, "records: 3 passed, 0 failed"))
+    it.see("it is, once tried", it.run("--all"), (1, "edits: 6 passed, 1 failed"), "FALSE RECORD: middle")
+    it.see("and is gone", it.run("--check"), (1, "records: 2 passed, 1 failed"), "middle has no record")
+    it.write("crates/middle/edits.toml", table((*EDITS[:1], ("named", "A::new", "        1", "        NAME"))))
+    it.see("by a name", it.run("--stale"), (1, "edits: 2 passed, 1 failed"), "middle/named: refused by a name alone")
+    it.write("crates/middle/edits.toml", table((*EDITS[:1], ("lost", "A::new", "        9", "        BUG"))))
+    it.see("one of no text", it.run("--stale"), (1, "edits: 2 passed, 1 failed"), "middle/lost: BAD EDIT: an old text")
+    it.write("crates/middle/edits.toml", table((*EDITS[:1], ("other", "B::new", "        1", "        BUG"))))
+    it.see("another function", it.run("--stale"), (1, "edits: 2 passed, 1 failed"), "middle/other: NOT REFUSED")
+    it.write("crates/middle/edits.toml", table((*EDITS[:1], ("above", "A::near", "far() + 2", "BUG + 2"))))
+    it.see("mended", it.run("--stale"), (0, "edits: 3 passed, 0 failed"))
+    it.change("tools/edits_control.toml", "BUG 4", "4 ")
+    it.change("crates/upper/src/lib.rt", "\n    4", "\n     4")
+    it.see("a control that fails", it.run("--stale"), (1, "edits: 2 passed, 1 failed"), "WRONG: NOT REFUSED")
+    it.see("records nothing", it.run("--check"), (1, "records: 2 passed, 1 failed"), "upper has changed")
+    it.change("tools/edits_control.toml", "= '    4 '", "= '    BUG 4'")
+    it.see("once more", it.run("--stale"), (0, "edits: 3 passed, 0 failed"))
+
+
+def try_quarters(it):
+    """Four commits come to each crate once, over libraries that were left or that `rt` proves."""
+    seen = []
+    for _ in range(4):
+        it.see("a quarter", it.run("--quarter", LIBRARIES="proved")[0], 0)
+        seen += set(re.findall(r"edit (\w+)/one", it.said))
+        it.commit()
+    it.see("each crate once", sorted(seen), ["middle", "tlv_core", "upper"])
+    it.see("over libraries", it.run("upper", LIBRARIES="proved"), (0, "edits: 3 passed, 0 failed"))
+    it.see("by rattle alone", re.search("^rt ", it.log, re.M), None)
+    came = it.run("upper", LIBRARIES="proved", STAND_IN_REFUSES="1")
+    it.see("where these aren't taken", came, (0, "edits: 3 passed, 0 failed"), "so rt proves them")
+    it.see("by rt", bool(re.search("^rt upper check", it.log, re.M)), True)
+
+
+def main():
+    with tempfile.TemporaryDirectory() as folder:
+        it = Repository(folder)
+        for trial in (try_records, try_edits, try_quarters):
+            trial(it)
+        print(f"try_edits: {it.count - len(it.wrong)} passed, {len(it.wrong)} failed")
+        return 1 if it.wrong else 0
+
+
+if __name__ == "__main__":
+    sys.exit(main())
