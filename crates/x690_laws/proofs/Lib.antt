@@ -5,11 +5,12 @@
 pub mod Headers
 pub mod PrefixFree
 -- 2. DER texts are layouts. Values that are the same have one text, since the texts of a SET OF have one arrangement
--- (`values`); how long texts are.
+-- (`values`); how long texts are, and that no length is spelled by fewer octets (`layouts`).
 pub mod Order
 pub mod Texts
 pub mod Lengths
 pub mod HeaderLengths
+pub mod ShortestLengths
 pub mod ContentLengths
 -- 3. Being the same is an equivalence (`values`). A tree of a type says one value, and the DER text of a value spells
 -- it (`types`).

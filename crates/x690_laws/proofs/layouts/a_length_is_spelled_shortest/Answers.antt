@@ -1,0 +1,6 @@
+use Rattle.x690_laws.proofs.ShortestLengths.{shortest_least}
+use Rattle.x690_laws.proofs.Trees.{shortest_len}
+use Rattle.x690_laws.proofs.layouts.a_length_is_spelled_shortest.Goals as goal
+
+pub returns : goal.returns
+returns c = record { spells = shortest_len; least = shortest_least }
