@@ -24,7 +24,7 @@ use Rattle.x690_laws.proofs.Complete.{next_ok, segment_on}
 use Rattle.x690_laws.proofs.Gives.{contents_on, depth_some, form_of, id_some, split_lay}
 use Rattle.x690_laws.proofs.HeaderFaulting.{all_may, fail_on, require_off}
 use Rattle.x690_laws.proofs.LengthFaulting.{definite_halts, definite_run, definite_stands, definite_stops}
-use Rattle.x690_laws.proofs.HeaderGives.{require_on, octets_on, within_less}
+use Rattle.x690_laws.proofs.HeaderGives.{done_on, require_on, octets_on, within_less}
 use Rattle.x690_laws.proofs.HeaderSound.{Within, octets_took}
 use Rattle.x690_laws.proofs.Judging.{not_ended}
 use Rattle.x690_laws.proofs.LeafSound.{contents_fit}
@@ -558,6 +558,14 @@ one_stands n l c p k s all q r h =
       subst (λ w. LengthStands l c.nearest_end k s (length b.value) t.0 (b.value ++ w)) d.2 t.2,
     )
 
+pub one_run : (n : ℕ) (l : Limits) (c : Enclosing) (p k : ℕ) (s o : List ℕ) (j : ℕ) (r : List ℕ)
+    → (n ≡ 3 → AreBitSegments (o ∷ [])) → LengthStands l c.nearest_end k s (length o) j (o ++ r)
+    → run (read_only_segment n l c p) k s ≡ Took (o ∷ []) (j + length o) r
+one_run n l c p k s o j r bits d =
+    run_bind _ _ k s o (j + length o) r (primitive_run l c p k s o j r d)
+    ∙ require_on _ _ _ (j + length o) r (next_ok n [] o [] bits)
+    ∙ done_on (o ∷ []) (j + length o) r
+
 pub one_stops : (n : ℕ) (l : Limits) (c : Enclosing) (p k : ℕ) (s : List ℕ) (f : Fault)
     → run (read_only_segment n l c p) k s ≡ Halted f → PrimitiveStops l c p k s (BadSegment n p f) f
 one_stops n l c p k s f h =
@@ -586,6 +594,27 @@ all_stand n l c p k s e q r h =
     (λ all k' s'. EndsHere l x.0 k' s' × (all ≡ e.all)) l x.0 e
     (segment_takes l.depth l n x.0) (λ k' s' g w. (w, refl)) l.octets 0 [] x.1 x.2 q r (no_segments n) x.5 in
     (m.1, (x.0, x.1, x.2, x.3, (m.0, m.2)))
+
+pub all_run : (n : ℕ) (l : Limits) (c : Enclosing) (p k : ℕ) (s : List ℕ) (segments : List (List ℕ)) → 0 < k
+    → OpensThen l c true k s (λ inside start contents.
+    (many : ℕ)
+    × After (SegmentStands l inside n)
+    (λ all place' octets'. EndsHere l inside place' octets' × (all ≡ segments)) many [] start contents)
+    → (e : Ended (List (List ℕ))) × (q : ℕ) × (r : List ℕ) × (e.all ≡ segments)
+    × (run (read_all_segments n l c p) k s ≡ Took e q r)
+all_run n l c p k s segments z (i, j, u, op, (m, a)) =
+    let oc : i.open_containers ≡ c.open_containers + 1 = opens_count c i j op.1 op.3 in
+    let le = opens_later l c true k s i j u op in
+    let x = members_ended (read_segment l.depth l n i) (λ s. s) (SegmentStands l i n) (λ m s. Fine n s)
+    (λ all k' s'. EndsHere l i k' s' × (all ≡ segments)) (λ all k'. all ≡ segments) l i
+    (segment_gives l.depth l n i (proper_inside c i j op.1 op.3) (omega arith)) (λ a k' s' b. b) m l.octets 0 [] j u
+    (opens_within l c true k s i j u op) (omega arith) (no_segments n) a in (
+      record { all = x.all; at = x.at },
+      x.place,
+      x.rest,
+      x.holds,
+      opened_on l c p true (λ c'. each_member (read_segment l.depth l n c') l.octets l c' []) k s i j u op ∙ x.is,
+    )
 
 pub all_stop : (n : ℕ) (l : Limits) (c : Enclosing) (p k : ℕ) (s : List ℕ) (f : Fault) → 0 < k
     → run (read_all_segments n l c p) k s ≡ Halted f

@@ -8,7 +8,7 @@ use Rattle.x690.specs.Points.{Enclosing}
 use Rattle.x690.specs.ReadHeaders.{in_container, primitive_contents}
 use Rattle.x690.specs.Reading.{Done, Halted, Took, run}
 use Rattle.x690.proofs.Runs.{bind_done, halted_done, took_done}
-use Rattle.x690_laws.proofs.ContentsFaulting.{all_halt, all_stand, all_stop, one_halts, one_stands, one_stops, primitive_halt, primitive_run, primitive_stands, primitive_stop}
+use Rattle.x690_laws.proofs.ContentsFaulting.{all_halt, all_run, all_stand, all_stop, one_halts, one_run, one_stands, one_stops, primitive_halt, primitive_run, primitive_stands, primitive_stop}
 use Rattle.x690_laws.proofs.HeaderFaulting.{ends_of, ends_run, stands_of, stands_run, tag_halts, tag_stops}
 use Rattle.x690_laws.proofs.HeaderGives.{done_on}
 use Rattle.x690_laws.proofs.Members.{container_halts, container_takes, form_halts, opened_on}
@@ -64,9 +64,11 @@ primitive_steps =
 pub string_steps : StringSteps
 string_steps = record {
   one_stands = one_stands;
+  one_stands_so = one_run;
   one_stops = one_stops;
   one_stops_so = one_halts;
   all_stand = all_stand;
+  all_stand_so = all_run;
   all_stop = all_stop;
   all_stop_so = all_halt;
 }

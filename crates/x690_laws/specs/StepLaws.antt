@@ -100,6 +100,12 @@ pub record StringSteps : Type 0 where
       → (contents : List ℕ) × (start : ℕ) × (segments ≡ contents ∷ []) × (number ≡ 3 → AreBitSegments (contents ∷ []))
       × (behind ≡ start + length contents)
       × LengthStands limits enclosing.nearest_end here octets (length contents) start (contents ++ rest)
+  pub one_stands_so : (number : ℕ) (limits : Limits) (enclosing : Enclosing) (place here : ℕ) (octets contents : List ℕ)
+      (start : ℕ) (rest : List ℕ)
+      → (number ≡ 3 → AreBitSegments (contents ∷ []))
+      → LengthStands limits enclosing.nearest_end here octets (length contents) start (contents ++ rest)
+      → run (read_only_segment number limits enclosing place) here octets
+      ≡ Took (contents ∷ []) (start + length contents) rest
   pub one_stops : (number : ℕ) (limits : Limits) (enclosing : Enclosing) (place here : ℕ) (octets : List ℕ)
       (found : Fault)
       → run (read_only_segment number limits enclosing place) here octets ≡ Halted found
@@ -116,6 +122,15 @@ pub record StringSteps : Type 0 where
       (many : ℕ)
       × After (SegmentStands limits inside number)
       (λ all place' octets'. EndsHere limits inside place' octets' × (all ≡ ended.all)) many [] start contents)
+  pub all_stand_so : (number : ℕ) (limits : Limits) (enclosing : Enclosing) (place here : ℕ) (octets : List ℕ)
+      (segments : List (List ℕ))
+      → 0 < here
+      → OpensThen limits enclosing true here octets (λ inside start contents.
+      (many : ℕ)
+      × After (SegmentStands limits inside number)
+      (λ all place' octets'. EndsHere limits inside place' octets' × (all ≡ segments)) many [] start contents)
+      → (ended : Ended (List (List ℕ))) × (behind : ℕ) × (rest : List ℕ) × (ended.all ≡ segments)
+      × (run (read_all_segments number limits enclosing place) here octets ≡ Took ended behind rest)
   pub all_stop : (number : ℕ) (limits : Limits) (enclosing : Enclosing) (place here : ℕ) (octets : List ℕ)
       (found : Fault)
       → 0 < here

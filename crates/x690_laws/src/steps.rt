@@ -18,7 +18,8 @@ pub fn what_is_read_of_a_primitive_element_stands()
     ensures { PrimitiveSteps }
 {}
 
-/// The segments that are read of a string stand one behind another, and a string stops where the definitions say so.
+/// The segments of a string are read exactly where they stand one behind another up to its end, and a string stops
+/// where the definitions say so.
 pub fn what_is_read_of_a_string_are_its_segments()
     ensures { StringSteps }
 {}
