@@ -19,7 +19,7 @@ use Rattle.x690.specs.OpenValues.{FitOpenInPlace, FitOpenPaired, FitsOpen, IsOpe
 use Rattle.x690.specs.TypeTerms.{ChoiceType, ContainingType, Default, DefinedByType, Distinct, DistinctFields, EndOfFields, Fields, LeafType, OpenType, Optional, RefusedType, Required, RuledType, SequenceOfType, SequenceType, SetOfType, TypeTerm, fields_fit_tag, fits_tag}
 use Rattle.x690.specs.Values.{FirstMember, Leaf, NoMembers, Sequence, SetOf, Value, Values, members}
 use Rattle.x690_laws.proofs.Deeper.{fits_deeper}
-use Rattle.x690_laws.specs.TypeLaws.{OneText, TextSpells}
+use Rattle.x690_laws.specs.TypeLaws.{OneText, OneTextOfTrees, TextSpells}
 
 -- what is short enough for its length to be laid out
 
@@ -611,13 +611,16 @@ text_spells limits T v b c l h =
       text_fits = h.text_fits;
     }
 
-pub one_text : OneText
-one_text limits limits' T v w b c cl lt h k e =
-    let d = limits.depth + limits'.depth in
-    let short_text : length (der v) < 18446744073709551616 = omega (arith, h.text_fits, lt) in
-    let x =
-    refit d T [] h.tree v cl (short v short_text) (fits_deeper limits.depth d T [] h.tree v (omega arith) h.fits) in
-    let y = refit d T [] k.tree w cl (short w (subst (λ z. length z < 18446744073709551616) e short_text))
-    (fits_deeper limits'.depth d T [] k.tree w (omega arith) k.fits) in
+pub one_text_of_trees : OneTextOfTrees
+one_text_of_trees depth depth' T r q v w c lt h k e =
+    let d = depth + depth' in
+    let x = refit d T [] r v c (short v lt) (fits_deeper depth d T [] r v (omega arith) h) in
+    let y = refit d T [] q w c (short w (subst (λ z. length z < 18446744073709551616) e lt))
+    (fits_deeper depth' d T [] q w (omega arith) k) in
     let same_trees = (text_alone x.tree y.tree [] [] (ap (λ z. z ++ []) (x.text_is ∙ e ∙ sym y.text_is))).0 in
     fits_same d T [] [] y.tree v w tt (subst (λ z. Fits d T [] z v) same_trees x.fits) y.fits
+
+pub one_text : OneText
+one_text limits limits' T v w b c cl lt h k e =
+    let short_text : length (der v) < 18446744073709551616 = omega (arith, h.text_fits, lt) in
+    one_text_of_trees limits.depth limits'.depth T h.tree k.tree v w cl short_text h.fits k.fits e
