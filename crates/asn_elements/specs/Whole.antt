@@ -1,6 +1,7 @@
 -- An element by itself: at the start of what a source tells, or as all of some octets.
 use Rattle.std.specs.Prelude.{Bool, List, MatchResult, None, Option, Result, Some, [], false, true, ℕ, ◌≡◌, ◌∷◌}
 use Rattle.tlv_core.specs.Limits.{Limits}
+use Rattle.tlv_core.specs.Faults.{InsideMatches}
 use Rattle.tlv_core.specs.declared.fault.Fault.{Fault}
 use Rattle.tlv_core.specs.declared.fault.ReadError.{ReadError}
 use Rattle.tlv_core.specs.declared.fault.ReadError.TheVariants as errors
@@ -41,6 +42,12 @@ abbrev pub IsFailedRead : Bool → ReadError → Type 0
 IsFailedRead failed (errors.Fault found) = failed ≡ false
 IsFailedRead failed (errors.Read at) = failed ≡ true
 IsFailedRead failed errors.Memory = failed ≡ false
+
+-- What is inside a fault is there exactly where its reason is Inner, whether or not the source tells its octets.
+abbrev pub TellsInsideOf : ReadError → Type 0
+TellsInsideOf (errors.Fault found) = InsideMatches found
+TellsInsideOf (errors.Read at) = Unit {0}
+TellsInsideOf errors.Memory = Unit {0}
 
 -- One element was read from the start of what was told, and so many octets were taken; or the reading of one stops.
 abbrev pub ReadsElement : {A : Type 0} → Limits → TypeTerm → (A → Value) → Option (List ℕ) → Option (List ℕ)

@@ -1,7 +1,7 @@
 //! Elements by themselves, in no container: at the start of a source, and octets that are one element and nothing else.
-ghost use Rattle.std.specs.Prelude.{◌≡◌, ◌<◌, ◌^◌, MatchResult, IfOk, false, length};
+ghost use Rattle.std.specs.Prelude.{◌≡◌, ◌<◌, ◌^◌, MatchResult, IfErr, IfOk, false, length};
 ghost use Rattle.x690.specs.DerTexts.{der};
-ghost use Rattle.asn_elements.specs.Whole.{HaltsInside, IsFailedRead, IsValueInside, ReadsElement};
+ghost use Rattle.asn_elements.specs.Whole.{HaltsInside, IsFailedRead, IsValueInside, ReadsElement, TellsInsideOf};
 
 use crate::element::Element;
 use ber_pull::pull::Pull;
@@ -24,6 +24,8 @@ pub fn read_element<R: Source, T: Element>(
     ensures reads { ReadsElement limits T.type_term T.value (R.remaining src.old)
         (R.remaining src.new) result }
     ensures short { IfOk result (λ read. length (der (T.value read.0)) < 2 ^ 32) }
+    // What is inside a fault, of any source.
+    ensures inside { IfErr result TellsInsideOf }
     // A failed read is answered where the source failed, and nowhere else.
     ensures read { MatchResult result (λ _. R.has_failed src.new ≡ false)
         (IsFailedRead (R.has_failed src.new)) }
