@@ -99,12 +99,15 @@ element_answers l T p tag form h j k s t u x y =
 
 pub element_err : {R A : Type 0} (remaining : R → Option (List ℕ)) (l : Limits) (T : TypeTerm) (value : A → Value)
     (e : ReadError) (k : ℕ) (before : Option (List ℕ)) (mid new : R) (result : Result (A × ℕ) ReadError)
-    → result ≡ Err e → new ≡ mid
+    → result ≡ Err e → new ≡ mid → k ≤ l.octets
     → Hears (read_element l T [] outermost) 0 before (heard_error e) k (remaining mid)
     → ReadsElement l T value before (remaining new) result
-element_err {R} {A} remaining l T value e k before mid new result is same h =
-    subst (ReadsElement {A = A} l T value before (remaining new)) (sym is)
-    (k, subst (λ w. Hears (read_element l T [] outermost) 0 before (heard_error e) k (remaining w)) (sym same) h)
+element_err {R} {A} remaining l T value e k before mid new result is same within h =
+    subst (ReadsElement {A = A} l T value before (remaining new)) (sym is) (
+      k,
+      subst (λ w. Hears (read_element l T [] outermost) 0 before (heard_error e) k (remaining w)) (sym same) h,
+      within,
+    )
 
 pub element_said : {R : Type 0} (remaining : R → Option (List ℕ)) (l : Limits) (T : TypeTerm) (v : Value)
     (before : Option (List ℕ)) (mid new : R) (k n : ℕ)

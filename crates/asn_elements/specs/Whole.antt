@@ -1,5 +1,5 @@
 -- An element by itself: at the start of what a source tells, or as all of some octets.
-use Rattle.std.specs.Prelude.{Bool, List, MatchResult, None, Option, Result, Some, [], false, true, ℕ, ◌≡◌, ◌∷◌}
+use Rattle.std.specs.Prelude.{Bool, List, MatchResult, None, Option, Result, Some, [], false, true, ℕ, ◌≡◌, ◌∷◌, ◌≤◌}
 use Rattle.tlv_core.specs.Limits.{Limits}
 use Rattle.tlv_core.specs.Faults.{InsideMatches}
 use Rattle.tlv_core.specs.declared.fault.Fault.{Fault}
@@ -49,11 +49,13 @@ TellsInsideOf (errors.Fault found) = InsideMatches found
 TellsInsideOf (errors.Read at) = Unit {0}
 TellsInsideOf errors.Memory = Unit {0}
 
--- One element was read from the start of what was told, and so many octets were taken; or the reading of one stops.
+-- One element was read from the start of what was told, and so many octets were taken; or the reading of one stops, and
+-- no more octets were taken than the limit.
 abbrev pub ReadsElement : {A : Type 0} → Limits → TypeTerm → (A → Value) → Option (List ℕ) → Option (List ℕ)
     → Result (A × ℕ) ReadError → Type 0
 ReadsElement limits type value before after result =
     MatchResult result
     (λ read.
     (v : Value) × Same v (value read.0) × Hears (read_element limits type [] outermost) 0 before (Said v) read.1 after)
-    (λ error. (k : ℕ) × Hears (read_element limits type [] outermost) 0 before (heard_error error) k after)
+    (λ error.
+    (k : ℕ) × Hears (read_element limits type [] outermost) 0 before (heard_error error) k after × (k ≤ limits.octets))

@@ -13,9 +13,13 @@ returns-in_err-next_tag-clause-reads g c =
     let heard = first_next l c.args.src.now c.new-pull.result c.next_tag.new.self
     (Err c.in_err-next_tag.field-0.0)
     c.new-pull.ensures.start c.new-pull.ensures.same c.in_err-next_tag.ensures.reads in
+    let same_limits = c.in_err-next_tag.ensures.onward.same_limits ∙ ap (λ w. w.limits) c.new-pull.ensures.start in
+    let still = ap (λ w. w.octets) same_limits in
+    let inside = c.next_tag.new.self.within in
+    let within : c.next_tag.new.self.state.taken ≤ l.octets = omega arith in
     element_err g.R.Source.remaining l g.T.Element.type_term g.T.DerText.value c.in_err-next_tag.field-0.0 _
     (g.R.Source.remaining c.args.src.now) c.next_tag.new.self.src.now _ c.from_residual.result (search rules)
-    (search rules)
+    (search rules) within
     (next_stops l g.T.Element.type_term c.in_err-next_tag.field-0.0 c.next_tag.new.self.state.taken _ _ heard)
 
 pub unreachable-requires : goal.unreachable-requires
@@ -36,9 +40,13 @@ returns-in_err-value-clause-reads g c =
     let stands = given_next l c.new-pull.result c.next_tag.new.self c.in_ok-next_tag.field-0 t c.in-Some.is
     c.new-pull.ensures.start c.in_ok-next_tag.ensures.stands in
     let read = c.in_err-value.ensures.reads given (ap (λ w. w.error) stands) (ap (λ w. w.given) stands) in
+    let same_limits = c.in_err-value.ensures.onward.same_limits ∙ ap (λ w. w.limits) stands in
+    let still = ap (λ w. w.octets) same_limits in
+    let inside = c.read.new.pull.within in
+    let within : c.read.new.pull.state.taken ≤ l.octets = omega arith in
     element_err g.R.Source.remaining l T g.T.DerText.value c.in_err-value.field-0.0 _
     (g.R.Source.remaining c.args.src.now) c.read.new.pull.src.now _ c.from_residual-in_err-value.result (search rules)
-    (search rules)
+    (search rules) within
     (element_answers l T 0 t.0 t.1 _ c.next_tag.new.self.state.taken c.read.new.pull.state.taken _ _ _ heard
     (hears_as _ _ _ _ _ _ _ (read_as l T _ _ t stands) read))
 
