@@ -17,7 +17,7 @@ use Rattle.x690.specs.Values.{Value}
 use Rattle.x690_laws.proofs.Headers.{split_alone}
 use Rattle.x690_laws.proofs.Refit.{text_spells}
 use Rattle.x690_laws.proofs.Texts.{same_der}
-use Rattle.asn_elements.specs.Whole.{IsFailedRead}
+use Rattle.asn_elements.specs.Whole.{IsFailedRead, TellsInsideOf}
 use Rattle.asn_documents.specs.ReadValues.{ReadsValue, StopsReading}
 use Rattle.asn_documents.specs.Checked.{CheckedAs, InBoth, Unchecked, WhereTold}
 use Rattle.asn_documents.specs.Differences.{Differs, DiffersFirst}
@@ -180,11 +180,11 @@ stopped_still remaining l T e first start mid new begins ends h =
 
 pub unchecked_still : {R : Type 0} (remaining : R → Option (List ℕ)) (l : Limits) (T : TypeTerm) (e : ReadError)
     (first start mid new : R)
-    → start ≡ first → new ≡ mid → Lawful T → StopsReading l T e (remaining start) (remaining mid)
+    → start ≡ first → new ≡ mid → Lawful T → TellsInsideOf e → StopsReading l T e (remaining start) (remaining mid)
     → Unchecked l T e (remaining first) (remaining new)
-unchecked_still remaining l T e first start mid new begins ends lawful h =
+unchecked_still remaining l T e first start mid new begins ends lawful inside h =
     let s = stopped_still remaining l T e first start mid new begins ends h in
-    (s, unread_as l T e (remaining first) (remaining new) lawful s)
+    (s, unread_as l T e (remaining first) (remaining new) lawful inside s)
 
 pub fine_still : {R : Type 0} (has_failed : R → Bool) (mid new : R) → new ≡ mid → has_failed mid ≡ false
     → has_failed new ≡ false

@@ -10,12 +10,13 @@ use Rattle.x690.specs.Fitting.{Spells}
 use Rattle.x690.specs.Premises.{Lawful}
 use Rattle.x690.specs.TypeTerms.{TypeTerm}
 use Rattle.x690.specs.Values.{Same, Value}
-use Rattle.x690_laws.proofs.DocumentAnswers.{inside_of_answers, refused_is_spelled_by_none, spelling_is_answered, texts_tell_values}
+use Rattle.x690_laws.proofs.DocumentAnswers.{refused_is_spelled_by_none, spelling_is_answered, texts_tell_values}
 use Rattle.x690_laws.proofs.Headers.{split_alone}
 use Rattle.x690_laws.proofs.Refit.{text_spells}
 use Rattle.x690_laws.proofs.Sames.{equivalence}
 use Rattle.x690_laws.proofs.Texts.{same_der}
 use Rattle.asn_documents.specs.ReadValues.{ReadsValue, StopsReading}
+use Rattle.asn_elements.specs.Whole.{TellsInsideOf}
 use Rattle.asn_documents.specs.Normalised.{NormalisedAs, Took, Unread, WrittenInPart}
 
 spelled_text : (t t' : List ℕ) (n n' : ℕ) → Spelled t n ≡ Spelled t' n' → t ≡ t'
@@ -98,12 +99,10 @@ in_part l T w before after old new taken written lawful fine r le out =
     )
 
 pub unread_as : (l : Limits) (T : TypeTerm) (e : ReadError) (before after : Option (List ℕ)) → Lawful T
-    → StopsReading l T e before after → Unread l T e before
-unread_as l T (errors.Fault f) None after lawful s = tt
-unread_as l T (errors.Fault f) (Some before) None lawful s = absurd s
-unread_as l T (errors.Fault f) (Some before) (Some after) lawful s = (
-  inside_of_answers l T before f lawful.honest s.2.answers,
-  refused_is_spelled_by_none l T before f lawful.fair s.2.answers,
-)
-unread_as l T (errors.Read at) before after lawful s = tt
-unread_as l T errors.Memory before after lawful s = tt
+    → TellsInsideOf e → StopsReading l T e before after → Unread l T e before
+unread_as l T (errors.Fault f) None after lawful inside s = inside
+unread_as l T (errors.Fault f) (Some before) None lawful inside s = absurd s
+unread_as l T (errors.Fault f) (Some before) (Some after) lawful inside s =
+    (inside, refused_is_spelled_by_none l T before f lawful.fair s.2.answers)
+unread_as l T (errors.Read at) before after lawful inside s = tt
+unread_as l T errors.Memory before after lawful inside s = tt

@@ -3,10 +3,15 @@ use Rattle.std.proofs.Common.{◌⊎◌, List, None, Option, Some, [], ℕ, appe
 use Rattle.std.specs.Io.KnownBytes.{Consumes, Keeps}
 use Rattle.std.proofs.KnownBytes.{Consumes-trans}
 use Rattle.tlv_core.specs.Limits.{Limits}
+use Rattle.tlv_core.specs.Faults.{InsideMatches}
 use Rattle.tlv_core.specs.declared.fault.ReadError.{ReadError}
+use Rattle.tlv_core.specs.declared.fault.ReadError.TheVariants as errors
+use Rattle.tlv_core.specs.declared.reason.Reason.TheVariants.{Trailing}
+use Rattle.x690.specs.Points.{fault}
 use Rattle.x690.specs.Premises.{Lawful}
 use Rattle.x690.specs.TypeTerms.{TypeTerm}
 use Rattle.x690.specs.Values.{Value}
+use Rattle.asn_elements.specs.Whole.{TellsInsideOf}
 use Rattle.asn_documents.specs.Checked.{CheckedAs}
 use Rattle.asn_documents.specs.Normalised.{Took, Unread}
 use Rattle.asn_documents.specs.ReadValues.{ReadsValue, StopsReading}
@@ -32,6 +37,13 @@ followed l T e w before mid after taken r more = inr (record {
   ends_badly = subst (EndsBadly e more.0) r.taken_are more.2;
 })
 
+-- nothing is inside the fault behind a value
+pub ends_badly_inside : (e : ReadError) (behind : List ℕ) (place : ℕ) → EndsBadly e behind place → TellsInsideOf e
+ends_badly_inside (errors.Fault found) behind place h =
+    let outside : InsideMatches (fault place Trailing) = (λ z. cc, λ z. cc) in subst InsideMatches (sym h.1) outside
+ends_badly_inside (errors.Read at) behind place h = tt
+ends_badly_inside errors.Memory behind place h = tt
+
 -- the source told no more, and reading nothing changes nothing
 pub ended : (l : Limits) (T : TypeTerm) (w : Value) (before mid after : Option (List ℕ)) (taken : ℕ)
     → ReadsValue l T w before mid taken → Consumes mid after [] → ReadsValue l T w before after taken
@@ -48,10 +60,10 @@ ended l T w before mid after taken r none = record {
 }
 
 pub unread_whole : (l : Limits) (T : TypeTerm) (e : ReadError) (before after : Option (List ℕ)) → Lawful T
-    → StopsWhole l T e before after
+    → TellsInsideOf e → StopsWhole l T e before after
     → (StopsReading l T e before after × Unread l T e before) ⊎ Followed l T e before after
-unread_whole l T e before after lawful (inl s) = inl (s, unread_as l T e before after lawful s)
-unread_whole l T e before after lawful (inr f) = inr f
+unread_whole l T e before after lawful inside (inl s) = inl (s, unread_as l T e before after lawful inside s)
+unread_whole l T e before after lawful inside (inr f) = inr f
 
 unfoldable took_ended : (l : Limits) (T : TypeTerm) (v : Value) (before mid after : Option (List ℕ)) (taken : ℕ)
     → Took l T v before mid taken → Consumes mid after [] → Took l T v before after taken

@@ -55,9 +55,10 @@ abbrev pub Unspelled : Limits → TypeTerm → List ℕ → Type 0
 Unspelled limits type before =
     (value : Value) (octets rest : List ℕ) → before ≡ octets ++ rest → Spells limits type value octets → ⊥
 
--- A fault says that nothing that was told spells a value.
+-- A fault says that nothing that was told spells a value; what is inside it is there exactly where its reason is Inner,
+-- also where the source doesn't tell its octets.
 abbrev pub Unread : Limits → TypeTerm → ReadError → Option (List ℕ) → Type 0
-Unread limits type (errors.Fault found) None = Unit {0}
+Unread limits type (errors.Fault found) None = InsideMatches found
 Unread limits type (errors.Fault found) (Some before) = InsideMatches found × Unspelled limits type before
 Unread limits type (errors.Read at) before = Unit {0}
 Unread limits type errors.Memory before = Unit {0}

@@ -1,8 +1,8 @@
 //! Whether the octets of a value are its DER text.
-ghost use Rattle.std.specs.Prelude.{◌≡◌, [], MatchResult, false};
+ghost use Rattle.std.specs.Prelude.{◌≡◌, [], IfErr, MatchResult, false};
 ghost use Rattle.x690.specs.Premises.{Lawful};
 ghost use Rattle.x690.specs.Values.{Value};
-ghost use Rattle.asn_elements.specs.Whole.{IsFailedRead};
+ghost use Rattle.asn_elements.specs.Whole.{IsFailedRead, TellsInsideOf};
 ghost use Rattle.asn_documents.specs.Checked.{CheckedAs, Unchecked};
 ghost use Rattle.asn_documents.specs.Keepings.{failed, kept, reference, source, whole};
 ghost use Rattle.asn_documents.specs.ReadValues.{ReadsValue, StopsReading};
@@ -76,6 +76,7 @@ fn read_keeping<R: Source, T: Element>(
         (R.remaining (source keeping.old)) (R.remaining (source keeping.new)) read.1)
         (λ error. StopsReading limits T.type_term error (R.remaining (source keeping.old))
         (R.remaining (source keeping.new))) }
+    ensures inside { IfErr result TellsInsideOf }
     ensures read { MatchResult result (λ _. failed keeping.new ≡ false)
         (IsFailedRead (failed keeping.new)) }
     ensures frame { R.frame (source keeping.new) ≡ R.frame (source keeping.old) }

@@ -1,7 +1,7 @@
 //! One value of a type: read from the start of what a source tells, and written to a target.
-ghost use Rattle.std.specs.Prelude.{◌≡◌, ◌<◌, ◌^◌, MatchResult, false, length};
+ghost use Rattle.std.specs.Prelude.{◌≡◌, ◌<◌, ◌^◌, IfErr, MatchResult, false, length};
 ghost use Rattle.x690.specs.DerTexts.{der};
-ghost use Rattle.asn_elements.specs.Whole.{IsFailedRead};
+ghost use Rattle.asn_elements.specs.Whole.{IsFailedRead, TellsInsideOf};
 ghost use Rattle.asn_documents.specs.ReadValues.{ReadsValue, StopsReading};
 ghost use Rattle.asn_documents.specs.WrittenValues.{WritesText};
 
@@ -32,6 +32,8 @@ pub fn read_value<R: Source, T: Element>(
         (R.remaining src.old) (R.remaining src.new) read.1)
         (λ error. StopsReading limits T.type_term error (R.remaining src.old)
         (R.remaining src.new)) }
+    // What is inside a fault, of any source.
+    ensures inside { IfErr result TellsInsideOf }
     // A failed read is answered where the source failed, and nowhere else.
     ensures read { MatchResult result (λ _. R.has_failed src.new ≡ false)
         (IsFailedRead (R.has_failed src.new)) }

@@ -3,7 +3,7 @@ ghost use Rattle.std.specs.Prelude.{◌≡◌, ◌⊎◌, IfErr, IfOk, MatchResu
 ghost use Rattle.std.specs.Io.KnownBytes.{IsAtEnd};
 ghost use Rattle.x690.specs.Premises.{Lawful};
 ghost use Rattle.x690.specs.Values.{Value};
-ghost use Rattle.asn_elements.specs.Whole.{IsFailedRead};
+ghost use Rattle.asn_elements.specs.Whole.{IsFailedRead, TellsInsideOf};
 ghost use Rattle.asn_documents.specs.Checked.{CheckedAs, Unchecked};
 ghost use Rattle.asn_documents.specs.Normalised.{Failures, IsRead, NormalisedAs};
 ghost use Rattle.asn_documents.specs.ReadValues.{ReadsValue};
@@ -57,6 +57,8 @@ pub fn read_whole_input<R: Source, T: Element>(
         (λ error. StopsWhole limits T.type_term error (R.remaining src.old)
         (R.remaining src.new)) }
     ensures ends { IfOk result (λ _. IsAtEnd (R.remaining src.new)) }
+    // What is inside a fault, of any source.
+    ensures inside { IfErr result TellsInsideOf }
     // A failed read is answered where the source failed, and nowhere else.
     ensures read { MatchResult result (λ _. R.has_failed src.new ≡ false)
         (IsFailedRead (R.has_failed src.new)) }

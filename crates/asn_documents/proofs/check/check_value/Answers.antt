@@ -22,7 +22,7 @@ pub returns-then-keeping-clause-checked : goal.returns-then-keeping-clause-check
 returns-then-keeping-clause-checked g c =
     unchecked_still g.R.Source.remaining c.args.limits g.T.Element.type_term errors.Memory c.args.src.now
     c.new-keeping.result.src.now c.read_keeping-answer.new.keeping.src.now _ c.new-keeping.ensures.same
-    (search rules) c.requires.lawful
+    (search rules) c.requires.lawful tt
     (no_memory c.args.limits g.T.Element.type_term c.in-Err.error _ _ c.in-Err.ensures.reads)
 
 pub returns-then-keeping-clause-read : goal.returns-then-keeping-clause-read
@@ -34,7 +34,7 @@ pub returns-clause-checked : goal.returns-clause-checked
 returns-clause-checked g c =
     unchecked_still g.R.Source.remaining c.args.limits g.T.Element.type_term c.in-Err.error c.args.src.now
     c.new-keeping.result.src.now c.read_keeping-answer.new.keeping.src.now _ c.new-keeping.ensures.same
-    (search rules) c.requires.lawful c.in-Err.ensures.reads
+    (search rules) c.requires.lawful c.in-Err.ensures.inside c.in-Err.ensures.reads
 
 pub returns-clause-read : goal.returns-clause-read
 returns-clause-read g c =

@@ -7,7 +7,8 @@ pub returns-in_err-value-clause-refused : goal.returns-in_err-value-clause-refus
 returns-in_err-value-clause-refused g c =
     let unread =
     unread_as c.args.limits g.T.Element.type_term c.in_err-value.field-0.0 (g.R.Source.remaining c.args.src.now)
-    (g.R.Source.remaining c.read_value.new.src) c.requires.lawful c.in_err-value.ensures.reads in
+    (g.R.Source.remaining c.read_value.new.src) c.requires.lawful c.in_err-value.ensures.inside
+    c.in_err-value.ensures.reads in
     search rules
 
 pub returns-in_err-written-clause-refused : goal.returns-in_err-written-clause-refused

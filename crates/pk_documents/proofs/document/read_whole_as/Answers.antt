@@ -6,5 +6,6 @@ pub returns-in_err-value-clause-reads : goal.returns-in_err-value-clause-reads
 returns-in_err-value-clause-reads g c =
     let unread =
     unread_whole c.args.limits g.T.Element.type_term c.in_err-value.field-0.0 (g.R.Source.remaining c.args.src.now)
-    (g.R.Source.remaining c.read_whole_input.new.src) g.met.T.DocumentOf.lawful c.in_err-value.ensures.reads in
+    (g.R.Source.remaining c.read_whole_input.new.src) g.met.T.DocumentOf.lawful
+    c.in_err-value.ensures.inside c.in_err-value.ensures.reads in
     search rules

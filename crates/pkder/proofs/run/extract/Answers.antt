@@ -44,7 +44,8 @@ returns-in-Err-clause-replied g c =
     let contents = g.W.Target.contents c.args.dst.now in
     unread_replies l T
     (DueOfValue l T (part_of c.args.part) before after) before after contents contents c.in-Err.error _ c.unread.ensures
-    (unread_whole l T c.in-Err.error before after (kinds_are_lawful Request) c.in-Err.ensures.reads)
+    (unread_whole l T c.in-Err.error before after (kinds_are_lawful Request) c.in-Err.ensures.inside
+    c.in-Err.ensures.reads)
 
 pub returns-in-Err-clause-failed : goal.returns-in-Err-clause-failed
 returns-in-Err-clause-failed g c =

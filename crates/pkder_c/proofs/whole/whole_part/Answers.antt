@@ -19,4 +19,4 @@ pub returns-in-Err-clause-refused : goal.returns-in-Err-clause-refused
 returns-in-Err-clause-refused c =
     unread_made c.args.limits (type_of Request) c.in-Err.error c.unread.result c.args.src.now _ c.unread.ensures
     (unread_whole c.args.limits (type_of Request) c.in-Err.error (Some c.args.src.now) _
-    (kinds_are_lawful Request) c.in-Err.ensures.reads)
+    (kinds_are_lawful Request) c.in-Err.ensures.inside c.in-Err.ensures.reads)
