@@ -140,9 +140,9 @@ pub no_memory : (l : Limits) (T : TypeTerm) (e : ReadError) (before after : Opti
 no_memory l T e None after s = tt
 no_memory l T e (Some before) None s = absurd s
 no_memory l T (errors.Fault f) (Some before) (Some after) s =
-    (s.0, s.1, λ text n a. let turned : Refused f ≡ Spelled text n = sym s.2.answers ∙ a in absurd cc)
+    (s.0, s.1, λ text n a. let turned : Refused f ≡ Spelled text n = sym s.2.answers ∙ a in absurd cc, s.3)
 no_memory l T (errors.Read at) (Some before) (Some after) s =
-    (s.0, s.1, λ text n a. refused_within l T before s.0 after text n (fault at Truncated) s.1 s.2.1.answers a)
+    (s.0, s.1, λ text n a. refused_within l T before s.0 after text n (fault at Truncated) s.1 s.2.1.answers a, s.3)
 no_memory l T errors.Memory (Some before) (Some after) s = s
 
 cons_tail : (x y : ℕ) (xs ys : List ℕ) → x ∷ xs ≡ y ∷ ys → (x ≡ y) × (xs ≡ ys)

@@ -1,6 +1,7 @@
 -- What was read from a source, by the answer to its octets.
 use Rattle.std.proofs.Common.{◌≡◌, ◌∙◌, ◌+◌, ◌*◌, ◌++◌, ◌∷◌, ◌<◌, ◌≤◌, ⊎_elim, List, None, Option, Some, [], ℕ, ap, append-nil, arith, length, refl, subst, sym}
 use Rattle.std.proofs.lemmas.Bool.{cases_lt}
+use Rattle.std.proofs.lemmas.List.{length-append}
 use Rattle.std.specs.Io.KnownBytes.{Consumes}
 use Rattle.tlv_core.specs.Limits.{Limits}
 use Rattle.tlv_core.specs.declared.fault.Fault.{Fault}
@@ -96,14 +97,22 @@ refused_within l T before octets after text n f is refused a =
         sym refused ∙ answered l T octets (Took g.value n (g.octet ∷ g.more)) took ∙ g.spelled (g.octet ∷ g.more) in
         cc
 
-pub stopped : (l : Limits) (T : TypeTerm) (e : ReadError) (k : ℕ) (s u : Option (List ℕ))
+-- octets of a list before the same ones behind them are as many
+same_count : (s octets others behind : List ℕ) → s ≡ octets ++ behind → s ≡ others ++ behind
+    → length octets ≡ length others
+same_count s octets others behind is is' =
+    omega (arith, ap length (sym is ∙ is'), length-append octets behind, length-append others behind)
+
+pub stopped : (l : Limits) (T : TypeTerm) (e : ReadError) (k : ℕ) (s u : Option (List ℕ)) → k ≤ l.octets
     → Hears (read_element l T [] outermost) 0 s (heard_error e) k u → StopsReading l T e s u
 unfolding Hears Reads
-stopped l T e k None u x = tt
-stopped l T e k (Some s) None x = absurd x
-stopped l T (errors.Fault f) k (Some s) (Some u) x =
-    (x.0.0, x.0.1, answers_fault l T s f (answered l T s (Halted f) x.1 ∙ halted_is l f))
-stopped l T (errors.Read at) k (Some s) (Some u) x =
+stopped l T e k None u within x = tt
+stopped l T e k (Some s) None within x = absurd x
+stopped l T (errors.Fault f) k (Some s) (Some u) within x =
+    let count : k ≡ 0 + length x.0.0 = x.0.2 in
+    (x.0.0, x.0.1, answers_fault l T s f (answered l T s (Halted f) x.1 ∙ halted_is l f), omega arith)
+stopped l T (errors.Read at) k (Some s) (Some u) within x =
+    let count : k ≡ 0 + length x.0.0 = x.0.2 in
     let y = x.1 in
     let e : at ≡ 0 + length y.0 = y.2 in (
       y.0,
@@ -113,9 +122,16 @@ stopped l T (errors.Read at) k (Some s) (Some u) x =
         answers_fault l T y.0 (fault at Truncated)
             (answered l T y.0 (Halted (fault at Truncated)) y.3 ∙ halted_is l (fault at Truncated)),
       ),
+      omega (arith, same_count s y.0 x.0.0 u y.1 x.0.1),
     )
-stopped l T errors.Memory k (Some s) (Some u) x =
-    let y = x.1 in (y.0, y.1, λ text n a. needed_within l T s y.0 u text n y.1 y.2 a)
+stopped l T errors.Memory k (Some s) (Some u) within x =
+    let count : k ≡ 0 + length x.0.0 = x.0.2 in
+    let y = x.1 in (
+      y.0,
+      y.1,
+      λ text n a. needed_within l T s y.0 u text n y.1 y.2 a,
+      omega (arith, same_count s y.0 x.0.0 u y.1 x.0.1),
+    )
 
 -- octets that the reading takes whole spell the value
 spells_all : (l : Limits) (T : TypeTerm) (v : Value) (octets : List ℕ) (k : ℕ)
@@ -186,11 +202,16 @@ unfolding Hears Reads
 too_long l T v w k None u same lt x = tt
 too_long l T v w k (Some s) None same lt x = absurd x
 too_long l T v w k (Some s) (Some u) same lt x =
-    let text : der w ≡ der v = sym (same_der v w same) in (
+    let text : der w ≡ der v = sym (same_der v w same) in
+    let took = sound l T [] outermost 0 s v k u x.1 in
+    let place : k ≡ 0 + took.0 = took.1 in
+    let limit : 0 + took.0 ≤ l.octets = took.2.in_limit in
+    let count : k ≡ 0 + length x.0.0 = x.0.2 in (
       x.0.0,
       x.0.1,
       answers_fault l T s (fault 0 TextTooLong)
           (answered l T s (Took v k u) x.1 ∙ long_text l v k u (subst (λ z. l.octets < length z) text lt)),
+      omega arith,
     )
 
 -- the text of a value that was read is within the limit

@@ -45,9 +45,13 @@ Halts limits type (Read at) octets before = (at ≡ length octets) × AnswersFau
 Halts limits type Memory octets before =
     (text : List ℕ) (taken : ℕ) → answer limits type before ≡ Spelled text taken → length octets ≤ taken
 
--- No value was read. Of a source that doesn't tell its octets nothing is said.
+-- No value was read, and no more octets were taken than the limit. Of a source that doesn't tell its octets nothing is
+-- said.
 abbrev pub StopsReading : Limits → TypeTerm → ReadError → Option (List ℕ) → Option (List ℕ) → Type 0
 StopsReading limits type error None after = Unit {0}
 StopsReading limits type error (Some before) None = ⊥
 StopsReading limits type error (Some before) (Some after) =
-    (octets : List ℕ) × (before ≡ octets ++ after) × Halts limits type error octets before
+    (octets : List ℕ)
+    × (before ≡ octets ++ after)
+    × Halts limits type error octets before
+    × (length octets ≤ limits.octets)

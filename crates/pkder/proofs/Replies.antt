@@ -90,11 +90,13 @@ unread_fails error outcome source target is h =
 pub no_memory : (limits : Limits) (type : TypeTerm) (before after : Option (List ℕ)) (octets text : List ℕ)
     → Consumes before after octets
     → ((more : List ℕ) → answer limits type (octets ++ more) ≡ Spelled text (length octets))
-    → Unreadable limits type MemoryRead before after
-no_memory limits type None after octets text takes spells = inl (tt, tt)
-no_memory limits type (Some before) None octets text takes spells = absurd takes
-no_memory limits type (Some before) (Some after) octets text takes spells = inl
-    ((octets, takes, λ other n a. within other n (sym (spells after) ∙ sym (ap (answer limits type) takes) ∙ a)), tt)
+    → length octets ≤ limits.octets → Unreadable limits type MemoryRead before after
+no_memory limits type None after octets text takes spells fit = inl (tt, tt)
+no_memory limits type (Some before) None octets text takes spells fit = absurd takes
+no_memory limits type (Some before) (Some after) octets text takes spells fit = inl (
+  (octets, takes, λ other n a. within other n (sym (spells after) ∙ sym (ap (answer limits type) takes) ∙ a), fit),
+  tt,
+)
   where
     within : (other : List ℕ) (n : ℕ) → Spelled text (length octets) ≡ Spelled other n → length octets ≤ n
     within other n e = let count : length octets ≡ n = cc in omega (arith, count)

@@ -7,7 +7,7 @@ use Rattle.asn_documents.proofs.document.read_value.Goals.{else-taken-most-via-t
 pub returns-in_err-value-clause-reads : goal.returns-in_err-value-clause-reads
 returns-in_err-value-clause-reads g c =
     let x = c.in_err-value.ensures.reads in
-    let stops = stopped c.args.limits g.T.Element.type_term c.in_err-value.field-0.0 x.0 _ _ x.1 in
+    let stops = stopped c.args.limits g.T.Element.type_term c.in_err-value.field-0.0 x.0 _ _ x.2 x.1 in
     search rules
 
 pub returns-then-size-most-clause-reads : goal.returns-then-size-most-clause-reads

@@ -21,7 +21,8 @@ returns-in-Ok-clause-replied g c =
     l T (DueOfCheck l T before after) before after (verdict_of place) c.verdict_text.result c.verdict_text.ensures
     (due_of_check l T before after c.in-Ok._taken place (verdict_of place) checked c.in-Ok.ensures.ends refl)
     (no_memory l T before after checked.1.took.octets _ checked.1.took.takes
-    (took_answers l T checked.0 before after _ (kinds_are_lawful c.args.kind) checked.1.took))
+    (took_answers l T checked.0 before after _ (kinds_are_lawful c.args.kind) checked.1.took)
+    checked.1.took.spells.octets_fit)
     c.write_text.ensures
 
 pub returns-in-Ok-clause-unwritten : goal.returns-in-Ok-clause-unwritten

@@ -25,7 +25,7 @@ returns-in-Ok-clause-replied g c =
     (document_lines document) c.show_text.result c.show_text.ensures
     (document, c.in-Ok._taken, c.in-Ok.ensures.kind, reads, c.in-Ok.ensures.ends, refl, refl)
     (no_memory l T before after reads.octets text reads.takes
-    (λ more. reads.answers more ∙ ap (Spelled text) reads.taken_are))
+    (λ more. reads.answers more ∙ ap (Spelled text) reads.taken_are) reads.spells.octets_fit)
     c.write_text.ensures
 
 pub returns-in-Ok-clause-unwritten : goal.returns-in-Ok-clause-unwritten
