@@ -1,9 +1,10 @@
 //! OtherPrimeInfo of RFC 8017 A.1.2.
 ghost use Rattle.std.proofs.lemmas.Bool.{ltb-true};
-ghost use Rattle.std.specs.Prelude.{◌≡◌, ◌↔◌, IsTrue, refl};
+ghost use Rattle.std.specs.Prelude.{◌≡◌, ◌↔◌, ◌∷◌, [], IsTrue, refl};
 ghost use Rattle.pkix_types.specs.DocumentTypes.{OtherPrimeInfo as OtherPrimeInfoType};
 ghost use Rattle.pkix_types.proofs.ClosedTypes.{other_prime_closed};
-ghost use Rattle.x690.specs.Values.{Same};
+ghost use Rattle.x690.specs.Values.{Same, leaf_at, sequence_members};
+ghost use Rattle.asn_elements.specs.Leaves.{integer_of};
 
 use crate::rsa_numbers::Two;
 use asn_values::der_text::DerText;
@@ -40,22 +41,34 @@ impl OtherPrimeInfo {
     ghost use Rattle.pk_keys.specs.OtherPrimes.{coefficient_of, exponent_of, prime_of};
 
     /// The prime.
+    #[tactic(auto, unfolding(x690::specs::Values::leaf_at))]
     pub fn prime(&self) -> &Int
-        ensures { result.now ≡ prime_of self.now }
+        ensures value { result.now ≡ prime_of self.now }
+        ensures stands { leaf_at (0 ∷ [])
+            (sequence_members (⟦<OtherPrimeInfo as DerText>⟧.value self.now))
+            ≡ integer_of result.now }
     {
         &self.0.fields().0.0
     }
 
     /// Its exponent.
+    #[tactic(auto, unfolding(x690::specs::Values::leaf_at))]
     pub fn exponent(&self) -> &Int
-        ensures { result.now ≡ exponent_of self.now }
+        ensures value { result.now ≡ exponent_of self.now }
+        ensures stands { leaf_at (1 ∷ [])
+            (sequence_members (⟦<OtherPrimeInfo as DerText>⟧.value self.now))
+            ≡ integer_of result.now }
     {
         &self.0.fields().1.0.0.0
     }
 
     /// Its coefficient.
+    #[tactic(auto, unfolding(x690::specs::Values::leaf_at))]
     pub fn coefficient(&self) -> &Int
-        ensures { result.now ≡ coefficient_of self.now }
+        ensures value { result.now ≡ coefficient_of self.now }
+        ensures stands { leaf_at (2 ∷ [])
+            (sequence_members (⟦<OtherPrimeInfo as DerText>⟧.value self.now))
+            ≡ integer_of result.now }
     {
         &self.0.fields().1.0.1.0
     }

@@ -1,10 +1,12 @@
 //! The INTEGERs of an RSAPrivateKey (RFC 8017 A.1.2), two by two.
 //!
 //! Each group of them is a type of its own, so that what stands above rests on one group and not on eight fields.
-ghost use Rattle.std.specs.Prelude.{◌≡◌, ◌++◌, ◌∷◌, [], slice_get};
+ghost use Rattle.std.specs.Prelude.{◌≡◌, ◌++◌, ◌∷◌, [], IfSome, slice_get};
 ghost use Rattle.std.specs.Option.{option_map};
 ghost use Rattle.x690.specs.TypeTerms.{Required};
 ghost use Rattle.x690.specs.UniversalTypes.{integer};
+ghost use Rattle.x690.specs.Values.{leaf_at};
+ghost use Rattle.asn_elements.specs.Leaves.{integer_of};
 ghost use Rattle.pk_keys.specs.RsaKeys.{numbers_of};
 
 use asn_values::fields::Next;
@@ -104,8 +106,11 @@ pub struct Numbers(pub (Four, Four));
 
 impl Numbers {
     /// The number at this place, counted from 0.
+    #[tactic(auto, unfolding(x690::specs::Values::leaf_at))]
     pub fn get(&self, i: usize) -> Option<&Int>
-        ensures { option_map (λ r. r.now) result ≡ slice_get (numbers_of self.now) i }
+        ensures value { option_map (λ r. r.now) result ≡ slice_get (numbers_of self.now) i }
+        ensures stands { IfSome result (λ r.
+            leaf_at (i ∷ []) (⟦<Numbers as FieldsText>⟧.values self.now) ≡ integer_of r.now) }
     {
         let (Four((first, second)), Four((third, fourth))) = &self.0;
         match i {
