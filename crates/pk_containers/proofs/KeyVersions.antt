@@ -19,11 +19,11 @@ use Rattle.asn_elements.specs.declared.bits.Bits.{Bits}
 use Rattle.pk_containers.specs.Seen.{bits_in, bits_of}
 use Rattle.pk_containers.specs.declared.public_key.PublicKey.{PublicKey}
 
-both_first : (a b : Bool) → (a && b) ≡ true → a ≡ true
+pub both_first : (a b : Bool) → (a && b) ≡ true → a ≡ true
 both_first true b e = refl
 both_first false b e = cc
 
-both_second : (a b : Bool) → (a && b) ≡ true → b ≡ true
+pub both_second : (a b : Bool) → (a && b) ≡ true → b ≡ true
 both_second true b e = e
 both_second false b e = cc
 

@@ -1,3 +1,4 @@
 pub mod Curves
 pub mod InnerKeys
 pub mod KeyVersions
+pub mod KindsOfKeys

@@ -1,10 +1,12 @@
 -- The keys in a OneAsymmetricKey, as its readers show them.
-use Rattle.std.specs.Prelude.{None, Option, Some}
+use Rattle.std.specs.Prelude.{List, None, Option, Some, [], false, true, ℕ, ◌∷◌, ◌≡◌}
 use Rattle.asn_elements.specs.Implicits.{value_under}
 use Rattle.asn_elements.specs.declared.bits.Bits.{Bits}
 use Rattle.asn_elements.specs.declared.octets.Octets.{Octets}
 use Rattle.asn_fields.specs.declared.either.Either.TheVariants.{First, Second}
 use Rattle.asn_fields.specs.declared.either.Either.{Either}
+use Rattle.pkix_types.specs.Identifiers.{ec_public_key, rfc8410_algorithms, rsa_encryption}
+use Rattle.x690.specs.Lists.{one_of}
 use Rattle.pk_containers.specs.declared.private_key.ContainedKey.{ContainedKey}
 use Rattle.pk_containers.specs.declared.private_key.PrivateKey.{PrivateKey}
 use Rattle.pk_containers.specs.declared.private_key.PrivateKey.TheVariants.{Carried, Curve, Ec, Rsa}
@@ -37,6 +39,16 @@ key_in contained =
         ]
       ]
     ]
+
+-- The key goes with the algorithm: id-ecPublicKey, one of RFC 8410, rsaEncryption, or none of these.
+abbrev pub GoesWith : List ℕ → AnyKey → Type 0
+GoesWith algorithm (First ec) = one_of algorithm (ec_public_key ∷ []) ≡ true
+GoesWith algorithm (Second (First curve)) = one_of algorithm rfc8410_algorithms ≡ true
+GoesWith algorithm (Second (Second (First rsa))) = one_of algorithm (rsa_encryption ∷ []) ≡ true
+GoesWith algorithm (Second (Second (Second octets))) =
+    (one_of algorithm (ec_public_key ∷ []) ≡ false)
+    × (one_of algorithm rfc8410_algorithms ≡ false)
+    × (one_of algorithm (rsa_encryption ∷ []) ≡ false)
 
 -- the bits of a public key, none of what is refused
 abbrev pub bits_in : PublicKey → Option Bits

@@ -7,7 +7,8 @@ ghost use Rattle.pkix_types.proofs.Fairs.{fair_key_version};
 ghost use Rattle.pkix_types.proofs.LawfulTypes.{honest_key_version};
 ghost use Rattle.pkix_types.specs.DocumentTypes.{OneAsymmetricKey as OneAsymmetricKeyType};
 ghost use Rattle.pkix_types.specs.Rules.{key_version_rule};
-ghost use Rattle.pk_containers.specs.Seen.{key_seen};
+ghost use Rattle.pk_containers.specs.Seen.{GoesWith, key_seen};
+ghost use Rattle.pkix_values.specs.Algorithms.{algorithm_of};
 ghost use Rattle.x690.specs.Lists.{one_of};
 ghost use Rattle.x690.specs.Values.{Same};
 
@@ -101,9 +102,10 @@ impl OneAsymmetricKey {
         self.body().0.0.earlier().algorithm_identifier()
     }
 
-    /// The private key.
+    /// The private key: which of the four it is goes by the algorithm.
     pub fn private_key(&self) -> PrivateKey<'_>
-        ensures { key_seen result ≡ private_key_of self.now }
+        ensures value { key_seen result ≡ private_key_of self.now }
+        ensures goes_with { GoesWith (algorithm_of (key_algorithm_of self.now)) (key_seen result) }
     {
         self.body().0.0.field().key()
     }

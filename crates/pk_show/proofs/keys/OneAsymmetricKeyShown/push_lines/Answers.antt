@@ -36,6 +36,6 @@ returns c =
     (ap₂ (λ a b. a ++ b) (ap₂ (λ a b. a ++ b) (ap₂ (λ a b. a ++ b) (ap₂ (λ a b. a ++ b)
     (ap (λ n. line (codes "version: ") (decimal n)) (c.from.ensures ∙ c.version.ensures))
     (ap (algorithm_lines (codes "algorithm: ") (codes "parameters: ")) c.algorithm.ensures))
-    (ap private_key_lines c.private_key.ensures))
+    (ap private_key_lines c.private_key.ensures.value))
     (ap (λ set. attributes_lines attribute_lines (option_map (λ set. set_items set) set)) c.attributes.ensures))
     (ap (λ bits. line (codes "public key: ") (optional bits_said bits)) c.public_key.ensures.value))
