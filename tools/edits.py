@@ -10,7 +10,8 @@
 
 A table of edits, crates/NAME/edits.toml, has for each edit its name, the function whose proof must refuse it, the file,
 what stands there once, and what is put there in its place. An edit of several texts has its name over each, as
-[[NAME]]. One that names no function is tried alone, in a check of the whole crate.
+[[NAME]]. One that changes statements or proofs is tried alone, and one that names no function in a check of the whole
+crate.
 
 A round is one check with many edits in it, at most one for a function, over what the rounds before it proved, of these
 functions and what they call. A function's proof rests on the contracts of what it calls and on its own code alone, so
@@ -120,6 +121,10 @@ class Edit:
         forms = ({"function", "file", "old", "new"}, {"file", "old", "new"})
         good = all(it.keys() in forms and all(isinstance(text, str) for text in it.values()) for it in changes)
         self.why = None if good and NAME.fullmatch(name) else "it has not the form of an edit"
+
+    def is_of_code(self):
+        """Whether it changes code alone, of functions that it names."""
+        return bool(self.functions) and all(it["file"].startswith("src/") for it in self.changes)
 
 
 def edits_in(file):
@@ -444,7 +449,8 @@ class Trial:
 
     def tried(self, edits):
         """Returns what to say of each edit."""
-        apart = [it for it in edits if it.why or not it.functions or applied([it], self.crate.folder)[1]]
+        # (what changes statements may fail any function)
+        apart = [it for it in edits if it.why or not it.is_of_code() or applied([it], self.crate.folder)[1]]
         whys = self.rounds([it for it in edits if it not in apart], [HALF])
         again = self.unsettled(whys)
         if again:
