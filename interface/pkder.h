@@ -1,7 +1,7 @@
-/* pkder: reads private keys, public keys and certification requests in BER and DER (PKCS #8, RFC 5915, RFC 8410,
- * PKCS #10), and gives their one DER text, whether they are in DER, what they are in lines, a part of them; or the
- * first fault, with its place and its reason. It does no cryptography, and says of a document that it has a sound form
- * and nothing more. It reads the octets of the document itself, and no PEM.
+/* pkder: reads private keys, public keys and certification requests (CSRs) in BER and DER (PKCS #8, RFC 5915, RFC 8410,
+ * PKCS #10), and gives their one DER text, which is their DER encoding, whether they are in DER, what they are in
+ * lines, a part of them; or the first fault, with its place and its reason. It does no cryptography, and says of a
+ * document that it has a sound form and nothing more. It reads the octets (bytes) of the document itself, and no PEM.
  *
  * Compile by `cc FILE.c $(pkg-config --cflags --libs pkder)`, which is -lpkder; the program finds libpkder.so.0 once
  * ldconfig has seen it, or by LD_LIBRARY_PATH. docs/library.md has first steps, and docs/manual.md what each reason
@@ -25,12 +25,15 @@
  * Promised, of each call:
  *   - it returns, and what it returns says what it did: there is no number that a caller may not pass, and an outcome
  *     is a value, so that nothing has to be freed or closed;
+ *   - the same octets, kind and limits have the same answer each time, PKDER_NO_MEMORY apart.
+ *
+ * So it is too, of each call, by the language that pkder is written in, which has no pointer past its object and no
+ * variable that outlives a call, and frees what goes out of use. No contract says it, and the tests look at it:
  *   - it reads the octets of src and writes those of dst and no others, beside memory of its own, all of which it frees
  *     before it returns;
- *   - it keeps nothing from call to call, so that calls need no beginning or end, and the same octets, kind and limits
- *     have the same answer each time, PKDER_NO_MEMORY apart.
- * Any number of threads may call at once: no call has anything in common with another but the allocator. It prints
- * nothing, opens nothing and ends no process, and it never asks which locale is set.
+ *   - it keeps nothing from call to call, so that calls need no beginning or end, and any number of threads may call at
+ *     once: no call has anything in common with another but the allocator;
+ *   - it prints nothing, opens nothing and ends no process, and it never asks which locale is set.
  *
  * Not promised:
  *   - that octets of a key leave memory: the blocks that a call frees may hold some (HEAP=wiping sh interface/build.sh
@@ -55,9 +58,10 @@ extern "C" {
 #define PKDER_INTERFACE 1
 
 /* What a document is; the caller says. All of the octets given have to be one: octets behind it are a fault. Octets of
- * a PEM file are none (WrongTag at 0). Of a file of unknown kind ask for each kind: as the types stand, one accepts
- * it at most. Where all refuse it, the faults can't be compared by their places: take that of the kind which the file's
- * label or sender names; the next best guess is the one that isn't WrongTag. */
+ * a PEM file are none (WrongTag at 0). Of a file of unknown kind ask for each kind: one accepts it at most, since the
+ * tags inside the outermost SEQUENCE differ from kind to kind (no contract says it). Where all refuse it, the faults
+ * can't be compared by their places: take that of the kind which the file's label or sender names; the next best guess
+ * is the one that isn't WrongTag. */
 #define PKDER_KEY 1u       /* OneAsymmetricKey, PKCS #8 (RFC 5958): what PEM calls PRIVATE KEY */
 #define PKDER_EC 2u        /* ECPrivateKey (RFC 5915): EC PRIVATE KEY */
 #define PKDER_REQUEST 3u   /* CertificationRequest, PKCS #10 (RFC 2986): CERTIFICATE REQUEST */
