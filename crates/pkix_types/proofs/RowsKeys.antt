@@ -1,6 +1,6 @@
 -- Private keys, with the answers to them.
 use Rattle.std.proofs.Common.{◌≡◌, codes, refl}
-use Rattle.tlv_core.specs.declared.reason.Reason.TheVariants.{BadOid, Curve, KeyLength, Parameters, TooDeep, TooLong, Trailing, Truncated, VersionRule}
+use Rattle.tlv_core.specs.declared.reason.Reason.TheVariants.{BadOid, Curve, EmptySet, KeyLength, Parameters, TooDeep, TooLong, Trailing, Truncated, VersionRule}
 use Rattle.x690.specs.Answers.{Spelled, answer}
 use Rattle.pkix_types.specs.DocumentTypes.{ECPrivateKey, OneAsymmetricKey}
 use Rattle.pkix_types.proofs.Computed.{computed}
@@ -205,3 +205,14 @@ an_empty_object_identifier = refl
 an_ec_key_without_any_curve : IsDer usual ECPrivateKey (hex (codes "3006020101040107"))
 unfolding computed
 an_ec_key_without_any_curve = refl
+
+a_key_with_no_attributes_in_their_set : IsDer usual OneAsymmetricKey
+    (hex (codes "3030020100300506032b6570042204201111111111111111111111111111111111111111111111111111111111111111a000"))
+unfolding computed
+a_key_with_no_attributes_in_their_set = refl
+
+an_attribute_of_a_key_without_values : answer usual OneAsymmetricKey
+    (hex (codes "3039020100300506032b6570042204201111111111111111111111111111111111111111111111111111111111111111a009300706032a03043100"))
+    ≡ refused 57 EmptySet
+unfolding computed
+an_attribute_of_a_key_without_values = refl

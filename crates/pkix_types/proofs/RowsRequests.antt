@@ -70,6 +70,12 @@ a_request_with_no_list_of_extensions : answer usual CertificationRequest
 unfolding computed
 a_request_with_no_list_of_extensions = refl
 
+an_attribute_of_a_request_without_values : answer usual CertificationRequest
+    (hex (codes "30818e30420201003000302a300506032b6570032100aaaaaaaaaaaaaaaaaaaaaaaaaaaaaaaaaaaaaaaaaaaaaaaaaaaaaaaaaaaaaaaaa00f300d06092a864886f70d0109073100300506032b6570034100bbbbbbbbbbbbbbbbbbbbbbbbbbbbbbbbbbbbbbbbbbbbbbbbbbbbbbbbbbbbbbbbbbbbbbbbbbbbbbbbbbbbbbbbbbbbbbbbbbbbbbbbbbbbbbbbbbbbbbbbbbbbbbbb"))
+    ≡ refused 69 EmptySet
+unfolding computed
+an_attribute_of_a_request_without_values = refl
+
 an_empty_name : IsDer usual Name (hex (codes "3000"))
 unfolding computed
 an_empty_name = refl
