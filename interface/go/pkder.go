@@ -1,5 +1,6 @@
-// Package pkder reads, checks and normalises private keys and certification requests in BER and DER, by libpkder, which
-// is proved. pkg-config has to find the library. Each call takes a whole document, and may come from any goroutine.
+// Package pkder reads, checks and normalises private keys, public keys and certification requests (certificate signing
+// requests, CSRs) in BER and DER, by libpkder, which is proved. Octets are bytes, and a DER text is a DER encoding.
+// pkg-config has to find the library. Each call takes a whole document, and may come from any goroutine.
 package pkder
 
 /*

@@ -1,4 +1,5 @@
-//! Private keys and certification requests in BER and DER: a safe wrapper of libpkder, which is proved.
+//! Private keys, public keys and certification requests (certificate signing requests, CSRs) in BER and DER: a safe
+//! wrapper of libpkder, which is proved. Octets are bytes, and a DER text is a DER encoding.
 //!
 //! ```
 //! use pkder::{check, normalise, Form, Kind};

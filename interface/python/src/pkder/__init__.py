@@ -1,6 +1,6 @@
-"""Private keys and certification requests in BER and DER, by libpkder.
+"""Private keys, public keys and certification requests (CSRs) in BER and DER, by libpkder.
 
-    pkder.normalise(pkder.Kind.KEY, octets)      the DER text
+    pkder.normalise(pkder.Kind.KEY, octets)      the DER text, which is the DER encoding
     pkder.check(pkder.Kind.KEY, octets)          None in DER, else the first place that differs
     pkder.show(pkder.Kind.KEY, octets)           what it says, in lines
     pkder.signed(pkder.Part.INFO, octets)        what the signature of a request covers, or another part of it
