@@ -1,8 +1,8 @@
 #!/bin/sh
-# Puts the program and its man page in place, or the library, or both, as tools/build.py made them:
+# Puts the program in place, or the library, or both, as tools/build.py made them:
 #   [DESTDIR=FOLDER] [PREFIX=/usr/local] [LIBDIR=PREFIX/lib] sh tools/install.sh [program] [library]
-# With either goes PROVED-BY, which says what proved it. The library is libpkder.a, libpkder.so.0, pkder.h, pkder.pc, man
-# pages and three pages of docs/ that they name.
+# The library is libpkder.a, libpkder.so.0, pkder.h and pkder.pc. With either go its man pages, the pages of docs/ that
+# they name, and PROVED-BY, which says what proved it.
 set -eu
 top=$(cd "$(dirname "$0")/.." && pwd)
 prefix=${PREFIX:-/usr/local}
@@ -22,16 +22,16 @@ put_proved_by() {
         echo "install.sh: nothing says what proved $1: no PROVED-BY has its sum" >&2
         return
     fi
-    mkdir -p "$root$prefix/share/doc/pkder"
     install -m 644 "$by" "$root$prefix/share/doc/pkder/PROVED-BY"
 }
 
 put_program() {
     program=$top/crates/pkder/out/pkder
     needs "$program" "run 'python3 tools/build.py'"
-    mkdir -p "$root$prefix/bin" "$root$prefix/share/man/man1"
+    mkdir -p "$root$prefix/bin" "$root$prefix/share/man/man1" "$root$prefix/share/doc/pkder"
     install -m 755 "$program" "$root$prefix/bin/pkder"
     install -m 644 "$top/docs/pkder.1" "$root$prefix/share/man/man1/pkder.1"
+    install -m 644 "$top/docs/manual.md" "$top/docs/formats.md" "$root$prefix/share/doc/pkder"
     put_proved_by "$program"
 }
 

@@ -26,6 +26,7 @@ SECONDS = 120
 TOOLS = ("openssl", "xxd", "jq", "mandoc", "cc", "pkg-config", "cargo", "go", "pip")
 BUILT_WITH = {"pip": ("setuptools", "wheel")}
 MARK = "-- step"
+PROVED_BY = "crates/pkder/out/PROVED-BY"
 
 
 class Step:
@@ -35,7 +36,9 @@ class Step:
         self.number, self.text, self.shell, self.due = number, text, shell, []
 
     def lacks(self):
-        """The first tool that it names and that isn't installed."""
+        """The first tool that it names and that isn't installed, or what an installation is of."""
+        if "tools/install.sh" in self.text and not os.path.isfile(f"{TOP}/{PROVED_BY}"):
+            return PROVED_BY
         return next((it for it in TOOLS if re.search(rf"\b{it}\b", self.text) and not is_installed(it)), None)
 
 
