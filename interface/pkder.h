@@ -36,7 +36,7 @@
  *   - it prints nothing, opens nothing and ends no process, and it never asks which locale is set.
  *
  * Not promised:
- *   - that octets of a key leave memory: the blocks that a call frees may hold some (HEAP=wiping sh interface/build.sh
+ *   - that octets of a key leave memory: the blocks that a call frees may hold some (HEAP=wiping python3 tools/build.py
  *     makes a library that wipes what it frees; that heap isn't proved), and so may its stack;
  *   - that a call takes the same time for other octets: its time goes by the document;
  *   - that errno stays: malloc may set it.

@@ -3,22 +3,32 @@
 
 It leaves the program crates/pkder/out/pkder, the library for C in interface/out, and beside the program PROVED-BY,
 which says what proved these files. Where they stand as PROVED-BY has it, and are of this commit and this toolchain,
-nothing is done; --again proves and makes them all the same. HEAP and CPU are as for interface/build.sh.
+nothing is done; --again proves and makes them all the same. HEAP and CPU in the environment are as for
+interface/build.sh.
 
 Its last line is 'build: N passed, M failed': what `rt ci` counts, and the library."""
+import functools
 import hashlib
 import os
 import re
 import shutil
 import subprocess
 import sys
+import time
 
 import logic
+from logic import TOP
 
 PROGRAM = "crates/pkder/out/pkder"
 MADE = (PROGRAM, "interface/out/libpkder.a", "interface/out/libpkder.so.0")
 PROVED_BY = "crates/pkder/out/PROVED-BY"
 CHANGED = ", with changes that are in no commit"
+# The seconds of a processor that a proof takes, to say how long the others will, and what crates that aren't here take.
+SECONDS = {"tlv_core": 120, "x690": 10, "x690_laws": 70, "pkix_types": 20, "ber_pull": 290, "asn_elements": 280,
+           "asn_fields": 280, "asn_contained": 190, "asn_containers": 240, "asn_open_values": 180, "asn_values": 40,
+           "asn_documents": 120, "pkix_values": 460, "pk_requests": 160, "pk_keys": 190, "pk_containers": 370,
+           "pk_documents": 320, "pk_show": 250, "pkder": 520, "pkder_c": 240, "rows": 400}
+OTHERS, LIBRARY, FIRST = 250, 200, 300
 
 
 def git(*words):
@@ -42,12 +52,13 @@ def sum_of(name):
 
 def record(of_commit):
     """The text of PROVED-BY for the files that stand, of which each has a line as sha256sum writes it."""
+    how = f"heap {os.environ.get('HEAP') or 'of the toolchain'}, processor {os.environ.get('CPU') or 'x86-64'}"
     sums = "".join(f"{sum_of(it)}  {os.path.basename(it)}\n" for it in MADE)
-    return f"commit: {of_commit}\ntoolchain: {logic.toolchain()}\n{sums}"
+    return f"commit: {of_commit}\ntoolchain: {logic.toolchain()}\nlibrary: {how}\n{sums}"
 
 
 def stands():
-    """Whether program and library stand as this commit and this toolchain gave them."""
+    """Whether program and library stand as this commit, toolchain, heap and processor gave them."""
     here = commit()
     if not all(map(os.path.isfile, (*MADE, PROVED_BY))) or not re.fullmatch("[0-9a-f]+", here):
         return False
@@ -55,15 +66,51 @@ def stands():
         return it.read() == record(here)
 
 
+class Progress:
+    """How far the proofs are, by what `rt ci` says of each crate, and how long the others will take."""
+
+    def __init__(self):
+        with open("crates.txt", encoding="utf-8") as it:
+            rows = re.findall(r"(?m)^(\w+)[^:#\n]*:(.*)", it.read())
+        self.below = {name: words.split() for name, words in rows}
+        self.told, self.kept, self.began = set(), set(), time.monotonic()
+
+    def seconds(self, without):
+        """The seconds of the proofs without these, as far as they wait for each other or for a processor."""
+        each = {it: 0 if it in without else SECONDS.get(it, OTHERS) for it in self.below}
+
+        @functools.cache
+        def until(name):
+            return each[name] + max((until(it) for it in self.below[name] if it in each), default=0)
+
+        return LIBRARY + max(sum(each.values()) / len(os.sched_getaffinity(0)), *map(until, each))
+
+    def __str__(self):
+        whole, left = self.seconds(self.kept), self.seconds(self.told)
+        # (as many seconds as it should be, at first, so that one crate doesn't tell the pace)
+        pace = (time.monotonic() - self.began + FIRST) / (whole - left + FIRST)
+        return f"build: {len(self.told)} of {len(self.below)} crates, about {left * pace / 60:.0f} minutes left"
+
+    def hear(self, line):
+        """Says how far the proofs are, where the line is of a crate."""
+        found = re.match(r"rt: (\w+) (proved|is kept|NOT PROVED)\b", line)
+        if found and found[1] in self.below:
+            self.told.add(found[1])
+            self.kept |= {found[1]} if found[2] == "is kept" else set()
+            print(self, flush=True)
+
+
 def proofs():
     """Proves every crate, and returns how many tests of `rt ci` passed and failed."""
     # (`rt ci` gives back libraries of earlier checks at its end, and those that it proved are wanted)
     for name in os.listdir("crates"):
         shutil.rmtree(f"crates/{name}/out/rlib", ignore_errors=True)
-    last = ""
+    last, progress = "", Progress()
+    print(progress, flush=True)
     with subprocess.Popen(["rt", "ci"], stdout=subprocess.PIPE, stderr=subprocess.STDOUT, errors="replace") as ran:
         for line in ran.stdout:
             print(line, end="", flush=True)
+            progress.hear(line)
             last = line.strip() or last
     found = re.fullmatch(r"([0-9]+) passed, ([0-9]+) failed", last)
     passed, failed = (int(it) for it in found.groups()) if found else (0, 1)
@@ -91,9 +138,10 @@ def build():
 
 
 def main(words):
-    os.chdir(logic.TOP)
-    if set(words) - {"--again"}:
-        sys.exit(__doc__)
+    os.chdir(TOP)
+    if {*words} - {"--again"}:
+        print(__doc__)
+        return 0 if words == ["--help"] else 1
     why = logic.of_toolchain()
     if why:
         sys.exit(f"{why}\nbuild: 0 passed, 1 failed")
