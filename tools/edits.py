@@ -7,6 +7,7 @@
   --all        tries all crates, and writes the record
   NAME ..      tries these crates, and writes the record; NAME/EDIT tries one edit, and writes nothing
   --jobs N     how many processors to use (all)
+  --beside     for use beside `rt ci`: standard input names crates once they are proved, and when it ends all are
 
 A table of edits, crates/NAME/edits.toml, has for each edit its name, the function whose proof must refuse it, the file,
 what stands there once, and what is put there in its place. An edit of several texts has its name over each, as
@@ -490,15 +491,26 @@ def try_crate(crate, edits, has_control, room, share):
             share.left -= 1
 
 
-def run(record, chosen, jobs, writes):
-    """Tries edits, {crate: (all edits, those that are asked for)}, and says and records how it went."""
+def in_turn(crates, is_beside):
+    """Yields crates once those that they stand on are proved."""
+    # (the crates with the most to do first, since nothing runs beside the last one)
+    left, named = sorted(crates, key=lambda it: -len(crates[it]) * len(it.below)), set()
+    for line in sys.stdin if is_beside else ():
+        named.add(line.strip())
+        ready = [it for it in left if {one.name for one in it.below} <= named]
+        left = [it for it in left if it not in ready]
+        yield from ready
+    yield from left
+
+
+def run(record, chosen, jobs, writes, is_beside=False):
+    """Tries edits, {crate: edits}, and says and records how it went."""
     crates, share = crates_here(), Share(jobs)
     wanted = {crates[it]: edits for it, edits in chosen.items()}
     wanted.setdefault(crates[CONTROL_CRATE], [])
     share.left, ended = len(wanted), {}
     with tempfile.TemporaryDirectory(prefix="edits-") as room, concurrent.futures.ThreadPoolExecutor(jobs) as lanes:
-        # (the crates with the most to do first, since nothing runs beside the last one)
-        for it in sorted(wanted, key=lambda it: -len(wanted[it]) * len(it.below)):
+        for it in in_turn(wanted, is_beside):
             ended[it] = lanes.submit(try_crate, it, wanted[it], it.name == CONTROL_CRATE, room, share)
         ended = {it: came.result() for it, came in ended.items()}
     is_controlled = any(control for _, _, control in ended.values())
@@ -533,6 +545,7 @@ def main(words):
     if "--jobs" in words[:-1]:
         at = words.index("--jobs")
         jobs, words = int(words[at + 1]), words[:at] + words[at + 2 :]
+    is_beside, words = "--beside" in words, [it for it in words if it != "--beside"]
     modes, names = [it for it in words if it.startswith("--")], [it for it in words if not it.startswith("--")]
     if len(modes) + bool(names) != 1 or not {*modes} <= {"--check", "--quarter", "--stale", "--all"}:
         sys.exit(__doc__)
@@ -545,7 +558,8 @@ def main(words):
     picked = {*record.due} if modes == ["--all"] else {*picked, *(record.quarter() if modes == ["--quarter"] else [])}
     if not picked:
         return record.check()
-    return run(record, {it: record.crates[it].edits() for it in picked}, jobs, writes=modes != ["--quarter"])
+    edits = {it: record.crates[it].edits() for it in picked}
+    return run(record, edits, jobs, writes=modes != ["--quarter"], is_beside=is_beside)
 
 
 if __name__ == "__main__":
