@@ -503,27 +503,36 @@ def in_turn(crates, is_beside):
     yield from left
 
 
+def note_all(record, ended, chosen, writes):
+    """Records what came of crates, and says which record was false."""
+    for crate, (well, ill, _) in ended.items():
+        if ill and crate.name in record.rows and not record.why_stale(crate.name):
+            say(f"FALSE RECORD: {crate.name}: its record says that all of its edits are refused")
+        if writes and crate.name in chosen:
+            record.note(crate, None if ill else well)
+
+
 def run(record, chosen, jobs, writes, is_beside=False):
     """Tries edits, {crate: edits}, and says and records how it went."""
     crates, share = crates_here(), Share(jobs)
     wanted = {crates[it]: edits for it, edits in chosen.items()}
     wanted.setdefault(crates[CONTROL_CRATE], [])
-    share.left, ended = len(wanted), {}
+    share.left, running, waiting, counts = len(wanted), {}, {}, []
     with tempfile.TemporaryDirectory(prefix="edits-") as room, concurrent.futures.ThreadPoolExecutor(jobs) as lanes:
         for it in in_turn(wanted, is_beside):
-            ended[it] = lanes.submit(try_crate, it, wanted[it], it.name == CONTROL_CRATE, room, share)
-        ended = {it: came.result() for it, came in ended.items()}
-    is_controlled = any(control for _, _, control in ended.values())
-    for crate, (well, ill, _) in ended.items():
-        if ill and crate.name in record.rows and not record.why_stale(crate.name):
-            say(f"FALSE RECORD: {crate.name}: its record says that all of its edits are refused")
-        if writes and is_controlled and crate.name in chosen:
-            record.note(crate, None if ill else well)
-    if not is_controlled:
+            running[lanes.submit(try_crate, it, wanted[it], it.name == CONTROL_CRATE, room, share)] = it
+        for came in concurrent.futures.as_completed(running):
+            counts.append(came.result())
+            waiting[running[came]] = came.result()
+            # (without the control it isn't known what an answer says)
+            if any(control for _, _, control in counts):
+                note_all(record, waiting, chosen, writes)
+                waiting = {}
+    if waiting:
         say("the control failed, so nothing that is said here counts")
-    passed, failed = (sum(it[i] for it in ended.values()) for i in (0, 1))
-    say(f"edits: {passed + is_controlled} passed, {failed + (not is_controlled)} failed")
-    return 0 if is_controlled and not failed else 1
+    passed, failed = (sum(it[i] for it in counts) for i in (0, 1))
+    say(f"edits: {passed + (not waiting)} passed, {failed + bool(waiting)} failed")
+    return 1 if waiting or failed else 0
 
 
 def asked(names, record):
