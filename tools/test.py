@@ -1,25 +1,30 @@
 #!/usr/bin/env python3
-"""test.py [PART..]: every test of the repository, or of these parts, and what each part took.
+"""test.py [PART..] | quick [PROGRAM]: every test of the repository, or of these parts, and what each part took.
 
 Each part ends with a line "N passed, M failed", a word with a colon before it or not. One that doesn't, or whose
 status is not 0, has failed. The last line counts over all parts. Those before the proofs take seconds; where one of
 them fails, or the proofs do, nothing behind it is begun. The edits are tried over the libraries that `rt ci` left,
-beside the parts behind them, which run the programs that it built."""
+beside the parts behind them, which run the programs that it built.
+
+'quick' proves nothing and tries no edits. Over the program that it is given, or that tools/build.py made of this very
+commit, it runs all other parts; where there is none, some rows on a program that is made for a try."""
 import functools
 import glob
 import os
 import re
+import shutil
 import subprocess
 import sys
 import time
 from concurrent.futures import ThreadPoolExecutor
 
-PROGRAM = "crates/pkder/out/pkder"
+import build
+
 FIRST = ("logic", "records", "lint", "proofs")
 ROWS = ["python3", "tools/rows.py"]
 GROWTHS = ["python3", "tools/refused_growths.py"]
 TRANSCRIPTS = ["python3", "tools/transcripts.py", "README.md", "docs/manual.md"]
-ALLOCATIONS = ["sh", "tools/refuse_each_allocation.sh", PROGRAM]
+ALLOCATIONS = ["sh", "tools/refuse_each_allocation.sh"]
 # `rt ci` (every crate, a few edits by the toolchain's own means, each program's stored run), and the library
 PROOFS = ["python3", "tools/build.py", "--again"]
 EDITS = ["env", "LIBRARIES=proved", "nice", "-n", "19", "python3", "tools/edits.py", "--quarter"]
@@ -45,10 +50,10 @@ def tables(name):
     return sorted(glob.glob(f"tests/{name}/*.tsv"))
 
 
-def rows_of(name):
-    """Hands the program's tables to both builds of it."""
+def rows_of(name, program):
+    """Hands the tables for the program of this name to both builds of it."""
     if name == "pkder":
-        return [*ROWS, *tables(name), "examples/answers.tsv", *builds(PROGRAM)]
+        return [*ROWS, *tables(name), "examples/answers.tsv", *builds(program)]
     return [*ROWS, "--line", *tables(name), *builds(built(name))]
 
 
@@ -63,7 +68,7 @@ def allocating():
         yield "examples/request-indefinite.der", "signed", "--part", part
 
 
-def parts():
+def parts(program=build.PROGRAM):
     """The parts by their names and in their order, each with what says its commands once it is its turn."""
     return {
         "logic": lambda: [["python3", "tools/logic.py"]],
@@ -71,17 +76,36 @@ def parts():
         "lint": lambda: [["python3", "tools/lint.py"]],
         "proofs": lambda: [PROOFS],
         "edits": lambda: [EDITS],
-        "rows": lambda: [rows_of(it) for it in sorted(os.listdir("tests"))],
-        "transcripts": lambda: [[*TRANSCRIPTS, *builds(PROGRAM)]],
-        "allocations": lambda: [[*ALLOCATIONS, *words] for words in allocating()],
+        "interface": lambda: [["sh", "interface/test.sh"]],
+        "rows": lambda: [rows_of(it, program) for it in sorted(os.listdir("tests"))],
+        "transcripts": lambda: [[*TRANSCRIPTS, *builds(program)]],
+        "allocations": lambda: [[*ALLOCATIONS, program, *words] for words in allocating()],
         "reader": lambda: [
             ["python3", "tools/try_reader.py", *tables("pkder"), "examples/answers.tsv"],
-            ["python3", "tools/random_documents.py", *builds(PROGRAM)],
-            ["python3", "tools/hostile_families.py", *builds(PROGRAM)],
+            ["python3", "tools/random_documents.py", *builds(program)],
+            ["python3", "tools/hostile_families.py", *builds(program)],
         ],
         "growths": lambda: [[*GROWTHS, built(it), *tables(it)] for it in ("library_rows", "sequence_rows")],
-        "interface": lambda: [["sh", "interface/test.sh"]],
     }
+
+
+def quick_parts(program):
+    """The parts of a quick look, at this program or at the one that stands, or else at one that is made for a try."""
+    if not program and not build.stands():
+        print("Nothing is proved here: rows of each command, kind and reason, on a program made for a try.", flush=True)
+        found = parts() | {"tried": lambda: [["python3", "tools/tried_rows.py"]]}
+        return {it: found[it] for it in ("logic", "records", "lint", "tried")}
+    print(f"Nothing is proved here: the parts that try {program or build.PROGRAM}.", flush=True)
+    found, left_out = parts(program or build.PROGRAM), ["proofs", "edits"]
+    if program:
+        # (what else stands here need not be of one build with it)
+        found["rows"] = lambda: [rows_of("pkder", program)]
+        left_out += ["interface", "growths", "rows of other programs"]
+    if not shutil.which("rt"):
+        left_out += ["logic", "records"]
+    print(f"left out: {', '.join(left_out)}", flush=True)
+    os.environ["LIBRARY"] = "built"
+    return {it: commands for it, commands in found.items() if it not in left_out}
 
 
 class Count:
@@ -116,18 +140,16 @@ def run_part(commands):
     return sum(map(run, commands()), Count())
 
 
-def run_all(asked):
-    """Runs these parts, the edits beside those behind them, and returns what each counted."""
+def run_all(given, at_once):
+    """Runs these parts, so many at once of those behind the first ones, and returns what each counted."""
     counts, later = {}, {}
-    with ThreadPoolExecutor(1) as beside:
-        for name, commands in parts().items():
-            if name not in asked:
-                continue
-            if name == "edits":
-                later[name] = beside.submit(run_part, commands)
+    with ThreadPoolExecutor(at_once) as pool:
+        for name, commands in given.items():
+            if name not in FIRST:
+                later[name] = pool.submit(run_part, commands)
                 continue
             counts[name] = run_part(commands)
-            if counts[name].failed and name in FIRST:
+            if counts[name].failed:
                 print(f"{name}: failed, so nothing behind it is begun")
                 break
             if name == "proofs":
@@ -135,12 +157,19 @@ def run_all(asked):
     return counts | {name: it.result() for name, it in later.items()}
 
 
-def main(asked):
-    os.chdir(os.path.dirname(os.path.dirname(os.path.realpath(__file__))))
-    known = [*parts()]
-    if {*asked} - {*known}:
-        sys.exit(f"the parts are {', '.join(known)}")
-    counts = run_all({"logic", *asked} if asked else known)
+def main(words):
+    program = os.path.abspath(words[1]) if words[:1] == ["quick"] and len(words) == 2 else None
+    os.chdir(build.TOP)
+    known = parts()
+    if program and os.path.isfile(program) or words == ["quick"]:
+        counts = run_all(quick_parts(program), 4)
+    elif {*words} <= {*known}:
+        # (the edits, and the others one behind another)
+        asked = {"logic", *words} if words else known
+        counts = run_all({it: commands for it, commands in known.items() if it in asked}, 2)
+    else:
+        print(f"{__doc__}\n\nThe parts are {', '.join(known)}.")
+        return 0 if words == ["--help"] else 1
     print("by the clock, of processors, part:")
     for name, it in counts.items():
         print(f"{it.clock:7.0f} s {it.processors:7.0f} s  {name}: {it.passed} passed, {it.failed} failed")
