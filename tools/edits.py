@@ -7,7 +7,7 @@
   --all        tries all crates, and writes the record
   NAME ..      tries these crates, and writes the record; NAME/EDIT tries one edit, and writes nothing
   --jobs N     how many processors to use (all)
-  --beside     for use beside `rt ci`: standard input names crates once they are proved, and when it ends all are
+  --beside     for use beside `rt ci`: standard input names crates once they are proved, a line 'all' all of them
 
 A table of edits, crates/NAME/edits.toml, has for each edit its name, the function whose proof must refuse it, the file,
 what stands there once, and what is put there in its place. An edit of several texts has its name over each, as
@@ -491,16 +491,17 @@ def try_crate(crate, edits, has_control, room, share):
             share.left -= 1
 
 
-def in_turn(crates, is_beside):
-    """Yields crates once those that they stand on are proved."""
+def in_turn(crates, lines):
+    """Yields crates once lines say that those which they stand on are proved."""
     # (the crates with the most to do first, since nothing runs beside the last one)
     left, named = sorted(crates, key=lambda it: -len(crates[it]) * len(it.below)), set()
-    for line in sys.stdin if is_beside else ():
+    for line in lines:
         named.add(line.strip())
-        ready = [it for it in left if {one.name for one in it.below} <= named]
+        ready = [it for it in left if "all" in named or {one.name for one in it.below} <= named]
         left = [it for it in left if it not in ready]
         yield from ready
-    yield from left
+    for it in left:
+        say(f"{it.name}: a crate below isn't proved, so none of its edits is tried")
 
 
 def note_all(record, ended, chosen, writes):
@@ -512,14 +513,14 @@ def note_all(record, ended, chosen, writes):
             record.note(crate, None if ill else well)
 
 
-def run(record, chosen, jobs, writes, is_beside=False):
+def run(record, chosen, jobs, writes, lines=("all",)):
     """Tries edits, {crate: edits}, and says and records how it went."""
     crates, share = crates_here(), Share(jobs)
     wanted = {crates[it]: edits for it, edits in chosen.items()}
     wanted.setdefault(crates[CONTROL_CRATE], [])
     share.left, running, waiting, counts = len(wanted), {}, {}, []
     with tempfile.TemporaryDirectory(prefix="edits-") as room, concurrent.futures.ThreadPoolExecutor(jobs) as lanes:
-        for it in in_turn(wanted, is_beside):
+        for it in in_turn(wanted, lines):
             running[lanes.submit(try_crate, it, wanted[it], it.name == CONTROL_CRATE, room, share)] = it
         for came in concurrent.futures.as_completed(running):
             counts.append(came.result())
@@ -530,9 +531,10 @@ def run(record, chosen, jobs, writes, is_beside=False):
                 waiting = {}
     if waiting:
         say("the control failed, so nothing that is said here counts")
-    passed, failed = (sum(it[i] for it in counts) for i in (0, 1))
-    say(f"edits: {passed + (not waiting)} passed, {failed + bool(waiting)} failed")
-    return 1 if waiting or failed else 0
+    passed, failed = sum(well for well, _, _ in counts), sum(ill for _, ill, _ in counts) + bool(waiting)
+    failed += sum(len(edits) for it, edits in wanted.items() if it not in running.values())
+    say(f"edits: {passed + (not waiting)} passed, {failed} failed")
+    return 1 if failed else 0
 
 
 def asked(names, record):
@@ -568,7 +570,7 @@ def main(words):
     if not picked:
         return record.check()
     edits = {it: record.crates[it].edits() for it in picked}
-    return run(record, edits, jobs, writes=modes != ["--quarter"], is_beside=is_beside)
+    return run(record, edits, jobs, writes=modes != ["--quarter"], lines=sys.stdin if is_beside else ("all",))
 
 
 if __name__ == "__main__":

@@ -3,11 +3,12 @@
 
 Each part ends with a line "N passed, M failed", a word with a colon before it or not. One that doesn't, or whose
 status is not 0, has failed. The last line counts over all parts. Those before the proofs take seconds; where one of
-them fails, or the proofs do, nothing behind it is begun. The edits are tried over the libraries that `rt ci` left,
-beside the parts behind them, which run the programs that it built.
+them fails, or the proofs do, nothing behind it is begun. The edits of a crate are tried beside the proofs, over the
+libraries that they leave; the parts behind the proofs run the programs that they built.
 
 'quick' proves nothing and tries no edits. Over the program that it is given, or that tools/build.py made of this very
 commit, it runs all other parts; where there is none, some rows on a program that is made for a try."""
+import contextlib
 import functools
 import glob
 import os
@@ -72,7 +73,8 @@ def parts(program=build.PROGRAM):
     """The parts by their names and in their order, each with what says its commands once it is its turn."""
     return {
         "logic": lambda: [["python3", "tools/logic.py"]],
-        "records": lambda: [["python3", "tools/edits.py", "--check"], ["python3", "tools/try_edits.py"]],
+        "records": lambda: [["python3", "tools/edits.py", "--check"], ["python3", "tools/try_edits.py"],
+                            ["python3", "tools/what_to_read.py", "--check"]],
         "lint": lambda: [["python3", "tools/lint.py"]],
         "proofs": lambda: [PROOFS],
         "edits": lambda: [EDITS],
@@ -119,13 +121,14 @@ class Count:
         return Count(*(one + more for one, more in both))
 
 
-def run(words):
+def run(words, given=subprocess.DEVNULL, hear=lambda line: None):
     """Runs a command, shows what it says, and counts its tests."""
     began, last = time.monotonic(), ""
-    how = {"stdin": subprocess.DEVNULL, "stdout": subprocess.PIPE, "stderr": subprocess.STDOUT, "errors": "replace"}
+    how = {"stdin": given, "stdout": subprocess.PIPE, "stderr": subprocess.STDOUT, "errors": "replace"}
     ran = subprocess.Popen(words, **how)
     for line in ran.stdout:
         print(line, end="", flush=True)
+        hear(line)
         last = line.strip() or last
     _, status, used = os.wait4(ran.pid, 0)
     ran.returncode = os.waitstatus_to_exitcode(status)
@@ -140,15 +143,43 @@ def run_part(commands):
     return sum(map(run, commands()), Count())
 
 
+def prove_and_edit(pool):
+    """Runs the proofs, and beside them the edits, which are told each crate that is proved. Returns what the proofs
+    counted, and what will say it of the edits."""
+    told, teller = os.pipe()
+    with open(teller, "w", encoding="utf-8") as names:
+        edits = pool.submit(run, [*EDITS, "--beside"], told)
+
+        def tell(name):
+            with contextlib.suppress(BrokenPipeError):
+                print(name, file=names, flush=True)
+
+        def hear(line):
+            # (a toolchain that says nothing of this has them tried when all is proved)
+            found = re.fullmatch(r"rt: (\w+) (?:proved|is kept: .*)", line.strip())
+            if found:
+                tell(found[1])
+
+        proofs = run(PROOFS, hear=hear)
+        if not proofs.failed:
+            tell("all")
+    os.close(told)
+    return proofs, edits
+
+
 def run_all(given, at_once):
     """Runs these parts, so many at once of those behind the first ones, and returns what each counted."""
     counts, later = {}, {}
     with ThreadPoolExecutor(at_once) as pool:
         for name, commands in given.items():
-            if name not in FIRST:
+            if name not in FIRST and name not in later:
                 later[name] = pool.submit(run_part, commands)
+            if name not in FIRST:
                 continue
-            counts[name] = run_part(commands)
+            if name == "proofs" and "edits" in given:
+                counts[name], later["edits"] = prove_and_edit(pool)
+            else:
+                counts[name] = run_part(commands)
             if counts[name].failed:
                 print(f"{name}: failed, so nothing behind it is begun")
                 break

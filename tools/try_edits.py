@@ -82,7 +82,7 @@ class Repository:
         assert text.count(old) == 1, (path, old)
         self.write(path, text.replace(old, new))
 
-    def run(self, *words, **around):
+    def run(self, *words, given="", **around):
         """Runs the script, and returns its status and its last line."""
         log = f"{self.folder}/log"
         with open(log, "w", encoding="utf-8"):
@@ -91,7 +91,7 @@ class Repository:
         path = f"{self.folder}:{os.environ['PATH']}"
         env = {**os.environ, "PATH": path, "PYTHONDONTWRITEBYTECODE": "1", **stand_in, **around}
         words = [sys.executable, "tools/edits.py", *words]
-        ran = subprocess.run(words, cwd=self.top, env=env, capture_output=True, text=True, check=False)
+        ran = subprocess.run(words, cwd=self.top, env=env, input=given, capture_output=True, text=True, check=False)
         with open(log, encoding="utf-8") as it:
             self.log = it.read()
         self.said = ran.stdout + ran.stderr
@@ -159,6 +159,10 @@ def try_quarters(it):
         seen += set(re.findall(r"edit (\w+)/one", it.said))
         it.commit()
     it.see("each crate once", sorted(seen), ["middle", "tlv_core", "upper"])
+    came = it.run("--all", "--beside", given="tlv_core\nall\n")
+    it.see("beside the proofs", came, (0, "edits: 7 passed, 0 failed"))
+    came = it.run("--all", "--beside", given="tlv_core\n")
+    it.see("beside proofs that fail", came, (1, "edits: 5 passed, 2 failed"), "upper: a crate below isn't proved")
     it.see("over libraries", it.run("upper", LIBRARIES="proved"), (0, "edits: 3 passed, 0 failed"))
     it.see("by rattle alone", re.search("^rt ", it.log, re.M), None)
     came = it.run("upper", LIBRARIES="proved", STAND_IN_REFUSES="1")
