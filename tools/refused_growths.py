@@ -1,11 +1,10 @@
 #!/usr/bin/env python3
 """refused_growths.py PROGRAM TABLE..: each growth of memory refused in turn where values are read and made.
 
-PROGRAM is that of crates/library_rows or crates/sequence_rows. Each row of the tables whose words begin with one of
-TASKS is done once for each growth that is refused, until none is met. A run that met a refusal answers want of memory,
-or what the row says; the one that met none answers that. Where a reader wanted memory it is asked further in another
-run, answers the same, and takes no octet more. A row that gives a text meets a refusal, since memory for the text is
-asked for.
+PROGRAM is that of crates/rows. Each row of the tables whose words begin with one of TASKS is done once for each growth
+that is refused, until none is met. A run that met a refusal answers want of memory, or what the row says; the one that
+met none answers that. Where a reader wanted memory it is asked further in another run, answers the same, and takes no
+octet more. A row that gives a text meets a refusal, since memory for the text is asked for.
 
 The last line is 'growths: N passed, M failed', over the rows."""
 import os

@@ -87,7 +87,7 @@ def parts(program=build.PROGRAM):
             ["python3", "tools/random_documents.py", *builds(program)],
             ["python3", "tools/hostile_families.py", *builds(program)],
         ],
-        "growths": lambda: [[*GROWTHS, built(it), *tables(it)] for it in ("library_rows", "sequence_rows")],
+        "growths": lambda: [[*GROWTHS, built("rows"), *tables("rows")]],
     }
 
 

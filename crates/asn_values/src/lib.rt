@@ -7,7 +7,7 @@
 //! reads one by that list and `parts` writes it; `fields` reads one field by field.
 //!
 //! This crate is the table of contents: what stands here is proved in `asn_elements` (the traits and the leaves),
-//! `asn_fields`, `asn_containers` and `asn_open_values`, each of which says what. `tests/library_rows/values.tsv` has
+//! `asn_fields`, `asn_containers` and `asn_open_values`, each of which says what. `tests/rows/values.tsv` has
 //! the rows of all four.
 //!
 //! Proved of each type: `put` writes the text, `size` is its length, `octet` its octets, `der_text` the whole, and the

@@ -1,9 +1,0 @@
-use Rattle.std.proofs.Common.{◌≡◌, ◌≤◌, None, length}
-use Rattle.ber_pull.specs.View.{standing}
-use Rattle.pull_rows.proofs.calls.make.answers.Given as goal
-
-abbrev pub invariant-loop-i : goal.invariant-loop-i
-invariant-loop-i g l = record {
-  few : l.inside ≤ l.i;
-  inside : (standing l.pull).error ≡ None → length (standing l.pull).containers ≡ l.inside;
-}

@@ -1,0 +1,117 @@
+//! Allowed ::= SEQUENCE { number INTEGER, sealed [0], octets OCTET STRING OPTIONAL }, where nothing may stand as
+//! sealed, no octets behind 0, and as many as the number has behind another one.
+ghost use Rattle.std.proofs.lemmas.Bool.{ltb-true};
+ghost use Rattle.std.specs.Prelude.{◌∷◌, [], refl};
+ghost use Rattle.tlv_core.specs.declared.reason.Reason.TheVariants as why;
+ghost use Rattle.x690.specs.Layouts.{context_specific, universal};
+ghost use Rattle.rows.specs.Rules.{fair_length, honest_left_out, honest_length, honest_version, length_rule};
+
+use asn_contained::defined_by::{DefinedBy, Defines};
+use asn_contained::dependent::Independent;
+use asn_contained::optional_dependent::OptionalDependent;
+use asn_contained::ruled_behind::RuledBehind;
+use asn_values::integer::Int;
+use asn_values::judged::FieldRules;
+use asn_values::octets::Octets;
+use asn_values::record::{Form, Record};
+use asn_values::refused::{Refusal, Refused};
+use asn_values::sequence::{Due, Optional};
+use asn_values::tags::{context_tag, universal_tag};
+use tlv_core::reason::Reason;
+use tlv_core::tag::Tag;
+
+/// number, sealed, octets.
+#[derive(Drop)]
+pub struct AllowedForm;
+
+/// number, sealed.
+type NumberAndSealed = (Due<Int>, Optional<Refused<Sealed>>);
+
+impl Form for AllowedForm {
+    type Fields = OptionalDependent<
+        NumberAndSealed,
+        DefinedBy<Independent<Refused<BehindZero>>, RuledBehind<Octets, AsLong>, BehindZero>,
+    >;
+
+    ghost parted = { refl };
+
+    ghost few = { ltb-true _ _ refl };
+}
+
+/// Nothing may stand as sealed.
+#[derive(Drop)]
+pub struct Sealed;
+
+impl Refusal for Sealed {
+    ghost own = { context_specific 0 };
+
+    ghost why = { why.LeftOut };
+
+    ghost honest = { honest_left_out };
+
+    fn tag() -> Tag {
+        context_tag(0)
+    }
+
+    fn reason() -> Reason {
+        Reason::LeftOut
+    }
+}
+
+/// No octets may stand behind 0.
+#[derive(Drop)]
+pub struct BehindZero;
+
+impl Refusal for BehindZero {
+    ghost own = { universal 4 };
+
+    ghost why = { why.VersionRule };
+
+    ghost honest = { honest_version };
+
+    fn tag() -> Tag {
+        universal_tag(4)
+    }
+
+    fn reason() -> Reason {
+        Reason::VersionRule
+    }
+}
+
+impl Defines<NumberAndSealed> for BehindZero {
+    ghost path = { 0 ∷ [] };
+
+    ghost octets = { (0 ∷ []) ∷ [] };
+
+    #[tactic(auto, unfolding(x690::specs::Values::leaf_at))]
+    fn is_first(earlier: &NumberAndSealed) -> bool {
+        match earlier.0.0.content() {
+            [0] => true,
+            _ => false,
+        }
+    }
+}
+
+/// The octets are as many as the number has.
+#[derive(Drop)]
+pub struct AsLong;
+
+impl FieldRules<NumberAndSealed, Octets> for AsLong {
+    ghost rule = { length_rule };
+
+    ghost fair = { fair_length };
+
+    ghost honest = { honest_length };
+
+    #[tactic(auto, unfolding(x690::specs::Values::leaf_at))]
+    fn judge(earlier: &NumberAndSealed, field: &Octets) -> Option<Reason> {
+        if earlier.0.0.content().len() == field.octets().len() {
+            None
+        } else {
+            Some(Reason::KeyLength)
+        }
+    }
+}
+
+/// A number, and octets that it allows.
+pub type Allowed = Record<AllowedForm>;

@@ -1,0 +1,83 @@
+//! The field readers of each type of private keys.
+use crate::fields::Described;
+use crate::fields_of_types::describe_bits;
+use crate::line::Line;
+use asn_values::der_text::DerText;
+use pk_keys::curve_key::CurveKey;
+use pk_keys::ec_private_key::EcPrivateKey;
+use pk_keys::encrypted_key::EncryptedKey;
+use pk_keys::other_prime_info::OtherPrimeInfo;
+use pk_keys::rsa_private_key::RsaPrivateKey;
+use std::alloc::AllocError;
+
+impl Described for EcPrivateKey {
+    fn is_same(&self, other: &EcPrivateKey) -> bool {
+        self.same(other)
+    }
+
+    fn describe(&self, line: &mut Line) -> Result<(), AllocError> {
+        line.octets("key", self.key().octets())?;
+        match self.curve() {
+            Some(curve) => line.octets("curve", curve.content())?,
+            None => line.part("no curve")?,
+        }
+        match self.public_key() {
+            Some(key) => {
+                line.part("public key")?;
+                describe_bits(line, key)
+            }
+            None => line.part("no public key"),
+        }
+    }
+}
+
+impl Described for CurveKey {
+    fn is_same(&self, other: &CurveKey) -> bool {
+        self.same(other)
+    }
+
+    fn describe(&self, line: &mut Line) -> Result<(), AllocError> {
+        line.octets("key", self.key().octets())
+    }
+}
+
+impl Described for EncryptedKey {
+    fn is_same(&self, other: &EncryptedKey) -> bool {
+        self.same(other)
+    }
+
+    fn describe(&self, line: &mut Line) -> Result<(), AllocError> {
+        self.algorithm().describe(line)?;
+        line.octets("octets", self.octets().octets())
+    }
+}
+
+impl Described for OtherPrimeInfo {
+    fn is_same(&self, other: &OtherPrimeInfo) -> bool {
+        self.same(other)
+    }
+
+    fn describe(&self, line: &mut Line) -> Result<(), AllocError> {
+        line.octets("prime", self.prime().content())?;
+        line.octets("exponent", self.exponent().content())?;
+        line.octets("coefficient", self.coefficient().content())
+    }
+}
+
+impl Described for RsaPrivateKey {
+    fn is_same(&self, other: &RsaPrivateKey) -> bool {
+        self.same(other)
+    }
+
+    fn describe(&self, line: &mut Line) -> Result<(), AllocError> {
+        line.number("version", usize::from(self.version()))?;
+        for i in 0..9 {
+            match self.number(i) {
+                Some(number) => line.octets("number", number.content())?,
+                None => line.part("no number")?,
+            }
+        }
+        line.number("others", self.others())?;
+        line.number("size", self.size() as usize)
+    }
+}
