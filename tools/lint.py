@@ -38,9 +38,11 @@ def looked(files, patterns, command):
     if not can_run(command):
         return None
     found = [it for it in files if any(fnmatch.fnmatch(it, pattern) for pattern in patterns)]
+    if not found:
+        return f"there are no files {' '.join(patterns)}"
     ran = subprocess.run([*command, *found], capture_output=True, text=True, errors="replace")
     # (mandoc's standard error is of the machine's other pages)
-    if ran.returncode or ran.stdout or not found:
+    if ran.returncode or ran.stdout:
         return f"{ran.stdout}{ran.stderr}status {ran.returncode}, {len(found)} files"
     return ""
 
