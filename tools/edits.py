@@ -3,7 +3,8 @@
 
   --check      says in a second, and proves nothing, which crates' records are stale: 'records: N passed, M failed'
   --quarter    tries the crates whose records are stale, and a quarter of all, which goes round with the commits
-  --stale      tries the crates whose records are stale, and writes the record
+  --stale      tries the crates whose records are stale, and writes the record; an edit that was refused here before is
+               not tried again where neither it nor the crate has changed since
   --all        tries all crates, and writes the record
   NAME ..      tries these crates, and writes the record; NAME/EDIT tries one edit, and writes nothing
   --jobs N     how many processors to use (all)
@@ -174,9 +175,10 @@ class Record:
         self.crates = {it.name: it for it in crates.values() if os.path.isfile(f"{it.folder}/edits.toml")}
         self.due = {name: self.sum_of(it) for name, it in self.crates.items()}
 
-    def sum_of(self, crate):
+    def sum_of(self, crate, files=("edits.toml",)):
+        """The sum of a crate and these files of it."""
         made = hashlib.sha256(f"{self.logic}\n{crate.line}\n".encode())
-        for file in [*crate.files(), "edits.toml"]:
+        for file in [*crate.files(), *files]:
             text = text_of(f"{crate.folder}/{file}").encode()
             made.update(b"%s %d\n%s" % (file.encode(), len(text), text))
         return made.hexdigest()
@@ -464,6 +466,24 @@ def is_well(text):
     return text.startswith("refused: ")
 
 
+class Refused:
+    """The edits of a crate that were refused here before, in its out/, by the sum of the crate and of the edit."""
+
+    def __init__(self, record, crate):
+        self.of_crate, self.file = record.sum_of(crate, files=()), f"{crate.folder}/out/refused_edits"
+        self.known = {*text_of(self.file).split()} if os.path.isfile(self.file) else set()
+
+    def sum_of(self, edit):
+        return hashlib.sha256(f"{self.of_crate} {edit.name} {edit.changes}".encode()).hexdigest()
+
+    def keep(self, ended):
+        """Keeps which edits were refused just now, by what was said of each."""
+        self.known |= {self.sum_of(it) for it, text in ended.items() if is_well(text)}
+        os.makedirs(os.path.dirname(self.file), exist_ok=True)
+        with open(self.file, "w", encoding="utf-8") as it:
+            it.writelines(f"{one}\n" for one in sorted(self.known))
+
+
 def controlled(trial):
     """Whether the edits of the control end as their names say, and there is one of each kind."""
     kinds = {it: it.name.partition("-")[0] for it in edits_in(CONTROL)}
@@ -478,14 +498,13 @@ def controlled(trial):
 
 
 def try_crate(crate, edits, has_control, room, share):
-    """Returns how many edits are refused, how many not, and whether the control ended well."""
+    """Returns what is said of each edit, and whether the control ended well."""
     try:
         trial = Trial(crate, room, share)
         ended = trial.tried(edits)
         for it, text in sorted(ended.items(), key=lambda it: it[0].name):
             say(f"edit {crate.name}/{it.name}: {text}")
-        well = sum(map(is_well, ended.values()))
-        return well, len(ended) - well, controlled(trial) if has_control else None
+        return ended, controlled(trial) if has_control else None
     finally:
         with share.lock:
             share.left -= 1
@@ -504,37 +523,46 @@ def in_turn(crates, lines):
         say(f"{it.name}: a crate below isn't proved, so none of its edits is tried")
 
 
-def note_all(record, ended, chosen, writes):
-    """Records what came of crates, and says which record was false."""
-    for crate, (well, ill, _) in ended.items():
-        if ill and crate.name in record.rows and not record.why_stale(crate.name):
+def note_all(record, came, chosen, writes):
+    """Records what came of crates, {crate: what is said of each edit}, and says which record was false."""
+    for crate, ended in came.items():
+        is_all_well = all(map(is_well, ended.values()))
+        if not is_all_well and crate.name in record.rows and not record.why_stale(crate.name):
             say(f"FALSE RECORD: {crate.name}: its record says that all of its edits are refused")
         if writes and crate.name in chosen:
-            record.note(crate, None if ill else well)
+            Refused(record, crate).keep(ended)
+            record.note(crate, len(chosen[crate.name]) if is_all_well else None)
 
 
-def run(record, chosen, jobs, writes, lines=("all",)):
+def run(record, chosen, jobs, writes, lines=("all",), is_anew=True):
     """Tries edits, {crate: edits}, and says and records how it went."""
     crates, share = crates_here(), Share(jobs)
     wanted = {crates[it]: edits for it, edits in chosen.items()}
+    for it, edits in {} if is_anew else wanted.items():
+        seen = Refused(record, it)
+        wanted[it] = [one for one in edits if seen.sum_of(one) not in seen.known]
+        say(f"{it.name}: {len(edits) - len(wanted[it])} of its {len(edits)} edits were refused here before")
     wanted.setdefault(crates[CONTROL_CRATE], [])
-    share.left, running, waiting, counts = len(wanted), {}, {}, []
+    share.left, running, waiting, counts = len(wanted), {}, {}, {True: 0, False: 0}
     with tempfile.TemporaryDirectory(prefix="edits-") as room, concurrent.futures.ThreadPoolExecutor(jobs) as lanes:
         for it in in_turn(wanted, lines):
             running[lanes.submit(try_crate, it, wanted[it], it.name == CONTROL_CRATE, room, share)] = it
+        is_controlled = False
         for came in concurrent.futures.as_completed(running):
-            counts.append(came.result())
-            waiting[running[came]] = came.result()
+            waiting[running[came]], control = came.result()
+            is_controlled = is_controlled or control is True
+            for text in waiting[running[came]].values():
+                counts[is_well(text)] += 1
             # (without the control it isn't known what an answer says)
-            if any(control for _, _, control in counts):
+            if is_controlled:
                 note_all(record, waiting, chosen, writes)
                 waiting = {}
-    if waiting:
+    if not is_controlled:
         say("the control failed, so nothing that is said here counts")
-    passed, failed = sum(well for well, _, _ in counts), sum(ill for _, ill, _ in counts) + bool(waiting)
-    failed += sum(len(edits) for it, edits in wanted.items() if it not in running.values())
-    say(f"edits: {passed + (not waiting)} passed, {failed} failed")
-    return 1 if failed else 0
+    counts[is_controlled] += 1
+    counts[False] += sum(len(edits) for it, edits in wanted.items() if it not in running.values())
+    say(f"edits: {counts[True]} passed, {counts[False]} failed")
+    return 1 if counts[False] else 0
 
 
 def asked(names, record):
@@ -570,7 +598,8 @@ def main(words):
     if not picked:
         return record.check()
     edits = {it: record.crates[it].edits() for it in picked}
-    return run(record, edits, jobs, writes=modes != ["--quarter"], lines=sys.stdin if is_beside else ("all",))
+    lines = sys.stdin if is_beside else ("all",)
+    return run(record, edits, jobs, writes=modes != ["--quarter"], lines=lines, is_anew=modes != ["--stale"])
 
 
 if __name__ == "__main__":
