@@ -529,8 +529,9 @@ def note_all(record, came, chosen, writes):
         is_all_well = all(map(is_well, ended.values()))
         if not is_all_well and crate.name in record.rows and not record.why_stale(crate.name):
             say(f"FALSE RECORD: {crate.name}: its record says that all of its edits are refused")
-        if writes and crate.name in chosen:
+        if crate.name in chosen:
             Refused(record, crate).keep(ended)
+        if writes and crate.name in chosen:
             record.note(crate, len(chosen[crate.name]) if is_all_well else None)
 
 
