@@ -1,120 +1,98 @@
 -- The octets that came to a target in blocks: those that are out, and those that wait.
-use Rattle.std.proofs.Common.{◌≡◌, ◌∙◌, ◌+◌, ◌-◌, ◌≤◌, ◌==◌, ◌++◌, Bool, List, [], ◌∷◌, None, Option, Some, ap, append-nil, arith, false, inl, inr, length, length-append, refl, subst, sym, take, true, ℕ}
-use Rattle.std.proofs.lemmas.Bool.Decides.{nat_tests}
-use Rattle.std.proofs.KnownBytes.{Keeps-refl}
+use Rattle.std.proofs.Common.{◌≡◌, ◌∙◌, ◌+◌, ◌-◌, ◌≤◌, ◌++◌, List, [], None, Option, Some, ap, append-nil, arith, drop, length, length-append, subst, sym, take, take-append-drop, ℕ}
+use Rattle.std.proofs.lemmas.List.{drop-append-le, drop-drop, drop-take, length-take, length-take-le, take-append-le}
+use Rattle.std.proofs.lemmas.Slice.{take-put_mid}
+use Rattle.std.proofs.Math.Nat.{min-le_left}
+use Rattle.std.proofs.Math.Seq.{take-append-add, take-append_seam}
+use Rattle.std.proofs.KnownBytes.{append_known-moved}
+use Rattle.std.specs.Prelude.{slice_range}
+use borrow.Rule.Slice.PartMut.{put_mid}
 use Rattle.std.specs.Io.KnownBytes.{Appends, Keeps, append_known}
-use Rattle.tlv_core.specs.Sources.{told_by}
-use Rattle.pkder.specs.BlockTargets.{Closed, counted}
-use Rattle.pkder.specs.declared.outcome.Outcome.{Outcome}
-use Rattle.pkder.specs.declared.outcome.Outcome.TheVariants.{WriteFailed}
+use Rattle.pkder.specs.KnownOctets.{known_length}
 
-is_equal : (m n : ℕ) → (m == n) ≡ true → m ≡ n
-is_equal m n h = grind (arith, nat_tests)
+-- what waits behind the first octets of what waited
+pub waiting_behind : (items : List ℕ) (begin end count : ℕ) → begin + count ≤ end
+    → slice_range items (begin + count) end ≡ drop count (slice_range items begin end)
+waiting_behind items begin end count few =
+    let rest : end - begin ≡ count + (end - (begin + count)) = omega (arith, few) in
+    sym (ap (λ n. drop count (take n (drop begin items))) rest
+    ∙ drop-take count (end - (begin + count)) (drop begin items)
+    ∙ ap (take (end - (begin + count))) (drop-drop count begin items))
 
--- ---- what is counted
-
-counted_is : (come : ℕ) (octets : List ℕ) → length octets ≡ come → counted come (Some octets) ≡ Some octets
-counted_is come octets is =
-    let same : (length octets == come) ≡ true = grind (arith, nat_tests) in
-    ap (λ b. told_by b (Some octets)) same
-
-pub none_come : (known : Option (List ℕ)) → known ≡ Some [] → counted 0 known ≡ Some []
-none_come known is = ap (counted 0) is ∙ counted_is 0 [] refl
-
--- where they are told, they are as many as came
-pub counted_are : (come : ℕ) (known : Option (List ℕ)) (octets : List ℕ) → counted come known ≡ Some octets
-    → (known ≡ Some octets) × (length octets ≡ come)
-counted_are come None octets e = absurd cc
-counted_are come (Some xs) octets e = go (length xs == come) refl e
-  where
-    go : (b : Bool) → (length xs == come) ≡ b → told_by b (Some xs) ≡ Some octets
-        → (Some xs ≡ Some octets) × (length octets ≡ come)
-    go true is e = let same : xs ≡ octets = cc in (e, subst (λ s. length s ≡ come) same (is_equal (length xs) come is))
-    go false is e = absurd cc
-
--- more came
-pub counted_on : (come count : ℕ) (old new : Option (List ℕ)) (piece : List ℕ) → length piece ≡ count
-    → Appends old new piece → Appends (counted come old) (counted (come + count) new) piece
-counted_on come count None new piece many a = tt
-counted_on come count (Some xs) None piece many a = absurd a
-counted_on come count (Some xs) (Some ys) piece many a = go (length xs == come) refl
-  where
-    go : (b : Bool) → (length xs == come) ≡ b → Appends (told_by b (Some xs)) (counted (come + count) (Some ys)) piece
-    go true is =
-        let before : length xs ≡ come = is_equal (length xs) come is in
-        let grown : length ys ≡ come + count = ap length a ∙ length-append xs piece ∙ omega (arith, before, many) in
-        subst (λ z. Appends (Some xs) z piece) (sym (counted_is (come + count) ys grown)) a
-    go false is = tt
-
--- nothing came
-pub counted_still : (come : ℕ) (old new : Option (List ℕ)) → Keeps old new → Keeps (counted come old) (counted come new)
-counted_still come None new k = tt
-counted_still come (Some xs) None k = absurd k
-counted_still come (Some xs) (Some ys) k =
-    subst (λ z. Keeps (counted come (Some xs)) (counted come (Some z))) (sym k) (Keeps-refl (counted come (Some xs)))
-
-pub nothing_came : (old new : Option (List ℕ)) → Appends old new [] → Keeps old new
-nothing_came None new a = tt
-nothing_came (Some xs) None a = absurd a
-nothing_came (Some xs) (Some ys) a = a ∙ append-nil xs
-
--- ---- what is out
-
-front_of : (front behind : List ℕ) → take (length front) (front ++ behind) ≡ front
-front_of [] behind = refl
-front_of (x ∷ front) behind = ap (λ s. x ∷ s) (front_of front behind)
-
--- nothing waits
-all_out : (octets : List ℕ) (known : Option (List ℕ)) → Keeps (Some octets) (append_known known [])
-    → Keeps (Some octets) known
-all_out octets None k = k
-all_out octets (Some ys) k = sym (append-nil ys) ∙ k
-
--- those that don't wait are out
-first_out : (octets waiting : List ℕ) (known : Option (List ℕ)) → Keeps (Some octets) (append_known known waiting)
-    → (length octets - length waiting ≤ length octets)
-    × Keeps (Some (take (length octets - length waiting) octets)) known
-first_out octets waiting None k = absurd k
-first_out octets waiting (Some ys) k =
-    let both : length ys + length waiting ≡ length octets = sym (length-append ys waiting) ∙ ap length k in
-    let many : length ys ≡ length octets - length waiting = omega (arith, both) in
-    (omega arith, sym (front_of ys waiting) ∙ ap (take (length ys)) k ∙ ap (λ n. take n octets) many)
-
--- The run was done, and all that waited was handed on.
-pub closed_whole : (outcome end : Outcome) (come : ℕ) (before known : Option (List ℕ)) (waiting octets : List ℕ)
-    → end ≡ outcome → Keeps before (append_known known waiting) → waiting ≡ [] → counted come before ≡ Some octets
-    → Closed outcome octets end known
-closed_whole outcome end come before known waiting octets is kept none told =
-    let held : Keeps (Some octets) (append_known known waiting) =
-    subst (λ z. Keeps z (append_known known waiting)) (counted_are come before octets told).0 kept in
-    inl (is, all_out octets known (subst (λ w. Keeps (Some octets) (append_known known w)) none held))
-
--- A write failed, and what waits isn't out.
-pub closed_part : (outcome end : Outcome) (come out : ℕ) (before known : Option (List ℕ)) (waiting octets : List ℕ)
-    → end ≡ WriteFailed out → out ≡ come - length waiting → Keeps before (append_known known waiting)
-    → counted come before ≡ Some octets → Closed outcome octets end known
-closed_part outcome end come out before known waiting octets is count kept told =
-    let are = counted_are come before octets told in
-    let held : Keeps (Some octets) (append_known known waiting) =
-    subst (λ z. Keeps z (append_known known waiting)) are.0 kept in
-    let outs : out ≡ length octets - length waiting = count ∙ ap (λ n. n - length waiting) (sym are.1) in
-    let h = first_out octets waiting known held in
-    inr (
-      out,
-      is,
-      subst (λ n. n ≤ length octets) (sym outs) h.0,
-      subst (λ n. Keeps (Some (take n octets)) known) (sym outs) h.1,
+-- The first octets of a text came, and the last of these wait.
+pub first_out : (old known : Option (List ℕ)) (waiting text : List ℕ) (count out : ℕ)
+    → known_length old ≤ known_length known → count ≤ length text → out ≡ count - length waiting
+    → Appends old (append_known known waiting) (take count text)
+    → (out ≤ length text) × Appends old known (take out text)
+first_out None known waiting text count out grown few is a = (omega (arith, few, is), tt)
+first_out (Some xs) None waiting text count out grown few is a = absurd a
+first_out (Some xs) (Some ys) waiting text count out grown few is a =
+    let come = take count text in
+    let many : length come ≡ count = length-take-le count text few in
+    let both : length ys + length waiting ≡ length xs + length come =
+    sym (length-append ys waiting) ∙ ap length a ∙ length-append xs come in
+    let outs : length ys ≡ length xs + out = omega (arith, both, many, grown, is) in
+    let begun : take out come ≡ take out text =
+    sym (take-append-le out come (drop count text) (omega (arith, many, is))) ∙ ap (take out)
+    (take-append-drop count text) in (
+      omega (arith, few, is),
+      sym (take-append_seam ys waiting) ∙ ap (take (length ys)) a ∙ ap (λ n. take n (xs ++ come)) outs
+          ∙ take-append-add xs come out
+          ∙ ap (λ l. xs ++ l) begun,
     )
 
-none_before : (front behind : List ℕ) → front ++ behind ≡ [] → front ≡ []
-none_before [] behind e = refl
-none_before (x ∷ front) behind e = absurd cc
+slice_is : (items : List ℕ) (begin end : ℕ) → begin ≤ end → slice_range items begin end ≡ drop begin (take end items)
+slice_is items begin end few =
+    let whole : end ≡ begin + (end - begin) = omega (arith, few) in
+    sym (ap (λ n. drop begin (take n items)) whole ∙ drop-take begin (end - begin) items)
 
--- Nothing was to be written.
-pub closed_none : (outcome end : Outcome) (come : ℕ) (known : Option (List ℕ)) (waiting octets : List ℕ) → end ≡ outcome
-    → octets ≡ [] → counted come (append_known known waiting) ≡ Some octets → Closed outcome octets end known
-closed_none outcome end come None waiting octets is none told = absurd cc
-closed_none outcome end come (Some ys) waiting octets is none told =
-    let all : Some (ys ++ waiting) ≡ Some octets = (counted_are come (Some (ys ++ waiting)) octets told).0 in
-    let same : ys ++ waiting ≡ octets = cc in
-    inl (is, none_before ys waiting (same ∙ none) ∙ sym none)
+-- A piece stands behind what waited.
+pub waits_more : (items stands : List ℕ) (begin end : ℕ) (piece : List ℕ)
+    → take (end + length piece) stands ≡ take end items ++ piece → begin ≤ end → end ≤ length items
+    → slice_range stands begin (end + length piece) ≡ slice_range items begin end ++ piece
+waits_more items stands begin end piece is few within =
+    slice_is stands begin (end + length piece) (omega (arith, few)) ∙ ap (drop begin) is
+    ∙ drop-append-le begin (take end items) piece (omega (arith, few, length-take-le end items within))
+    ∙ ap (λ l. l ++ piece) (sym (slice_is items begin end few))
+
+-- so it is where a piece was copied into the block
+pub waits_behind : (items stands shown copied piece : List ℕ) (begin end : ℕ)
+    → stands ≡ put_mid end (end + length piece - end) shown copied → shown ≡ items → copied ≡ piece
+    → begin ≤ end → end ≤ length items
+    → slice_range stands begin (end + length piece) ≡ slice_range items begin end ++ piece
+waits_behind items stands shown copied piece begin end put same is few within =
+    let long : length copied ≡ length piece = ap length is in
+    let fits : end ≤ length shown = omega (arith, within, ap length same) in
+    let first : take (end + length piece) stands ≡ take end items ++ piece =
+    ap (take (end + length piece)) put
+    ∙ take-put_mid end (end + length piece - end) shown copied (end + length piece) (omega (arith, long)) fits
+    ∙ ap (λ h. take end h ++ copied) same
+    ∙ ap (λ m. take end items ++ m) is in
+    waits_more items stands begin end piece first few within
+
+-- The first octets of those that waited went out, and the others still wait.
+pub kept_behind : (known after : Option (List ℕ)) (items shown : List ℕ) (begin end count : ℕ) → shown ≡ items
+    → begin ≤ end → count ≤ length (slice_range shown begin end)
+    → Appends known after (take count (slice_range shown begin end))
+    → Keeps (append_known known (slice_range items begin end))
+    (append_known after (slice_range items (begin + count) end))
+kept_behind known after items shown begin end count same ordered few out =
+    let waits = slice_range items begin end in
+    let short : count ≤ length waits = subst (λ h. count ≤ length (slice_range h begin end)) same few in
+    let most : length waits ≤ end - begin =
+    subst (λ n. n ≤ end - begin) (sym (length-take (end - begin) (drop begin items)))
+    (min-le_left (end - begin) (length (drop begin items))) in
+    let within : begin + count ≤ end = omega (arith, ordered, short, most) in
+    append_known-moved known after (take count waits) (slice_range items (begin + count) end) waits
+    (subst (λ h. Appends known after (take count (slice_range h begin end))) same out)
+    (sym (take-append-drop count waits)
+    ∙ ap (λ r. take count waits ++ r) (sym (waiting_behind items begin end count within)))
+
+-- Nothing waits at first.
+pub none_waits : (known before : Option (List ℕ)) → known ≡ before → append_known known [] ≡ before
+none_waits None before is = is
+none_waits (Some xs) before is = ap Some (append-nil xs) ∙ is
+
+-- What holds of a target when it is let go holds of what its lender then is.
+pub at_last : {W : Type 0} (P : W → Type 0) (last given : W) → given ≡ last → P last → P given
+at_last P last given is h = subst P (sym is) h

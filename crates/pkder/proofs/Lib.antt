@@ -1,5 +1,5 @@
 pub mod BlockTargets
 pub mod CommandLines
-pub mod HandedOn
+pub mod Endings
 pub mod PlainTexts
 pub mod Replies

@@ -1,5 +1,5 @@
 -- What is answered and written, as replies.
-use Rattle.std.proofs.Common.{◌≡◌, ◌∙◌, ◌≤◌, ◌++◌, arith, Bool, Err, IfOk, List, None, Ok, Option, Result, Some, ap, false, inl, length, refl, subst, sym, ℕ}
+use Rattle.std.proofs.Common.{◌≡◌, ◌∙◌, ◌≤◌, ◌++◌, arith, Bool, Err, IfOk, IsErr, List, [], None, Ok, Option, Result, Some, ap, false, inl, length, refl, subst, sym, ℕ}
 use Rattle.std.specs.Io.KnownBytes.{Consumes, IsAtEnd}
 use Rattle.tlv_core.specs.declared.fault.ReadError.{ReadError}
 use Rattle.tlv_core.specs.declared.fault.ReadError.TheVariants.{Fault as FaultRead, Read as ReadAt, Memory as MemoryRead}
@@ -7,58 +7,20 @@ use Rattle.tlv_core.specs.Limits.{IsLimits, Limits}
 use Rattle.tlv_core.specs.declared.sink.WriteError.{WriteError}
 use Rattle.x690.specs.Answers.{Spelled, answer}
 use Rattle.x690.specs.Premises.{Lawful}
+use Rattle.x690.specs.DerTexts.{der}
 use Rattle.x690.specs.TypeTerms.{TypeTerm}
 use Rattle.x690.specs.Values.{Same, Value}
 use Rattle.asn_documents.specs.Checked.{CheckedAs}
-use Rattle.asn_documents.specs.Normalised.{FailedAs, IsRead}
-use Rattle.asn_documents.specs.ReadValues.{ReadsValue}
+use Rattle.asn_documents.specs.Normalised.{FailedAs, NormalisedAs, Took, WrittenInPart}
+use Rattle.asn_documents.specs.ReadValues.{ReadsValue, StopsReading}
 use Rattle.asn_documents.specs.WholeInputs.{RefusedWhole}
 use Rattle.asn_documents.specs.WrittenValues.{WritesText}
-use Rattle.asn_documents.specs.declared.normalise.NormaliseError.{NormaliseError}
-use Rattle.asn_documents.specs.declared.normalise.NormaliseError.TheVariants.{Read, Write}
+use Rattle.asn_documents.specs.declared.normalise.NormaliseError.TheVariants.{Read}
 use Rattle.asn_documents.proofs.Normalising.{took_as}
 use Rattle.pkder.specs.Outcomes.{verdict_of}
 use Rattle.pkder.specs.declared.outcome.Outcome.{Outcome}
 use Rattle.pkder.specs.declared.outcome.Outcome.TheVariants as outcomes
-use Rattle.pkder.specs.Replies.{DueOfCheck, DueOfValue, FailedBy, IsSilent, RepliedTo, RepliedWith, Unreadable, WroteText, checked_outcome, refusal_of, unread_outcome, written_outcome}
-
--- ---- what was not normalised
-
-replies : (limits : Limits) (type : TypeTerm) (error : NormaliseError) (before after old new : Option (List ℕ))
-    → RefusedWhole limits type error before after old new
-    → RepliedTo limits type (refusal_of error) before after old new
-replies limits type (Read (FaultRead found)) before after old new h = h
-replies limits type (Read (ReadAt at)) before after old new h = h
-replies limits type (Read MemoryRead) before after old new h = h
-replies limits type (Write error) before after old new h = h
-
-pub refusal_replies : (limits : Limits) (type : TypeTerm) (error : NormaliseError) (outcome : Outcome)
-    (before after old new : Option (List ℕ))
-    → outcome ≡ refusal_of error → RefusedWhole limits type error before after old new
-    → RepliedTo limits type outcome before after old new
-refusal_replies limits type error outcome before after old new is h =
-    subst (λ o. RepliedTo limits type o before after old new) (sym is)
-    (replies limits type error before after old new h)
-
-silent : (error : NormaliseError) → IsSilent (refusal_of error) → IsRead error
-silent (Read error) h = tt
-silent (Write error) h = absurd h
-
-pub refusal_silent : (error : NormaliseError) (outcome : Outcome) → outcome ≡ refusal_of error → IsSilent outcome
-    → IsRead error
-refusal_silent error outcome is h = silent error (subst IsSilent is h)
-
-fails : (error : NormaliseError) (source target : Bool) → FailedAs error source target
-    → FailedBy (refusal_of error) source target
-fails (Read (FaultRead found)) source target h = h
-fails (Read (ReadAt at)) source target h = h
-fails (Read MemoryRead) source target h = h
-fails (Write error) source target h = h
-
-pub refusal_fails : (error : NormaliseError) (outcome : Outcome) (source target : Bool) → outcome ≡ refusal_of error
-    → FailedAs error source target → FailedBy outcome source target
-refusal_fails error outcome source target is h =
-    subst (λ o. FailedBy o source target) (sym is) (fails error source target h)
+use Rattle.pkder.specs.Replies.{DueOfCheck, DueOfValue, FailedBy, IsSilent, RepliedTo, RepliedWith, Unreadable, WroteText, checked_outcome, unread_outcome, written_outcome}
 
 -- ---- what was not read
 
@@ -143,6 +105,81 @@ written_fails text old new place count outcome whole source target is whole_is w
     go (Ok n) None writes = (fine, writes.2)
     go (Ok n) (Some at) writes = (fine, writes.2)
     go (Err error) place writes = (fine, writes.2)
+
+-- ---- what is written in blocks
+
+-- A document was normalised into blocks, and the count answered when these were closed.
+module _ (limits : Limits) (type : TypeTerm) (value : Value) (before after held_first held old new : Option (List ℕ))
+    (failed : Bool) (count : Result ℕ WriteError) (outcome : Outcome)
+    (is : outcome ≡ written_outcome count outcomes.Done) (ends : IsAtEnd after)
+    (writes : WritesText (der value) old new failed count) where
+  in_part : (taken : ℕ) (error : WriteError) → Took limits type value before after taken
+      → WritesText (der value) old new failed (Err error)
+      → RepliedTo limits type (outcomes.WriteFailed error.written) before after old new
+  in_part taken error took w = ((value, record { taken = taken; took = took; within = w.0; writes = w.1 }), ends)
+
+  pub normalised_replies : (taken written : ℕ)
+      → NormalisedAs limits type value before after held_first held taken written
+      → RepliedTo limits type outcome before after old new
+  normalised_replies taken written h =
+      subst (λ o. RepliedTo limits type o before after old new) (sym is) (go count writes)
+    where
+      whole : (n : ℕ) → WritesText (der value) old new failed (Ok n)
+          → RepliedTo limits type outcomes.Done before after old new
+      whole n w = (
+        (
+          value,
+          taken,
+          n,
+          record {
+            took = h.took;
+            writes = w.1;
+            written_are = w.0;
+            reads_back = h.reads_back;
+            again = h.again;
+            same = h.same;
+          },
+        ),
+        ends,
+      )
+
+      go : (count : Result ℕ WriteError) → WritesText (der value) old new failed count
+          → RepliedTo limits type (written_outcome count outcomes.Done) before after old new
+      go (Ok n) w = whole n w
+      go (Err error) w = in_part taken error h.took w
+
+  pub cut_replies : (written : ℕ) → WrittenInPart limits type value before after held_first held written → IsErr count
+      → RepliedTo limits type outcome before after old new
+  cut_replies written h cut =
+      subst (λ o. RepliedTo limits type o before after old new) (sym is) (go count cut writes)
+    where
+      go : (count : Result ℕ WriteError) → IsErr count → WritesText (der value) old new failed count
+          → RepliedTo limits type (written_outcome count outcomes.Done) before after old new
+      go (Ok n) cut w = absurd cc
+      go (Err error) cut w = in_part h.taken error h.took w
+
+pub unread_in_blocks : (limits : Limits) (type : TypeTerm) (error : ReadError) (outcome : Outcome)
+    (before after held_first held old new : Option (List ℕ))
+    → outcome ≡ unread_outcome error → RefusedWhole limits type (Read error) before after held_first held
+    → RepliedTo limits type outcome before after old new
+unread_in_blocks limits type error outcome before after held_first held old new is h =
+    subst (λ o. RepliedTo limits type o before after old new) (sym is) (go error h)
+  where
+    go : (error : ReadError) → RefusedWhole limits type (Read error) before after held_first held
+        → RepliedTo limits type (unread_outcome error) before after old new
+    go (FaultRead found) h = h
+    go (ReadAt at) h = h
+    go MemoryRead h = h
+
+-- No block was to be had, and nothing is taken.
+stops_at_once : (limits : Limits) (type : TypeTerm) (before : Option (List ℕ))
+    → StopsReading limits type MemoryRead before before
+stops_at_once limits type None = tt
+stops_at_once limits type (Some before) = ([], refl, λ text taken a. omega arith, omega arith)
+
+pub no_block : (limits : Limits) (type : TypeTerm) (before old new : Option (List ℕ))
+    → RepliedTo limits type outcomes.Memory before before old new
+no_block limits type before old new = inl (stops_at_once limits type before, tt)
 
 -- a text, or nothing where there was no memory for it
 module _ {S E W : Type 0} (octets_of : S → List ℕ) (first last : W) (contents : W → Option (List ℕ))

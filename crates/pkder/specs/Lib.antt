@@ -1,4 +1,6 @@
 pub mod BlockTargets
 pub mod CommandLines
+pub mod Endings
+pub mod KnownOctets
 pub mod Outcomes
 pub mod Replies

@@ -13,7 +13,6 @@ use Rattle.asn_documents.specs.Normalised.{NormalisedAs, Took}
 use Rattle.asn_documents.specs.ReadValues.{ReadsValue}
 use Rattle.asn_documents.specs.WholeInputs.{Followed, RefusedWhole}
 use Rattle.asn_documents.specs.WrittenValues.{WritesText}
-use Rattle.asn_documents.specs.declared.normalise.NormaliseError.{NormaliseError}
 use Rattle.asn_documents.specs.declared.normalise.NormaliseError.TheVariants.{Read, Write}
 use Rattle.pk_documents.specs.Documents.{kind_of}
 use Rattle.pk_documents.specs.Kinds.{type_of}
@@ -163,8 +162,3 @@ abbrev pub unread_outcome : ReadError → Outcome
 unread_outcome (FaultRead found) = Fault found
 unread_outcome (ReadAt at) = ReadFailed at
 unread_outcome MemoryRead = Memory
-
--- the outcome of a document that was not normalised
-abbrev pub refusal_of : NormaliseError → Outcome
-refusal_of (Read error) = unread_outcome error
-refusal_of (Write error) = WriteFailed error.written

@@ -1,125 +1,146 @@
-//! Standard output in blocks: many small pieces go out by one write.
-ghost use Rattle.std.specs.Prelude.{◌≡◌, [], MatchBool, None, Some, false};
-ghost use Rattle.std.specs.Io.Buffered.{writer_contents, writer_inner};
-ghost use Rattle.pkder.specs.BlockTargets.{Closed, EndsAs, counted, has_failed_read, has_stopped, held, without_count, writer_of};
-ghost use Rattle.pkder.specs.Replies.{IsSilent, Replied};
+//! Many small pieces go on in blocks.
+ghost use Rattle.std.specs.Prelude.{◌≡◌, ◌≤◌, ◌+◌, ◌-◌, ◌++◌, ◌↔◌, ℕ, IsErr, IsOk, List, None, Option, OnOk, [], false, length, true};
+ghost use Rattle.std.specs.Io.KnownBytes.{Keeps};
+ghost use Rattle.asn_documents.specs.WrittenValues.{WritesText};
+ghost use Rattle.pkder.specs.KnownOctets.{known_length};
 
-use crate::line::Task;
-use crate::outcome::Outcome;
-use crate::run::run;
-use pk_documents::document::{Document, Valued};
-use std::alloc::Global;
-use std::io::{BufWriter, Write};
-use tlv_core::source::{Failed, Source};
+use asn_documents::document::write_octets;
+use std::alloc::{AllocError, Global};
+use std::marker::{Brand, PhantomData};
+use tlv_core::sink::WriteError;
+use tlv_core::source::Failed;
 use tlv_core::target::Target;
 
-/// A target over a writer in blocks. It counts the octets that came, so that it is known how many are out where the
-/// writer fails while others wait in the block. After 2^64 - 1 octets it fails.
+/// As many octets wait at most.
+const SIZE: usize = 8192;
+
+/// What a block was made for. No code looks at it.
+pub trait Start {
+    /// Which reference to a target it was handed.
+    ghost name: { ℕ };
+
+    /// The octets that the target contained then, where it tells them.
+    ghost before: { Option (List ℕ) };
+}
+
+impl Start for Brand {
+    ghost name = { 0 };
+
+    ghost before = { None };
+}
+
+/// The octets of a block.
+pub fn new_block(alloc: Global) -> Result<Vec<u8>, AllocError> {
+    vec![in alloc; 0; SIZE]
+}
+
+/// A target over another one, to which the octets go on in blocks.
 #[derive(Drop)]
-pub struct BlockTarget<W: Write + Drop> {
-    blocks: BufWriter<W>,
-    come: u64,
-    failed: bool,
+pub struct BlockTarget<'a, W: Target, K: Start> {
+    pub(crate) target: &'a mut W,
+    pub(crate) block: Vec<u8>,
+    /// Between these octets of the block wait.
+    pub(crate) begin: usize,
+    pub(crate) end: usize,
+    pub(crate) start: PhantomData<K>,
+    ghost same_target: { target.ghost_name ≡ K.name },
+    ghost ordered: { begin ≤ end },
+    ghost within: { end ≤ length block.items },
+    ghost no_shorter: { known_length K.before ≤ known_length (W.contents target.now) },
 }
 
-impl<W: Write + Drop> BlockTarget<W> {
-    /// The target over this writer. No octet came yet.
-    fn new(blocks: BufWriter<W>) -> BlockTarget<W>
-        ensures counted { held W.contents result ≡ counted 0 (writer_contents W.contents blocks) }
-        ensures over { writer_of result ≡ writer_inner blocks }
-        ensures fresh { has_stopped result ≡ false }
+impl<'a, W: Target, K: Start> BlockTarget<'a, W, K> {
+    ghost use Rattle.pkder.specs.BlockTargets.{has_failed_under, held, target_of, waiting};
+
+    /// Puts a piece behind what waits, and answers its length.
+    fn hold(&mut self, piece: &[u8]) -> usize
+        requires { self.old.end + length piece.now ≤ length self.old.block.items }
+        ensures count { result ≡ length piece.now }
+        ensures waits { waiting self.new ≡ waiting self.old ++ piece.now }
+        ensures same { target_of self.new ≡ target_of self.old }
     {
-        BlockTarget {
-            blocks,
-            come: 0,
-            failed: false,
-        }
+        let end = self.end + piece.len();
+        self.block[self.end..end].copy_from_slice(piece);
+        self.end = end;
+        piece.len()
     }
 
-    /// Hands on what waits where a run was done that ended so. Answers how it ends then, and the writer.
-    fn close(self, outcome: Outcome) -> (Outcome, W)
-        ensures ends { EndsAs outcome result.0 }
-        ensures told { (octets : _) → held W.contents self ≡ Some octets
-            → (IsSilent outcome → octets ≡ [])
-            → Closed outcome octets result.0 (W.contents result.1) }
-        ensures unwritten { IsSilent outcome → result.1 ≡ writer_of self }
+    /// Hands on what waits.
+    fn hand_on(&mut self) -> Result<(), Failed>
+        requires { has_failed_under self.old ≡ false }
+        ensures kept { Keeps (held self.old) (held self.new) }
+        ensures none { OnOk result (waiting self.new ≡ []) }
+        ensures failed { IsErr result ↔ (has_failed_under self.new ≡ true) }
     {
-        let BlockTarget {
-            mut blocks,
-            come,
-            failed: _,
-        } = self;
-        if is_silent(&outcome) {
-            return (outcome, blocks.into_parts().0);
-        }
-        let is_out = !matches!(outcome, Outcome::WriteFailed(_)) && blocks.flush().is_ok();
-        let (writer, waiting) = blocks.into_parts();
-        if is_out {
-            return (outcome, writer);
-        }
-        let out = come.saturating_sub(waiting.len() as u64);
-        (Outcome::WriteFailed(out), writer)
-    }
-}
-
-/// Whether nothing is written by a run that ended so.
-fn is_silent(outcome: &Outcome) -> bool
-    ensures { MatchBool result (IsSilent outcome.now) (IsSilent outcome.now → ⊥) }
-{
-    matches!(
-        outcome,
-        Outcome::Fault(_) | Outcome::ReadFailed(_) | Outcome::Memory
-    )
-}
-
-impl<W: Write + Drop> Target for BlockTarget<W> {
-    ghost contents = { λ target. held W.contents target };
-
-    ghost has_failed = { λ target. has_stopped target };
-
-    fn write(&mut self, piece: &[u8]) -> Result<usize, Failed> {
-        if self.come.checked_add(piece.len() as u64).is_none() {
-            self.failed = true;
-            return Err(Failed);
-        }
-        match self.blocks.write(piece) {
-            Ok(count) if count > 0 || piece.is_empty() => {
-                self.come += count as u64;
-                Ok(count)
+        match write_octets(&self.block[self.begin..self.end], &mut *self.target) {
+            Ok(_) => {
+                self.begin = 0;
+                self.end = 0;
+                Ok(())
             }
-            _ => {
-                self.failed = true;
+            Err(error) => {
+                self.begin += error.written as usize;
                 Err(Failed)
             }
         }
     }
 
-    fn failed(&self) -> bool {
-        self.failed
+    /// Hands on what waits of a text, of which so many octets came, and answers how many of them are out.
+    pub fn close(&mut self, come: Result<u64, WriteError>) -> Result<u64, WriteError>
+        requires { IsOk come → has_failed_under self.old ≡ false }
+        ensures out { (text : List ℕ)
+            → WritesText text K.before (held self.old) (has_failed_under self.old) come
+            → WritesText text K.before (W.contents (target_of self.new)) (has_failed_under self.new)
+            result }
+        ensures failed { IsErr come → IsErr result }
+    {
+        match come {
+            Ok(count) => match self.hand_on() {
+                Ok(()) => Ok(count),
+                Err(Failed) => Err(self.out_of(count)),
+            },
+            Err(error) => Err(self.out_of(error.written)),
+        }
+    }
+
+    /// The target that was under it.
+    pub fn into_target(self) -> &'a mut W
+        ensures same { result.ghost_name ≡ self.entry.target.ghost_name }
+        ensures now { result.now ≡ target_of self.entry }
+    {
+        let BlockTarget { target, .. } = self;
+        target
+    }
+
+    /// The error where so many octets came, and the last of them wait.
+    fn out_of(&self, count: u64) -> WriteError
+        ensures { result.written ≡ count - length (waiting self.now) }
+    {
+        WriteError {
+            written: count.saturating_sub((self.end - self.begin) as u64),
+        }
     }
 }
 
-/// Runs a task as `run` does, and writes in blocks. Answers the writer, too.
-pub fn run_in_blocks<R: Source, W: Write + Drop>(
-    alloc: Global,
-    src: &mut R,
-    blocks: BufWriter<W>,
-    task: &Task,
-) -> (Outcome, W)
-    requires readable { R.has_failed src.old ≡ false }
-    // The reply of `run`, but for how many octets are out, where the writer doesn't tell what it holds.
-    ensures replied { Replied ⟦<Document as Valued>⟧.value task.now (without_count result.0)
-        (R.remaining src.old) (R.remaining src.new) None None }
-    // The reply of `run`, where the writer tells that it holds nothing before.
-    ensures told { writer_contents W.contents blocks ≡ Some []
-        → Replied ⟦<Document as Valued>⟧.value task.now result.0 (R.remaining src.old)
-        (R.remaining src.new) (Some []) (W.contents result.1) }
-    // Nothing is written of what isn't all of the input.
-    ensures unwritten { IsSilent result.0 → result.1 ≡ writer_inner blocks }
-    // A failed read is answered where the source failed, and nowhere else.
-    ensures unread { R.has_failed src.new ≡ has_failed_read result.0 }
-{
-    let mut dst = BlockTarget::new(blocks);
-    let outcome = run(alloc, src, &mut dst, task);
-    dst.close(outcome)
+impl<W: Target, K: Start> Target for BlockTarget<'_, W, K> {
+    ghost use Rattle.pkder.specs.BlockTargets.{has_failed_under, held};
+
+    ghost contents = { λ target. held target };
+
+    ghost has_failed = { λ target. has_failed_under target };
+
+    fn write(&mut self, piece: &[u8]) -> Result<usize, Failed> {
+        if piece.len() <= self.block.len() - self.end {
+            return Ok(self.hold(piece));
+        }
+        self.hand_on()?;
+        if piece.len() <= self.block.len() - self.end {
+            return Ok(self.hold(piece));
+        }
+        self.target.write(piece)
+    }
+
+    fn failed(&self) -> bool {
+        self.target.failed()
+    }
 }

@@ -8,6 +8,7 @@
 
 ghost use Rattle.std.specs.Prelude.{◌≡◌};
 ghost use Rattle.std.specs.Process.{exit_status};
+ghost use Rattle.pkder.specs.Endings.{ServedAs};
 ghost use Rattle.pkder.specs.Outcomes.{status_of};
 
 mod block_target;
@@ -15,14 +16,16 @@ mod command;
 mod line;
 mod outcome;
 mod run;
+mod streams;
 
 use asn_documents::document::write_octets;
-use block_target::run_in_blocks;
 use line::{LineFault, Task};
 use outcome::Outcome;
+use pk_documents::document::{Document, Valued};
 use std::alloc::Global;
-use std::io::{BufReader, BufWriter, ErrorKind, Write};
+use std::io::{BufReader, ErrorKind};
 use std::process::ExitCode;
+use streams::{answer, tell, write_line};
 use tlv_core::source::FromRead;
 use tlv_core::target::ToWrite;
 
@@ -31,68 +34,48 @@ fn main(rt: HostRuntime) -> ExitCode {
     let arguments = match std::env::args(&rt) {
         Ok(arguments) => arguments,
         Err(error) if error.kind() == ErrorKind::OutOfMemory => {
-            return complain(&rt, "out of memory\n", 3);
+            return finish(&rt, &Outcome::Memory);
         }
-        Err(_) => return complain(&rt, "error: the line is not UTF-8\n", 4),
+        Err(_) => return complain(&rt, "error: the line is not UTF-8\n"),
     };
     let words: Vec<String> = match arguments.collect(alloc) {
         Ok(words) => words,
-        Err(_) => return complain(&rt, "out of memory\n", 3),
+        Err(_) => return finish(&rt, &Outcome::Memory),
     };
     match line::task_of(alloc, words.as_slice()) {
         Ok(task) => finish(&rt, &serve(&rt, alloc, &task)),
-        Err(LineFault::Line(text)) => complain(&rt, text.as_str(), 4),
-        Err(LineFault::Help(text)) => finish(&rt, &tell(&rt, text.as_str())),
-        Err(LineFault::Memory) => complain(&rt, "out of memory\n", 3),
+        Err(LineFault::Line(text)) => complain(&rt, text.as_str()),
+        Err(LineFault::Help(text)) => finish(&rt, &tell(text.as_str(), rt.stdout()).0),
+        Err(LineFault::Memory) => finish(&rt, &Outcome::Memory),
     }
 }
 
-/// Runs the task from standard input, as it comes, to standard output, in blocks.
-fn serve(rt: &HostRuntime, alloc: Global, task: &Task) -> Outcome {
+/// Runs the task from standard input, as it comes, to standard output.
+fn serve(rt: &HostRuntime, alloc: Global, task: &Task) -> Outcome
+    ensures { ServedAs ⟦<Document as Valued>⟧.value task.now result }
+{
     let Ok(input) = BufReader::new(alloc, rt.stdin()) else {
         return Outcome::Memory;
     };
-    let Ok(output) = BufWriter::new(alloc, rt.stdout()) else {
-        return Outcome::Memory;
-    };
     let mut src = FromRead::new(input);
-    let (outcome, _stdout) = run_in_blocks(alloc, &mut src, output, task);
+    let (outcome, _stdout) = answer(alloc, &mut src, rt.stdout(), task);
     outcome
-}
-
-/// Writes a text to standard output.
-fn tell(rt: &HostRuntime, text: &str) -> Outcome {
-    let mut dst = ToWrite::new(rt.stdout());
-    if let Err(error) = write_octets(text.as_bytes(), &mut dst) {
-        return Outcome::WriteFailed(error.written);
-    }
-    if dst.into_inner().flush().is_err() {
-        return unflushed();
-    }
-    Outcome::Done
-}
-
-/// The outcome where standard output isn't flushed: how many octets were kept back isn't told.
-fn unflushed() -> Outcome
-    ensures { result ≡ Outcome.WriteFailed 0 }
-{
-    Outcome::WriteFailed(0)
 }
 
 /// Prints the line of the outcome, and answers its status.
 fn finish(rt: &HostRuntime, outcome: &Outcome) -> ExitCode
     ensures { exit_status result ≡ status_of outcome.now }
 {
-    let status = outcome::status(outcome);
-    match outcome::outcome_text(rt.alloc(), outcome) {
-        Ok(text) => complain(rt, text.as_str(), status),
-        Err(_) => complain(rt, "out of memory\n", status),
-    }
+    let mut stderr = ToWrite::new(rt.stderr());
+    write_line(rt.alloc(), outcome, &mut stderr);
+    ExitCode::from(outcome::status(outcome))
 }
 
-fn complain(rt: &HostRuntime, text: &str, status: u8) -> ExitCode
-    ensures { exit_status result ≡ status }
+/// Prints why the line is refused, and answers the status of such a line.
+fn complain(rt: &HostRuntime, text: &str) -> ExitCode
+    ensures { exit_status result ≡ 4 }
 {
-    let _ = rt.eprint(text);
-    ExitCode::from(status)
+    let mut stderr = ToWrite::new(rt.stderr());
+    let _ = write_octets(text.as_bytes(), &mut stderr);
+    ExitCode::from(4)
 }

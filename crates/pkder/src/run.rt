@@ -3,12 +3,15 @@ ghost use Rattle.std.specs.Prelude.{◌≡◌, false, string_bytes};
 ghost use Rattle.pk_documents.specs.Kinds.{type_of};
 ghost use Rattle.pk_documents.specs.RequestParts.{part_of};
 ghost use Rattle.pk_documents.specs.declared.kind.Kind.TheVariants as kinds;
-ghost use Rattle.pkder.specs.Replies.{DueOfCheck, DueOfShow, DueOfValue, FailedBy, IsSilent, Replied, RepliedTo, RepliedWith, WroteText, checked_outcome, refusal_of, unread_outcome, written_outcome};
+ghost use Rattle.asn_documents.specs.WrittenValues.{WritesText};
+ghost use Rattle.pkder.specs.Replies.{DueOfCheck, DueOfShow, DueOfValue, FailedBy, IsSilent, Replied, RepliedTo, RepliedWith, WroteText, checked_outcome, unread_outcome, written_outcome};
 
+use crate::block_target::{BlockTarget, Start, new_block};
 use crate::line::{Action, Task};
 use crate::outcome::{Outcome, verdict_text};
 use asn_documents::document::write_octets;
 use asn_documents::whole::read_whole_input;
+use asn_values::der_text::DerText;
 use pk_documents::check::check_whole_document;
 use pk_documents::document::{Document, Valued, read_whole_document};
 use pk_documents::kind::Kind;
@@ -17,6 +20,7 @@ use pk_documents::request_part::{Part, write_part};
 use pk_requests::request::CertificationRequest;
 use pk_show::show_text;
 use std::alloc::{AllocError, Global};
+use std::marker::{Brand, PhantomData};
 use tlv_core::fault::ReadError;
 use tlv_core::limits::Limits;
 use tlv_core::sink::WriteError;
@@ -101,9 +105,48 @@ fn normalise<R: Source, W: Target>(
     ensures unwritten { IsSilent result → dst.new ≡ dst.old }
     ensures failed { FailedBy result (R.has_failed src.new) (W.has_failed dst.new) }
 {
-    match normalise_whole_document(alloc, src, dst, kind, limits) {
-        Ok(_) => Outcome::Done,
-        Err(error) => refusal(&error),
+    match new_block(alloc) {
+        Ok(block) => normalise_in_blocks::<R, W, Brand>(alloc, src, dst, block, kind, limits).0,
+        Err(_) => Outcome::Memory,
+    }
+}
+
+/// Writes the document's DER text in blocks, and gives the target back.
+fn normalise_in_blocks<'a, R: Source, W: Target, K: Start>(
+    alloc: Global,
+    src: &mut R,
+    dst: &'a mut W,
+    block: Vec<u8>,
+    kind: Kind,
+    limits: Limits,
+) -> (Outcome, &'a mut W)
+    requires readable { R.has_failed src.old ≡ false }
+    requires writable { W.has_failed dst.now ≡ false }
+    requires name { dst.ghost_name ≡ K.name }
+    requires before { W.contents dst.now ≡ K.before }
+    ensures same { result.1.ghost_name ≡ dst.entry.ghost_name }
+    ensures replied { RepliedTo limits (type_of kind) result.0 (R.remaining src.old)
+        (R.remaining src.new) (W.contents dst.entry.now) (W.contents result.1.now) }
+    ensures unwritten { IsSilent result.0 → result.1.now ≡ dst.entry.now }
+    ensures failed { FailedBy result.0 (R.has_failed src.new) (W.has_failed result.1.now) }
+{
+    let mut blocks: BlockTarget<'a, W, K> = BlockTarget {
+        target: dst,
+        block,
+        begin: 0,
+        end: 0,
+        start: PhantomData,
+    };
+    match normalise_whole_document(alloc, src, &mut blocks, kind, limits) {
+        Ok((_taken, count)) => {
+            let count = blocks.close(Ok(count));
+            (written(count, Outcome::Done), blocks.into_target())
+        }
+        Err(NormaliseError::Write(error)) => {
+            let count = blocks.close(Err(error));
+            (written(count, Outcome::Done), blocks.into_target())
+        }
+        Err(NormaliseError::Read(error)) => (unread(&error), blocks.into_target()),
     }
 }
 
@@ -125,7 +168,7 @@ fn extract<R: Source, W: Target>(
     ensures failed { FailedBy result (R.has_failed src.new) (W.has_failed dst.new) }
 {
     match read_whole_input::<R, CertificationRequest>(alloc, src, limits) {
-        Ok((request, _taken)) => written(write_part(&request, part, dst), Outcome::Done),
+        Ok((request, _taken)) => write_part_text(new_block(alloc), &request, part, dst),
         Err(error) => unread(&error),
     }
 }
@@ -142,8 +185,54 @@ fn write_text<W: Target>(text: Result<String, AllocError>, dst: &mut W, whole: O
     }
 }
 
+/// Writes a part of a request, where there was memory for a block.
+fn write_part_text<W: Target>(
+    block: Result<Vec<u8>, AllocError>,
+    request: &CertificationRequest,
+    part: Part,
+    dst: &mut W,
+) -> Outcome
+    requires { W.has_failed dst.old ≡ false }
+    ensures { WroteText (λ _. part_of part (⟦<CertificationRequest as DerText>⟧.value request.now))
+        block Outcome.Done result (W.contents dst.old) (W.contents dst.new) (W.has_failed dst.new)
+        (dst.new ≡ dst.old) }
+{
+    match block {
+        Ok(block) => {
+            let (count, _dst) = write_part_in_blocks::<W, Brand>(request, part, dst, block);
+            written(count, Outcome::Done)
+        }
+        Err(_) => Outcome::Memory,
+    }
+}
+
+/// Writes a part of a request in blocks, and gives the target back.
+fn write_part_in_blocks<'a, W: Target, K: Start>(
+    request: &CertificationRequest,
+    part: Part,
+    dst: &'a mut W,
+    block: Vec<u8>,
+) -> (Result<u64, WriteError>, &'a mut W)
+    requires writable { W.has_failed dst.now ≡ false }
+    requires name { dst.ghost_name ≡ K.name }
+    requires before { W.contents dst.now ≡ K.before }
+    ensures same { result.1.ghost_name ≡ dst.entry.ghost_name }
+    ensures writes { WritesText (part_of part (⟦<CertificationRequest as DerText>⟧.value request.now))
+        (W.contents dst.entry.now) (W.contents result.1.now) (W.has_failed result.1.now) result.0 }
+{
+    let mut blocks: BlockTarget<'a, W, K> = BlockTarget {
+        target: dst,
+        block,
+        begin: 0,
+        end: 0,
+        start: PhantomData,
+    };
+    let come = write_part(request, part, &mut blocks);
+    (blocks.close(come), blocks.into_target())
+}
+
 /// How a run ends that writes what is due: as `whole` where all of it is out.
-fn written(count: Result<u64, WriteError>, whole: Outcome) -> Outcome
+pub fn written(count: Result<u64, WriteError>, whole: Outcome) -> Outcome
     ensures { result ≡ written_outcome count whole }
 {
     match count {
@@ -170,15 +259,5 @@ fn unread(error: &ReadError) -> Outcome
         ReadError::Fault(fault) => Outcome::Fault(*fault),
         ReadError::Read { at } => Outcome::ReadFailed(*at),
         ReadError::Memory => Outcome::Memory,
-    }
-}
-
-/// The outcome of a document that was not normalised.
-fn refusal(error: &NormaliseError) -> Outcome
-    ensures { result ≡ refusal_of error.now }
-{
-    match error {
-        NormaliseError::Read(error) => unread(error),
-        NormaliseError::Write(error) => Outcome::WriteFailed(error.written),
     }
 }

@@ -1,14 +1,22 @@
-use Rattle.std.proofs.Common.{None, refl, rules}
+use Rattle.std.proofs.Common.{◌∙◌, Err, IfOk, None, Ok, Result, ap, refl, rules}
+use Rattle.x690.specs.Answers.{Spelled}
+use Rattle.x690.specs.DerTexts.{der}
 use Rattle.asn_documents.proofs.WholeInputs.{unread_whole}
 use Rattle.pk_documents.specs.Kinds.{type_of}
 use Rattle.pk_documents.specs.RequestParts.{part_of}
 use Rattle.pk_documents.specs.declared.kind.Kind.TheVariants.{Request}
+use Rattle.pk_requests.specs.contracts.request.CertificationRequestDerText.TheImpl as request_text
 use Rattle.pk_documents.proofs.LawfulKinds.{kinds_are_lawful}
 use Rattle.pk_documents.proofs.RequestParts.{part_same}
 use Rattle.pkder.specs.Replies.{DueOfValue}
 use Rattle.pkder.specs.declared.outcome.Outcome.TheVariants as outcomes
-use Rattle.pkder.proofs.Replies.{due_of_value, unread_fails, unread_replies, written_fails, written_replies, written_speaks}
+use Rattle.pkder.proofs.Replies.{due_of_value, no_memory, text_fails, text_replies, text_silent, unread_fails, unread_replies}
 use Rattle.pkder.proofs.run.extract.Goals as goal
+
+-- one text, whatever the block
+is_due : {S E P : Type 0} (block : Result S E) → P → IfOk block (λ _. P)
+is_due (Ok block) h = h
+is_due (Err error) h = tt
 
 pub returns-in-Ok-clause-replied : goal.returns-in-Ok-clause-replied
 returns-in-Ok-clause-replied g c =
@@ -17,23 +25,32 @@ returns-in-Ok-clause-replied g c =
     let part = c.args.part in
     let before = g.R.Source.remaining c.args.src.now in
     let after = g.R.Source.remaining c.read_whole_input.new.src in
+    let reads = c.in-Ok.ensures.reads in
     let due = due_of_value l T (part_of part) (part_same part) before after _ c.in-Ok._taken (kinds_are_lawful Request)
-    (search rules) c.in-Ok.ensures.reads c.in-Ok.ensures.ends in
-    written_replies l T (DueOfValue l T (part_of part) before after) before after (g.W.Target.contents c.args.dst.now)
-    (g.W.Target.contents c.write_part.new.dst) None _ c.write_part.result
-    (g.W.Target.has_failed c.write_part.new.dst)
-    c.written.result outcomes.Done c.written.ensures refl c.write_part.ensures due
+    (search rules) reads c.in-Ok.ensures.ends in
+    text_replies (λ _. part_of c.args.part (request_text.value-value.it c.in-Ok.request)) c.args.dst.now
+    c.write_part_text.new.dst g.W.Target.contents
+    g.W.Target.has_failed None c.write_part_text.result outcomes.Done refl
+    l T (DueOfValue l T (part_of part) before after) before after _ c.new_block.result (is_due c.new_block.result refl)
+    due
+    (no_memory l T before after reads.octets (der (request_text.value-value.it c.in-Ok.request)) reads.takes
+    (λ more. reads.answers more ∙ ap (Spelled (der (request_text.value-value.it c.in-Ok.request))) reads.taken_are)
+    reads.spells.octets_fit)
+    c.write_part_text.ensures
 
 pub returns-in-Ok-clause-unwritten : goal.returns-in-Ok-clause-unwritten
-returns-in-Ok-clause-unwritten g c = λ silent.
-    absurd (written_speaks None c.write_part.result c.written.result outcomes.Done c.written.ensures refl silent)
+returns-in-Ok-clause-unwritten g c =
+    text_silent (λ _. part_of c.args.part (request_text.value-value.it c.in-Ok.request)) c.args.dst.now
+    c.write_part_text.new.dst g.W.Target.contents
+    g.W.Target.has_failed None c.write_part_text.result outcomes.Done refl c.new_block.result c.write_part_text.ensures
 
 pub returns-in-Ok-clause-failed : goal.returns-in-Ok-clause-failed
 returns-in-Ok-clause-failed g c =
-    written_fails _ (g.W.Target.contents c.args.dst.now)
-    (g.W.Target.contents c.write_part.new.dst) None c.write_part.result c.written.result outcomes.Done
-    (g.R.Source.has_failed c.read_whole_input.new.src)
-    (g.W.Target.has_failed c.write_part.new.dst) c.written.ensures refl c.write_part.ensures c.in-Ok.ensures.read
+    text_fails (λ _. part_of c.args.part (request_text.value-value.it c.in-Ok.request)) c.args.dst.now
+    c.write_part_text.new.dst g.W.Target.contents g.W.Target.has_failed
+    None c.write_part_text.result outcomes.Done refl c.new_block.result
+    (g.R.Source.has_failed c.read_whole_input.new.src) c.in-Ok.ensures.read c.requires.writable
+    c.write_part_text.ensures
 
 pub returns-in-Err-clause-replied : goal.returns-in-Err-clause-replied
 returns-in-Err-clause-replied g c =

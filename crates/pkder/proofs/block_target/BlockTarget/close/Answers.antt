@@ -1,29 +1,29 @@
-use Rattle.std.proofs.Common.{arith, refl, subst, sym}
-use Rattle.std.proofs.KnownBytes.{Keeps-refl}
-use Rattle.std.specs.Io.Buffered.{writer_contents}
-use Rattle.std.specs.Io.KnownBytes.{Keeps, append_known}
-use Rattle.pkder.specs.declared.outcome.Outcome.TheVariants.{WriteFailed}
-use Rattle.pkder.proofs.BlockTargets.{closed_part}
+use Rattle.std.proofs.Common.{◌∙◌, ap, le_of_eq, refl, subst, sym, take}
+use Rattle.std.proofs.KnownBytes.{Appends-kept}
+use Rattle.std.proofs.Math.Seq.{take-length}
+use Rattle.std.specs.Io.KnownBytes.{Appends}
+use Rattle.asn_documents.specs.WrittenValues.{WritesText}
+use Rattle.pkder.specs.BlockTargets.{has_failed_under, held, target_of, waiting}
+use Rattle.pkder.proofs.BlockTargets.{first_out}
 use Rattle.pkder.proofs.block_target.BlockTarget.close.Goals as goal
-use Rattle.pkder.proofs.block_target.BlockTarget.close.Goals.{else-not-matches, then-not-matches}
 
-pub returns-clause-told : goal.returns-clause-told
-returns-clause-told g c = λ octets told none.
-    let contents = g.W.Write.contents in
-    let blocks = c.if-not-matches.blocks in
-    let parts = c.into_parts-writer in
-    let before = writer_contents contents c.args.self.blocks in
-    let tried : Keeps before (writer_contents contents blocks) = elim c.if-not-matches.branch [
-      | then-not-matches w ↦
-          subst (λ b. Keeps before (writer_contents contents b)) (sym w.blocks-is) w.flush.ensures.bytes
-      | else-not-matches w ↦
-          subst (λ b. Keeps before (writer_contents contents b)) (sym w.blocks-is) (Keeps-refl before)
-    ] in
-    let outs : Keeps before (append_known (contents parts.result.0) blocks.buf.items) =
-    subst (λ writer. Keeps before (append_known (contents writer) blocks.buf.items)) (sym parts.ensures.inner) tried in
-    let kept : Keeps before (append_known (contents parts.result.0) parts.result.1.items) =
-    subst (λ waiting. Keeps before (append_known (contents parts.result.0) waiting)) (sym parts.ensures.buffer) outs in
-    closed_part c.args.outcome
-    (WriteFailed c.saturating_sub-out.result) c.args.self.come c.saturating_sub-out.result before
-    (contents parts.result.0) parts.result.1.items octets refl
-    (omega (arith, c.saturating_sub-out.ensures, c.len.ensures)) kept told
+pub returns-in-Err-hand_on-clause-out : goal.returns-in-Err-hand_on-clause-out
+returns-in-Err-hand_on-clause-out g c = λ text writes.
+    let before = g.K.Start.before in
+    let first = c.args.self.now in
+    let last = c.hand_on.new.self in
+    let came = subst (WritesText text before (held first) (has_failed_under first)) c.in-Ok.is writes in
+    let all = Appends-kept before (held first) (held last) text came.1 c.hand_on.ensures.kept in
+    let out = first_out before (g.W.Target.contents (target_of last)) (waiting last) text c.in-Ok.count
+    c.out_of.result.written last.no_shorter (le_of_eq came.0) c.out_of.ensures
+    (subst (Appends before (held last)) (sym (ap (λ n. take n text) came.0 ∙ take-length text)) all) in
+    (out.0, out.1, c.in-Err-hand_on.ensures.failed.0 refl)
+
+pub returns-in-Err-clause-out : goal.returns-in-Err-clause-out
+returns-in-Err-clause-out g c = λ text writes.
+    let before = g.K.Start.before in
+    let first = c.args.self.now in
+    let came = subst (WritesText text before (held first) (has_failed_under first)) c.in-Err.is writes in
+    let out = first_out before (g.W.Target.contents (target_of first)) (waiting first) text c.in-Err.error.written
+    c.out_of-in-Err.result.written first.no_shorter came.0 c.out_of-in-Err.ensures came.1 in
+    (out.0, out.1, came.2)

@@ -1,0 +1,63 @@
+-- How a run ends over the streams of the program.
+use Rattle.std.specs.Prelude.{◌≡◌, ◌⊎◌, ℕ, Bool, List, Option, Result, false, true}
+use Rattle.std.specs.Io.KnownBytes.{Keeps}
+use Rattle.tlv_core.specs.declared.sink.WriteError.{WriteError}
+use Rattle.x690.specs.Values.{Value}
+use Rattle.asn_documents.specs.WrittenValues.{WritesText}
+use Rattle.pk_documents.specs.declared.document.Document.{Document}
+use Rattle.pkder.specs.Outcomes.{line_of}
+use Rattle.pkder.specs.Replies.{Replied}
+use Rattle.pkder.specs.declared.line.Task.{Task}
+use Rattle.pkder.specs.declared.outcome.Outcome.{Outcome}
+use Rattle.pkder.specs.declared.outcome.Outcome.TheVariants.{Done, NotDer, Fault, ReadFailed, WriteFailed, Memory}
+
+-- it says that all that was due is written
+abbrev pub IsWhole : Outcome → Type 0
+IsWhole Done = Unit {0}
+IsWhole (NotDer at) = Unit {0}
+IsWhole (Fault found) = ⊥
+IsWhole (ReadFailed at) = ⊥
+IsWhole (WriteFailed count) = ⊥
+IsWhole Memory = ⊥
+
+-- it says that a read failed
+abbrev pub has_failed_read : Outcome → Bool
+has_failed_read Done = false
+has_failed_read (NotDer at) = false
+has_failed_read (Fault found) = false
+has_failed_read (ReadFailed at) = true
+has_failed_read (WriteFailed count) = false
+has_failed_read Memory = false
+
+-- How a run ends whose writer is flushed behind it: as it ended; or the writer isn't flushed behind what is whole, and
+-- then how many octets are out isn't told.
+abbrev pub EndsAs : Outcome → Outcome → Type 0
+EndsAs outcome end = (end ≡ outcome) ⊎ (IsWhole outcome × (end ≡ WriteFailed 0))
+
+-- A run replies so, and then the writer is flushed.
+abbrev pub AnsweredAs : (Document → Value) → Task → Outcome → Option (List ℕ) → Option (List ℕ) → Option (List ℕ)
+    → Option (List ℕ) → Type 0
+AnsweredAs value_of task end before after old new =
+    (outcome : Outcome)
+    × (out : Option (List ℕ))
+    × Replied value_of task outcome before after old out
+    × Keeps out new
+    × EndsAs outcome end
+
+-- What the program answers to a task: it ends as a run of it does, or memory runs out before.
+abbrev pub ServedAs : (Document → Value) → Task → Outcome → Type 0
+ServedAs value_of task end =
+    (end ≡ Memory)
+    ⊎ ((before : Option (List ℕ))
+    × (after : Option (List ℕ))
+    × (old : Option (List ℕ))
+    × (new : Option (List ℕ))
+    × AnsweredAs value_of task end before after old new)
+
+-- The line of the outcome is written, or that memory ran out, or the first octets of either.
+abbrev pub WritesLine : Outcome → Option (List ℕ) → Option (List ℕ) → Bool → Type 0
+WritesLine outcome old new failed =
+    (line : Outcome)
+    × ((line ≡ outcome) ⊎ (line ≡ Memory))
+    × (count : Result ℕ WriteError)
+    × WritesText (line_of line) old new failed count
