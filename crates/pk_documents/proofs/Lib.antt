@@ -1,4 +1,5 @@
 pub mod DocumentValues
+pub mod KindsApart
 pub mod LawfulKinds
 pub mod PartsStand
 pub mod RequestParts
