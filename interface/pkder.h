@@ -58,10 +58,10 @@ extern "C" {
 #define PKDER_INTERFACE 1
 
 /* What a document is; the caller says. All of the octets given have to be one: octets behind it are a fault. Octets of
- * a PEM file are none (WrongTag at 0). Of a file of unknown kind ask for each kind: one accepts it at most, since the
- * tags inside the outermost SEQUENCE differ from kind to kind (no contract says it). Where all refuse it, the faults
- * can't be compared by their places: take that of the kind which the file's label or sender names; the next best guess
- * is the one that isn't WrongTag. */
+ * a PEM file are none (WrongTag at 0). Of a file of unknown kind ask for each kind: one accepts it at most, within
+ * whatever limits, since the tags inside the outermost SEQUENCE differ from kind to kind (proved). Where all refuse it,
+ * the faults can't be compared by their places: take that of the kind which the file's label or sender names; the next
+ * best guess is the one that isn't WrongTag. */
 #define PKDER_KEY 1u       /* OneAsymmetricKey, PKCS #8 (RFC 5958): what PEM calls PRIVATE KEY */
 #define PKDER_EC 2u        /* ECPrivateKey (RFC 5915): EC PRIVATE KEY */
 #define PKDER_REQUEST 3u   /* CertificationRequest, PKCS #10 (RFC 2986): CERTIFICATE REQUEST */
