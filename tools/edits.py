@@ -30,8 +30,6 @@ of them, too; where it isn't, its edits are tried with all of them.
 The record, tools/edits_refused.tsv, has for each crate how many edits were refused, and the sum of the program logic
 (not of the kit that it comes in), the crate's files and its table. What the crate stands on isn't in it: a contract
 below that gets too weak to refuse an edit is found by the quarter that comes to the crate, and so is a false record.
-A crate whose row has no sum (-) has no record yet, and nothing is claimed of it: its edits are tried in its turn, and
-those that only a name refuses are told.
 
 LIBRARIES=proved takes the libraries below a crate as `rt ci` left them just before. Without it, and where the toolchain
 doesn't take them so, `rt check` proves them first.
@@ -55,8 +53,6 @@ RECORD = "tools/edits_refused.tsv"
 CONTROL, CONTROL_CRATE = "tools/edits_control.toml", "tlv_core"
 CONTROLLED = {"refused": "refused: ", "proved": "NOT REFUSED", "bad": "BAD EDIT", "named": "refused by a name alone"}
 PARTS = ("src", "specs", "proofs")
-# What stands in the place of a sum where a crate has no record yet.
-UNTRIED = "-"
 NAME = re.compile(r"[A-Za-z0-9_-]+")
 HALF = "--margin"
 # How a proof fails that names what an edit took away, and what such a failure takes with it.
@@ -194,8 +190,6 @@ class Record:
         if name not in self.due:
             return "has a record, and no edits"
         count, of_all = self.rows[name]
-        if of_all == UNTRIED:
-            return None
         if of_all != self.due[name]:
             return "has changed since its edits were tried"
         known = len(self.crates[name].edits())
@@ -204,10 +198,6 @@ class Record:
     def stale(self):
         """The crates whose records are stale, and why."""
         return {it: why for it in {**self.due, **self.rows} if (why := self.why_stale(it))}
-
-    def untried(self):
-        """The crates that have no record yet, and say so."""
-        return [it for it in self.due if self.rows.get(it, (0, ""))[1] == UNTRIED]
 
     def quarter(self):
         """The crates whose turn it is: each fourth one by the number of edits, from where the count of commits says."""
@@ -220,8 +210,6 @@ class Record:
         """Records of a crate how many edits were refused just now, None where not all were."""
         if self.sum_of(crate) != self.due[crate.name]:
             say(f"{crate.name} was changed meanwhile, so nothing is recorded")
-            return
-        if refused is None and crate.name in self.untried():
             return
         self.rows.pop(crate.name, None)
         if refused is not None:
@@ -237,9 +225,7 @@ class Record:
         stale = self.stale()
         for it, why in stale.items():
             say(f"{it} {why}: python3 tools/edits.py --stale tries its edits, and writes {RECORD}")
-        for it in self.untried():
-            say(f"{it} has no record yet: python3 tools/edits.py --stale tries its edits")
-        passed = len(self.due) - len([it for it in stale if it in self.due]) - len(self.untried())
+        passed = len(self.due) - len([it for it in stale if it in self.due])
         say(f"records: {passed} passed, {len(stale) + (not self.due)} failed")
         return 1 if stale or not self.due else 0
 
@@ -541,8 +527,7 @@ def note_all(record, came, chosen, writes):
     """Records what came of crates, {crate: what is said of each edit}, and says which record was false."""
     for crate, ended in came.items():
         is_all_well = all(map(is_well, ended.values()))
-        is_recorded = crate.name in record.rows and crate.name not in record.untried()
-        if not is_all_well and is_recorded and not record.why_stale(crate.name):
+        if not is_all_well and crate.name in record.rows and not record.why_stale(crate.name):
             say(f"FALSE RECORD: {crate.name}: its record says that all of its edits are refused")
         if crate.name in chosen:
             Refused(record, crate).keep(ended)
@@ -567,9 +552,8 @@ def run(record, chosen, jobs, writes, lines=("all",), is_anew=True):
         for came in concurrent.futures.as_completed(running):
             waiting[running[came]], control = came.result()
             is_controlled = is_controlled or control is True
-            is_untried = running[came].name in record.untried()
             for text in waiting[running[came]].values():
-                counts[is_well(text) or is_untried and text.startswith("refused")] += 1
+                counts[is_well(text)] += 1
             # (without the control it isn't known what an answer says)
             if is_controlled:
                 note_all(record, waiting, chosen, writes)
@@ -611,7 +595,6 @@ def main(words):
     if names:
         return run(record, asked(names, record), jobs, writes=not any("/" in it for it in names))
     picked = [] if modes == ["--all"] else [it for it in record.stale() if it in record.due]
-    picked += record.untried() if modes == ["--stale"] else []
     picked = {*record.due} if modes == ["--all"] else {*picked, *(record.quarter() if modes == ["--quarter"] else [])}
     if not picked:
         return record.check()

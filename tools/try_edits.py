@@ -137,11 +137,6 @@ def try_edits(it):
     it.see("and is gone", it.run("--check"), (1, "records: 2 passed, 1 failed"), "middle has no record")
     it.write("crates/middle/edits.toml", table((*EDITS[:1], ("named", "A::new", "        1", "        NAME"))))
     it.see("by a name", it.run("--stale"), (1, "edits: 1 passed, 1 failed"), "middle/named: refused by a name alone")
-    with open(f"{it.top}/tools/edits_refused.tsv", "a", encoding="utf-8") as record:
-        record.write("middle\t0\t-\n")
-    it.see("no record yet", it.run("--check"), (0, "records: 2 passed, 0 failed"), "middle has no record yet")
-    it.see("so it is told", it.run("middle"), (0, "edits: 3 passed, 0 failed"), "middle/named: refused by a name alone")
-    it.see("and not recorded", it.run("--check"), (0, "records: 2 passed, 0 failed"), "middle has no record yet")
     it.write("crates/middle/edits.toml", table((*EDITS[:1], ("lost", "A::new", "        9", "        BUG"))))
     it.see("one of no text", it.run("--stale"), (1, "edits: 1 passed, 1 failed"), "middle/lost: BAD EDIT: an old text")
     it.write("crates/middle/edits.toml", table((*EDITS[:1], ("other", "B::new", "        1", "        BUG"))))
