@@ -195,9 +195,10 @@ def main(words):
     if program and os.path.isfile(program) or words == ["quick"]:
         counts = run_all(quick_parts(program), 4)
     elif {*words} <= {*known}:
-        # (the edits, and the others one behind another)
+        # (the edits, which are patient, and as many others as there are processors)
         asked = {"logic", *words} if words else known
-        counts = run_all({it: commands for it, commands in known.items() if it in asked}, 2)
+        at_once = 1 + len(os.sched_getaffinity(0))
+        counts = run_all({it: commands for it, commands in known.items() if it in asked}, at_once)
     else:
         print(f"{__doc__}\n\nThe parts are {', '.join(known)}.")
         return 0 if words == ["--help"] else 1
