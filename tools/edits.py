@@ -2,10 +2,10 @@
 """edits.py WORD..: bugs planted in the code, which the proofs must refuse, and the record that all were refused.
 
   --check      says in a second, and proves nothing, which crates' records are stale: 'records: N passed, M failed'
-  --quarter    tries the crates whose records are stale, and a quarter of all, which goes round with the commits
-  --stale      tries the crates whose records are stale, and writes the record; an edit that was refused here before is
-               not tried again where neither it nor the crate has changed since
-  --all        tries all crates, and writes the record
+  --quarter    tries the crates whose records are stale, and a quarter of all, which goes round with the commits; of the
+               edits that are kept as refused it tries one of each crate, which goes round, too
+  --stale      tries the crates whose records are stale, but no edit that is kept as refused, and writes the record
+  --all        tries all crates anew, and writes the record
   NAME ..      tries these crates, and writes the record; NAME/EDIT tries one edit, and writes nothing
   --jobs N     how many processors to use (all)
   --beside     for use beside `rt ci`: standard input names crates once they are proved, a line 'all' all of them
@@ -31,6 +31,10 @@ The record, tools/edits_refused.tsv, has for each crate how many edits were refu
 (not of the kit that it comes in), the crate's files and its table. What the crate stands on isn't in it: a contract
 below that gets too weak to refuse an edit is found by the quarter that comes to the crate, and so is a false record.
 
+What was refused is kept for later runs on this machine, in clones too, in pkder/refused_edits of the user's folder for
+caches ($XDG_CACHE_HOME, or ~/.cache): by the sum of the edit, its crate, all crates below, the toolchain and this
+script. Where one of them isn't refused after all, nothing more is believed that was kept of its crate.
+
 LIBRARIES=proved takes the libraries below a crate as `rt ci` left them just before. Without it, and where the toolchain
 doesn't take them so, `rt check` proves them first.
 
@@ -48,6 +52,7 @@ import tomllib
 
 TOOLS = os.path.dirname(os.path.realpath(__file__))
 RECORD = "tools/edits_refused.tsv"
+KEPT = os.path.join(os.environ.get("XDG_CACHE_HOME") or os.path.expanduser("~/.cache"), "pkder/refused_edits")
 # Edits of one crate that show whether this script tells apart what it must: how the name of each begins, and how what
 # is said of it must begin.
 CONTROL, CONTROL_CRATE = "tools/edits_control.toml", "tlv_core"
@@ -168,7 +173,7 @@ class Record:
         logic = re.search(r"\blogic (\w+)", said)
         if not logic:
             sys.exit(f"`rt version` names no logic: {said.strip()}")
-        self.logic, rows = logic[1], []
+        self.logic, self.toolchain, rows = logic[1], said.strip(), []
         if os.path.isfile(RECORD):
             rows = [it.split("\t") for it in text_of(RECORD).splitlines() if not it.startswith("#")]
         self.rows = {name: (int(count), of_all) for name, count, of_all in rows}
@@ -182,6 +187,11 @@ class Record:
             text = text_of(f"{crate.folder}/{file}").encode()
             made.update(b"%s %d\n%s" % (file.encode(), len(text), text))
         return made.hexdigest()
+
+    def sum_of_all(self, crate):
+        """The sum of all that a verdict on edits of a crate stands on: this script, the toolchain, it and all below."""
+        sums = [self.sum_of(it, files=()) for it in [*crate.below, crate]]
+        return hashlib.sha256("\n".join([text_of(__file__), self.toolchain, *sums]).encode()).hexdigest()
 
     def why_stale(self, name):
         """What is wrong with the record of a crate, or None."""
@@ -199,12 +209,18 @@ class Record:
         """The crates whose records are stale, and why."""
         return {it: why for it in {**self.due, **self.rows} if (why := self.why_stale(it))}
 
+    def commits(self):
+        words = ["git", "rev-list", "--count", "HEAD"]
+        return int(subprocess.run(words, stdout=subprocess.PIPE, text=True, check=True).stdout)
+
     def quarter(self):
         """The crates whose turn it is: each fourth one by the number of edits, from where the count of commits says."""
-        words = ["git", "rev-list", "--count", "HEAD"]
-        count = int(subprocess.run(words, stdout=subprocess.PIPE, text=True, check=True).stdout)
         named = sorted(self.due, key=lambda it: (-len(self.crates[it].edits()), it))
-        return named[count % 4 :: 4]
+        return named[self.commits() % 4 :: 4]
+
+    def of_turn(self, edits):
+        """The edit whose turn it is: the next one whenever the quarter comes to its crate again."""
+        return edits[self.commits() // 4 % len(edits)]
 
     def note(self, crate, refused):
         """Records of a crate how many edits were refused just now, None where not all were."""
@@ -467,21 +483,37 @@ def is_well(text):
 
 
 class Refused:
-    """The edits of a crate that were refused here before, in its out/, by the sum of the crate and of the edit."""
+    """What is kept of a crate's edits: the sums of those that were refused on this machine before."""
 
     def __init__(self, record, crate):
-        self.of_crate, self.file = record.sum_of(crate, files=()), f"{crate.folder}/out/refused_edits"
+        self.record, self.crate, self.of_all = record, crate, record.sum_of_all(crate)
+        self.file = f"{KEPT}/{crate.name}-{self.of_all}"
         self.known = {*text_of(self.file).split()} if os.path.isfile(self.file) else set()
 
     def sum_of(self, edit):
-        return hashlib.sha256(f"{self.of_crate} {edit.name} {edit.changes}".encode()).hexdigest()
+        return hashlib.sha256(f"{self.of_all} {edit.name} {edit.changes}".encode()).hexdigest()
+
+    def left(self, edits, again=()):
+        """Those of these edits that are to be tried: all that aren't kept, and these once more."""
+        kept = [it for it in edits if self.sum_of(it) in self.known]
+        more = "".join(f", and {it.name} is tried again" for it in again if it in kept)
+        say(f"{self.crate.name}: {len(kept)} of its {len(edits)} edits were refused here before{more}")
+        return [it for it in edits if it not in kept or it in again]
 
     def keep(self, ended):
         """Keeps which edits were refused just now, by what was said of each."""
-        self.known |= {self.sum_of(it) for it, text in ended.items() if is_well(text)}
-        os.makedirs(os.path.dirname(self.file), exist_ok=True)
-        with open(self.file, "w", encoding="utf-8") as it:
-            it.writelines(f"{one}\n" for one in sorted(self.known))
+        refused = {self.sum_of(it) for it, text in ended.items() if is_well(text)}
+        # (what tells one of them falsely may tell others so)
+        is_false = any(self.sum_of(it) in self.known for it, text in ended.items() if not is_well(text))
+        if self.record.sum_of_all(self.crate) != self.of_all:
+            return
+        try:
+            os.makedirs(KEPT, exist_ok=True)
+            with open(f"{self.file}.{os.getpid()}", "w", encoding="utf-8") as it:
+                it.writelines(f"{one}\n" for one in sorted(refused if is_false else self.known | refused))
+            os.replace(f"{self.file}.{os.getpid()}", self.file)
+        except OSError as error:
+            say(f"{self.crate.name}: what was refused isn't kept: {error}")
 
 
 def controlled(trial):
@@ -523,26 +555,27 @@ def in_turn(crates, lines):
         say(f"{it.name}: a crate below isn't proved, so none of its edits is tried")
 
 
-def note_all(record, came, chosen, writes):
-    """Records what came of crates, {crate: what is said of each edit}, and says which record was false."""
+def note_all(record, came, kept, sizes):
+    """Keeps and records what came of crates, {crate: what is said of each edit}, and says which record was false. The
+    sizes are how many edits those crates have that are recorded."""
     for crate, ended in came.items():
         is_all_well = all(map(is_well, ended.values()))
         if not is_all_well and crate.name in record.rows and not record.why_stale(crate.name):
             say(f"FALSE RECORD: {crate.name}: its record says that all of its edits are refused")
-        if crate.name in chosen:
-            Refused(record, crate).keep(ended)
-        if writes and crate.name in chosen:
-            record.note(crate, len(chosen[crate.name]) if is_all_well else None)
+        if crate.name in kept:
+            kept[crate.name].keep(ended)
+        if crate.name in sizes:
+            record.note(crate, sizes[crate.name] if is_all_well else None)
 
 
-def run(record, chosen, jobs, writes, lines=("all",), is_anew=True):
-    """Tries edits, {crate: edits}, and says and records how it went."""
+def run(record, chosen, jobs, mode, lines=("all",)):
+    """Tries edits, {crate: edits}, and says, keeps and records how it went."""
     crates, share = crates_here(), Share(jobs)
+    kept = {it: Refused(record, crates[it]) for it in chosen}
+    sizes = {} if mode in ("--quarter", "EDIT") else {it: len(edits) for it, edits in chosen.items()}
     wanted = {crates[it]: edits for it, edits in chosen.items()}
-    for it, edits in {} if is_anew else wanted.items():
-        seen = Refused(record, it)
-        wanted[it] = [one for one in edits if seen.sum_of(one) not in seen.known]
-        say(f"{it.name}: {len(edits) - len(wanted[it])} of its {len(edits)} edits were refused here before")
+    for it, edits in wanted.items() if mode in ("--quarter", "--stale") else ():
+        wanted[it] = kept[it.name].left(edits, [record.of_turn(edits)] if mode == "--quarter" and edits else [])
     wanted.setdefault(crates[CONTROL_CRATE], [])
     share.left, running, waiting, counts = len(wanted), {}, {}, {True: 0, False: 0}
     with tempfile.TemporaryDirectory(prefix="edits-") as room, concurrent.futures.ThreadPoolExecutor(jobs) as lanes:
@@ -556,7 +589,7 @@ def run(record, chosen, jobs, writes, lines=("all",), is_anew=True):
                 counts[is_well(text)] += 1
             # (without the control it isn't known what an answer says)
             if is_controlled:
-                note_all(record, waiting, chosen, writes)
+                note_all(record, waiting, kept, sizes)
                 waiting = {}
     if not is_controlled:
         say("the control failed, so nothing that is said here counts")
@@ -593,14 +626,14 @@ def main(words):
     if modes == ["--check"]:
         return record.check()
     if names:
-        return run(record, asked(names, record), jobs, writes=not any("/" in it for it in names))
+        return run(record, asked(names, record), jobs, "EDIT" if any("/" in it for it in names) else "NAME")
     picked = [] if modes == ["--all"] else [it for it in record.stale() if it in record.due]
     picked = {*record.due} if modes == ["--all"] else {*picked, *(record.quarter() if modes == ["--quarter"] else [])}
     if not picked:
         return record.check()
     edits = {it: record.crates[it].edits() for it in picked}
     lines = sys.stdin if is_beside else ("all",)
-    return run(record, edits, jobs, writes=modes != ["--quarter"], lines=lines, is_anew=modes != ["--stale"])
+    return run(record, edits, jobs, modes[0], lines)
 
 
 if __name__ == "__main__":

@@ -52,6 +52,10 @@ class Repository:
 
     def __init__(self, folder):
         self.folder, self.top, self.wrong, self.count, self.said, self.log = folder, f"{folder}/top", [], 0, "", ""
+        self.kept = f"{folder}/caches/pkder/refused_edits"
+        path = f"{folder}:{os.environ['PATH']}"
+        ours = {"PATH": path, "XDG_CACHE_HOME": f"{folder}/caches", "PYTHONDONTWRITEBYTECODE": "1"}
+        self.env = {**os.environ, **ours}
         os.makedirs(f"{folder}/kit/bin")
         for name in ("rt", "kit/bin/rattle"):
             shutil.copy(f"{TOOLS}/stand_in_rt.py", f"{folder}/{name}")
@@ -66,10 +70,12 @@ class Repository:
         self.commit()
 
     def git(self, *words):
-        subprocess.run(["git", "-c", "user.name=a", "-c", "user.email=a@b", *words], cwd=self.top, check=True)
+        words = ["git", "-c", "user.name=a", "-c", "user.email=a@b", *words]
+        return subprocess.run(words, cwd=self.top, check=True, stdout=subprocess.PIPE, text=True).stdout
 
-    def commit(self):
-        self.git("commit", "-q", "--allow-empty", "-m", "a")
+    def commit(self, count=1):
+        for _ in range(count):
+            self.git("commit", "-q", "--allow-empty", "-m", "a")
 
     def write(self, path, text):
         os.makedirs(os.path.dirname(f"{self.top}/{path}"), exist_ok=True)
@@ -88,14 +94,17 @@ class Repository:
         with open(log, "w", encoding="utf-8"):
             pass
         stand_in = {"STAND_IN_LOG": log, "STAND_IN_PAGE": f"{self.folder}/kit/page.md"}
-        path = f"{self.folder}:{os.environ['PATH']}"
-        env = {**os.environ, "PATH": path, "PYTHONDONTWRITEBYTECODE": "1", **stand_in, **around}
-        words = [sys.executable, "tools/edits.py", *words]
+        words, env = [sys.executable, "tools/edits.py", *words], {**self.env, **stand_in, **around}
         ran = subprocess.run(words, cwd=self.top, env=env, input=given, capture_output=True, text=True, check=False)
         with open(log, encoding="utf-8") as it:
             self.log = it.read()
         self.said = ran.stdout + ran.stderr
         return ran.returncode, self.said.strip().split("\n")[-1]
+
+    def forge(self, text):
+        """Does this with the script as `e` and its record as `r`."""
+        text = f"import sys; sys.path.insert(0, 'tools'); import edits as e; r = e.Record(e.crates_here()); {text}"
+        subprocess.run([sys.executable, "-c", text], cwd=self.top, env=self.env, check=True)
 
     def see(self, what, came, due, *parts):
         """Holds status, last line, and what else is said to what they must be."""
@@ -119,7 +128,9 @@ def try_records(it):
     it.see("its crate alone", it.run("--stale"), (0, "edits: 3 passed, 0 failed"), "(?!.*edit middle)edit tlv_core")
     it.write("crates/middle/edits.toml", table(EDITS[:1]))
     it.see("a table", it.run("--check"), (1, "records: 2 passed, 1 failed"), "middle has changed")
-    it.see("an edit that was refused", it.run("--stale"), (0, "edits: 1 passed, 0 failed"), "1 of its 1 edits were")
+    it.see("a crate below", it.run("--stale"), (0, "edits: 2 passed, 0 failed"), "middle: 0 of its 1 edits were")
+    it.write("crates/middle/edits.toml", table(EDITS))
+    it.see("an edit that was refused", it.run("--stale"), (0, "edits: 2 passed, 0 failed"), "1 of its 2 edits were")
 
 
 def try_edits(it):
@@ -128,10 +139,7 @@ def try_edits(it):
     it.write("crates/middle/edits.toml", table((*EDITS[:1], proved)))
     it.see("one that proves", it.run("--stale"), (1, "edits: 1 passed, 1 failed"), "middle/none: NOT REFUSED")
     it.see("isn't recorded", it.run("--check"), (1, "records: 2 passed, 1 failed"), "middle has no record")
-    forge = "import sys; sys.path.insert(0, 'tools'); import edits as e; r = e.Record(e.crates_here());"
-    forge += "r.note(r.crates['middle'], 2)"
-    env = {**os.environ, "PATH": f"{it.folder}:{os.environ['PATH']}", "PYTHONDONTWRITEBYTECODE": "1"}
-    subprocess.run([sys.executable, "-c", forge], cwd=it.top, env=env, check=True)
+    it.forge("r.note(r.crates['middle'], 2)")
     it.see("a false record isn't seen", it.run("--check"), (0, "records: 3 passed, 0 failed"))
     it.see("it is, once tried", it.run("--all"), (1, "edits: 6 passed, 1 failed"), "FALSE RECORD: middle")
     it.see("and is gone", it.run("--check"), (1, "records: 2 passed, 1 failed"), "middle has no record")
@@ -151,8 +159,37 @@ def try_edits(it):
     it.see("once more", it.run("--stale"), (0, "edits: 3 passed, 0 failed"))
 
 
+def try_kept(it):
+    """What a quarter takes as refused, and what a forgery of it comes to."""
+    it.write("crates/middle/edits.toml", table(EDITS))
+    it.see("the record", it.run("--stale")[0], 0)
+    while int(it.git("rev-list", "--count", "HEAD")) % 8:
+        it.commit()
+    shutil.rmtree(it.kept)
+    came = it.run("--quarter", LIBRARIES="proved")
+    it.see("nothing is kept", came, (0, "edits: 3 passed, 0 failed"), "middle: 0 of its 2", "middle/one", "middle/two")
+    for again in ("one", "two"):
+        said = f"middle: 2 of its 2 .*, and {again} is tried again", f"edit middle/{again}: refused"
+        it.see("all is kept", it.run("--quarter"), (0, "edits: 2 passed, 0 failed"), *said)
+        it.commit(4)
+    it.see("another kit", it.run("--quarter", STAND_IN_KIT="two"), (0, "edits: 3 passed, 0 failed"), "0 of its 2")
+    it.see("all are tried anew", it.run("--all"), (0, "edits: 7 passed, 0 failed"))
+    it.change("crates/tlv_core/src/lib.rt", "5 - 1", "6 - 2")
+    it.see("a crate below", it.run("--quarter"), (0, "edits: 5 passed, 0 failed"), "middle: 0 of its 2")
+    it.write("crates/middle/edits.toml", table((*EDITS[:1], ("none", "A::new", "        1", "        1 "))))
+    it.forge("c = r.crates['middle']; r.note(c, 2); e.Refused(r, c).keep({it: 'refused: ' for it in c.edits()})")
+    it.see("forged", it.run("--quarter"), (0, "edits: 3 passed, 0 failed"), "middle: 2 of its 2 .*, and one is")
+    it.commit(4)
+    came = it.run("--quarter")
+    it.see("its turn", came, (1, "edits: 2 passed, 1 failed"), "middle/none: NOT REFUSED", "FALSE RECORD: middle")
+    it.see("all is forgotten", it.run("--quarter"), (1, "edits: 3 passed, 1 failed"), "middle: 0 of its 2")
+    it.write("crates/middle/edits.toml", table(EDITS))
+    it.see("mended once more", it.run("--stale")[0], 0)
+
+
 def try_quarters(it):
     """Four commits come to each crate once, over libraries that were left or that `rt` proves."""
+    shutil.rmtree(it.kept)
     seen = []
     for _ in range(4):
         it.see("a quarter", it.run("--quarter", LIBRARIES="proved")[0], 0)
@@ -173,7 +210,7 @@ def try_quarters(it):
 def main():
     with tempfile.TemporaryDirectory() as folder:
         it = Repository(folder)
-        for trial in (try_records, try_edits, try_quarters):
+        for trial in (try_records, try_edits, try_kept, try_quarters):
             trial(it)
         print(f"try_edits: {it.count - len(it.wrong)} passed, {len(it.wrong)} failed")
         return 1 if it.wrong else 0
