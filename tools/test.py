@@ -74,7 +74,8 @@ def parts(program=build.PROGRAM):
     return {
         "logic": lambda: [["python3", "tools/logic.py"]],
         "records": lambda: [["python3", "tools/edits.py", "--check"], ["python3", "tools/try_edits.py"],
-                            ["python3", "tools/what_to_read.py", "--check"]],
+                            ["python3", "tools/what_to_read.py", "--check"],
+                            ["python3", "tools/shape_names.py"], ["python3", "tools/identifier_names.py"]],
         "lint": lambda: [["python3", "tools/lint.py"]],
         "proofs": lambda: [PROOFS],
         "edits": lambda: [EDITS],

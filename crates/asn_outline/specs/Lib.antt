@@ -1,0 +1,3 @@
+pub mod Announced
+pub mod Outlines
+pub mod Steps

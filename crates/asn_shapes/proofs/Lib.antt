@@ -1,0 +1,4 @@
+pub mod Blaming
+pub mod Following
+pub mod OneWay
+pub mod Places

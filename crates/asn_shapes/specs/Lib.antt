@@ -1,0 +1,9 @@
+pub mod Blames
+pub mod DueLaws
+pub mod Dues
+pub mod Identifiers
+pub mod PlaceLaws
+pub mod Secrets
+pub mod Terms
+pub mod WayLaws
+pub mod Ways
