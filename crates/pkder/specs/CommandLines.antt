@@ -124,6 +124,9 @@ Names bad option value wanted = (bad.option.now ≡ option) × (bad.value.now �
 abbrev pub IsNoNumber : Text → ℕ → Type 0
 IsNoNumber text most = (n : ℕ) → IsNumber text n → 1 ≤ n → n ≤ most → ⊥
 
+abbrev pub IsDepth : Text → Type 0
+IsDepth text = (n : ℕ) × IsNumber text n × (1 ≤ n) × (n ≤ 64)
+
 abbrev pub BadDepth : List Row → BadValue → Type 0
 BadDepth rows bad =
     Names bad (codes "--depth <N>") (value_of (codes "depth") rows) (codes "a number from 1 to 64")
@@ -134,8 +137,9 @@ BadOctets rows bad =
     Names bad (codes "--octets <N>") (value_of (codes "octets") rows) (codes "a number from 1 to 2147483647")
     × IsNoNumber (value_of (codes "octets") rows) 2147483647
 
+-- Of two bad limits the depth is told.
 abbrev pub BadLimit : List Row → BadValue → Type 0
-BadLimit rows bad = BadDepth rows bad ⊎ BadOctets rows bad
+BadLimit rows bad = BadDepth rows bad ⊎ (IsDepth (value_of (codes "depth") rows) × BadOctets rows bad)
 
 abbrev pub BadKind : List Row → BadValue → Type 0
 BadKind rows bad =
@@ -153,12 +157,16 @@ BadCommand name bad =
     Names bad (codes "COMMAND") name (codes "show, check, normalise or signed")
     × ((action : Action) → name ≡ command_name action → ⊥)
 
--- Why the command of this name has no task with these values of its options. Only `signed` has a part, and no kind.
+-- What the command of this name doesn't have. Only `signed` has a part, and no kind.
+abbrev pub BadChoice : Text → List Row → BadValue → Type 0
+BadChoice name rows bad =
+    ((name ≡ codes "signed") × BadPart rows bad)
+    ⊎ ((name ≡ codes "signed" → ⊥) × (BadKind rows bad ⊎ BadCommand name bad))
+
+-- Why the command of this name has no task with these values of its options: a limit that is bad is told before others.
 abbrev pub BadTask : Text → List Row → BadValue → Type 0
 BadTask name rows bad =
-    BadLimit rows bad
-    ⊎ (((name ≡ codes "signed") × BadPart rows bad)
-    ⊎ ((name ≡ codes "signed" → ⊥) × (BadKind rows bad ⊎ BadCommand name bad)))
+    BadLimit rows bad ⊎ (((limits : Limits) × ReadsLimits rows limits) × BadChoice name rows bad)
 
 abbrev pub bad_value_line : BadValue → Text
 bad_value_line bad =
