@@ -68,6 +68,7 @@ rm -f "$out/libpkder.a"
 ar rcD "$out/libpkder.a" pkder.o
 cc -shared -s -o "$out/libpkder.so.0" pkder.o -Wl,-soname,libpkder.so.0 -Wl,--version-script,"$here/pkder.map" \
     -Wl,-z,relro,-z,now,-z,noexecstack -Wl,--no-undefined
-ln -sf libpkder.so.0 "$out/libpkder.so"
+# (a hard link: `rt ci` takes no tree with symbolic ones in it)
+ln -f "$out/libpkder.so.0" "$out/libpkder.so"
 # (for use from here; tools/install.sh writes the one that is installed)
 sed -e "s|@PREFIX@|$here|" -e "s|@LIBDIR@|$out|" -e "s|@INCLUDEDIR@|$here|" "$here/pkder.pc.in" > "$out/pkder.pc"
