@@ -1,0 +1,4 @@
+pub mod Levels
+pub mod Naming
+pub mod Resolving
+pub mod Walks

@@ -1,0 +1,230 @@
+-- The walk over the headers of a document, one event after another.
+use Rattle.std.specs.Prelude.{Bool, List, None, Option, Some, [], cond, drop, false, length, reverse, slice_get, slice_set, true, ℕ, ◌+◌, ◌++◌, ◌∷◌}
+use Rattle.std.specs.Borrow.{Bor}
+use Rattle.tlv_core.specs.Identifier.{Tag}
+use Rattle.asn_outline.specs.declared.announced.Announced.{Announced}
+use Rattle.asn_outline.specs.declared.event.Event.{Event}
+use Rattle.asn_outline.specs.declared.event.Event.TheVariants as events
+use Rattle.asn_outline.specs.declared.event.Header.{Header}
+use Rattle.asn_outline.specs.declared.event.Stop.{Stop}
+use Rattle.asn_shapes.specs.declared.shape.Shape.{Choice', Containing', DefinedBy', Leaf, ListOf', Named', Open, Private', Refused, Sequence', SetOf', Shape}
+use Rattle.asn_names.specs.Levels.{level_of, may_close, outermost, place_in}
+use Rattle.asn_names.specs.Resolving.{leaf_at, resolved}
+use Rattle.asn_names.specs.declared.element.Element.{Element}
+use Rattle.asn_names.specs.declared.element.Level.{Level}
+use Rattle.asn_names.specs.declared.element.Parting.{Parting}
+use Rattle.asn_names.specs.declared.element.Parting.TheVariants as partings
+use Rattle.asn_names.specs.declared.element.Step.{Step}
+use Rattle.asn_names.specs.declared.element.Step.TheVariants as steps
+use Rattle.asn_names.specs.declared.level.Place.{Place}
+use Rattle.asn_names.specs.declared.resolved.Resolved.{Resolved}
+use Rattle.asn_names.specs.declared.walk.Beginning.{Beginning}
+use Rattle.asn_names.specs.declared.walk.Taken.{Taken}
+use Rattle.asn_names.specs.declared.walk.Typed.{Typed}
+use Rattle.asn_names.specs.declared.walk.Walk.{Walk}
+
+-- Between two events: the elements until now, and the open containers by their numbers, the innermost first, with what
+-- is due in each.
+pub record State : Type 0 where
+  pub elements : List Element
+  pub containers : List (ℕ × Level)
+
+-- what a walk says
+abbrev pub state_of : Walk → State
+state_of walk = record { elements = walk.elements.items; containers = reverse walk.containers.items }
+
+-- The place of an element of the tag: what the innermost open container has for it, or it is the outermost element.
+-- Where it has no place, it is told what is due.
+abbrev pub taken : List (ℕ × Level) → Bor Shape → Tag → Taken
+taken [] root tag = record { around = 0; place = outermost root tag; due = partings.Outermost }
+taken (container ∷ outer) root tag = record {
+  around = container.0;
+  place = place_in container.1 tag;
+  due = partings.Unplaced container.0 container.1;
+}
+
+abbrev pub private_of : Option Element → Bool
+private_of None = false
+private_of (Some element) = element.private
+
+-- whether the element of this number is private
+abbrev pub is_private : List Element → ℕ → Bool
+is_private elements number = private_of (slice_get elements number)
+
+abbrev pub typed_by : Resolved → Typed
+typed_by resolved =
+    record { type_name = resolved.type_name; shape = Some resolved.shape; private = resolved.private }
+
+-- The type of an element in the container of this number, as its place has it: it is private too where the container
+-- is. A segment has none.
+abbrev pub typed_as : List ℕ → List Element → ℕ → Header → Option (Bor Shape) → Typed
+typed_as document elements around header None =
+    record { type_name = None; shape = None; private = is_private elements around }
+typed_as document elements around header (Some shape) =
+    typed_by (resolved (λ path. leaf_at document header.depth path (drop (around + 1) elements)) header.tag None
+    (is_private elements around) shape.ref_ptr shape.now)
+
+-- whether it is the type of what may not stand
+abbrev pub is_refused_type : Shape → Bool
+is_refused_type (Refused own) = true
+is_refused_type (Leaf own contents) = false
+is_refused_type Open = false
+is_refused_type (ListOf' own least p shape) = false
+is_refused_type (SetOf' own least p shape) = false
+is_refused_type (Sequence' own p fields) = false
+is_refused_type (Containing' own p shape) = false
+is_refused_type (DefinedBy' path identifiers p first q second) = false
+is_refused_type (Choice' p first q second) = false
+is_refused_type (Named' name p shape) = false
+is_refused_type (Private' p shape) = false
+
+abbrev pub is_refused : Option (Bor Shape) → Bool
+is_refused None = false
+is_refused (Some shape) = is_refused_type shape.now
+
+-- an element at its place
+abbrev pub listed : ℕ → Step → Typed → Beginning → Element
+listed around step typed beginning = record {
+  header = beginning.header;
+  begin = beginning.begin;
+  end = beginning.end;
+  around = around;
+  step = step;
+  type_name = typed.type_name;
+  shape = typed.shape;
+  private = typed.private;
+}
+
+-- an element that has no place, which is private
+abbrev pub unplaced : ℕ → Beginning → Element
+unplaced around beginning =
+    listed around steps.Outside (record { type_name = None; shape = None; private = true }) beginning
+
+-- the container around an element, with what is due behind the element
+abbrev pub with_behind : ℕ → Option Level → List (ℕ × Level) → List (ℕ × Level)
+with_behind around None outer = outer
+with_behind around (Some level) outer = (around, level) ∷ outer
+
+-- the element of this number among the open ones, if it is open from here on
+abbrev pub with_opened : Bool → ℕ → Level → List (ℕ × Level) → List (ℕ × Level)
+with_opened opens number level outer = cond opens ((number, level) ∷ outer) outer
+
+-- an element more
+abbrev pub with_element : Element → State → State
+with_element element state = record { elements = state.elements ++ (element ∷ []); containers = state.containers }
+
+-- an element without a place ends the walk
+abbrev pub begins_outside : Beginning → Taken → State → State × Option Parting
+begins_outside beginning taken state = (with_element (unplaced taken.around beginning) state, Some taken.due)
+
+-- which containers are open behind the header of an element of this type at its place
+abbrev pub open_behind : Beginning → ℕ → Place → Typed → State → State
+open_behind beginning around place typed state = record {
+  elements = state.elements;
+  containers = with_opened beginning.opens (length state.elements) (level_of beginning.header.tag typed.shape)
+      (with_behind around place.behind state.containers);
+}
+
+-- an element of this type at its place
+abbrev pub begins_as : Beginning → ℕ → Place → Typed → State → State
+begins_as beginning around place typed state =
+    with_element (listed around place.step typed beginning) (open_behind beginning around place typed state)
+
+abbrev pub begins_typed : Beginning → Taken → Place → Typed → State → State × Option Parting
+begins_typed beginning taken place typed state =
+    cond (is_refused typed.shape) (begins_outside beginning taken state)
+    (begins_as beginning taken.around place typed state, None)
+
+-- an element at its place, unless its type may not stand there
+abbrev pub begins_at : List ℕ → Beginning → Taken → Place → State → State × Option Parting
+begins_at document beginning taken place state =
+    begins_typed beginning taken place
+    (typed_as document state.elements taken.around beginning.header place.shape) state
+
+abbrev pub begins : List ℕ → Beginning → Taken → Option Place → State → State × Option Parting
+begins document beginning taken None state = begins_outside beginning taken state
+begins document beginning taken (Some place) state = begins_at document beginning taken place state
+
+-- the containers around the innermost open one
+abbrev pub without_innermost : State → State
+without_innermost state = record { elements = state.elements; containers = drop 1 state.containers }
+
+abbrev pub begins_taken : List ℕ → Beginning → Taken → State → State × Option Parting
+begins_taken document beginning taken state = begins document beginning taken taken.place state
+
+-- An element begins.
+abbrev pub began : List ℕ → Bor Shape → Beginning → State → State × Option Parting
+began document root beginning state =
+    begins_taken document beginning (taken state.containers root beginning.header.tag) (without_innermost state)
+
+-- an element among others ends there
+abbrev pub with_end : ℕ → ℕ → List Element → Option Element → List Element
+with_end number at elements None = elements
+with_end number at elements (Some element) = slice_set elements number (record element { end = Some at })
+
+-- the element of this number ends there
+abbrev pub ended_at : ℕ → ℕ → List Element → List Element
+ended_at number at elements = with_end number at elements (slice_get elements number)
+
+-- where something is still due in a container that ends
+abbrev pub missing_in : ℕ → Level → Option Parting
+missing_in number level = cond (may_close level) None (Some (partings.Missing number level))
+
+-- The innermost open container ends.
+abbrev pub ended_in : ℕ → List Element → List (ℕ × Level) → State × Option Parting
+ended_in at elements [] = (record { elements = elements; containers = [] }, None)
+ended_in at elements (container ∷ outer) = (
+  record { elements = ended_at container.0 at elements; containers = outer },
+  missing_in container.0 container.1,
+)
+
+abbrev pub ended : ℕ → State → State × Option Parting
+ended at state = ended_in at state.elements state.containers
+
+-- an element that stands whole, or a container that begins
+abbrev pub primitive : Header → ℕ → ℕ → Beginning
+primitive header begin end = record { header = header; begin = Some begin; end = Some end; opens = false }
+
+abbrev pub container : Header → ℕ → Beginning
+container header begin = record { header = header; begin = Some begin; end = None; opens = true }
+
+-- One event happens.
+abbrev pub happened : List ℕ → Bor Shape → Event → State → State × Option Parting
+happened document root (events.Primitive header begin end) state =
+    began document root (primitive header begin end) state
+happened document root (events.Begin header begin) state = began document root (container header begin) state
+happened document root (events.End at) state = ended at state
+
+-- where the contents begin, by the length octets
+abbrev pub contents_begin : Option Announced → Option ℕ
+contents_begin None = None
+contents_begin (Some announced) = Some announced.contents
+
+-- the element that reading stops in
+abbrev pub stopped_in : Header → Beginning
+stopped_in header =
+    record { header = header; begin = contents_begin header.announced; end = None; opens = false }
+
+-- the innermost one
+abbrev pub innermost : List (ℕ × Level) → Option (ℕ × Level)
+innermost [] = None
+innermost (container ∷ outer) = Some container
+
+-- a parting, if there is none yet
+abbrev pub or_else : Parting → State × Option Parting → State × Parting
+or_else parting told = elim told.1 [ None ↦ (told.0, parting) | Some earlier ↦ (told.0, earlier) ]
+
+-- All events have happened: reading stops in an element, at an identifier, or the outermost element is whole.
+abbrev pub stopped_by : List ℕ → Bor Shape → Option Header → State → State × Parting
+stopped_by document root None state = (state, partings.Stopped (innermost state.containers))
+stopped_by document root (Some header) state =
+    let told = began document root (stopped_in header) state in
+    or_else (partings.Stopped (innermost told.0.containers)) told
+
+abbrev pub whole_or_open : List (ℕ × Level) → Parting
+whole_or_open [] = partings.Nowhere
+whole_or_open (container ∷ outer) = partings.Stopped (Some container)
+
+abbrev pub stopped : List ℕ → Bor Shape → Option Stop → State → State × Parting
+stopped document root None state = (state, whole_or_open state.containers)
+stopped document root (Some stop) state = stopped_by document root stop.element state

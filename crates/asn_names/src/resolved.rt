@@ -1,0 +1,120 @@
+//! The type of an element, no longer named, chosen or marked.
+ghost use Rattle.std.specs.Prelude.{◌≡◌, map};
+ghost use Rattle.x690.specs.Lists.{one_of};
+ghost use Rattle.asn_names.specs.Resolving.{contents, from_member, leaf_at, resolved};
+
+use crate::element::Element;
+use asn_shapes::shape::Shape;
+use tlv_core::tag::Tag;
+
+/// What a type comes to.
+#[derive(Clone, Copy)]
+pub(crate) struct Resolved {
+    /// Its innermost name.
+    pub type_name: Option<&'static str>,
+    /// Whether it is marked as private.
+    pub private: bool,
+    pub shape: &'static Shape,
+}
+
+/// What the type comes to for an element of this tag, with so many containers open around it, behind these earlier
+/// elements of the innermost one. The name and the mark are those around the type.
+pub(crate) fn resolve(
+    document: &[u8],
+    tag: Tag,
+    depth: u64,
+    earlier: &[Element],
+    named: Option<&'static str>,
+    private: bool,
+    shape: &'static Shape,
+) -> Resolved
+    ensures { result ≡ resolved (λ path. leaf_at document.now depth path earlier.now) tag named.entry private
+        shape.entry.ref_ptr shape.entry.now }
+{
+    match shape {
+        Shape::Named(name, inner) => {
+            resolve(document, tag, depth, earlier, Some(name), private, inner)
+        }
+        Shape::Private(inner) => resolve(document, tag, depth, earlier, named, true, inner),
+        Shape::Choice(first, second) => {
+            if first.fits(tag) {
+                resolve(document, tag, depth, earlier, named, private, first)
+            } else {
+                resolve(document, tag, depth, earlier, named, private, second)
+            }
+        }
+        Shape::DefinedBy(path, identifiers, first, second) => {
+            let leaf = leaf_at(document, depth, path, earlier);
+            if is_one_of(leaf, identifiers) {
+                resolve(document, tag, depth, earlier, named, private, first)
+            } else {
+                resolve(document, tag, depth, earlier, named, private, second)
+            }
+        }
+        _ => Resolved {
+            type_name: named,
+            private,
+            shape,
+        },
+    }
+}
+
+/// Whether the octets are one of these.
+fn is_one_of(octets: &[u8], others: &[&[u8]]) -> bool
+    ensures { result ≡ one_of octets.now (map (λ r. r.now) others.now) }
+{
+    match others {
+        [] => false,
+        [other, behind @ ..] => octets == *other || is_one_of(octets, behind),
+    }
+}
+
+/// The contents of the leaf at a path among elements of this depth; none where it isn't there.
+fn leaf_at<'a>(document: &'a [u8], depth: u64, path: &[u32], elements: &[Element]) -> &'a [u8]
+    ensures { result.now ≡ leaf_at document.now depth path.now elements.now }
+{
+    let [number, behind @ ..] = path else {
+        return &document[..0];
+    };
+    let [found, inside @ ..] = from_member(depth, *number, elements) else {
+        return &document[..0];
+    };
+    if behind.is_empty() {
+        return contents(document, found);
+    }
+    leaf_at(document, depth.saturating_add(1), behind, inside)
+}
+
+/// The elements from that of this number on, counted among those of the depth, up to a lesser depth.
+fn from_member(depth: u64, number: u32, elements: &[Element]) -> &[Element]
+    ensures { result.now ≡ from_member depth number elements.now }
+{
+    let mut left = number;
+    let mut rest = elements;
+    while let [element, behind @ ..] = rest {
+        if element.header.depth < depth {
+            return &rest[..0];
+        }
+        if element.header.depth == depth {
+            if left == 0 {
+                return rest;
+            }
+            left -= 1;
+        }
+        rest = behind;
+    }
+    rest
+}
+
+/// The contents octets of a primitive element that stands whole.
+fn contents<'a>(document: &'a [u8], element: &Element) -> &'a [u8]
+    ensures { result.now ≡ contents document.now element.now }
+{
+    let (Some(begin), Some(end)) = (element.begin, element.end) else {
+        return &document[..0];
+    };
+    if element.header.constructed || begin > end || end > document.len() as u64 {
+        return &document[..0];
+    }
+    &document[begin as usize..end as usize]
+}

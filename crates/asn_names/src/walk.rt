@@ -1,0 +1,311 @@
+//! One step of the walk after another: an element begins, or a container ends.
+ghost use Rattle.std.specs.Prelude.{[], ◌≡◌, ◌+◌, ◌++◌, ◌∷◌, IfOk, OnOk, drop, reverse};
+ghost use Rattle.asn_names.specs.Walks.{began, begins_as, begins_at, begins_outside, ended, ended_at, is_private, is_refused, listed, state_of, taken, typed_as, unplaced, with_behind, with_opened};
+
+use crate::element::{Element, Level, Parting, Step};
+use crate::level::{Place, level_of, may_close, outermost, place_in};
+use crate::resolved::resolve;
+use asn_outline::event::Header;
+use asn_shapes::shape::Shape;
+use std::alloc::AllocError;
+use std::slice::from_ref;
+use tlv_core::tag::Tag;
+
+/// What is known between two steps.
+#[derive(Drop)]
+pub(crate) struct Walk {
+    /// The elements until now.
+    pub elements: Vec<Element>,
+    /// The open containers by their numbers, the innermost last, and what is due in each.
+    pub containers: Vec<(u64, Level)>,
+}
+
+/// An element that begins: its header, and where its contents begin and end, as far as that is known.
+#[derive(Clone, Copy)]
+pub(crate) struct Beginning {
+    pub header: Header,
+    pub begin: Option<u64>,
+    pub end: Option<u64>,
+    /// Whether it is open from here on.
+    pub opens: bool,
+}
+
+/// What stands at a place: the number of the container around it, the place if it has one, and what else is due.
+#[derive(Clone, Copy)]
+pub(crate) struct Taken {
+    pub around: u64,
+    pub place: Option<Place>,
+    pub due: Parting,
+}
+
+/// The type of an element, as its place has it.
+#[derive(Clone, Copy)]
+pub(crate) struct Typed {
+    pub type_name: Option<&'static str>,
+    pub shape: Option<&'static Shape>,
+    pub private: bool,
+}
+
+/// An element begins. Where it has no place it is the last one, and the answer is what is due there.
+pub(crate) fn begin_element(
+    walk: &mut Walk,
+    document: &[u8],
+    root: &'static Shape,
+    beginning: &Beginning,
+) -> Result<Option<Parting>, AllocError>
+    ensures { IfOk result (λ parting. (state_of walk.new, parting)
+        ≡ began document.now root.entry beginning.now (state_of walk.old)) }
+{
+    let taken = take_place(&mut walk.containers, root, beginning.header.tag);
+    match &taken.place {
+        Some(place) => begin_at(walk, document, beginning, &taken, place),
+        None => begin_outside(walk, beginning, &taken),
+    }
+}
+
+/// An element begins that has no place.
+fn begin_outside(
+    walk: &mut Walk,
+    beginning: &Beginning,
+    taken: &Taken,
+) -> Result<Option<Parting>, AllocError>
+    ensures { IfOk result (λ parting. (state_of walk.new, parting)
+        ≡ begins_outside beginning.now taken.now (state_of walk.old)) }
+{
+    let element = unplaced(taken.around, beginning);
+    push_element(&mut walk.elements, &element)?;
+    Ok(Some(taken.due))
+}
+
+/// An element begins at its place, unless its type may not stand there.
+fn begin_at(
+    walk: &mut Walk,
+    document: &[u8],
+    beginning: &Beginning,
+    taken: &Taken,
+    place: &Place,
+) -> Result<Option<Parting>, AllocError>
+    ensures { IfOk result (λ parting. (state_of walk.new, parting)
+        ≡ begins_at document.now beginning.now taken.now place.now (state_of walk.old)) }
+{
+    let header = beginning.header;
+    let typed = typed_as(&walk.elements, document, taken.around, header, place.shape);
+    if is_refused(typed.shape) {
+        return begin_outside(walk, beginning, taken);
+    }
+    begin_as(walk, beginning, taken.around, place, &typed)?;
+    Ok(None)
+}
+
+/// An element of this type begins at its place.
+fn begin_as(
+    walk: &mut Walk,
+    beginning: &Beginning,
+    around: u64,
+    place: &Place,
+    typed: &Typed,
+) -> Result<(), AllocError>
+    ensures { OnOk result (state_of walk.new
+        ≡ begins_as beginning.now around place.now typed.now (state_of walk.old)) }
+{
+    let number = walk.elements.len() as u64;
+    keep_open(&mut walk.containers, around, place.behind)?;
+    let level = level_of(beginning.header.tag, typed.shape);
+    open_inside(&mut walk.containers, beginning.opens, number, level)?;
+    let element = listed(around, place.step, typed, beginning);
+    push_element(&mut walk.elements, &element)
+}
+
+/// One element more.
+fn push_element(elements: &mut Vec<Element>, element: &Element) -> Result<(), AllocError>
+    ensures { OnOk result (elements.new.items ≡ elements.old.items ++ element.now ∷ []) }
+{
+    // (`push` takes the element by value, which the toolchain has no rule for)
+    elements.extend_from_slice(from_ref(element))
+}
+
+/// The container of this number is open, if it opens.
+fn open_inside(
+    containers: &mut Vec<(u64, Level)>,
+    opens: bool,
+    number: u64,
+    level: Level,
+) -> Result<(), AllocError>
+    ensures { OnOk result (reverse containers.new.items
+        ≡ with_opened opens number level (reverse containers.old.items)) }
+{
+    if opens {
+        push_open(containers, number, level)
+    } else {
+        Ok(())
+    }
+}
+
+/// The container around an element stays open, where there is one, and this is due in it.
+fn keep_open(
+    containers: &mut Vec<(u64, Level)>,
+    around: u64,
+    behind: Option<Level>,
+) -> Result<(), AllocError>
+    ensures { OnOk result (reverse containers.new.items
+        ≡ with_behind around behind (reverse containers.old.items)) }
+{
+    match behind {
+        Some(level) => push_open(containers, around, level),
+        None => Ok(()),
+    }
+}
+
+/// The container of this number is open.
+#[tactic(auto, using(crate::proofs::Lists::reverse_last))]
+fn push_open(
+    containers: &mut Vec<(u64, Level)>,
+    number: u64,
+    level: Level,
+) -> Result<(), AllocError>
+    ensures { OnOk result (reverse containers.new.items ≡ (number, level) ∷ reverse containers.old.items) }
+{
+    match containers.push((number, level)) {
+        Ok(()) => Ok(()),
+        Err(_) => Err(AllocError),
+    }
+}
+
+/// The innermost open container ends. Where something is still due in it the answer says so.
+#[tactic(auto, using(crate::proofs::Lists::reverse_last))]
+pub(crate) fn end_container(walk: &mut Walk, at: u64) -> Option<Parting>
+    ensures { (state_of walk.new, result) ≡ ended at (state_of walk.old) }
+{
+    let (number, level) = walk.containers.pop()?;
+    end_element(&mut walk.elements, number, at);
+    if may_close(level) {
+        None
+    } else {
+        Some(Parting::Missing(number, level))
+    }
+}
+
+/// The element of this number ends there.
+fn end_element(elements: &mut Vec<Element>, number: u64, at: u64)
+    ensures { elements.new.items ≡ ended_at number at elements.old.items }
+{
+    let number = number as usize;
+    if number < elements.len() {
+        elements[number].end = Some(at);
+    }
+}
+
+/// The place of the next element, in the innermost open container, which is no longer among the open ones.
+#[tactic(auto, using(crate::proofs::Lists::reverse_last))]
+fn take_place(containers: &mut Vec<(u64, Level)>, root: &'static Shape, tag: Tag) -> Taken
+    ensures place { result ≡ taken (reverse containers.old.items) root.entry tag }
+    ensures outer { reverse containers.new.items ≡ drop 1 (reverse containers.old.items) }
+{
+    match containers.pop() {
+        Some((around, level)) => Taken {
+            around,
+            place: place_in(level, tag),
+            due: Parting::Unplaced(around, level),
+        },
+        None => Taken {
+            around: 0,
+            place: outermost(root, tag),
+            due: Parting::Outermost,
+        },
+    }
+}
+
+/// The type of an element that stands in the container of this number.
+fn typed_as(
+    elements: &[Element],
+    document: &[u8],
+    around: u64,
+    header: Header,
+    shape: Option<&'static Shape>,
+) -> Typed
+    ensures { result ≡ typed_as document.now elements.now around header shape.entry }
+{
+    let private = is_private(elements, around);
+    let Some(shape) = shape else {
+        return Typed {
+            type_name: None,
+            shape: None,
+            private,
+        };
+    };
+    let earlier = behind(elements, around);
+    let resolved = resolve(
+        document,
+        header.tag,
+        header.depth,
+        earlier,
+        None,
+        private,
+        shape,
+    );
+    Typed {
+        type_name: resolved.type_name,
+        shape: Some(resolved.shape),
+        private: resolved.private,
+    }
+}
+
+/// Whether the element of this number is private.
+fn is_private(elements: &[Element], number: u64) -> bool
+    ensures { result ≡ is_private elements.now number }
+{
+    match elements.get(number as usize) {
+        Some(element) => element.private,
+        None => false,
+    }
+}
+
+/// The elements behind that of this number.
+fn behind(elements: &[Element], number: u64) -> &[Element]
+    ensures { result.now ≡ drop (number + 1) elements.now }
+{
+    let number = number as usize;
+    if number < elements.len() {
+        &elements[number + 1..]
+    } else {
+        &elements[..0]
+    }
+}
+
+/// Whether it is the type of what may not stand.
+fn is_refused(shape: Option<&'static Shape>) -> bool
+    ensures { result ≡ is_refused shape.entry }
+{
+    match shape {
+        Some(Shape::Refused(_)) => true,
+        _ => false,
+    }
+}
+
+/// An element at its place.
+fn listed(around: u64, step: Step, typed: &Typed, beginning: &Beginning) -> Element
+    ensures { result ≡ listed around step typed.now beginning.now }
+{
+    Element {
+        header: beginning.header,
+        begin: beginning.begin,
+        end: beginning.end,
+        around,
+        step,
+        type_name: typed.type_name,
+        shape: typed.shape,
+        private: typed.private,
+    }
+}
+
+/// An element that has no place. What it is nobody knows, so it is private.
+fn unplaced(around: u64, beginning: &Beginning) -> Element
+    ensures { result ≡ unplaced around beginning.now }
+{
+    let typed = Typed {
+        type_name: None,
+        shape: None,
+        private: true,
+    };
+    listed(around, Step::Outside, &typed, beginning)
+}
