@@ -190,7 +190,7 @@ in_python() {
         echo "left out: no pip with setuptools and wheel (Debian: apt-get install python3-pip)"
     fi
     try "rows in Python" env "PYTHONPATH=$place" "PKDER_LIBRARY=$out/libpkder.so.0" "PKDER_CALLS=$work/calls.tsv" \
-        python3 -m unittest discover -s "$work/python/tests"
+        "PKDER_HEADER=$here/pkder.h" python3 -m unittest discover -s "$work/python/tests"
     try "stand-in in Python" env "PYTHONPATH=$place" "PKDER_LIBRARY=$work/stand_in/libpkder.so.0" \
         python3 "$work/python/tests/stand_in.py"
 }
@@ -198,15 +198,15 @@ in_python() {
 in_rust() {
     cp -r "$here/rust" "$work/rust"
     set -- cargo test --offline --quiet --manifest-path "$work/rust/Cargo.toml"
-    try "rows in Rust" env "PKDER_LIB_DIR=$out" "PKDER_CALLS=$work/calls.tsv" "$@"
+    try "rows in Rust" env "PKDER_LIB_DIR=$out" "PKDER_CALLS=$work/calls.tsv" "PKDER_HEADER=$here/pkder.h" "$@"
     try "stand-in in Rust" env "PKDER_LIB_DIR=$work/stand_in" "$@" --test stand_in -- --ignored
 }
 
 in_go() {
     cp -r "$here/go" "$work/go"
     # shellcheck disable=SC2016 # (for the inner shell)
-    set -- env "GOCACHE=$work/gocache" "PKDER_CALLS=$work/calls.tsv" GOPROXY=off sh -c 'cd "$0" && exec go "$@"' \
-        "$work/go"
+    set -- env "GOCACHE=$work/gocache" "PKDER_CALLS=$work/calls.tsv" "PKDER_HEADER=$here/pkder.h" GOPROXY=off \
+        sh -c 'cd "$0" && exec go "$@"' "$work/go"
     try "rows in Go" env "PKG_CONFIG_PATH=$out" "LD_LIBRARY_PATH=$out" "$@" test -count=1 .
     try "stand-in in Go" env "PKG_CONFIG_PATH=$work/stand_in" "LD_LIBRARY_PATH=$work/stand_in" "$@" test -count=1 \
         -tags stand_in -run StandIn .

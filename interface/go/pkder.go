@@ -1,6 +1,14 @@
 // Package pkder reads, checks and normalises private keys, public keys and certification requests (certificate signing
 // requests, CSRs) in BER and DER, by libpkder, which is proved. Octets are bytes, and a DER text is a DER encoding.
 // pkg-config has to find the library. Each call takes a whole document, and may come from any goroutine.
+//
+// RequireDER refuses whatever isn't in DER:
+//
+//	if err := pkder.RequireDER(pkder.Request, pkder.Usual(), request); err != nil {
+//		return err
+//	}
+//
+// All other calls take BER, too. Of Check look at the Form, and not at err alone.
 package pkder
 
 /*
@@ -48,8 +56,41 @@ type Limits struct {
 	Octets uint64
 }
 
-// Usual are the limits that the program pkder has unless said otherwise.
-var Usual = Limits{Depth: 32, Octets: 1 << 20}
+// Usual answers the limits that the program pkder has unless said otherwise.
+func Usual() Limits {
+	return Limits{Depth: C.PKDER_DEPTH, Octets: C.PKDER_OCTETS}
+}
+
+// The names of reasons, which a Fault has. A later library may answer others.
+const (
+	ReasonTruncated   = "Truncated"
+	ReasonTooLong     = "TooLong"
+	ReasonBadTag      = "BadTag"
+	ReasonPastEnd     = "PastEnd"
+	ReasonBadEnd      = "BadEnd"
+	ReasonTooDeep     = "TooDeep"
+	ReasonWrongTag    = "WrongTag"
+	ReasonExtra       = "Extra"
+	ReasonLeftOut     = "LeftOut"
+	ReasonWrongForm   = "WrongForm"
+	ReasonBadLength   = "BadLength"
+	ReasonMissing     = "Missing"
+	ReasonBadInteger  = "BadInteger"
+	ReasonBadBoolean  = "BadBoolean"
+	ReasonBadNull     = "BadNull"
+	ReasonBadBits     = "BadBits"
+	ReasonBadOid      = "BadOid"
+	ReasonBadText     = "BadText"
+	ReasonEmptySet    = "EmptySet"
+	ReasonVersion     = "Version"
+	ReasonParameters  = "Parameters"
+	ReasonInner       = "Inner"
+	ReasonCurve       = "Curve"
+	ReasonKeyLength   = "KeyLength"
+	ReasonVersionRule = "VersionRule"
+	ReasonTextTooLong = "TextTooLong"
+	ReasonTrailing    = "Trailing"
+)
 
 // Fault is the first fault of a document that is refused. InsideReason is empty unless Reason is Inner; then it and
 // InsideAt are of what is inside privateKey.
@@ -67,6 +108,17 @@ func (fault *Fault) Error() string {
 		line += fmt.Sprintf(" inside at %d: %s", fault.InsideAt, fault.InsideReason)
 	}
 	return line
+}
+
+// NotDER is the error of RequireDER for a document that is sound, and not in DER: At is the first place that is another
+// one in its DER text.
+type NotDER struct {
+	At uint64
+}
+
+// Error is the line that the program prints.
+func (why *NotDER) Error() string {
+	return Form{At: why.At}.String()
 }
 
 var (
@@ -91,12 +143,25 @@ func (form Form) String() string {
 	return fmt.Sprintf("not DER at %d", form.At)
 }
 
+// RequireDER answers nil where the document is in DER, a *NotDER where it is sound and isn't, and else why it is
+// refused.
+func RequireDER(kind Kind, limits Limits, document []byte) error {
+	form, err := Check(kind, limits, document)
+	if err != nil {
+		return err
+	}
+	if !form.DER {
+		return &NotDER{At: form.At}
+	}
+	return nil
+}
+
 // Normalise answers the document's DER text: two documents say the same exactly where these are equal.
 func Normalise(kind Kind, limits Limits, document []byte) ([]byte, error) {
 	return textOf(C.text_call(C.pkder_normalise), uint32(kind), limits, document)
 }
 
-// Check answers whether the document is in DER.
+// Check answers whether the document is in DER. The error is nil of a document in BER, too.
 func Check(kind Kind, limits Limits, document []byte) (Form, error) {
 	outcome := C.pkder_check(C.uint32_t(kind), C.uint32_t(limits.Depth), C.uint64_t(limits.Octets),
 		start(document), C.size_t(len(document)))
@@ -168,7 +233,12 @@ func start(octets []byte) *C.uint8_t {
 	return (*C.uint8_t)(unsafe.Pointer(&octets[0]))
 }
 
-// loaded is the number of the library's interface. (Tests can't call C themselves.)
+// reasonName is the name of the reason of this number. (Tests can't call C themselves.)
+func reasonName(number uint32) string {
+	return nameOf(C.uint32_t(number))
+}
+
+// loaded is the number of the library's interface.
 func loaded() uint32 {
 	return uint32(C.pkder_interface())
 }

@@ -4,7 +4,11 @@ import (
 	"bytes"
 	"encoding/hex"
 	"errors"
+	"go/ast"
+	"go/parser"
+	"go/token"
 	"os"
+	"regexp"
 	"strconv"
 	"strings"
 	"sync"
@@ -16,14 +20,19 @@ var kinds = map[string]Kind{
 }
 var parts = map[string]Part{"info": Info, "algorithm": Algorithm, "key": SubjectKey, "signature": Signature}
 
-// said is the program's status, output and line for the call that the words ask for.
-func said(t *testing.T, words []string, given []byte) (string, []byte, string) {
+// limitsOf are the limits that the words ask for.
+func limitsOf(t *testing.T, words []string) Limits {
 	depth, wrong := strconv.ParseUint(words[4], 10, 32)
 	octets, bad := strconv.ParseUint(words[6], 10, 64)
 	if wrong != nil || bad != nil {
 		t.Fatal(words)
 	}
-	limits := Limits{Depth: uint32(depth), Octets: octets}
+	return Limits{Depth: uint32(depth), Octets: octets}
+}
+
+// said is the program's status, output and line for the call that the words ask for.
+func said(t *testing.T, words []string, given []byte) (string, []byte, string) {
+	limits := limitsOf(t, words)
 	var text []byte
 	var err error
 	status := "0"
@@ -50,6 +59,14 @@ func said(t *testing.T, words []string, given []byte) (string, []byte, string) {
 	return status, text, ""
 }
 
+// required is the line of what RequireDER answers that is asked for as Check is.
+func required(t *testing.T, words []string, given []byte) string {
+	if err := RequireDER(kinds[words[2]], limitsOf(t, words), given); err != nil {
+		return err.Error()
+	}
+	return "DER"
+}
+
 func octetsOf(t *testing.T, cell string) []byte {
 	octets, err := hex.DecodeString(cell)
 	if err != nil {
@@ -71,6 +88,12 @@ func TestRows(t *testing.T) {
 		if status != cells[3] || !bytes.Equal(output, octetsOf(t, cells[4])) || told != cells[5] {
 			t.Errorf("%s: %s: status %s, %x, %s", cells[0], cells[1], status, output, told)
 		}
+		if strings.HasPrefix(cells[1], "check") {
+			due := strings.TrimSuffix(string(octetsOf(t, cells[4])), "\n") + cells[5]
+			if line := required(t, strings.Split(cells[1], " "), octetsOf(t, cells[2])); line != due {
+				t.Errorf("%s: %s: %s", cells[0], cells[1], line)
+			}
+		}
 	}
 	if len(lines) <= 800 {
 		t.Error(len(lines), "rows")
@@ -83,17 +106,78 @@ func TestBadCalls(t *testing.T) {
 			t.Error(limits, err)
 		}
 	}
-	if _, err := Normalise(7, Usual, nil); err != ErrCall {
+	if _, err := Normalise(7, Usual(), nil); err != ErrCall {
 		t.Error(err)
 	}
-	if _, err := Signed(5, Usual, nil); err != ErrCall {
+	if _, err := Signed(5, Usual(), nil); err != ErrCall {
 		t.Error(err)
+	}
+}
+
+// A line that looks at the error alone refuses a document in BER.
+func TestCareless(t *testing.T) {
+	key := append(octetsOf(t, "302a300506032b6570032100"), make([]byte, 32)...)
+	if err := RequireDER(Public, Usual(), key); err != nil {
+		t.Error(err)
+	}
+	// (its outer length has two octets)
+	inBER := append([]byte{0x30, 0x81}, key[1:]...)
+	var notDER *NotDER
+	err := RequireDER(Public, Usual(), inBER)
+	if !errors.As(err, &notDER) || notDER.At != 1 || err.Error() != "not DER at 1" {
+		t.Error(err)
+	}
+}
+
+// The limits of one caller aren't those of another.
+func TestUsual(t *testing.T) {
+	limits := Usual()
+	limits.Depth, limits.Octets = 1, 1
+	if (Usual() != Limits{Depth: 32, Octets: 1048576}) {
+		t.Error(Usual())
+	}
+}
+
+// named are the constants of the package whose names begin with Reason, without that, and their values.
+func named(t *testing.T) map[string]string {
+	file, err := parser.ParseFile(token.NewFileSet(), "pkder.go", nil, 0)
+	if err != nil {
+		t.Fatal(err)
+	}
+	found := map[string]string{}
+	ast.Inspect(file, func(node ast.Node) bool {
+		spec, ok := node.(*ast.ValueSpec)
+		if ok && strings.HasPrefix(spec.Names[0].Name, "Reason") {
+			found[strings.TrimPrefix(spec.Names[0].Name, "Reason")], _ = strconv.Unquote(spec.Values[0].(*ast.BasicLit).Value)
+		}
+		return true
+	})
+	return found
+}
+
+// The reasons of pkder.h, which PKDER_HEADER names.
+func TestReasons(t *testing.T) {
+	header, err := os.ReadFile(os.Getenv("PKDER_HEADER"))
+	if err != nil {
+		t.Fatal(err)
+	}
+	rows := regexp.MustCompile(`#define PKDER_REASON_(\w+) ([0-9]+)u`).FindAllStringSubmatch(string(header), -1)
+	found := named(t)
+	for _, row := range rows {
+		number, _ := strconv.Atoi(row[2])
+		name := reasonName(uint32(number))
+		if found[name] != name || !strings.EqualFold(strings.ReplaceAll(row[1], "_", ""), name) {
+			t.Error(row, name, found[name])
+		}
+	}
+	if len(rows) < 27 || len(found) != len(rows) {
+		t.Error(len(rows), len(found))
 	}
 }
 
 func TestFault(t *testing.T) {
 	var fault *Fault
-	if _, err := Show(Public, Usual, nil); !errors.As(err, &fault) || fault.At != 0 || fault.Reason != "Truncated" {
+	if _, err := Show(Public, Usual(), nil); !errors.As(err, &fault) || fault.At != 0 || fault.Reason != ReasonTruncated {
 		t.Error(err)
 	}
 }
@@ -112,7 +196,7 @@ func TestThreads(t *testing.T) {
 		go func() {
 			defer group.Done()
 			for j := 0; j < 5000; j++ {
-				if text, err := Normalise(Public, Usual, key); err != nil || !bytes.Equal(text, key) {
+				if text, err := Normalise(Public, Usual(), key); err != nil || !bytes.Equal(text, key) {
 					t.Error(text, err)
 					return
 				}

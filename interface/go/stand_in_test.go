@@ -9,11 +9,12 @@ import (
 
 // refusal is what all calls answer of the octets.
 func refusal(t *testing.T, document []byte) error {
-	_, checked := Check(Key, Usual, document)
-	_, normalised := Normalise(Key, Usual, document)
-	_, shown := Show(Key, Usual, document)
-	_, part := Signed(Info, Usual, document)
-	for _, err := range []error{normalised, shown, part} {
+	_, checked := Check(Key, Usual(), document)
+	_, normalised := Normalise(Key, Usual(), document)
+	_, shown := Show(Key, Usual(), document)
+	_, part := Signed(Info, Usual(), document)
+	required := RequireDER(Key, Usual(), document)
+	for _, err := range []error{required, normalised, shown, part} {
 		if err == nil || checked == nil || err.Error() != checked.Error() {
 			t.Fatal(document, checked, err)
 		}

@@ -13,6 +13,7 @@ MEMORY, BAD_CALL, LATER = b"\3\0\0", b"\4\0\0", b"\6\0\0"
 def calls(document):
     """Each call on the document."""
     yield lambda: pkder.check(pkder.Kind.KEY, document)
+    yield lambda: pkder.require_der(pkder.Kind.KEY, document)
     yield lambda: pkder.normalise(pkder.Kind.KEY, document)
     yield lambda: pkder.show(pkder.Kind.KEY, document)
     yield lambda: pkder.signed(pkder.Part.INFO, document)
@@ -24,7 +25,7 @@ class Answers(unittest.TestCase):
             for call in calls(document):
                 with self.subTest(error=error), self.assertRaises(error) as raised:
                     call()
-                self.assertNotIsInstance(raised.exception, pkder.Fault)
+                self.assertNotIsInstance(raised.exception, pkder.Refused)
 
     def test_faults_of_a_later_library(self):
         lines = {b"\1\x1c\0": "fault at 5: Later", b"\1\x1c\x1c": "fault at 5: Later inside at 7: Later"}

@@ -1,7 +1,9 @@
-"""The rows that PKDER_CALLS names (interface/calls.py makes them), calls that are wrong, and threads.
+"""The rows that PKDER_CALLS names (interface/calls.py makes them), the reasons of pkder.h, which PKDER_HEADER names,
+calls that are wrong or careless, and threads.
 
 python3 -m unittest discover -s tests, with PKDER_LIBRARY where the library isn't installed."""
 import os
+import re
 import threading
 import unittest
 
@@ -10,6 +12,8 @@ import pkder
 # by the program's words
 PARTS = dict(zip(("info", "algorithm", "key", "signature"), pkder.Part))
 KEY = bytes.fromhex("302e020100300506032b657004220420") + bytes(range(32))
+# (its outer length has two octets)
+KEY_IN_BER = b"\x30\x81" + KEY[1:]
 
 
 def said(words, document):
@@ -24,10 +28,23 @@ def said(words, document):
             return 0, pkder.normalise(kind, document, **limits), ""
         if command == "show":
             return 0, pkder.show(kind, document, **limits).encode(), ""
-        place = pkder.check(kind, document, **limits)
-        return (0, b"DER\n", "") if place is None else (1, f"not DER at {place}\n".encode(), "")
+        form = pkder.check(kind, document, **limits)
+        return 0 if form.is_der else 1, f"{form}\n".encode(), ""
     except pkder.Fault as fault:
         return 2, b"", str(fault)
+
+
+def refusal(words, document):
+    """Status and line by which require_der answers what check is asked for."""
+    options = dict(zip(words[1::2], words[2::2]))
+    limits = {"depth": int(options["--depth"]), "octets": int(options["--octets"])}
+    try:
+        judged = pkder.require_der(pkder.Kind[options["--kind"].upper()], document, **limits)
+        return (0, "DER") if judged == document else (0, judged)
+    except pkder.NotDer as why:
+        return 1, str(why)
+    except pkder.Refused as why:
+        return 2, str(why)
 
 
 class Rows(unittest.TestCase):
@@ -39,6 +56,48 @@ class Rows(unittest.TestCase):
             with self.subTest(rule=rule, words=words):
                 due = int(status), bytes.fromhex(output), error
                 self.assertEqual(said(words.split(), bytes.fromhex(given)), due)
+                if words.startswith("check"):
+                    line = error or bytes.fromhex(output).decode().rstrip("\n")
+                    self.assertEqual(refusal(words.split(), bytes.fromhex(given)), (int(status), line))
+
+
+class Careless(unittest.TestCase):
+    """Lines that look at no more than a call's name, of a document in BER."""
+
+    def test_require_der(self):
+        with self.assertRaises(pkder.NotDer) as raised:
+            pkder.require_der(pkder.Kind.KEY, KEY_IN_BER)
+        self.assertEqual((raised.exception.at, str(raised.exception)), (1, "not DER at 1"))
+        self.assertIsInstance(raised.exception, ValueError)
+
+    def test_a_form_is_no_truth_value(self):
+        for document in KEY, KEY_IN_BER:
+            with self.subTest(document=document.hex()), self.assertRaisesRegex(TypeError, "is_der.*require_der"):
+                if pkder.check(pkder.Kind.KEY, document):
+                    pass
+            with self.subTest(document=document.hex()), self.assertRaisesRegex(TypeError, "is_der.*require_der"):
+                self.assertTrue(not pkder.check(pkder.Kind.KEY, document))
+
+    def test_a_form_is_compared_whole(self):
+        self.assertEqual(pkder.check(pkder.Kind.KEY, KEY), pkder.Form())
+        self.assertEqual(pkder.check(pkder.Kind.KEY, KEY_IN_BER), pkder.Form(1))
+        self.assertNotEqual(pkder.Form(), None)
+
+    def test_octets_that_change_later(self):
+        document = bytearray(KEY)
+        judged = pkder.require_der(pkder.Kind.KEY, document)
+        document[:] = KEY_IN_BER
+        self.assertEqual(judged, KEY)
+
+
+class Header(unittest.TestCase):
+    def test_reasons(self):
+        with open(os.environ["PKDER_HEADER"], encoding="utf-8") as it:
+            found = re.findall(r"#define PKDER_REASON_(\w+) ([0-9]+)u", it.read())
+        self.assertGreaterEqual(len(found), 27)
+        due = {name: pkder._name(int(number)) for name, number in found}
+        self.assertEqual({it.name: it.value for it in pkder.Reason}, due)
+        self.assertEqual({it.name: f"{it}" for it in pkder.Reason}, due)
 
 
 class Calls(unittest.TestCase):
@@ -47,6 +106,7 @@ class Calls(unittest.TestCase):
             pkder.normalise(pkder.Kind.KEY, KEY[:20])
         fault = raised.exception
         self.assertEqual((fault.at, fault.reason, fault.inside), (20, "Truncated", None))
+        self.assertEqual(fault.reason, pkder.Reason.TRUNCATED)
         self.assertIsInstance(fault, ValueError)
 
     def test_no_octets(self):

@@ -2,20 +2,21 @@
 //! wrapper of libpkder, which is proved. Octets are bytes, and a DER text is a DER encoding.
 //!
 //! ```
-//! use pkder::{check, normalise, Form, Kind};
+//! use pkder::{check, normalise, require_der, Error, Form, Kind};
 //!
 //! // an Ed25519 public key whose outer length has two octets
 //! let mut octets = vec![0x30, 0x81, 0x2A, 0x30, 0x05, 0x06, 0x03, 0x2B, 0x65, 0x70, 0x03, 0x21, 0x00];
 //! octets.extend([7; 32]);
-//! assert_eq!(check(Kind::Public, &octets), Ok(Form::DiffersAt(1)));
+//! assert_eq!(require_der(Kind::Public, &octets), Err(Error::NotDer(1)));
 //! let text = normalise(Kind::Public, &octets)?;
-//! assert_eq!(check(Kind::Public, &text), Ok(Form::Der));
+//! require_der(Kind::Public, &text)?;
+//! assert_eq!(check(Kind::Public, &octets)?, Form::DiffersAt(1));
 //! assert_eq!(normalise(Kind::Public, &octets[..20]).unwrap_err().to_string(), "fault at 20: Truncated");
 //! # Ok::<(), pkder::Error>(())
 //! ```
 //!
-//! Each call takes a whole document. The library wipes nothing unless it is built so, and neither does this crate: a
-//! text that is a private key is the caller's to wipe.
+//! Each call takes a whole document, and all but `require_der` take BER, too. The library wipes nothing unless it is
+//! built so, and neither does this crate: a text that is a private key is the caller's to wipe.
 mod raw;
 
 use raw::Outcome;
@@ -65,12 +66,35 @@ numbered! {
     }
 }
 
-/// Whether a sound document is in DER.
+/// Whether a sound document is in DER. A line that doesn't look at it takes BER as good, which the compiler warns of:
+///
+/// ```compile_fail
+/// #![deny(unused_must_use)]
+/// fn accept(key: &[u8]) -> Result<(), pkder::Error> {
+///     pkder::check(pkder::Kind::Key, key)?;
+///     Ok(())
+/// }
+/// ```
+/// ```
+/// #![deny(unused_must_use)]
+/// fn accept(key: &[u8]) -> Result<(), pkder::Error> {
+///     pkder::require_der(pkder::Kind::Key, key)?;
+///     Ok(())
+/// }
+/// ```
+#[must_use = "a document in BER has a form, too: ask `is_der`, or call `require_der`"]
 #[derive(Clone, Copy, Debug, PartialEq, Eq)]
 pub enum Form {
     Der,
     /// It isn't, and this is the first place that is another one in its DER text.
     DiffersAt(u64),
+}
+
+impl Form {
+    /// Whether the document is in DER.
+    pub fn is_der(self) -> bool {
+        self == Form::Der
+    }
 }
 
 impl fmt::Display for Form {
@@ -109,6 +133,49 @@ impl fmt::Debug for Reason {
     }
 }
 
+/// The reasons by the numbers of pkder.h, which a later one may add to.
+macro_rules! reasons {
+    ($($name:ident = $number:literal,)*) => {
+        /// The reasons, by the names that pkder.h has for them; it says what each means, and docs/manual.md what to do.
+        impl Reason {
+            $(pub const $name: Reason = Reason($number);)*
+        }
+
+        #[cfg(test)]
+        const REASONS: &[(&str, Reason)] = &[$((stringify!($name), Reason::$name)),*];
+    };
+}
+
+reasons! {
+    TRUNCATED = 1,
+    TOO_LONG = 2,
+    BAD_TAG = 3,
+    PAST_END = 4,
+    BAD_END = 5,
+    TOO_DEEP = 6,
+    WRONG_TAG = 7,
+    EXTRA = 8,
+    LEFT_OUT = 9,
+    WRONG_FORM = 10,
+    BAD_LENGTH = 11,
+    MISSING = 12,
+    BAD_INTEGER = 13,
+    BAD_BOOLEAN = 14,
+    BAD_NULL = 15,
+    BAD_BITS = 16,
+    BAD_OID = 17,
+    BAD_TEXT = 18,
+    EMPTY_SET = 19,
+    VERSION = 20,
+    PARAMETERS = 21,
+    INNER = 22,
+    CURVE = 23,
+    KEY_LENGTH = 24,
+    VERSION_RULE = 25,
+    TEXT_TOO_LONG = 26,
+    TRAILING = 27,
+}
+
 /// The first fault of a document.
 #[derive(Clone, Copy, Debug, PartialEq, Eq)]
 pub struct Fault {
@@ -135,6 +202,9 @@ impl fmt::Display for Fault {
 pub enum Error {
     /// The document is refused.
     Fault(Fault),
+    /// Of `require_der` alone: the document is sound, and not in DER; the first place that is another one in its DER
+    /// text.
+    NotDer(u64),
     /// Memory ran out: nothing is known of the document.
     Memory,
     /// The limits are out of range.
@@ -144,10 +214,11 @@ pub enum Error {
 }
 
 impl fmt::Display for Error {
-    /// Of faults and memory the line that the program prints.
+    /// Of a document, and of memory, the line that the program prints.
     fn fmt(&self, f: &mut fmt::Formatter<'_>) -> fmt::Result {
         match self {
             Error::Fault(fault) => fault.fmt(f),
+            Error::NotDer(place) => Form::DiffersAt(*place).fmt(f),
             Error::Memory => f.write_str("out of memory"),
             Error::Limits => f.write_str("limits out of range"),
             Error::Unknown(status) => write!(f, "libpkder answers the status {status}"),
@@ -174,6 +245,14 @@ impl Default for Limits {
 
 impl Limits {
     /// As the free function of the name.
+    pub fn require_der(self, kind: Kind, document: &[u8]) -> Result<(), Error> {
+        match self.check(kind, document)? {
+            Form::Der => Ok(()),
+            Form::DiffersAt(place) => Err(Error::NotDer(place)),
+        }
+    }
+
+    /// As the free function of the name.
     pub fn normalise(self, kind: Kind, document: &[u8]) -> Result<Vec<u8>, Error> {
         text_of(raw::normalise, kind as u32, self, document)
     }
@@ -198,6 +277,11 @@ impl Limits {
         let text = text_of(raw::show, kind as u32, self, document)?;
         Ok(String::from_utf8_lossy(&text).into_owned())
     }
+}
+
+/// Refuses a document that isn't in DER, as one that has a fault.
+pub fn require_der(kind: Kind, document: &[u8]) -> Result<(), Error> {
+    Limits::default().require_der(kind, document)
 }
 
 /// The document's DER text: two documents say the same exactly where these are equal.
@@ -251,5 +335,26 @@ fn error_of(outcome: &Outcome) -> Error {
         raw::NO_MEMORY => Error::Memory,
         raw::BAD_CALL => Error::Limits,
         status => Error::Unknown(status),
+    }
+}
+
+#[cfg(test)]
+mod tests {
+    use super::REASONS;
+
+    /// The names and numbers of reasons in pkder.h, which PKDER_HEADER names.
+    #[test]
+    fn reasons_are_those_of_the_header() {
+        let name = std::env::var("PKDER_HEADER").expect("PKDER_HEADER names pkder.h");
+        let header = std::fs::read_to_string(name).unwrap();
+        let due: Vec<(&str, u32)> = header
+            .lines()
+            .filter_map(|line| line.strip_prefix("#define PKDER_REASON_"))
+            .map(|rest| rest.split_whitespace().collect::<Vec<_>>())
+            .map(|words| (words[0], words[1].trim_end_matches('u').parse().unwrap()))
+            .collect();
+        let found: Vec<(&str, u32)> = REASONS.iter().map(|(name, reason)| (*name, reason.number())).collect();
+        assert!(due.len() >= 27);
+        assert_eq!(found, due);
     }
 }

@@ -1,5 +1,5 @@
 //! The rows that PKDER_CALLS names (interface/calls.py makes them), calls that are wrong, and threads.
-use pkder::{check, normalise, show, Error, Form, Kind, Limits, Part};
+use pkder::{check, normalise, require_der, show, Error, Form, Kind, Limits, Part, Reason};
 
 /// An answer: status, output and line on standard error, as the program's.
 type Said = (u32, Vec<u8>, String);
@@ -40,7 +40,7 @@ fn said(words: &str, given: &[u8]) -> Said {
         "signed" => limits.signed(part_of(words[2]), given),
         "show" => limits.show(kind_of(words[2]), given).map(String::into_bytes),
         "check" => limits.check(kind_of(words[2]), given).map(|form| {
-            status = u32::from(form != Form::Der);
+            status = u32::from(!form.is_der());
             format!("{form}\n").into_bytes()
         }),
         _ => panic!("no command {}", words[0]),
@@ -49,6 +49,13 @@ fn said(words: &str, given: &[u8]) -> Said {
         Ok(output) => (status, output, String::new()),
         Err(error) => (2, Vec::new(), error.to_string()),
     }
+}
+
+/// The line of what `require_der` answers that is asked for as `check` is.
+fn refusal(words: &str, given: &[u8]) -> String {
+    let words: Vec<&str> = words.split(' ').collect();
+    let limits = Limits { depth: words[4].parse().unwrap(), octets: words[6].parse().unwrap() };
+    limits.require_der(kind_of(words[2]), given).map_or_else(|why| why.to_string(), |()| "DER".to_owned())
 }
 
 #[test]
@@ -60,9 +67,25 @@ fn rows() {
         let cells: Vec<&str> = line.split('\t').collect();
         let due: Said = (cells[3].parse().unwrap(), octets(cells[4]), cells[5].to_owned());
         assert_eq!(said(cells[1], &octets(cells[2])), due, "{}: {}", cells[0], cells[1]);
+        if cells[1].starts_with("check") {
+            let line = String::from_utf8(due.1).unwrap() + &due.2;
+            assert_eq!(refusal(cells[1], &octets(cells[2])), line.trim_end(), "{}: {}", cells[0], cells[1]);
+        }
         rows += 1;
     }
     assert!(rows > 800, "{rows} rows");
+}
+
+#[test]
+fn a_careless_line_refuses_ber() {
+    let accept = |key: &[u8]| require_der(Kind::Public, key);
+    let key = octets("302a300506032b6570032100aaaaaaaaaaaaaaaaaaaaaaaaaaaaaaaaaaaaaaaaaaaaaaaaaaaaaaaaaaaaaaaa");
+    // (its outer length has two octets)
+    let in_ber = [&[0x30, 0x81][..], &key[1..]].concat();
+    assert_eq!(accept(&key), Ok(()));
+    assert_eq!(accept(&in_ber), Err(Error::NotDer(1)));
+    assert_eq!(accept(&in_ber).unwrap_err().to_string(), "not DER at 1");
+    assert_eq!(check(Kind::Public, &in_ber), Ok(Form::DiffersAt(1)));
 }
 
 #[test]
@@ -72,6 +95,7 @@ fn limits_out_of_range() {
     for (depth, octets) in depths.into_iter().chain(octets) {
         let limits = Limits { depth, octets };
         assert_eq!(limits.check(Kind::Key, &[]), Err(Error::Limits));
+        assert_eq!(limits.require_der(Kind::Key, &[]), Err(Error::Limits));
         assert_eq!(limits.normalise(Kind::Key, &[]), Err(Error::Limits));
         assert_eq!(limits.show(Kind::Key, &[]), Err(Error::Limits));
         assert_eq!(limits.signed(Part::Info, &[]), Err(Error::Limits));
@@ -87,7 +111,10 @@ fn no_octets() {
 #[test]
 fn a_fault_has_its_place_and_reason() {
     match normalise(Kind::Public, &[0x30, 0x05]) {
-        Err(Error::Fault(fault)) => assert_eq!((fault.at, fault.reason.number(), fault.inside), (2, 1, None)),
+        Err(Error::Fault(fault)) => {
+            assert_eq!((fault.at, fault.reason, fault.inside), (2, Reason::TRUNCATED, None));
+            assert_eq!(fault.reason.number(), 1);
+        }
         other => panic!("{other:?}"),
     }
 }

@@ -1,10 +1,11 @@
 //! What the crate makes of answers that no document brings: `cargo test --test stand_in -- --ignored`, linked to the
 //! stand-in of interface/c/stand_in.c.
-use pkder::{check, normalise, show, signed, Error, Kind, Part};
+use pkder::{check, normalise, require_der, show, signed, Error, Kind, Part};
 
 /// What all calls answer of the octets.
 fn refusal(document: &[u8]) -> Error {
     let error = check(Kind::Key, document).unwrap_err();
+    assert_eq!(require_der(Kind::Key, document), Err(error));
     assert_eq!(normalise(Kind::Key, document), Err(error));
     assert_eq!(show(Kind::Key, document), Err(error));
     assert_eq!(signed(Part::Info, document), Err(error));

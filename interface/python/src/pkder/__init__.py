@@ -1,18 +1,21 @@
 """Private keys, public keys and certification requests (CSRs) in BER and DER, by libpkder.
 
+    pkder.require_der(pkder.Kind.KEY, octets)    the octets, where they are in DER; else it raises NotDer or Fault
+    pkder.check(pkder.Kind.KEY, octets)          the form: .is_der, and .differs_at, the first place that differs
     pkder.normalise(pkder.Kind.KEY, octets)      the DER text, which is the DER encoding
-    pkder.check(pkder.Kind.KEY, octets)          None in DER, else the first place that differs
     pkder.show(pkder.Kind.KEY, octets)           what it says, in lines
     pkder.signed(pkder.Part.INFO, octets)        what the signature of a request covers, or another part of it
 
-Each takes a whole document, and raises Fault where that is refused. The library is libpkder.so.0, where the system's
-loader finds it, or the file that the environment names as PKDER_LIBRARY."""
+Each takes a whole document, and raises Fault where that is refused. All but the first take BER, too. The library is
+libpkder.so.0, where the system's loader finds it, or the file that the environment names as PKDER_LIBRARY."""
 import ctypes
+import dataclasses
 import enum
 import os
 from typing import Any, Dict, List, Optional, Tuple, Union
 
-__all__ = ["DEPTH", "OCTETS", "Fault", "Kind", "Part", "check", "normalise", "show", "signed"]
+__all__ = ["DEPTH", "OCTETS", "Fault", "Form", "Kind", "NotDer", "Part", "Reason", "Refused", "check", "normalise",
+           "require_der", "show", "signed"]
 
 # The limits unless said otherwise.
 DEPTH = 32
@@ -41,7 +44,57 @@ class Part(enum.IntEnum):
     SIGNATURE = 4
 
 
-class Fault(ValueError):
+class Reason(str, enum.Enum):
+    """The names of reasons, which Fault has as str. A later library may answer others."""
+
+    TRUNCATED = "Truncated"
+    TOO_LONG = "TooLong"
+    BAD_TAG = "BadTag"
+    PAST_END = "PastEnd"
+    BAD_END = "BadEnd"
+    TOO_DEEP = "TooDeep"
+    WRONG_TAG = "WrongTag"
+    EXTRA = "Extra"
+    LEFT_OUT = "LeftOut"
+    WRONG_FORM = "WrongForm"
+    BAD_LENGTH = "BadLength"
+    MISSING = "Missing"
+    BAD_INTEGER = "BadInteger"
+    BAD_BOOLEAN = "BadBoolean"
+    BAD_NULL = "BadNull"
+    BAD_BITS = "BadBits"
+    BAD_OID = "BadOid"
+    BAD_TEXT = "BadText"
+    EMPTY_SET = "EmptySet"
+    VERSION = "Version"
+    PARAMETERS = "Parameters"
+    INNER = "Inner"
+    CURVE = "Curve"
+    KEY_LENGTH = "KeyLength"
+    VERSION_RULE = "VersionRule"
+    TEXT_TOO_LONG = "TextTooLong"
+    TRAILING = "Trailing"
+
+    def __str__(self) -> str:
+        return str(self.value)
+
+
+class Refused(ValueError):
+    """A document is refused: a Fault, or of require_der NotDer."""
+
+
+class NotDer(Refused):
+    """A document is sound, and not in DER: at is the first place where it differs from its DER text."""
+
+    def __init__(self, at: int) -> None:
+        super().__init__(at)
+        self.at = at
+
+    def __str__(self) -> str:
+        return f"not DER at {self.at}"
+
+
+class Fault(Refused):
     """The first fault of a document that is refused: at is its place, reason its name, and inside None, or the place
     and the name of the reason inside privateKey."""
 
@@ -52,6 +105,25 @@ class Fault(ValueError):
     def __str__(self) -> str:
         inside = f" inside at {self.inside[0]}: {self.inside[1]}" if self.inside else ""
         return f"fault at {self.at}: {self.reason}{inside}"
+
+
+@dataclasses.dataclass(frozen=True)
+class Form:
+    """Whether a sound document is in DER; differs_at is the first place where it differs from its DER text, and None
+    where it doesn't. It is no truth value, since a document in BER is sound, too."""
+
+    differs_at: Optional[int] = None
+
+    @property
+    def is_der(self) -> bool:
+        """Whether the document is in DER."""
+        return self.differs_at is None
+
+    def __bool__(self) -> bool:
+        raise TypeError("a form isn't true or false: write check(..).is_der, or require_der(..), which refuses BER")
+
+    def __str__(self) -> str:
+        return "DER" if self.differs_at is None else f"not DER at {self.differs_at}"
 
 
 class _Outcome(ctypes.Structure):
@@ -142,21 +214,30 @@ def _text(call: str, what: int, document: Octets, depth: int, octets: int) -> by
         size = outcome.size
 
 
-def normalise(kind: Kind, document: Octets, *, depth: int = DEPTH, octets: int = OCTETS) -> bytes:
-    """The document's DER text: two documents say the same exactly where these are equal."""
-    return _text("pkder_normalise", Kind(kind), document, depth, octets)
-
-
-def check(kind: Kind, document: Octets, *, depth: int = DEPTH, octets: int = OCTETS) -> Optional[int]:
-    """None where the document is in DER, else the first place that is another one in its DER text."""
+def check(kind: Kind, document: Octets, *, depth: int = DEPTH, octets: int = OCTETS) -> Form:
+    """Whether the document is in DER, and else the first place where it differs from its DER text."""
     _check_limits(depth, octets)
     src = _octets(document)
     outcome = _library.pkder_check(Kind(kind), depth, octets, src, len(src))
     if outcome.status == _ACCEPTED:
-        return None
+        return Form()
     if outcome.status == _NOT_DER:
-        return int(outcome.at)
+        return Form(outcome.at)
     raise _refusal(outcome)
+
+
+def require_der(kind: Kind, document: Octets, *, depth: int = DEPTH, octets: int = OCTETS) -> bytes:
+    """The document's octets as they were judged, where it is in DER; NotDer is raised where it is sound and isn't."""
+    judged = _octets(document)
+    form = check(kind, judged, depth=depth, octets=octets)
+    if form.differs_at is not None:
+        raise NotDer(form.differs_at)
+    return judged
+
+
+def normalise(kind: Kind, document: Octets, *, depth: int = DEPTH, octets: int = OCTETS) -> bytes:
+    """The document's DER text: two documents say the same exactly where these are equal."""
+    return _text("pkder_normalise", Kind(kind), document, depth, octets)
 
 
 def show(kind: Kind, document: Octets, *, depth: int = DEPTH, octets: int = OCTETS) -> str:
