@@ -80,8 +80,11 @@ def parts(program=build.PROGRAM):
         "proofs": lambda: [PROOFS],
         "edits": lambda: [EDITS],
         "interface": lambda: [["sh", "interface/test.sh"]],
-        "rows": lambda: [rows_of(it, program) for it in sorted(os.listdir("tests"))],
+        # (a folder of tests/ is of the program whose crate has its name, or else of what reads it below)
+        "rows": lambda: [rows_of(it, program) for it in sorted(os.listdir("tests")) if os.path.isdir(f"crates/{it}")],
         "transcripts": lambda: [[*TRANSCRIPTS, *builds(program)]],
+        "spellings": lambda: [["python3", "tools/spellings.py", "tests/manual/spellings.tsv"],
+                              ["python3", "examples/test_intake.py", program]],
         "allocations": lambda: [[*ALLOCATIONS, program, *words] for words in allocating()],
         "reader": lambda: [
             ["python3", "tools/try_reader.py", *tables("pkder"), "examples/answers.tsv"],
