@@ -2,7 +2,7 @@
 # Puts the program in place, or the library, or both, as tools/build.py made them:
 #   [DESTDIR=FOLDER] [PREFIX=/usr/local] [LIBDIR=PREFIX/lib] sh tools/install.sh [program] [library]
 # The library is libpkder.a, libpkder.so.0, pkder.h and pkder.pc. With either go its man pages, the pages of docs/ that
-# they name, and PROVED-BY, which says what proved it.
+# they name, and PROVED-BY, which says what proved it; with the program completions for bash, zsh and fish.
 set -eu
 top=$(cd "$(dirname "$0")/.." && pwd)
 prefix=${PREFIX:-/usr/local}
@@ -25,6 +25,12 @@ put_proved_by() {
     install -m 644 "$by" "$root$prefix/share/doc/pkder/PROVED-BY"
 }
 
+# put_completion FILE PLACE: the file of docs/completions, in its place under share/
+put_completion() {
+    mkdir -p "$(dirname "$root$prefix/share/$2")"
+    install -m 644 "$top/docs/completions/$1" "$root$prefix/share/$2"
+}
+
 put_program() {
     program=$top/crates/pkder/out/pkder
     needs "$program" "run 'python3 tools/build.py'"
@@ -32,6 +38,9 @@ put_program() {
     install -m 755 "$program" "$root$prefix/bin/pkder"
     install -m 644 "$top/docs/pkder.1" "$root$prefix/share/man/man1/pkder.1"
     install -m 644 "$top/docs/manual.md" "$top/docs/formats.md" "$root$prefix/share/doc/pkder"
+    put_completion pkder.bash bash-completion/completions/pkder
+    put_completion _pkder zsh/site-functions/_pkder
+    put_completion pkder.fish fish/vendor_completions.d/pkder.fish
     put_proved_by "$program"
 }
 

@@ -17,7 +17,7 @@ RUSTFMT = ("rustfmt", "--config-path", "interface/rust", "--check", "--color", "
 LOOKS = [
     (("*.py",), ("python3", "-c", PARSED), "python3"),
     (("*.py",), ("flake8",), "flake8"),
-    (("*.sh", ".ci/run"), ("shellcheck",), "shellcheck"),
+    (("*.sh", "*.bash", ".ci/run"), ("shellcheck",), "shellcheck"),
     (("*.c", "*.h"), ("clang-format", "--dry-run", "-Werror"), "clang-format"),
     (("interface/rust/*.rs",), (*RUSTFMT, "2021"), "rustfmt"),
     (("bench/*.rs",), (*RUSTFMT, "2024"), "none; rustup has a later rustfmt"),
