@@ -5,6 +5,7 @@ Of each row of the table: its contents are those of its arcs (X.690 8.19), and o
 or of the name that openssl has for it; no contents, no arcs and no name stand there twice. Where the machine has no
 openssl the names aren't compared, and that is said; so is which of the names of LATER its openssl hasn't yet. Each
 difference has a line; the last line is 'identifiers: N passed, M failed'."""
+import functools
 import os
 import re
 import shutil
@@ -64,10 +65,22 @@ def wrong(row, compared):
         yield f"{name}: openssl has {by_openssl(name).hex(' ')}, and not {contents.hex(' ')}"
 
 
-def main():
+@functools.cache
+def table():
+    """The text of the table, and its rows."""
     with open(f"{TOP}/{TABLE}", encoding="utf-8") as it:
         text = it.read()
-    rows, has_openssl = ROW.findall(text), shutil.which("openssl") is not None
+    return text, ROW.findall(text)
+
+
+@functools.cache
+def known_contents():
+    """The contents octets that have a name."""
+    return {contents_of(row[1]) for row in table()[1]}
+
+
+def main():
+    (text, rows), has_openssl = table(), shutil.which("openssl") is not None
     if not has_openssl:
         print("left out: no openssl (Debian: openssl), so the names aren't compared")
     names = [row[0] for row in rows]

@@ -1,15 +1,15 @@
 #!/usr/bin/env python3
 """logic.py: whether the toolchain at hand has the logic that the proofs are for, and the version stands everywhere.
 
-VERSION in crates/pkder/src/command.rt has both, the number and the logic. It takes a second and proves nothing. The
-last line is 'logic: N passed, M failed'."""
+VERSION in crates/pk_explain/src/version.rt has both, the number and the logic. It takes a second and proves nothing.
+The last line is 'logic: N passed, M failed'."""
 import os
 import re
 import subprocess
 import sys
 
 TOP = os.path.dirname(os.path.dirname(os.path.realpath(__file__)))
-SOURCE = "crates/pkder/src/command.rt"
+SOURCE = "crates/pk_explain/src/version.rt"
 NUMBERED = ("interface/pkder.pc.in", "interface/python/pyproject.toml", "interface/rust/Cargo.toml",
             "interface/rust/Cargo.lock")
 ANOTHER = """\

@@ -25,6 +25,7 @@ FIRST = ("logic", "records", "lint", "proofs")
 ROWS = ["python3", "tools/rows.py"]
 GROWTHS = ["python3", "tools/refused_growths.py"]
 TRANSCRIPTS = ["python3", "tools/transcripts.py", "README.md", "docs/manual.md"]
+EXPLAINED = ("answers", "fields", "places", "reports", "pairs")
 ALLOCATIONS = ["sh", "tools/refuse_each_allocation.sh"]
 # `rt ci` (every crate, a few edits by the toolchain's own means, each program's stored run), and the library
 PROOFS = ["python3", "tools/build.py", "--again"]
@@ -63,7 +64,7 @@ def allocating():
     kinds = ("key p256", "ec k256-sec1-indefinite", "request request-indefinite", "public public-indefinite",
              "encrypted encrypted-indefinite", "package package-indefinite")
     for kind, name in map(str.split, kinds):
-        for command in ("show", "check", "normalise"):
+        for command in ("show", "check", "explain", "normalise"):
             yield f"examples/{name}.der", command, "--kind", kind
     for part in ("info", "algorithm", "key", "signature"):
         yield "examples/request-indefinite.der", "signed", "--part", part
@@ -75,7 +76,8 @@ def parts(program=build.PROGRAM):
         "logic": lambda: [["python3", "tools/logic.py"]],
         "records": lambda: [["python3", "tools/edits.py", "--check"], ["python3", "tools/try_edits.py"],
                             ["python3", "tools/what_to_read.py", "--check"],
-                            ["python3", "tools/shape_names.py"], ["python3", "tools/identifier_names.py"]],
+                            ["python3", "tools/shape_names.py"], ["python3", "tools/identifier_names.py"],
+                            ["python3", "tools/advice_words.py"], ["python3", "tools/report_schema.py"]],
         "lint": lambda: [["python3", "tools/lint.py"]],
         "proofs": lambda: [PROOFS],
         "edits": lambda: [EDITS],
@@ -92,6 +94,7 @@ def parts(program=build.PROGRAM):
             ["python3", "tools/random_documents.py", *builds(program)],
             ["python3", "tools/hostile_families.py", *builds(program)],
         ],
+        "explained": lambda: [["python3", f"tools/explained_{it}.py", *builds(program)] for it in EXPLAINED],
         "growths": lambda: [[*GROWTHS, built("rows"), *tables("rows")]],
     }
 

@@ -5,7 +5,7 @@ _pkder() {
     if [ "$before" = "=" ]; then before=${COMP_WORDS[COMP_CWORD - 2]}; fi
     if [ "$word" = "=" ]; then word=; fi
     if [ "$COMP_CWORD" = 1 ]; then
-        words="show check normalise signed --help --version"
+        words="show check explain normalise signed --help --version"
     else
         case ${COMP_WORDS[1]}:$before in
             show:--kind) words="key ec request public encrypted package" ;;
@@ -16,6 +16,10 @@ _pkder() {
             check:--depth) words="" ;;
             check:--octets) words="" ;;
             check:*) words="--kind --depth --octets --help" ;;
+            explain:--kind) words="key ec request public encrypted package" ;;
+            explain:--depth) words="" ;;
+            explain:--octets) words="" ;;
+            explain:*) words="--kind --depth --octets --all --json --help" ;;
             normalise:--kind) words="key ec request public encrypted package" ;;
             normalise:--depth) words="" ;;
             normalise:--octets) words="" ;;

@@ -3,13 +3,14 @@ use Rattle.std.proofs.Common.{◌≡◌, ◌∙◌, Bool, ap, false, inl, inr, r
 use Rattle.pkder.specs.Endings.{EndsAs, IsWhole, has_failed_read}
 use Rattle.pkder.specs.Replies.{FailedBy}
 use Rattle.pkder.specs.declared.outcome.Outcome.{Outcome}
-use Rattle.pkder.specs.declared.outcome.Outcome.TheVariants.{Done, NotDer, Fault, ReadFailed, WriteFailed, Memory}
+use Rattle.pkder.specs.declared.outcome.Outcome.TheVariants.{Done, NotDer, Fault, Explained, ReadFailed, WriteFailed, Memory}
 
 reads_fail : (outcome : Outcome) (source target : Bool) → FailedBy outcome source target
     → source ≡ has_failed_read outcome
 reads_fail Done source target h = h.0
 reads_fail (NotDer at) source target h = h.0
 reads_fail (Fault found) source target h = h.0
+reads_fail (Explained found) source target h = h.0
 reads_fail (ReadFailed at) source target h = h.0
 reads_fail (WriteFailed count) source target h = h.0
 reads_fail Memory source target h = h.0
@@ -18,6 +19,7 @@ whole_reads : (outcome : Outcome) → IsWhole outcome → has_failed_read outcom
 whole_reads Done whole = refl
 whole_reads (NotDer at) whole = refl
 whole_reads (Fault found) whole = absurd whole
+whole_reads (Explained found) whole = refl
 whole_reads (ReadFailed at) whole = absurd whole
 whole_reads (WriteFailed count) whole = absurd whole
 whole_reads Memory whole = absurd whole

@@ -10,32 +10,46 @@ use Rattle.x690.specs.Premises.{Lawful}
 use Rattle.x690.specs.DerTexts.{der}
 use Rattle.x690.specs.TypeTerms.{TypeTerm}
 use Rattle.x690.specs.Values.{Same, Value}
-use Rattle.asn_documents.specs.Checked.{CheckedAs}
 use Rattle.asn_documents.specs.Normalised.{FailedAs, NormalisedAs, Took, WrittenInPart}
 use Rattle.asn_documents.specs.ReadValues.{ReadsValue, StopsReading}
 use Rattle.asn_documents.specs.WholeInputs.{RefusedWhole}
 use Rattle.asn_documents.specs.WrittenValues.{WritesText}
 use Rattle.asn_documents.specs.declared.normalise.NormaliseError.TheVariants.{Read}
 use Rattle.asn_documents.proofs.Normalising.{took_as}
-use Rattle.pkder.specs.Outcomes.{verdict_of}
+use Rattle.pk_reports.specs.declared.report.Answer.{Answer}
+use Rattle.pk_reports.specs.declared.report.Answer.TheVariants.{Der, NotDer, Refused}
+use Rattle.pkder.specs.Endings.{IsWhole}
 use Rattle.pkder.specs.declared.outcome.Outcome.{Outcome}
 use Rattle.pkder.specs.declared.outcome.Outcome.TheVariants as outcomes
-use Rattle.pkder.specs.Replies.{DueOfCheck, DueOfValue, FailedBy, IsSilent, RepliedTo, RepliedWith, Unreadable, WroteText, checked_outcome, unread_outcome, written_outcome}
+use Rattle.pkder.specs.Replies.{DueOfValue, FailedBy, IsSilent, RepliedAs, RepliedTo, Unreadable, WroteText, checked_outcome, explained_outcome, unread_outcome, written_outcome}
 
 -- ---- what was not read
 
-module _ (limits : Limits) (type : TypeTerm) (Due : Outcome → List ℕ → Type 0)
-    (before after old new : Option (List ℕ)) where
-  unreadable : (error : ReadError) → Unreadable limits type error before after
-      → RepliedWith limits type Due (unread_outcome error) before after old new
-  unreadable (FaultRead found) h = h
-  unreadable (ReadAt at) h = h
-  unreadable MemoryRead h = h
+module _ (Stopped : ReadError → Type 0) (Due : Outcome → List ℕ → Type 0) (old new : Option (List ℕ)) where
+  stopped : (error : ReadError) → Stopped error → RepliedAs Stopped Due (unread_outcome error) old new
+  stopped (FaultRead found) h = h
+  stopped (ReadAt at) h = h
+  stopped MemoryRead h = h
 
-  pub unread_replies : (error : ReadError) (outcome : Outcome) → outcome ≡ unread_outcome error
-      → Unreadable limits type error before after → RepliedWith limits type Due outcome before after old new
-  unread_replies error outcome is h =
-      subst (λ o. RepliedWith limits type Due o before after old new) (sym is) (unreadable error h)
+  pub unread_replies : (error : ReadError) (outcome : Outcome) → outcome ≡ unread_outcome error → Stopped error
+      → RepliedAs Stopped Due outcome old new
+  unread_replies error outcome is h = subst (λ o. RepliedAs Stopped Due o old new) (sym is) (stopped error h)
+
+-- What is due and what stops a run may be said otherwise.
+pub replies_as : (Stopped Halted : ReadError → Type 0) (Due Owed : Outcome → List ℕ → Type 0)
+    (old new : Option (List ℕ)) → ((error : ReadError) → Stopped error → Halted error)
+    → ((outcome : Outcome) (text : List ℕ) → Due outcome text → Owed outcome text)
+    → (outcome : Outcome) → RepliedAs Stopped Due outcome old new → RepliedAs Halted Owed outcome old new
+replies_as Stopped Halted Due Owed old new halts owes outcomes.Done h = (h.0, owes outcomes.Done h.0 h.1, h.2)
+replies_as Stopped Halted Due Owed old new halts owes (outcomes.NotDer at) h =
+    (h.0, owes (outcomes.NotDer at) h.0 h.1, h.2)
+replies_as Stopped Halted Due Owed old new halts owes (outcomes.Explained found) h =
+    (h.0, owes (outcomes.Explained found) h.0 h.1, h.2)
+replies_as Stopped Halted Due Owed old new halts owes (outcomes.WriteFailed count) h =
+    (h.0, h.1, owes h.1 h.0 h.2, h.3, h.4)
+replies_as Stopped Halted Due Owed old new halts owes (outcomes.Fault found) h = halts (FaultRead found) h
+replies_as Stopped Halted Due Owed old new halts owes (outcomes.ReadFailed at) h = halts (ReadAt at) h
+replies_as Stopped Halted Due Owed old new halts owes outcomes.Memory h = halts MemoryRead h
 
 unread_failed : (error : ReadError) (source target : Bool) → FailedAs (Read error) source target
     → FailedBy (unread_outcome error) source target
@@ -66,45 +80,56 @@ no_memory limits type (Some before) (Some after) octets text takes spells fit = 
 -- ---- what is written
 
 -- all of what is due, or its first octets
-pub written_replies : (limits : Limits) (type : TypeTerm) (Due : Outcome → List ℕ → Type 0)
-    (before after old new : Option (List ℕ)) (place : Option ℕ) (text : List ℕ) (count : Result ℕ WriteError)
-    (failed : Bool) (outcome whole : Outcome)
-    → outcome ≡ written_outcome count whole → whole ≡ checked_outcome place → WritesText text old new failed count
-    → Due (checked_outcome place) text → RepliedWith limits type Due outcome before after old new
-written_replies limits type Due before after old new place text count failed outcome whole is whole_is writes due =
-    subst (λ o. RepliedWith limits type Due o before after old new) (sym (is ∙ ap (written_outcome count) whole_is))
-    (go count place writes due)
+pub written_replies : (Stopped : ReadError → Type 0) (Due : Outcome → List ℕ → Type 0) (old new : Option (List ℕ))
+    (text : List ℕ) (count : Result ℕ WriteError) (failed : Bool) (outcome whole : Outcome)
+    → outcome ≡ written_outcome count whole → IsWhole whole → WritesText text old new failed count → Due whole text
+    → RepliedAs Stopped Due outcome old new
+written_replies Stopped Due old new text count failed outcome whole is ends writes due =
+    subst (λ o. RepliedAs Stopped Due o old new) (sym is) (go count whole ends writes due)
   where
-    go : (count : Result ℕ WriteError) (place : Option ℕ) → WritesText text old new failed count
-        → Due (checked_outcome place) text
-        → RepliedWith limits type Due (written_outcome count (checked_outcome place)) before after old new
-    go (Ok n) None writes due = (text, due, writes.1)
-    go (Ok n) (Some at) writes due = (text, due, writes.1)
-    go (Err error) place writes due = (text, checked_outcome place, due, writes.0, writes.1)
+    go : (count : Result ℕ WriteError) (whole : Outcome) → IsWhole whole → WritesText text old new failed count
+        → Due whole text
+        → RepliedAs Stopped Due (written_outcome count whole) old new
+    go (Ok n) outcomes.Done ends writes due = (text, due, writes.1)
+    go (Ok n) (outcomes.NotDer at) ends writes due = (text, due, writes.1)
+    go (Ok n) (outcomes.Explained found) ends writes due = (text, due, writes.1)
+    go (Ok n) (outcomes.Fault found) ends writes due = absurd ends
+    go (Ok n) (outcomes.ReadFailed at) ends writes due = absurd ends
+    go (Ok n) (outcomes.WriteFailed count) ends writes due = absurd ends
+    go (Ok n) outcomes.Memory ends writes due = absurd ends
+    go (Err error) whole ends writes due = (text, whole, due, writes.0, writes.1)
 
-pub written_speaks : (place : Option ℕ) (count : Result ℕ WriteError) (outcome whole : Outcome)
-    → outcome ≡ written_outcome count whole → whole ≡ checked_outcome place → IsSilent outcome → ⊥
-written_speaks place count outcome whole is whole_is silent =
-    go count place (subst IsSilent (is ∙ ap (written_outcome count) whole_is) silent)
+pub written_speaks : (count : Result ℕ WriteError) (outcome whole : Outcome)
+    → outcome ≡ written_outcome count whole → IsWhole whole → IsSilent outcome → ⊥
+written_speaks count outcome whole is ends silent = go count whole ends (subst IsSilent is silent)
   where
-    go : (count : Result ℕ WriteError) (place : Option ℕ) → IsSilent (written_outcome count (checked_outcome place)) → ⊥
-    go (Ok n) None h = h
-    go (Ok n) (Some at) h = h
-    go (Err error) place h = h
+    go : (count : Result ℕ WriteError) (whole : Outcome) → IsWhole whole → IsSilent (written_outcome count whole) → ⊥
+    go (Ok n) outcomes.Done ends h = h
+    go (Ok n) (outcomes.NotDer at) ends h = h
+    go (Ok n) (outcomes.Explained found) ends h = h
+    go (Ok n) (outcomes.Fault found) ends h = ends
+    go (Ok n) (outcomes.ReadFailed at) ends h = ends
+    go (Ok n) (outcomes.WriteFailed count) ends h = ends
+    go (Ok n) outcomes.Memory ends h = ends
+    go (Err error) whole ends h = h
 
-pub written_fails : (text : List ℕ) (old new : Option (List ℕ)) (place : Option ℕ) (count : Result ℕ WriteError)
+pub written_fails : (text : List ℕ) (old new : Option (List ℕ)) (count : Result ℕ WriteError)
     (outcome whole : Outcome) (source target : Bool)
-    → outcome ≡ written_outcome count whole → whole ≡ checked_outcome place → WritesText text old new target count
-    → source ≡ false
+    → outcome ≡ written_outcome count whole → IsWhole whole → WritesText text old new target count → source ≡ false
     → FailedBy outcome source target
-written_fails text old new place count outcome whole source target is whole_is writes fine =
-    subst (λ o. FailedBy o source target) (sym (is ∙ ap (written_outcome count) whole_is)) (go count place writes)
+written_fails text old new count outcome whole source target is ends writes fine =
+    subst (λ o. FailedBy o source target) (sym is) (go count whole ends writes)
   where
-    go : (count : Result ℕ WriteError) (place : Option ℕ) → WritesText text old new target count
-        → FailedBy (written_outcome count (checked_outcome place)) source target
-    go (Ok n) None writes = (fine, writes.2)
-    go (Ok n) (Some at) writes = (fine, writes.2)
-    go (Err error) place writes = (fine, writes.2)
+    go : (count : Result ℕ WriteError) (whole : Outcome) → IsWhole whole → WritesText text old new target count
+        → FailedBy (written_outcome count whole) source target
+    go (Ok n) outcomes.Done ends writes = (fine, writes.2)
+    go (Ok n) (outcomes.NotDer at) ends writes = (fine, writes.2)
+    go (Ok n) (outcomes.Explained found) ends writes = (fine, writes.2)
+    go (Ok n) (outcomes.Fault found) ends writes = absurd ends
+    go (Ok n) (outcomes.ReadFailed at) ends writes = absurd ends
+    go (Ok n) (outcomes.WriteFailed count) ends writes = absurd ends
+    go (Ok n) outcomes.Memory ends writes = absurd ends
+    go (Err error) whole ends writes = (fine, writes.2)
 
 -- ---- what is written in blocks
 
@@ -183,43 +208,43 @@ no_block limits type before old new = inl (stops_at_once limits type before, tt)
 
 -- a text, or nothing where there was no memory for it
 module _ {S E W : Type 0} (octets_of : S → List ℕ) (first last : W) (contents : W → Option (List ℕ))
-    (has_failed : W → Bool) (place : Option ℕ) (outcome whole : Outcome)
-    (whole_is : whole ≡ checked_outcome place) where
-  pub text_replies : (limits : Limits) (type : TypeTerm) (Due : Outcome → List ℕ → Type 0)
-      (before after : Option (List ℕ)) (due : List ℕ) (text : Result S E)
-      → IfOk text (λ t. octets_of t ≡ due) → Due (checked_outcome place) due
-      → Unreadable limits type MemoryRead before after
+    (has_failed : W → Bool) (outcome whole : Outcome) (ends : IsWhole whole) where
+  pub text_replies : (Stopped : ReadError → Type 0) (Due : Outcome → List ℕ → Type 0) (due : List ℕ)
+      (text : Result S E)
+      → IfOk text (λ t. octets_of t ≡ due) → Due whole due → Stopped MemoryRead
       → WroteText octets_of text whole outcome (contents first) (contents last) (has_failed last) (last ≡ first)
-      → RepliedWith limits type Due outcome before after (contents first) (contents last)
-  text_replies limits type Due before after due (Ok text) is owed none h =
-      written_replies limits type Due before after (contents first) (contents last) place (octets_of text) h.0
-      (has_failed last) outcome whole h.1 whole_is h.2 (subst (Due (checked_outcome place)) (sym is) owed)
-  text_replies limits type Due before after due (Err error) is owed none h =
-      subst (λ o. RepliedWith limits type Due o before after (contents first) (contents last)) (sym h.0) none
+      → RepliedAs Stopped Due outcome (contents first) (contents last)
+  text_replies Stopped Due due (Ok text) is owed none h =
+      written_replies Stopped Due (contents first) (contents last) (octets_of text) h.0 (has_failed last) outcome whole
+      h.1 ends h.2 (subst (Due whole) (sym is) owed)
+  text_replies Stopped Due due (Err error) is owed none h =
+      subst (λ o. RepliedAs Stopped Due o (contents first) (contents last)) (sym h.0) none
 
   pub text_silent : (text : Result S E)
       → WroteText octets_of text whole outcome (contents first) (contents last) (has_failed last) (last ≡ first)
       → IsSilent outcome → last ≡ first
-  text_silent (Ok text) h silent = absurd (written_speaks place h.0 outcome whole h.1 whole_is silent)
+  text_silent (Ok text) h silent = absurd (written_speaks h.0 outcome whole h.1 ends silent)
   text_silent (Err error) h silent = h.1
 
   pub text_fails : (text : Result S E) (source : Bool) → source ≡ false → has_failed first ≡ false
       → WroteText octets_of text whole outcome (contents first) (contents last) (has_failed last) (last ≡ first)
       → FailedBy outcome source (has_failed last)
   text_fails (Ok text) source fine writable h =
-      written_fails (octets_of text) (contents first) (contents last) place h.0 outcome whole source
-      (has_failed last) h.1 whole_is h.2 fine
+      written_fails (octets_of text) (contents first) (contents last) h.0 outcome whole source (has_failed last) h.1 ends
+      h.2 fine
   text_fails (Err error) source fine writable h =
       subst (λ o. FailedBy o source (has_failed last)) (sym h.0) (fine, ap has_failed h.1 ∙ writable)
 
 -- ---- what is due
 
-pub due_of_check : (limits : Limits) (type : TypeTerm) (before after : Option (List ℕ)) (taken : ℕ) (place : Option ℕ)
-    (text : List ℕ)
-    → (value : Value) × CheckedAs limits type value before after taken place → IsAtEnd after → text ≡ verdict_of place
-    → DueOfCheck limits type before after (checked_outcome place) text
-due_of_check limits type before after taken place text checked ends is =
-    (checked.0, taken, place, checked.1, ends, refl, is)
+pub checked_whole : (place : Option ℕ) (outcome : Outcome) → outcome ≡ checked_outcome place → IsWhole outcome
+checked_whole None outcome is = subst IsWhole (sym is) tt
+checked_whole (Some at) outcome is = subst IsWhole (sym is) tt
+
+pub explained_whole : (answer : Answer) (outcome : Outcome) → outcome ≡ explained_outcome answer → IsWhole outcome
+explained_whole Der outcome is = subst IsWhole (sym is) tt
+explained_whole (NotDer at) outcome is = subst IsWhole (sym is) tt
+explained_whole (Refused found) outcome is = subst IsWhole (sym is) tt
 
 pub due_of_value : (limits : Limits) (type : TypeTerm) (text_of : Value → List ℕ)
     → ((v w : Value) → Same v w → text_of v ≡ text_of w) → (before after : Option (List ℕ)) (value : Value) (taken : ℕ)

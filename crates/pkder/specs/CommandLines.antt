@@ -5,10 +5,11 @@ use Rattle.std.specs.Char.{is_control}
 use Rattle.std.specs.Char.Escape.{escape_default}
 use Rattle.std.specs.Int.{IsInRange}
 use Rattle.std.specs.List.{filter, flat_map, list_any}
-use Rattle.std.specs.Str.{chars}
+use Rattle.std.specs.Str.{bytes_eq, chars}
 use Rattle.std.specs.Str.Parse.{IsNumeral, digits_value, without_leading_plus}
 use Rattle.clap.specs.Words.{App, IsAmong, Row, Rule, Shape, Text, fault_of, first_of, new_app, new_rule, subcommand_of, with_rule, with_subcommand}
 use Rattle.clap.specs.Simple.{on_top}
+use Rattle.clap.specs.declared.builder.action.ArgAction.TheVariants.{SetTrue}
 use Rattle.clap.specs.declared.error.kind.ErrorKind.{ErrorKind}
 use Rattle.clap.specs.declared.error.kind.ErrorKind.TheVariants as errors
 use Rattle.tlv_core.specs.Limits.{IsLimits, Limits}
@@ -16,9 +17,10 @@ use Rattle.pk_documents.specs.declared.kind.Kind.{Kind}
 use Rattle.pk_documents.specs.declared.kind.Kind.TheVariants as kinds
 use Rattle.pk_documents.specs.declared.request_part.Part.{Part}
 use Rattle.pk_documents.specs.declared.request_part.Part.TheVariants as parts
+use Rattle.pk_explain.specs.declared.written.Form.{Form}
 use Rattle.pkder.specs.Outcomes.{line_feed}
 use Rattle.pkder.specs.declared.line.Action.{Action}
-use Rattle.pkder.specs.declared.line.Action.TheVariants.{Check, Normalise, Show, Signed}
+use Rattle.pkder.specs.declared.line.Action.TheVariants.{Check, Explain, Normalise, Show, Signed}
 use Rattle.pkder.specs.declared.line.BadValue.{BadValue}
 use Rattle.pkder.specs.declared.line.LineFault.{LineFault}
 use Rattle.pkder.specs.declared.line.LineFault.TheVariants as faults
@@ -41,6 +43,9 @@ abbrev pub octets_rule : Rule
 octets_rule = record
     (new_rule (codes "octets")) { long = Some (codes "octets"); value_names = 1; defaults = codes "1048576" ∷ [] }
 
+abbrev pub flag_rule : Text → Rule
+flag_rule name = record (new_rule name) { long = Some name; action = Some SetTrue }
+
 -- ---- the commands
 
 abbrev pub with_limit_rules : App → App
@@ -48,6 +53,11 @@ with_limit_rules app = with_rule (with_rule app depth_rule) octets_rule
 
 abbrev pub kind_shape : Text → Shape
 kind_shape name = (with_limit_rules (with_rule (new_app name) kind_rule)).top
+
+abbrev pub explain_shape : Shape
+explain_shape =
+    (with_rule (with_rule (with_limit_rules (with_rule (new_app (codes "explain")) kind_rule)) (flag_rule (codes "all")))
+    (flag_rule (codes "json"))).top
 
 abbrev pub signed_shape : Shape
 signed_shape = (with_limit_rules (with_rule (new_app (codes "signed")) part_rule)).top
@@ -60,14 +70,16 @@ top =
 abbrev pub program : App
 program =
     with_subcommand
+    (with_subcommand
     (with_subcommand (with_subcommand (with_subcommand top (kind_shape (codes "show"))) (kind_shape (codes "check")))
-    (kind_shape (codes "normalise"))) signed_shape
+    explain_shape) (kind_shape (codes "normalise"))) signed_shape
 
 -- ---- the words that are read
 
 abbrev pub command_name : Action → Text
 command_name Show = codes "show"
 command_name Check = codes "check"
+command_name (Explain form) = codes "explain"
 command_name Normalise = codes "normalise"
 command_name (Signed part) = codes "signed"
 
@@ -93,10 +105,18 @@ IsNumber text n = IsNumeral 10 (without_leading_plus text) × (digits_value 10 (
 abbrev pub value_of : Text → List Row → Text
 value_of id rows = unwrap_or (first_of id rows) []
 
+-- a flag is given
+abbrev pub is_given : Text → List Row → Bool
+is_given id rows = bytes_eq (value_of id rows) (codes "true")
+
+abbrev pub form_of : List Row → Form
+form_of rows = record { json = is_given (codes "json") rows; all = is_given (codes "all") rows }
+
 -- Only `signed` has no kind: it reads a request.
 abbrev pub ReadsKind : Action → Kind → List Row → Type 0
 ReadsKind Show kind rows = value_of (codes "kind") rows ≡ kind_name kind
 ReadsKind Check kind rows = value_of (codes "kind") rows ≡ kind_name kind
+ReadsKind (Explain form) kind rows = (value_of (codes "kind") rows ≡ kind_name kind) × (form ≡ form_of rows)
 ReadsKind Normalise kind rows = value_of (codes "kind") rows ≡ kind_name kind
 ReadsKind (Signed part) kind rows = (value_of (codes "part") rows ≡ part_name part) × (kind ≡ kinds.Request)
 
@@ -154,7 +174,7 @@ BadPart rows bad =
 
 abbrev pub BadCommand : Text → BadValue → Type 0
 BadCommand name bad =
-    Names bad (codes "COMMAND") name (codes "show, check, normalise or signed")
+    Names bad (codes "COMMAND") name (codes "show, check, explain, normalise or signed")
     × ((action : Action) → name ≡ command_name action → ⊥)
 
 -- What the command of this name doesn't have. Only `signed` has a part, and no kind.

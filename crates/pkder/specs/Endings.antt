@@ -9,13 +9,14 @@ use Rattle.pkder.specs.Outcomes.{line_of}
 use Rattle.pkder.specs.Replies.{Replied}
 use Rattle.pkder.specs.declared.line.Task.{Task}
 use Rattle.pkder.specs.declared.outcome.Outcome.{Outcome}
-use Rattle.pkder.specs.declared.outcome.Outcome.TheVariants.{Done, NotDer, Fault, ReadFailed, WriteFailed, Memory}
+use Rattle.pkder.specs.declared.outcome.Outcome.TheVariants.{Done, NotDer, Fault, Explained, ReadFailed, WriteFailed, Memory}
 
 -- it says that all that was due is written
 abbrev pub IsWhole : Outcome → Type 0
 IsWhole Done = Unit {0}
 IsWhole (NotDer at) = Unit {0}
 IsWhole (Fault found) = ⊥
+IsWhole (Explained found) = Unit {0}
 IsWhole (ReadFailed at) = ⊥
 IsWhole (WriteFailed count) = ⊥
 IsWhole Memory = ⊥
@@ -25,6 +26,7 @@ abbrev pub has_failed_read : Outcome → Bool
 has_failed_read Done = false
 has_failed_read (NotDer at) = false
 has_failed_read (Fault found) = false
+has_failed_read (Explained found) = false
 has_failed_read (ReadFailed at) = true
 has_failed_read (WriteFailed count) = false
 has_failed_read Memory = false

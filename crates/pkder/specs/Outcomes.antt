@@ -3,12 +3,13 @@ use Rattle.std.specs.Prelude.{ℕ, List, [], ◌∷◌, ◌++◌, codes, decimal
 use Rattle.tlv_core.specs.Reasons.{name_of}
 use Rattle.tlv_core.specs.declared.reason.Reason.{Reason}
 use Rattle.pkder.specs.declared.outcome.Outcome.{Outcome}
-use Rattle.pkder.specs.declared.outcome.Outcome.TheVariants.{Done, NotDer, Fault, ReadFailed, WriteFailed, Memory}
+use Rattle.pkder.specs.declared.outcome.Outcome.TheVariants.{Done, NotDer, Fault, Explained, ReadFailed, WriteFailed, Memory}
 
 abbrev pub status_of : Outcome → ℕ
 status_of Done = 0
 status_of (NotDer at) = 1
 status_of (Fault fault) = 2
+status_of (Explained fault) = 2
 status_of (ReadFailed at) = 3
 status_of (WriteFailed after) = 3
 status_of Memory = 3
@@ -29,6 +30,7 @@ abbrev pub line_of : Outcome → List ℕ
 line_of Done = []
 line_of (NotDer at) = []
 line_of (Fault fault) = codes "fault at " ++ place_text fault.at fault.why ++ inside_text fault.inside ++ line_feed
+line_of (Explained fault) = []
 line_of (ReadFailed at) = codes "read failed at " ++ decimal at ++ line_feed
 line_of (WriteFailed after) = codes "write failed after " ++ decimal after ++ line_feed
 line_of Memory = codes "out of memory" ++ line_feed

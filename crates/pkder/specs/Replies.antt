@@ -1,6 +1,6 @@
 -- What a run answers and writes. Octets are told before the call and after it, where the source
 -- or the target tells them.
-use Rattle.std.specs.Prelude.{◌≡◌, ◌≤◌, ◌⊎◌, ℕ, Bool, Err, List, None, Ok, Option, Result, Some, false, length, take, true}
+use Rattle.std.specs.Prelude.{◌≡◌, ◌≤◌, ◌⊎◌, ◌+◌, ℕ, Bool, Err, List, None, Ok, Option, Result, Some, false, length, take, true}
 use Rattle.std.specs.Io.KnownBytes.{Appends, IsAtEnd}
 use Rattle.tlv_core.specs.Limits.{Limits}
 use Rattle.tlv_core.specs.declared.fault.ReadError.{ReadError}
@@ -20,13 +20,18 @@ use Rattle.pk_documents.specs.RequestParts.{part_of}
 use Rattle.pk_documents.specs.declared.document.Document.{Document}
 use Rattle.pk_documents.specs.declared.kind.Kind.{Kind}
 use Rattle.pk_documents.specs.declared.kind.Kind.TheVariants.{Request}
+use Rattle.pk_explain.specs.Written.{IsWritten}
+use Rattle.pk_explain.specs.declared.written.Form.{Form}
+use Rattle.pk_reports.specs.declared.report.Answer.{Answer}
+use Rattle.pk_reports.specs.declared.report.Answer.TheVariants as answers
 use Rattle.pk_show.specs.Shown.{document_lines}
+use Rattle.pkder.specs.Inputs.{StopsTaking, TakesFirst}
 use Rattle.pkder.specs.Outcomes.{verdict_of}
 use Rattle.pkder.specs.declared.line.Action.{Action}
-use Rattle.pkder.specs.declared.line.Action.TheVariants.{Check, Normalise, Show, Signed}
+use Rattle.pkder.specs.declared.line.Action.TheVariants.{Check, Explain, Normalise, Show, Signed}
 use Rattle.pkder.specs.declared.line.Task.{Task}
 use Rattle.pkder.specs.declared.outcome.Outcome.{Outcome}
-use Rattle.pkder.specs.declared.outcome.Outcome.TheVariants.{Done, NotDer, Fault, ReadFailed, WriteFailed, Memory}
+use Rattle.pkder.specs.declared.outcome.Outcome.TheVariants.{Done, NotDer, Fault, Explained, ReadFailed, WriteFailed, Memory}
 
 -- A value was taken, all of the input, and its DER text appended.
 abbrev pub DoneWith : Limits → TypeTerm → Option (List ℕ) → Option (List ℕ) → Option (List ℕ) → Option (List ℕ) → Type 0
@@ -48,6 +53,7 @@ RepliedTo limits type (WriteFailed count) before after old new =
     RefusedWhole limits type (Write (record { written = count })) before after old new
 RepliedTo limits type Memory before after old new = RefusedWhole limits type (Read MemoryRead) before after old new
 RepliedTo limits type (NotDer at) before after old new = ⊥
+RepliedTo limits type (Explained found) before after old new = ⊥
 
 -- Why nothing was read that is all of the input.
 abbrev pub Unreadable : Limits → TypeTerm → ReadError → Option (List ℕ) → Option (List ℕ) → Type 0
@@ -55,17 +61,23 @@ Unreadable limits type error before after =
     Unchecked limits type error before after ⊎ Followed limits type error before after
 
 -- What a run answers that writes a text which `Due` names, by the outcome where all of it is out: the text is out, or,
--- where the writer failed, so many of its first octets.
+-- where the writer failed, so many of its first octets. Where there is no text, `Stopped` says why.
+abbrev pub RepliedAs : (ReadError → Type 0) → (Outcome → List ℕ → Type 0) → Outcome → Option (List ℕ)
+    → Option (List ℕ) → Type 0
+RepliedAs Stopped Due Done old new = (text : List ℕ) × Due Done text × Appends old new text
+RepliedAs Stopped Due (NotDer at) old new = (text : List ℕ) × Due (NotDer at) text × Appends old new text
+RepliedAs Stopped Due (Explained found) old new = (text : List ℕ) × Due (Explained found) text × Appends old new text
+RepliedAs Stopped Due (WriteFailed count) old new =
+    (text : List ℕ) × (whole : Outcome) × Due whole text × (count ≤ length text) × Appends old new (take count text)
+RepliedAs Stopped Due (Fault found) old new = Stopped (FaultRead found)
+RepliedAs Stopped Due (ReadFailed at) old new = Stopped (ReadAt at)
+RepliedAs Stopped Due Memory old new = Stopped MemoryRead
+
+-- So a run answers that reads a document as it comes.
 abbrev pub RepliedWith : Limits → TypeTerm → (Outcome → List ℕ → Type 0) → Outcome → Option (List ℕ) → Option (List ℕ)
     → Option (List ℕ) → Option (List ℕ) → Type 0
-RepliedWith limits type Due Done before after old new = (text : List ℕ) × Due Done text × Appends old new text
-RepliedWith limits type Due (NotDer at) before after old new =
-    (text : List ℕ) × Due (NotDer at) text × Appends old new text
-RepliedWith limits type Due (WriteFailed count) before after old new =
-    (text : List ℕ) × (whole : Outcome) × Due whole text × (count ≤ length text) × Appends old new (take count text)
-RepliedWith limits type Due (Fault found) before after old new = Unreadable limits type (FaultRead found) before after
-RepliedWith limits type Due (ReadFailed at) before after old new = Unreadable limits type (ReadAt at) before after
-RepliedWith limits type Due Memory before after old new = Unreadable limits type MemoryRead before after
+RepliedWith limits type Due outcome before after old new =
+    RepliedAs (λ error. Unreadable limits type error before after) Due outcome old new
 
 -- A value was taken, all of the input, and this is due of it.
 abbrev pub DueOfValue : Limits → TypeTerm → (Value → List ℕ) → Option (List ℕ) → Option (List ℕ) → Outcome → List ℕ
@@ -106,6 +118,24 @@ DueOfShow value_of limits kind before after outcome text =
     × (outcome ≡ Done)
     × (text ≡ document_lines document)
 
+-- how explaining ends, by what checking answers
+abbrev pub explained_outcome : Answer → Outcome
+explained_outcome answers.Der = Done
+explained_outcome (answers.NotDer at) = NotDer at
+explained_outcome (answers.Refused found) = Explained found
+
+-- The report of these octets is due.
+abbrev pub DueOfReport : Form → Limits → Kind → List ℕ → Outcome → List ℕ → Type 0
+DueOfReport form limits kind octets outcome text =
+    (answer : Answer) × IsWritten form limits kind octets text answer × (outcome ≡ explained_outcome answer)
+
+-- The first octets were taken, one more than the limit at most, and their report is due.
+abbrev pub DueOfExplain : Form → Limits → Kind → Option (List ℕ) → Option (List ℕ) → Outcome → List ℕ → Type 0
+DueOfExplain form limits kind before after outcome text =
+    (octets : List ℕ)
+    × TakesFirst (limits.octets + 1) before after octets
+    × DueOfReport form limits kind octets outcome text
+
 -- by the action and the values of documents; `Signed` reads a request
 abbrev pub RepliedBy : (Document → Value) → Action → Kind → Limits → Outcome → Option (List ℕ) → Option (List ℕ)
     → Option (List ℕ) → Option (List ℕ) → Type 0
@@ -115,6 +145,9 @@ RepliedBy value_of Show kind limits outcome before after old new =
     RepliedWith limits (type_of kind) (DueOfShow value_of limits kind before after) outcome before after old new
 RepliedBy value_of Check kind limits outcome before after old new =
     RepliedWith limits (type_of kind) (DueOfCheck limits (type_of kind) before after) outcome before after old new
+RepliedBy value_of (Explain form) kind limits outcome before after old new =
+    RepliedAs (λ error. StopsTaking (limits.octets + 1) error before after)
+    (DueOfExplain form limits kind before after) outcome old new
 RepliedBy value_of (Signed part) kind limits outcome before after old new =
     RepliedWith limits (type_of Request)
     (DueOfValue limits (type_of Request) (part_of part) before after) outcome before after old new
@@ -129,6 +162,7 @@ abbrev pub IsSilent : Outcome → Type 0
 IsSilent Done = ⊥
 IsSilent (NotDer at) = ⊥
 IsSilent (Fault found) = Unit {0}
+IsSilent (Explained found) = ⊥
 IsSilent (ReadFailed at) = Unit {0}
 IsSilent (WriteFailed count) = ⊥
 IsSilent Memory = Unit {0}
@@ -138,6 +172,7 @@ abbrev pub FailedBy : Outcome → Bool → Bool → Type 0
 FailedBy Done source target = (source ≡ false) × (target ≡ false)
 FailedBy (NotDer at) source target = (source ≡ false) × (target ≡ false)
 FailedBy (Fault found) source target = (source ≡ false) × (target ≡ false)
+FailedBy (Explained found) source target = (source ≡ false) × (target ≡ false)
 FailedBy (ReadFailed at) source target = (source ≡ true) × (target ≡ false)
 FailedBy (WriteFailed count) source target = (source ≡ false) × (target ≡ true)
 FailedBy Memory source target = (source ≡ false) × (target ≡ false)

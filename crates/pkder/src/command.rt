@@ -2,13 +2,11 @@
 ghost use Rattle.std.specs.Prelude.{◌≡◌, IfOk, false};
 ghost use Rattle.clap.specs.Words.{app_of, rule_of, shape_of};
 ghost use Rattle.clap.specs.declared.builder.command.Command.TheViews.{out-Command as fields_of};
-ghost use Rattle.pkder.specs.CommandLines.{depth_rule, kind_rule, kind_shape, octets_rule, part_rule, program, signed_shape, top, with_limit_rules};
+ghost use Rattle.pkder.specs.CommandLines.{depth_rule, explain_shape, flag_rule, kind_rule, kind_shape, octets_rule, part_rule, program, signed_shape, top, with_limit_rules};
 
-use clap::{Arg, Command};
+use clap::{Arg, ArgAction, Command};
+use pk_explain::version::VERSION;
 use std::alloc::{AllocError, Global};
-
-/// The program's version, and the logic that its proofs are for, by the name that `rt version` has for it.
-pub const VERSION: &str = "1.1.0, for logic dac8208d650f15bf";
 
 const KINDS_HELP: &str = "\
 Kinds, by the line that their PEM files begin with:
@@ -23,14 +21,15 @@ PEM itself is not read: decode what stands between its two lines from base64 fir
 The document is read from standard input, and has to be all of it:
   pkder show --kind key < FILE
   pkder check --kind key < FILE
+  pkder explain --kind key < FILE
   pkder normalise --kind key < FILE > NEW-FILE
 What normalise and signed write is binary, and private where the document is: send it into a file of your own, not to a
 terminal, and never into the file that is read. What show writes has no private octets, but all else that is in the
-document, as the challengePassword of a request.
+document, as the challengePassword of a request; what explain writes has neither.
 
 Exit statuses:
-  0  done; by check: the document is in DER
-  1  by check: the document is not in DER
+  0  done; by check and explain: the document is in DER
+  1  by check and explain: the document is not in DER
   2  the document is refused: 'fault at PLACE: REASON', places being octets counted from 0
   3  reading or writing failed, or memory ran out
   4  the command line is refused";
@@ -68,8 +67,10 @@ pub fn command<'a>(alloc: Global) -> Result<Command<'a>, AllocError>
         "write whether the document is in DER, or the first place where it is not",
     )?;
     let with_check = with_show.subcommand(check)?;
+    let explain = explain(alloc)?;
+    let with_explain = with_check.subcommand(explain)?;
     let normalise = on_kind(alloc, "normalise", "write the document's DER text")?;
-    let with_normalise = with_check.subcommand(normalise)?;
+    let with_normalise = with_explain.subcommand(normalise)?;
     let signed = signed(alloc)?;
     with_normalise.subcommand(signed)
 }
@@ -98,6 +99,20 @@ fn on_kind<'a>(alloc: Global, name: &'a str, about: &'a str) -> Result<Command<'
         .after_help(KINDS_HELP);
     let with_kind = command.arg(kind(alloc))?;
     with_limits(alloc, with_kind)
+}
+
+/// The command that writes a report of a document.
+fn explain<'a>(alloc: Global) -> Result<Command<'a>, AllocError>
+    ensures shape { IfOk result (λ command. shape_of command ≡ explain_shape) }
+    ensures local { IfOk result (λ command. (fields_of command).has_globals ≡ false) }
+{
+    let command = Command::new(alloc, "explain")
+        .about("write where and why the document is refused or is not in DER, and its elements")
+        .after_help(KINDS_HELP);
+    let with_kind = command.arg(kind(alloc))?;
+    let limited = with_limits(alloc, with_kind)?;
+    let with_all = limited.arg(flag(alloc, "all", "list all elements, however many there are"))?;
+    with_all.arg(flag(alloc, "json", "write one object of JSON, on one line"))
 }
 
 /// The command that reads a request and writes a part of it.
@@ -142,6 +157,16 @@ fn part<'a>(alloc: Global) -> Arg<'a>
         .value_name("PART")
         .help("which part is written: info, algorithm, key or signature")
         .default_value("info")
+}
+
+fn flag<'a>(alloc: Global, name: &'a str, help: &'a str) -> Arg<'a>
+    ensures rule { rule_of result ≡ flag_rule name.entry.now }
+    ensures local { result.global ≡ false }
+{
+    Arg::new(alloc, name)
+        .long(name)
+        .help(help)
+        .action(ArgAction::SetTrue)
 }
 
 fn depth<'a>(alloc: Global) -> Arg<'a>

@@ -3,7 +3,7 @@ ghost use Rattle.std.specs.Prelude.{◌≡◌, ◌++◌, ◌≤◌, ℕ, IfErr, 
 ghost use Rattle.std.specs.Char.Escape.{escape_default};
 ghost use Rattle.std.specs.List.{list_any};
 ghost use Rattle.clap.specs.Words.{found_of, kind_of, rows_of, subcommand_rows_of};
-ghost use Rattle.pkder.specs.CommandLines.{Asks, AsksNothing, BadKind, BadLimit, BadPart, BadTask, IsFaultOf, IsNumber, Means, MeansBy, MeansNothing, ReadsLimits, bad_value_line, controls_line, has_control, kind_name, part_name, quoted, value_of};
+ghost use Rattle.pkder.specs.CommandLines.{Asks, AsksNothing, BadKind, BadLimit, BadPart, BadTask, IsFaultOf, IsNumber, Means, MeansBy, MeansNothing, ReadsLimits, bad_value_line, controls_line, form_of, has_control, is_given, kind_name, part_name, quoted, value_of};
 ghost use Rattle.pkder.specs.declared.line.LineFault.TheVariants.{Memory};
 
 use crate::command::command;
@@ -11,6 +11,7 @@ use clap::error::ErrorKind;
 use clap::{ArgMatches, Error};
 use pk_documents::kind::Kind;
 use pk_documents::request_part::Part;
+use pk_explain::written::Form;
 use std::alloc::{AllocError, Global};
 use tlv_core::limits::Limits;
 
@@ -21,6 +22,8 @@ pub enum Action {
     Show,
     /// Write whether it is in DER.
     Check,
+    /// Write a report of it, refused or not.
+    Explain(Form),
     /// Write its DER text.
     Normalise,
     /// Write a part of a certification request.
@@ -200,6 +203,13 @@ fn read_task<'a>(name: &'a str, options: &ArgMatches<'a>) -> Result<Task, BadVal
             limits,
         });
     }
+    if name == "explain" {
+        return Ok(Task {
+            action: Action::Explain(read_form(options)),
+            kind,
+            limits,
+        });
+    }
     if name == "normalise" {
         return Ok(Task {
             action: Action::Normalise,
@@ -210,7 +220,7 @@ fn read_task<'a>(name: &'a str, options: &ArgMatches<'a>) -> Result<Task, BadVal
     Err(BadValue {
         option: "COMMAND",
         value: name,
-        wanted: "show, check, normalise or signed",
+        wanted: "show, check, explain, normalise or signed",
     })
 }
 
@@ -268,6 +278,23 @@ fn read_part<'a>(options: &ArgMatches<'a>) -> Result<Part, BadValue<'a>>
         value: text,
         wanted: "info, algorithm, key or signature",
     })
+}
+
+/// The form that the flags ask for.
+fn read_form(options: &ArgMatches<'_>) -> Form
+    ensures { result ≡ form_of (rows_of (found_of options.now)) }
+{
+    Form {
+        json: is_flagged(options, "json"),
+        all: is_flagged(options, "all"),
+    }
+}
+
+/// Whether a flag is given.
+fn is_flagged(options: &ArgMatches<'_>, id: &str) -> bool
+    ensures { result ≡ is_given id.now (rows_of (found_of options.now)) }
+{
+    value(options, id) == "true"
 }
 
 /// The value of an option, given or standing for it; no text where there is none.

@@ -13,6 +13,7 @@ ghost use Rattle.pkder.specs.Outcomes.{status_of};
 
 mod block_target;
 mod command;
+mod input;
 mod line;
 mod outcome;
 mod run;

@@ -15,6 +15,8 @@ pub enum Outcome {
     NotDer(u64),
     /// The document is refused, and nothing is written.
     Fault(DocumentFault),
+    /// The document is refused, and the report that says so is written.
+    Explained(DocumentFault),
     /// The reader failed after so many octets, and nothing is written.
     ReadFailed(u64),
     /// The writer failed after so many octets.
@@ -30,17 +32,17 @@ pub fn status(outcome: &Outcome) -> u8
     match outcome {
         Outcome::Done => 0,
         Outcome::NotDer(_) => 1,
-        Outcome::Fault(_) => 2,
+        Outcome::Fault(_) | Outcome::Explained(_) => 2,
         Outcome::ReadFailed(_) | Outcome::WriteFailed(_) | Outcome::Memory => 3,
     }
 }
 
-/// The line for standard error, ended by a line feed; empty for `Done` and `NotDer`.
+/// The line for standard error, ended by a line feed; empty where what is written says all.
 pub fn outcome_text(alloc: Global, outcome: &Outcome) -> Result<String, AllocError>
     ensures { IfOk result (λ text. string_bytes text ≡ line_of outcome.now) }
 {
     match outcome {
-        Outcome::Done | Outcome::NotDer(_) => Ok(String::new(alloc)),
+        Outcome::Done | Outcome::NotDer(_) | Outcome::Explained(_) => Ok(String::new(alloc)),
         Outcome::Fault(fault) => fault_line(alloc, fault),
         Outcome::ReadFailed(at) => number_line(alloc, "read failed at ", *at),
         Outcome::WriteFailed(after) => number_line(alloc, "write failed after ", *after),

@@ -1,12 +1,15 @@
 //! One task over one input.
-ghost use Rattle.std.specs.Prelude.{◌≡◌, false, string_bytes};
+ghost use Rattle.std.specs.Prelude.{◌≡◌, ◌+◌, false, string_bytes};
+ghost use Rattle.tlv_core.specs.declared.fault.ReadError.TheVariants as errors;
 ghost use Rattle.pk_documents.specs.Kinds.{type_of};
 ghost use Rattle.pk_documents.specs.RequestParts.{part_of};
 ghost use Rattle.pk_documents.specs.declared.kind.Kind.TheVariants as kinds;
 ghost use Rattle.asn_documents.specs.WrittenValues.{WritesText};
-ghost use Rattle.pkder.specs.Replies.{DueOfCheck, DueOfShow, DueOfValue, FailedBy, IsSilent, Replied, RepliedTo, RepliedWith, WroteText, checked_outcome, unread_outcome, written_outcome};
+ghost use Rattle.pkder.specs.Inputs.{StopsTaking};
+ghost use Rattle.pkder.specs.Replies.{DueOfCheck, DueOfExplain, DueOfReport, DueOfShow, DueOfValue, FailedBy, IsSilent, Replied, RepliedAs, RepliedTo, RepliedWith, WroteText, checked_outcome, explained_outcome, unread_outcome, written_outcome};
 
 use crate::block_target::{BlockTarget, Start, new_block};
+use crate::input::read_all;
 use crate::line::{Action, Task};
 use crate::outcome::{Outcome, verdict_text};
 use asn_documents::document::write_octets;
@@ -17,6 +20,8 @@ use pk_documents::document::{Document, Valued, read_whole_document};
 use pk_documents::kind::Kind;
 use pk_documents::normalise::{NormaliseError, normalise_whole_document};
 use pk_documents::request_part::{Part, write_part};
+use pk_explain::written::{Form, explain_text};
+use pk_reports::report::Answer;
 use pk_requests::request::CertificationRequest;
 use pk_show::show_text;
 use std::alloc::{AllocError, Global};
@@ -41,6 +46,7 @@ pub fn run<R: Source, W: Target>(alloc: Global, src: &mut R, dst: &mut W, task: 
     match task.action {
         Action::Show => show(alloc, src, dst, task.kind, task.limits),
         Action::Check => check(alloc, src, dst, task.kind, task.limits),
+        Action::Explain(form) => report(alloc, src, dst, task.kind, task.limits, form),
         Action::Normalise => normalise(alloc, src, dst, task.kind, task.limits),
         Action::Signed(part) => extract(alloc, src, dst, part, task.limits),
     }
@@ -87,6 +93,50 @@ fn check<R: Source, W: Target>(
     match check_whole_document(alloc, src, kind, limits) {
         Ok((_taken, place)) => write_text(verdict_text(alloc, place), dst, checked(place)),
         Err(error) => unread(&error),
+    }
+}
+
+/// Takes all of the input, or one octet more than the limit, and writes the report of that.
+fn report<R: Source, W: Target>(
+    alloc: Global,
+    src: &mut R,
+    dst: &mut W,
+    kind: Kind,
+    limits: Limits,
+    form: Form,
+) -> Outcome
+    requires readable { R.has_failed src.old ≡ false }
+    requires writable { W.has_failed dst.old ≡ false }
+    ensures replied { RepliedAs (λ error. StopsTaking (limits.octets + 1) error
+        (R.remaining src.old) (R.remaining src.new)) (DueOfExplain form limits kind
+        (R.remaining src.old) (R.remaining src.new)) result (W.contents dst.old) (W.contents dst.new) }
+    ensures unwritten { IsSilent result → dst.new ≡ dst.old }
+    ensures failed { FailedBy result (R.has_failed src.new) (W.has_failed dst.new) }
+{
+    match read_all(alloc, src, limits.octets() as usize + 1) {
+        Ok(octets) => write_report(alloc, octets.as_slice(), dst, kind, limits, form),
+        Err(error) => unread(&error),
+    }
+}
+
+/// Writes the report of octets that have to be one document.
+fn write_report<W: Target>(
+    alloc: Global,
+    octets: &[u8],
+    dst: &mut W,
+    kind: Kind,
+    limits: Limits,
+    form: Form,
+) -> Outcome
+    requires writable { W.has_failed dst.old ≡ false }
+    ensures replied { RepliedAs (λ error. error ≡ errors.Memory)
+        (DueOfReport form limits kind octets.now) result (W.contents dst.old) (W.contents dst.new) }
+    ensures unwritten { IsSilent result → dst.new ≡ dst.old }
+    ensures failed { FailedBy result false (W.has_failed dst.new) }
+{
+    match explain_text(alloc, octets, kind, limits, form) {
+        Ok((text, answer)) => write_text(Ok(text), dst, explained(&answer)),
+        Err(_) => Outcome::Memory,
     }
 }
 
@@ -248,6 +298,17 @@ fn checked(place: Option<u64>) -> Outcome
     match place {
         None => Outcome::Done,
         Some(at) => Outcome::NotDer(at),
+    }
+}
+
+/// How explaining ends, by what checking answers.
+fn explained(answer: &Answer) -> Outcome
+    ensures { result ≡ explained_outcome answer.now }
+{
+    match answer {
+        Answer::Der => Outcome::Done,
+        Answer::NotDer(at) => Outcome::NotDer(*at),
+        Answer::Refused(fault) => Outcome::Explained(*fault),
     }
 }
 

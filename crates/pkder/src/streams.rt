@@ -78,7 +78,10 @@ fn flushed<W: Write + Drop>(mut writer: W, outcome: Outcome) -> (Outcome, W)
 fn is_whole(outcome: &Outcome) -> bool
     ensures { MatchBool result (IsWhole outcome.now) (IsWhole outcome.now → ⊥) }
 {
-    matches!(outcome, Outcome::Done | Outcome::NotDer(_))
+    matches!(
+        outcome,
+        Outcome::Done | Outcome::NotDer(_) | Outcome::Explained(_)
+    )
 }
 
 /// The outcome where a writer isn't flushed: how many octets it kept back isn't told.

@@ -1,4 +1,4 @@
-use Rattle.std.proofs.Common.{◌∙◌, Err, IfOk, None, Ok, Result, ap, refl, rules}
+use Rattle.std.proofs.Common.{◌∙◌, Err, IfOk, Ok, Result, ap, refl, rules}
 use Rattle.x690.specs.Answers.{Spelled}
 use Rattle.x690.specs.DerTexts.{der}
 use Rattle.asn_documents.proofs.WholeInputs.{unread_whole}
@@ -8,7 +8,7 @@ use Rattle.pk_documents.specs.declared.kind.Kind.TheVariants.{Request}
 use Rattle.pk_requests.specs.contracts.request.CertificationRequestDerText.TheImpl as request_text
 use Rattle.pk_documents.proofs.LawfulKinds.{kinds_are_lawful}
 use Rattle.pk_documents.proofs.RequestParts.{part_same}
-use Rattle.pkder.specs.Replies.{DueOfValue}
+use Rattle.pkder.specs.Replies.{DueOfValue, Unreadable}
 use Rattle.pkder.specs.declared.outcome.Outcome.TheVariants as outcomes
 use Rattle.pkder.proofs.Replies.{due_of_value, no_memory, text_fails, text_replies, text_silent, unread_fails, unread_replies}
 use Rattle.pkder.proofs.run.extract.Goals as goal
@@ -30,8 +30,8 @@ returns-in-Ok-clause-replied g c =
     (search rules) reads c.in-Ok.ensures.ends in
     text_replies (λ _. part_of c.args.part (request_text.value-value.it c.in-Ok.request)) c.args.dst.now
     c.write_part_text.new.dst g.W.Target.contents
-    g.W.Target.has_failed None c.write_part_text.result outcomes.Done refl
-    l T (DueOfValue l T (part_of part) before after) before after _ c.new_block.result (is_due c.new_block.result refl)
+    g.W.Target.has_failed c.write_part_text.result outcomes.Done tt
+    (λ error. Unreadable l T error before after) (DueOfValue l T (part_of part) before after) _ c.new_block.result (is_due c.new_block.result refl)
     due
     (no_memory l T before after reads.octets (der (request_text.value-value.it c.in-Ok.request)) reads.takes
     (λ more. reads.answers more ∙ ap (Spelled (der (request_text.value-value.it c.in-Ok.request))) reads.taken_are)
@@ -42,13 +42,13 @@ pub returns-in-Ok-clause-unwritten : goal.returns-in-Ok-clause-unwritten
 returns-in-Ok-clause-unwritten g c =
     text_silent (λ _. part_of c.args.part (request_text.value-value.it c.in-Ok.request)) c.args.dst.now
     c.write_part_text.new.dst g.W.Target.contents
-    g.W.Target.has_failed None c.write_part_text.result outcomes.Done refl c.new_block.result c.write_part_text.ensures
+    g.W.Target.has_failed c.write_part_text.result outcomes.Done tt c.new_block.result c.write_part_text.ensures
 
 pub returns-in-Ok-clause-failed : goal.returns-in-Ok-clause-failed
 returns-in-Ok-clause-failed g c =
     text_fails (λ _. part_of c.args.part (request_text.value-value.it c.in-Ok.request)) c.args.dst.now
     c.write_part_text.new.dst g.W.Target.contents g.W.Target.has_failed
-    None c.write_part_text.result outcomes.Done refl c.new_block.result
+    c.write_part_text.result outcomes.Done tt c.new_block.result
     (g.R.Source.has_failed c.read_whole_input.new.src) c.in-Ok.ensures.read c.requires.writable
     c.write_part_text.ensures
 
@@ -59,8 +59,8 @@ returns-in-Err-clause-replied g c =
     let before = g.R.Source.remaining c.args.src.now in
     let after = g.R.Source.remaining c.read_whole_input.new.src in
     let contents = g.W.Target.contents c.args.dst.now in
-    unread_replies l T
-    (DueOfValue l T (part_of c.args.part) before after) before after contents contents c.in-Err.error _ c.unread.ensures
+    unread_replies (λ error. Unreadable l T error before after)
+    (DueOfValue l T (part_of c.args.part) before after) contents contents c.in-Err.error _ c.unread.ensures
     (unread_whole l T c.in-Err.error before after (kinds_are_lawful Request) c.in-Err.ensures.inside
     c.in-Err.ensures.reads)
 

@@ -1,4 +1,4 @@
-use Rattle.std.proofs.Common.{◌≡◌, None, [], ap, le_of_eq, refl, subst, sym, take}
+use Rattle.std.proofs.Common.{◌≡◌, [], ap, le_of_eq, refl, subst, sym, take}
 use Rattle.std.specs.Io.KnownBytes.{Appends, append_known}
 use Rattle.x690.specs.DerTexts.{der}
 use Rattle.asn_documents.specs.Normalised.{FailedAs, IsRead}
@@ -39,7 +39,7 @@ returns-in-Ok-clause-replied g c =
 
 pub returns-in-Ok-clause-unwritten : goal.returns-in-Ok-clause-unwritten
 returns-in-Ok-clause-unwritten g c = λ silent.
-    absurd (written_speaks None c.close-count.result c.written.result outcomes.Done c.written.ensures refl silent)
+    absurd (written_speaks c.close-count.result c.written.result outcomes.Done c.written.ensures tt silent)
 
 pub returns-in-Ok-clause-failed : goal.returns-in-Ok-clause-failed
 returns-in-Ok-clause-failed g c =
@@ -51,9 +51,9 @@ returns-in-Ok-clause-failed g c =
     c.requires.before) n.1.writes in
     at_last (λ w. FailedBy c.written.result (g.R.Source.has_failed c.normalise_whole_document.new.src)
     (g.W.Target.has_failed w)) (target_of c.close-count.new.self) _ c.into_target.ensures.now
-    (written_fails (der n.0) g.K.Start.before out None c.close-count.result c.written.result outcomes.Done
+    (written_fails (der n.0) g.K.Start.before out c.close-count.result c.written.result outcomes.Done
     (g.R.Source.has_failed c.normalise_whole_document.new.src) (has_failed_under c.close-count.new.self) c.written.ensures
-    refl
+    tt
     (c.close-count.ensures.out (der n.0) (n.1.written_are, begun, c.in-Ok.ensures.failed.1)) c.in-Ok.ensures.failed.0)
 
 pub returns-in-Err-Write-clause-replied : goal.returns-in-Err-Write-clause-replied
@@ -88,8 +88,8 @@ returns-in-Err-Write-clause-replied g c =
 
 pub returns-in-Err-Write-clause-unwritten : goal.returns-in-Err-Write-clause-unwritten
 returns-in-Err-Write-clause-unwritten g c = λ silent.
-    absurd (written_speaks None c.close-count-in-Err-Write.result c.written-in-Err-Write.result outcomes.Done
-    c.written-in-Err-Write.ensures refl silent)
+    absurd (written_speaks c.close-count-in-Err-Write.result c.written-in-Err-Write.result outcomes.Done
+    c.written-in-Err-Write.ensures tt silent)
 
 pub returns-in-Err-Write-clause-failed : goal.returns-in-Err-Write-clause-failed
 returns-in-Err-Write-clause-failed g c =
@@ -113,9 +113,9 @@ returns-in-Err-Write-clause-failed g c =
     (g.W.Target.contents c.args.dst.now) g.K.Start.before c.requires.before) part.writes in
     at_last (λ w. FailedBy c.written-in-Err-Write.result (g.R.Source.has_failed c.normalise_whole_document.new.src)
     (g.W.Target.has_failed w)) (target_of c.close-count-in-Err-Write.new.self) _ c.into_target-in-Err-Write.ensures.now
-    (written_fails (der refused.0.0) g.K.Start.before out None c.close-count-in-Err-Write.result
+    (written_fails (der refused.0.0) g.K.Start.before out c.close-count-in-Err-Write.result
     c.written-in-Err-Write.result outcomes.Done _ _
-    c.written-in-Err-Write.ensures refl (c.close-count-in-Err-Write.ensures.out (der refused.0.0)
+    c.written-in-Err-Write.ensures tt (c.close-count-in-Err-Write.ensures.out (der refused.0.0)
     (part.within, begun, failed.1)) failed.0)
 
 pub returns-in-Err-Read-clause-replied : goal.returns-in-Err-Read-clause-replied

@@ -1,0 +1,151 @@
+-- Why an element isn't in DER (X.690 clauses 10 and 11).
+use Rattle.std.specs.Prelude.{Bool, List, None, Option, Some, [], codes, cond, false, length, nat_le, true, ℕ, ◌-◌, ◌∷◌, ◌&&◌, ◌==◌, ◌||◌, ◌^◌, ◌%◌, ◌≡◌, ◌⊎◌, slice_get}
+use Rattle.std.specs.Option.{option_map}
+use Rattle.tlv_core.specs.Header.{der_header}
+use Rattle.tlv_core.specs.Identifier.{Tag}
+use Rattle.asn_names.specs.Levels.{holds_segments}
+use Rattle.asn_names.specs.declared.element.Element.{Element}
+use Rattle.asn_names.specs.declared.element.Step.{Step}
+use Rattle.asn_names.specs.declared.element.Step.TheVariants.{Field, Member, Outermost, Outside, Segment}
+use Rattle.asn_outline.specs.declared.announced.Announced.{Announced}
+use Rattle.asn_outline.specs.declared.event.Header.{Header}
+use Rattle.asn_shapes.specs.declared.shape.Shape.{Choice', Containing', DefinedBy', Leaf, ListOf', Named', Open, Private', Refused, Sequence', SetOf', Shape}
+use Rattle.pk_explain.specs.Contents.{contents_in}
+use Rattle.pk_explain.specs.Public.{is_field, sort_of}
+use Rattle.pk_explain.specs.declared.values.Sort.{Sort}
+use Rattle.pk_explain.specs.declared.values.Sort.TheVariants.{Bits, Boolean, Characters, Identifier, Integer, Null, Octets}
+use Rattle.pk_reports.specs.declared.report.Cause.{Cause}
+use Rattle.pk_reports.specs.declared.report.Cause.TheVariants as causes
+
+-- whether elements of the type and tag are strings
+abbrev pub is_string_type : Tag → Shape → Bool
+is_string_type tag (Leaf own contents) = true
+is_string_type tag (Containing' own p shape) = true
+is_string_type tag Open = holds_segments tag
+is_string_type tag (ListOf' own least p member) = false
+is_string_type tag (SetOf' own least p member) = false
+is_string_type tag (Sequence' own p fields) = false
+is_string_type tag (Refused own) = false
+is_string_type tag (DefinedBy' path identifiers p first q second) = false
+is_string_type tag (Choice' p first q second) = false
+is_string_type tag (Named' name p shape) = false
+is_string_type tag (Private' p shape) = false
+
+abbrev pub is_string_by : Tag → Option Shape → Bool
+is_string_by tag None = false
+is_string_by tag (Some shape) = is_string_type tag shape
+
+-- an element is a string in segments, which DER forbids (10.2)
+abbrev pub is_in_segments : Element → Bool
+is_in_segments element =
+    element.header.constructed && is_string_by element.header.tag (option_map (λ r. r.now) element.shape)
+
+-- the length octets are indefinite, or more than the fewest (10.1)
+abbrev pub cause_of_length : Header → ℕ → Option ℕ → Option Cause
+cause_of_length header contents None = Some causes.IndefiniteLength
+cause_of_length header contents (Some length') =
+    cond ((contents - header.at) == length (der_header header.tag false length')) None (Some causes.LongLength)
+
+abbrev pub length_cause_by : Header → Option Announced → Option Cause
+length_cause_by header None = None
+length_cause_by header (Some announced) = cause_of_length header announced.contents announced.length
+
+abbrev pub length_cause : Header → Option Cause
+length_cause header = length_cause_by header header.announced
+
+-- a default written out (11.5): critical is FALSE by default; TRUE by another octet than FF (11.1)
+abbrev pub boolean_cause : Step → List ℕ → Option Cause
+boolean_cause step [] = None
+boolean_cause step (octet ∷ []) =
+    cond ((octet == 0) && is_field step (codes "critical")) (Some causes.Default)
+    (cond ((octet == 0) || (octet == 255)) None (Some causes.True))
+boolean_cause step (octet ∷ (other ∷ octets)) = None
+
+-- the value of the lowest bit that is used, so many being unused
+abbrev pub unit_of : ℕ → ℕ
+unit_of unused = cond (nat_le unused 7) (2 ^ unused) 1
+
+abbrev pub last_bits_cause : ℕ → Option ℕ → Option Cause
+last_bits_cause unused None = None
+last_bits_cause unused (Some last) = cond ((last % unit_of unused) == 0) None (Some causes.UnusedBits)
+
+-- unused bits that aren't 0 (11.2.1)
+abbrev pub bits_cause : List ℕ → Option Cause
+bits_cause [] = None
+bits_cause (unused ∷ octets) = last_bits_cause unused (slice_get octets (length octets - 1))
+
+abbrev pub cause_in : Sort → Step → List ℕ → Option Cause
+cause_in Boolean step contents = boolean_cause step contents
+cause_in Bits step contents = bits_cause contents
+cause_in Integer step contents = None
+cause_in Null step contents = None
+cause_in Identifier step contents = None
+cause_in Characters step contents = None
+cause_in Octets step contents = None
+
+abbrev pub cause_in_contents : Element → Option (List ℕ) → Option Cause
+cause_in_contents element None = None
+cause_in_contents element (Some contents) = cause_in (sort_of element) element.step contents
+
+abbrev pub first_of_both : Option Cause → Option Cause → Option Cause
+first_of_both None other = other
+first_of_both (Some cause) other = Some cause
+
+-- Why an element with a place of its own isn't in DER, whatever is in it.
+abbrev pub cause_of : List ℕ → Element → Option Cause
+cause_of document element =
+    cond (is_in_segments element) (Some causes.Segments)
+    (first_of_both (length_cause element.header) (cause_in_contents element (contents_in document element)))
+
+abbrev pub cause_by : List ℕ → Element → Step → Option Cause
+cause_by document element (Segment number) = None
+cause_by document element Outermost = cause_of document element
+cause_by document element (Field name) = cause_of document element
+cause_by document element (Member number) = cause_of document element
+cause_by document element Outside = cause_of document element
+
+-- of a segment nothing is said: the string that it is in has the cause
+abbrev pub own_cause : List ℕ → Element → Option Cause
+own_cause document element = cause_by document element element.step
+
+abbrev pub is_set_type : Bool → Tag → Shape → Bool
+is_set_type constructed tag (SetOf' own least p member) = true
+is_set_type constructed tag Open = constructed && (tag.class == 0) && (tag.number == 17)
+is_set_type constructed tag (Leaf own contents) = false
+is_set_type constructed tag (ListOf' own least p member) = false
+is_set_type constructed tag (Sequence' own p fields) = false
+is_set_type constructed tag (Containing' own p shape) = false
+is_set_type constructed tag (Refused own) = false
+is_set_type constructed tag (DefinedBy' path identifiers p first q second) = false
+is_set_type constructed tag (Choice' p first q second) = false
+is_set_type constructed tag (Named' name p shape) = false
+is_set_type constructed tag (Private' p shape) = false
+
+abbrev pub is_set_by : Bool → Tag → Option Shape → Bool
+is_set_by constructed tag None = false
+is_set_by constructed tag (Some shape) = is_set_type constructed tag shape
+
+-- an element is a SET OF: by its type, by its tag where that is open
+abbrev pub is_set : Element → Bool
+is_set element =
+    is_set_by element.header.constructed element.header.tag (option_map (λ r. r.now) element.shape)
+
+-- The cause is the element's own; or it is the order of its members, where it is a SET OF and has no other (11.6).
+abbrev pub IsCause : List ℕ → Element → Option Cause → Type 0
+IsCause document element cause =
+    (cause ≡ own_cause document element)
+    ⊎ ((own_cause document element ≡ None) × (is_set element ≡ true) × (cause ≡ Some causes.Order))
+
+-- a cause for each element
+abbrev pub AreCauses : List ℕ → List Element → List (Option Cause) → Type 0
+AreCauses document [] [] = Unit {0}
+AreCauses document [] (cause ∷ causes') = ⊥
+AreCauses document (element ∷ elements) [] = ⊥
+AreCauses document (element ∷ elements) (cause ∷ causes') =
+    IsCause document element cause × AreCauses document elements causes'
+
+-- the members of the SET OF of this number aren't in order, and it has no other cause
+abbrev pub MayBeOrder : List Element → List (Option Cause) → ℕ → Type 0
+MayBeOrder elements causes' number =
+    (element : Element) × (slice_get elements number ≡ Some element) × (is_set element ≡ true)
+    × (slice_get causes' number ≡ Some None)

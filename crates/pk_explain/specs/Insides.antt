@@ -1,0 +1,86 @@
+-- The elements of a document by its outline, and the documents inside its OCTET STRINGs.
+use Rattle.std.specs.Prelude.{List, None, Option, Some, [], cond, drop, nat_lt, slice_get, unwrap_or, ℕ, ◌++◌, ◌∷◌, ◌≡◌, ◌⊎◌}
+use Rattle.std.specs.Borrow.{Bor}
+use Rattle.tlv_core.specs.Limits.{Limits}
+use Rattle.asn_names.specs.Naming.{named_by}
+use Rattle.asn_names.specs.declared.element.Element.{Element}
+use Rattle.asn_names.specs.declared.element.Parting.{Parting}
+use Rattle.asn_outline.specs.Outlines.{IsOutline}
+use Rattle.asn_outline.specs.declared.event.Event.{Event}
+use Rattle.asn_outline.specs.declared.event.Stop.{Stop}
+use Rattle.asn_shapes.specs.declared.shape.Shape.{Choice', Containing', DefinedBy', Leaf, ListOf', Named', Open, Private', Refused, Sequence', SetOf', Shape}
+use Rattle.pk_explain.specs.Contents.{contents_in}
+use Rattle.pk_explain.specs.declared.inside.Inside.{Inside}
+
+-- The elements of a document by their names in this type, and where the two part.
+pub record IsNamed (limits : Limits) (document : List ℕ) (root : Bor Shape) (named : List Element × Parting)
+    : Type 0 where
+  pub events : List Event
+  pub stop : Option Stop
+  pub outline : IsOutline limits document events stop
+  pub names : named ≡ named_by document events stop root
+
+-- what a value of the type contains
+abbrev pub contained_in : Shape → Option (Bor Shape)
+contained_in (Containing' own p shape) = Some (record { ref_ptr = p.ref_ptr; now = shape })
+contained_in (Leaf own contents) = None
+contained_in Open = None
+contained_in (ListOf' own least p member) = None
+contained_in (SetOf' own least p member) = None
+contained_in (Sequence' own p fields) = None
+contained_in (Refused own) = None
+contained_in (DefinedBy' path identifiers p first q second) = None
+contained_in (Choice' p first q second) = None
+contained_in (Named' name p shape) = None
+contained_in (Private' p shape) = None
+
+abbrev pub contained_by : Option (Bor Shape) → Option ℕ → Option (Bor Shape)
+contained_by shape None = None
+contained_by None (Some end) = None
+contained_by (Some shape) (Some end) = contained_in shape.now
+
+-- the type of the document that an element contains which stands whole
+abbrev pub contained : Element → Option (Bor Shape)
+contained element = contained_by element.shape element.end
+
+-- the contents octets of a primitive element; of another one none
+abbrev pub own_contents : List ℕ → Element → List ℕ
+own_contents document element = unwrap_or (contents_in document element) []
+
+-- the contents octets of elements as long as they are deeper
+abbrev pub deeper_contents : List ℕ → ℕ → List Element → List ℕ
+deeper_contents document depth [] = []
+deeper_contents document depth (element ∷ elements) =
+    cond (nat_lt depth element.header.depth)
+    (own_contents document element ++ deeper_contents document depth elements) []
+
+-- the contents octets of the first of the elements, or those of all segments in it (X.690 8.7)
+abbrev pub contents_within : List ℕ → List Element → List ℕ
+contents_within document [] = []
+contents_within document (element ∷ elements) =
+    own_contents document element ++ deeper_contents document element.header.depth elements
+
+-- The document inside an element of a file: its octets are the element's contents, its elements have the names of the
+-- contained type.
+pub record IsInside (limits : Limits) (file : List ℕ) (elements : List Element) (inside : Inside) : Type 0 where
+  pub element : Element
+  pub listed : slice_get elements inside.container ≡ Some element
+  pub contains : contained element ≡ Some inside.shape
+  pub octets : inside.octets.items ≡ contents_within file (drop inside.container elements)
+  pub named : IsNamed limits inside.octets.items inside.shape (inside.named.elements.items, inside.named.parting)
+
+-- the same where its octets are these elements' and its type is this one
+pub record IsDocumentIn (limits : Limits) (file : List ℕ) (elements : List Element) (container : ℕ) (shape : Bor Shape)
+    (inside : Inside) : Type 0 where
+  pub stands_in : inside.container ≡ container
+  pub type : inside.shape ≡ shape
+  pub octets : inside.octets.items ≡ contents_within file elements
+  pub named : IsNamed limits inside.octets.items inside.shape (inside.named.elements.items, inside.named.parting)
+
+abbrev pub IsOneOf : Inside → List Inside → Type 0
+IsOneOf inside [] = ⊥
+IsOneOf inside (other ∷ others) = (inside ≡ other) ⊎ IsOneOf inside others
+
+abbrev pub AreInsides : Limits → List ℕ → List Element → List Inside → Type 0
+AreInsides limits file elements insides =
+    (inside : Inside) → IsOneOf inside insides → IsInside limits file elements inside

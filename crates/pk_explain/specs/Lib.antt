@@ -1,0 +1,13 @@
+pub mod Answers
+pub mod Blames
+pub mod Causes
+pub mod Contents
+pub mod Hidden
+pub mod Insides
+pub mod Kinds
+pub mod Lines
+pub mod Public
+pub mod Reports
+pub mod Spots
+pub mod Tellings
+pub mod Written

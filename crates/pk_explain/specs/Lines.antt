@@ -1,0 +1,98 @@
+-- The lines of a report, one for each element that is told.
+use Rattle.std.specs.Prelude.{Bool, List, None, Option, Some, [], cond, false, length, min, nat_lt, true, unwrap_or, ℕ, ◌+◌, ◌++◌, ◌-◌, ◌^◌, ◌∷◌, ◌≡◌, ◌⊎◌}
+use Rattle.std.specs.Option.{option_map}
+use Rattle.asn_names.specs.declared.element.Element.{Element}
+use Rattle.asn_outline.specs.declared.announced.Announced.{Announced}
+use Rattle.asn_outline.specs.declared.event.Header.{Header}
+use Rattle.pk_explain.specs.Contents.{contents_in}
+use Rattle.pk_explain.specs.Public.{Tells}
+use Rattle.pk_explain.specs.declared.hidden.Told.{Told}
+use Rattle.pk_explain.specs.declared.hidden.Told.TheVariants.{Header as HeaderTold, Place as PlaceTold, Nothing as NothingTold}
+use Rattle.pk_explain.specs.declared.listing.Placed.{Placed}
+use Rattle.pk_explain.specs.declared.values.Rule.{Rule}
+use Rattle.pk_explain.specs.declared.values.Rule.TheVariants.{Accepted, Guarded, Refused}
+use Rattle.pk_reports.specs.declared.report.Length.{Length}
+use Rattle.pk_reports.specs.declared.report.Line.{Line}
+use Rattle.pk_reports.specs.declared.report.Value.{Value}
+use Rattle.pk_reports.specs.declared.report.Value.TheVariants.{NotShown, Nothing, Size}
+
+abbrev pub is_refused : Rule → Bool
+is_refused Accepted = false
+is_refused Refused = true
+is_refused Guarded = true
+
+-- What length octets say is told where they are at most four behind their first one.
+abbrev pub told_by_length : ℕ → Option Announced → Option Length
+told_by_length at None = None
+told_by_length at (Some announced) =
+    cond (nat_lt 6 (announced.contents - at)) None
+    (Some (record { header = announced.contents - at; contents = announced.length }))
+
+abbrev pub told_length : Header → Option Length
+told_length header = told_by_length header.at header.announced
+
+-- where an element ends by its length and by where its contents end: behind the two end-of-contents octets, where it is
+-- indefinite (X.690 8.1.5)
+abbrev pub end_of_announced : Option ℕ → ℕ → ℕ
+end_of_announced None end = min (end + 2) (2 ^ 64 - 1)
+end_of_announced (Some length) end = end
+
+abbrev pub end_behind : Option Announced → ℕ → ℕ
+end_behind None end = end
+end_behind (Some announced) end = end_of_announced announced.length end
+
+-- the place inside `privateKey`, of what is inside it
+abbrev pub inside_of : Bool → ℕ → Option ℕ
+inside_of true at = Some at
+inside_of false at = None
+
+-- an element's own place, header, tag, form and name
+pub record IsHeaderLine (placed : Placed) (element : Element) (line : Line) : Type 0 where
+  pub at : line.at ≡ placed.at
+  pub inside : line.inside ≡ inside_of placed.is_inside element.header.at
+  pub depth : line.depth ≡ min (placed.depth + element.header.depth) (2 ^ 64 - 1)
+  pub around : line.around ≡ placed.around
+  pub step : line.step ≡ element.step
+  pub type_name : line.type_name.now ≡ unwrap_or (option_map (λ r. r.now) element.type_name) []
+  pub tag : line.tag ≡ element.header.tag
+  pub constructed : line.constructed ≡ element.header.constructed
+  pub length : line.length ≡ told_length element.header
+  pub end : line.end ≡ placed.end
+
+-- its place and its name, and nothing of its length, its form or its contents
+pub record IsPlaceLine (placed : Placed) (element : Element) (line : Line) : Type 0 where
+  pub at : line.at ≡ placed.at
+  pub inside : line.inside ≡ inside_of placed.is_inside element.header.at
+  pub depth : line.depth ≡ min (placed.depth + element.header.depth) (2 ^ 64 - 1)
+  pub around : line.around ≡ placed.around
+  pub step : line.step ≡ element.step
+  pub type_name : line.type_name.now ≡ unwrap_or (option_map (λ r. r.now) element.type_name) []
+  pub tag : line.tag ≡ element.header.tag
+  pub constructed : line.constructed ≡ false
+  pub length : line.length ≡ None
+  pub end : line.end ≡ None
+  pub value : line.value ≡ NotShown
+  pub cause : line.cause ≡ None
+
+-- how many octets a private element of constructed form has; of others nothing
+abbrev pub size_between : Bool → Option ℕ → Option ℕ → Value
+size_between private None end = Nothing
+size_between private (Some begin) None = Nothing
+size_between private (Some begin) (Some end) = cond private (Size (end - begin)) Nothing
+
+abbrev pub IsToldOf : Rule → Element → Option (List ℕ) → Value → Type 0
+IsToldOf rule element None value = value ≡ size_between element.private element.begin element.end
+IsToldOf rule element (Some contents) value = Tells rule element contents value
+
+-- What the line of an element says of its contents.
+abbrev pub IsTold : Rule → List ℕ → Element → Value → Type 0
+IsTold rule octets element value = IsToldOf rule element (contents_in octets element) value
+
+-- What the telling of an element adds to the lines before.
+abbrev pub PushesLine : Rule → Told → List ℕ → Placed → Element → List Line → List Line → Type 0
+PushesLine rule HeaderTold octets placed element old new =
+    (line : Line) × (new ≡ old ++ (line ∷ [])) × IsHeaderLine placed element line
+    × IsTold rule octets element line.value
+PushesLine rule PlaceTold octets placed element old new =
+    (new ≡ old) ⊎ ((line : Line) × (new ≡ old ++ (line ∷ [])) × IsPlaceLine placed element line)
+PushesLine rule NothingTold octets placed element old new = new ≡ old

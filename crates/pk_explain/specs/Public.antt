@@ -1,0 +1,124 @@
+-- What a report tells of contents. A refused private key tells its versions and its identifiers alone; any document
+-- tells the number of the octets of what is private, of keys and signatures, and of strings that aren't a subject's.
+use Rattle.std.specs.Prelude.{Bool, List, None, Option, Some, [], cond, false, length, nat_le, not, true, ℕ, ◌&&◌, ◌==◌, ◌||◌, ◌∷◌, ◌<◌, ◌≡◌, codes}
+use Rattle.std.specs.Option.{option_map}
+use Rattle.tlv_core.specs.Identifier.{Tag}
+use Rattle.x690.specs.Lists.{same_octets}
+use Rattle.asn_names.specs.declared.element.Element.{Element}
+use Rattle.asn_names.specs.declared.element.Step.{Step}
+use Rattle.asn_names.specs.declared.element.Step.TheVariants.{Field, Member, Outermost, Outside, Segment}
+use Rattle.asn_shapes.specs.Identifiers.{row_of, usual}
+use Rattle.asn_shapes.specs.declared.shape.Contents.{Contents}
+use Rattle.asn_shapes.specs.declared.shape.Contents.TheVariants as leaves
+use Rattle.asn_shapes.specs.declared.shape.Shape.{Choice', Containing', DefinedBy', Leaf, ListOf', Named', Open, Private', Refused as RefusedType, Sequence', SetOf', Shape}
+use Rattle.pk_explain.specs.declared.values.Rule.{Rule}
+use Rattle.pk_explain.specs.declared.values.Rule.TheVariants.{Accepted, Guarded, Refused}
+use Rattle.pk_explain.specs.declared.values.Sort.{Sort}
+use Rattle.pk_explain.specs.declared.values.Sort.TheVariants.{Bits, Boolean, Characters, Identifier as IdentifierSort, Integer, Null, Octets}
+use Rattle.pk_reports.specs.declared.report.Value.{Value}
+use Rattle.pk_reports.specs.declared.report.Value.TheVariants as values
+
+-- an element is the field of this name
+abbrev pub is_field : Step → List ℕ → Bool
+is_field (Field name) word = same_octets name.now word
+is_field Outermost word = false
+is_field (Member number) word = false
+is_field (Segment number) word = false
+is_field Outside word = false
+
+abbrev pub sort_of_leaf : Contents → Sort
+sort_of_leaf leaves.Boolean = Boolean
+sort_of_leaf leaves.Integer = Integer
+sort_of_leaf leaves.Null = Null
+sort_of_leaf leaves.ObjectIdentifier = IdentifierSort
+sort_of_leaf leaves.BitString = Bits
+sort_of_leaf leaves.OctetString = Octets
+sort_of_leaf leaves.Utf8String = Characters
+
+-- a private key may be in it, and it is refused
+abbrev pub is_guarded : Rule → Bool
+is_guarded Accepted = false
+is_guarded Refused = false
+is_guarded Guarded = true
+
+-- The contents are public, in an element that isn't private.
+abbrev pub is_public : Rule → Sort → Step → Bool
+is_public rule Null step = true
+is_public rule IdentifierSort step = true
+is_public rule Integer step = not (is_guarded rule) || is_field step (codes "version")
+is_public rule Boolean step = not (is_guarded rule)
+is_public rule Bits step = not (is_guarded rule)
+is_public rule Characters step = not (is_guarded rule) && is_field step (codes "value")
+is_public rule Octets step = false
+
+-- by universal tags (X.680 8.4)
+abbrev pub is_text_number : ℕ → Bool
+is_text_number number = (number == 12) || (nat_le 18 number && nat_le number 28) || (number == 30)
+
+abbrev pub sort_of_number : ℕ → Sort
+sort_of_number number =
+    cond (number == 1) Boolean
+    (cond ((number == 2) || (number == 10)) Integer
+    (cond (number == 3) Bits
+    (cond (number == 5) Null
+    (cond (number == 6) IdentifierSort
+    (cond (is_text_number number) Characters Octets)))))
+
+abbrev pub sort_of_type : Tag → Shape → Sort
+sort_of_type tag (Leaf own contents) = sort_of_leaf contents
+sort_of_type tag Open = cond (tag.class == 0) (sort_of_number tag.number) Octets
+sort_of_type tag (ListOf' own least p shape) = Octets
+sort_of_type tag (SetOf' own least p shape) = Octets
+sort_of_type tag (Sequence' own p fields) = Octets
+sort_of_type tag (Containing' own p shape) = Octets
+sort_of_type tag (RefusedType own) = Octets
+sort_of_type tag (DefinedBy' path identifiers p first q second) = Octets
+sort_of_type tag (Choice' p first q second) = Octets
+sort_of_type tag (Named' name p shape) = Octets
+sort_of_type tag (Private' p shape) = Octets
+
+abbrev pub sort_by : Tag → Option Shape → Sort
+sort_by tag None = Octets
+sort_by tag (Some shape) = sort_of_type tag shape
+
+-- what the contents of an element are: by its type, by its tag where that is open
+abbrev pub sort_of : Element → Sort
+sort_of element = sort_by element.header.tag (option_map (λ r. r.now) element.shape)
+
+-- The value says no more than what contents of this sort are.
+abbrev pub Says : Rule → Sort → List ℕ → Value → Type 0
+Says rule sort contents values.Nothing = ⊥
+Says rule sort contents values.NotShown = ⊥
+Says rule sort contents (values.Size number) = number ≡ length contents
+Says rule sort contents (values.Bits number unused) =
+    (sort ≡ Bits) × (octets : List ℕ) × (contents ≡ unused ∷ octets) × (number ≡ length octets)
+Says rule sort contents values.Null = (sort ≡ Null) × (contents ≡ [])
+Says rule sort contents (values.Boolean is) =
+    (sort ≡ Boolean) × (octet : ℕ) × (contents ≡ octet ∷ []) × (is ≡ not (octet == 0))
+Says rule sort contents (values.Number number) = (sort ≡ Integer) × (contents ≡ number ∷ []) × (number < 128)
+Says rule sort contents (values.Named known) =
+    (sort ≡ IdentifierSort) × (usual contents ≡ Some (row_of known.now))
+Says rule sort contents (values.Arcs text) =
+    (sort ≡ IdentifierSort) × (usual contents ≡ None) × (is_guarded rule ≡ false)
+Says rule sort contents (values.Characters octets) = (sort ≡ Characters) × (octets.items ≡ contents)
+
+-- What is told of the contents of an element: their number alone where it is private, or where they aren't public.
+abbrev pub Tells : Rule → Element → List ℕ → Value → Type 0
+Tells rule element contents value =
+    elim (element.private || not (is_public rule (sort_of element) element.step)) [
+      | true ↦ value ≡ values.Size (length contents)
+      | false ↦ Says rule (sort_of element) contents value
+    ]
+
+-- all octets of the contents are told
+abbrev pub tells_all : Value → Bool
+tells_all values.Nothing = false
+tells_all values.NotShown = false
+tells_all (values.Size number) = number == 0
+tells_all (values.Bits number unused) = false
+tells_all values.Null = true
+tells_all (values.Boolean is) = false
+tells_all (values.Number number) = true
+tells_all (values.Named known) = true
+tells_all (values.Arcs text) = false
+tells_all (values.Characters octets) = false

@@ -1,0 +1,285 @@
+//! Why elements aren't in DER (X.690 clauses 10 and 11).
+ghost use Rattle.std.specs.Prelude.{◌<◌, ◌≡◌, IfOk, length, map, true};
+ghost use Rattle.std.specs.Option.{option_map};
+ghost use Rattle.pk_explain.specs.Causes.{AreCauses, MayBeOrder, bits_cause, boolean_cause, cause_in_contents, is_in_segments, is_set, length_cause, own_cause, unit_of};
+ghost use Rattle.pk_explain.specs.Contents.{contents_in};
+ghost use Rattle.asn_names.specs.Levels.{is_string};
+
+use crate::inside::{element_at, subtree};
+use crate::values::{Sort, contents_of, is_field, sort_of};
+use asn_names::element::{Element, Step};
+use asn_outline::event::Header;
+use asn_shapes::shape::Shape;
+use pk_reports::report::Cause;
+use std::alloc::{AllocError, Global};
+use tlv_core::der::header_size;
+use tlv_core::tag::Class;
+
+/// The cause of each element, in order: its own, or that its members aren't in order.
+///
+/// It takes time as the octets, each with the sets around it.
+pub(crate) fn causes_of(
+    alloc: Global,
+    octets: &[u8],
+    elements: &[Element],
+) -> Result<Vec<Option<Cause>>, AllocError>
+    ensures { IfOk result (λ causes. AreCauses octets.now elements.now causes.items) }
+{
+    let mut causes = own_causes(alloc, octets, elements)?;
+    let count = causes.len();
+    for back in 0..count {
+        set_order(&mut causes, octets, elements, count - 1 - back);
+    }
+    Ok(causes)
+}
+
+/// The cause of a SET OF whose members aren't in order.
+#[tactic(auto, using(crate::proofs::Ordered::with_order))]
+fn set_order(causes: &mut Vec<Option<Cause>>, octets: &[u8], elements: &[Element], number: usize)
+    ensures { AreCauses octets.now elements.now causes.old.items
+        → AreCauses octets.now elements.now causes.new.items }
+{
+    if !is_disordered(octets, causes.as_slice(), elements, number) {
+        return;
+    }
+    causes[number] = Some(Cause::Order);
+}
+
+/// Whether the members of a SET OF, which are in DER, aren't in order.
+fn is_disordered(
+    octets: &[u8],
+    causes: &[Option<Cause>],
+    elements: &[Element],
+    number: usize,
+) -> bool
+    ensures order { result ≡ true → MayBeOrder elements.now causes.now number }
+    ensures within { result ≡ true → number < length causes.now }
+{
+    let (Some(element), Some(None)) = (element_at(elements, number), causes.get(number)) else {
+        return false;
+    };
+    is_set(element) && is_out_of_order(octets, &causes[number..], &elements[number..])
+}
+
+/// Whether what is in the first of the elements is in DER, and isn't in order.
+fn is_out_of_order(octets: &[u8], causes: &[Option<Cause>], elements: &[Element]) -> bool {
+    let count = subtree(elements);
+    match causes.get(..count) {
+        Some(members) => is_in_der(members) && !is_ordered(octets, &elements[..count]),
+        None => false,
+    }
+}
+
+fn own_causes(
+    alloc: Global,
+    octets: &[u8],
+    elements: &[Element],
+) -> Result<Vec<Option<Cause>>, AllocError>
+    ensures { IfOk result (λ causes. causes.items ≡ map (own_cause octets.now) elements.now) }
+{
+    let mut causes = Vec::with_capacity(alloc, elements.len())?;
+    let mut left = elements;
+    while let [element, behind @ ..] = left {
+        causes.push(own_cause(octets, element))?;
+        left = behind;
+    }
+    Ok(causes)
+}
+
+/// Whether none of them has a cause.
+fn is_in_der(causes: &[Option<Cause>]) -> bool {
+    for cause in causes {
+        if cause.is_some() {
+            return false;
+        }
+    }
+    true
+}
+
+/// The first of the causes.
+pub(crate) fn first_cause(causes: &[Option<Cause>]) -> Option<Cause> {
+    for cause in causes {
+        if cause.is_some() {
+            return *cause;
+        }
+    }
+    None
+}
+
+/// Why an element by itself isn't in DER. Of segments nothing is said: the string that they are in has the cause.
+fn own_cause(octets: &[u8], element: &Element) -> Option<Cause>
+    ensures { result ≡ own_cause octets.now element.now }
+{
+    match element.step {
+        Step::Segment(_) => None,
+        _ if is_in_segments(element) => Some(Cause::Segments),
+        _ => match length_cause(&element.header) {
+            None => contents_cause(octets, element),
+            cause => cause,
+        },
+    }
+}
+
+/// Whether an element is a string in segments.
+fn is_in_segments(element: &Element) -> bool
+    ensures { result ≡ is_in_segments element.now }
+{
+    if !element.header.constructed {
+        return false;
+    }
+    match element.shape {
+        Some(Shape::Leaf(_, _) | Shape::Containing(_, _)) => true,
+        Some(Shape::Open) => {
+            let tag = element.header.tag;
+            tag.class() == Class::Universal && is_string(tag.number())
+        }
+        _ => false,
+    }
+}
+
+/// Whether the universal tag is that of a string or a time, or of an ObjectDescriptor.
+fn is_string(number: u32) -> bool
+    ensures { result ≡ is_string number }
+{
+    match number {
+        3 | 4 | 7 | 12 | 18..=28 | 30 => true,
+        _ => false,
+    }
+}
+
+/// X.690 10.1.
+fn length_cause(header: &Header) -> Option<Cause>
+    ensures { result ≡ length_cause header.now }
+{
+    let Some(announced) = header.announced else {
+        return None;
+    };
+    let Some(length) = announced.length else {
+        return Some(Cause::IndefiniteLength);
+    };
+    let size = announced.contents.saturating_sub(header.at);
+    if size != header_size(header.tag, length) {
+        return Some(Cause::LongLength);
+    }
+    None
+}
+
+/// X.690 11.1, 11.2.1, 11.5.
+fn contents_cause(octets: &[u8], element: &Element) -> Option<Cause>
+    ensures { result ≡ cause_in_contents element.now (contents_in octets.now element.now) }
+{
+    let Some(contents) = contents_of(octets, element) else {
+        return None;
+    };
+    match sort_of(element) {
+        Sort::Boolean => boolean_cause(element.step, contents),
+        Sort::Bits => bits_cause(contents),
+        _ => None,
+    }
+}
+
+/// FALSE written out, where that is the default; TRUE by another octet than FF.
+fn boolean_cause(step: Step, contents: &[u8]) -> Option<Cause>
+    ensures { result ≡ boolean_cause step contents.now }
+{
+    match contents {
+        [0] if is_field(step, "critical") => Some(Cause::Default),
+        [octet] if *octet != 0 && *octet != 255 => Some(Cause::True),
+        _ => None,
+    }
+}
+
+/// Unused bits that aren't 0.
+fn bits_cause(contents: &[u8]) -> Option<Cause>
+    ensures { result ≡ bits_cause contents.now }
+{
+    let [unused, behind @ ..] = contents else {
+        return None;
+    };
+    match behind.last() {
+        Some(last) if *last % unit_of(*unused) != 0 => Some(Cause::UnusedBits),
+        _ => None,
+    }
+}
+
+/// The value of the lowest bit that is used, so many being unused.
+fn unit_of(unused: u8) -> u8
+    ensures positive { 0 < result }
+    ensures unit { result ≡ unit_of unused }
+{
+    match unused {
+        1 => 2,
+        2 => 4,
+        3 => 8,
+        4 => 16,
+        5 => 32,
+        6 => 64,
+        7 => 128,
+        _ => 1,
+    }
+}
+
+/// Whether an element is a SET OF: by its type, or by its tag where that is open.
+fn is_set(element: &Element) -> bool
+    ensures { result ≡ is_set element.now }
+{
+    match element.shape {
+        Some(Shape::SetOf(_, _, _)) => true,
+        Some(Shape::Open) => {
+            let tag = element.header.tag;
+            element.header.constructed && tag.class() == Class::Universal && tag.number() == 17
+        }
+        _ => false,
+    }
+}
+
+/// Whether the members of the first of the elements stand in order, which are all in DER.
+fn is_ordered(octets: &[u8], elements: &[Element]) -> bool {
+    if elements.is_empty() {
+        return true;
+    }
+    let depth = elements[0].header.depth.saturating_add(1);
+    let mut before: &[u8] = &octets[..0];
+    for element in &elements[1..] {
+        if element.header.depth == depth {
+            let member = text_of(octets, element);
+            if !is_at_most(before, member) {
+                return false;
+            }
+            before = member;
+        }
+    }
+    true
+}
+
+/// The octets of an element of definite length.
+fn text_of<'a>(octets: &'a [u8], element: &Element) -> &'a [u8] {
+    let at = element.header.at;
+    match element.end {
+        Some(end) => match octets.get(at as usize..end as usize) {
+            Some(text) => text,
+            None => &octets[..0],
+        },
+        None => &octets[..0],
+    }
+}
+
+/// Whether one text comes before another or is the same, the shorter one padded with octets 0 (X.690 11.6).
+fn is_at_most(first: &[u8], second: &[u8]) -> bool {
+    let count = first.len().max(second.len());
+    for i in 0..count {
+        let one = octet_at(first, i);
+        let other = octet_at(second, i);
+        if one != other {
+            return one < other;
+        }
+    }
+    true
+}
+
+fn octet_at(octets: &[u8], place: usize) -> u8 {
+    match octets.get(place) {
+        Some(octet) => *octet,
+        None => 0,
+    }
+}

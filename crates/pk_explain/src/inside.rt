@@ -1,0 +1,246 @@
+//! Documents that OCTET STRINGs contain, and where their octets stand in the file.
+ghost use Rattle.std.specs.Prelude.{◌<◌, ◌++◌, ◌≡◌, ◌≤◌, IfOk, IfSome, OnOk, length, slice_get};
+ghost use Rattle.std.specs.Option.{option_map};
+ghost use Rattle.pk_explain.specs.Insides.{AreInsides, IsDocumentIn, IsNamed, contained, contents_within, deeper_contents, own_contents};
+
+use crate::values::contents_of;
+use asn_names::element::Element;
+use asn_names::naming::{Named, name_elements};
+use asn_outline::outline::outline;
+use asn_shapes::shape::Shape;
+use std::alloc::{AllocError, Global};
+use tlv_core::limits::Limits;
+
+/// Octets that stand in the file one behind another.
+#[derive(Clone, Copy)]
+pub(crate) struct Piece {
+    /// The place of the first one in the file.
+    pub(crate) at: u64,
+    pub(crate) octets: u64,
+}
+
+/// A document inside an OCTET STRING, by its elements.
+#[derive(Drop)]
+pub(crate) struct Inside {
+    /// The number of the OCTET STRING among the elements of the file.
+    pub(crate) container: usize,
+    /// Its contents, all segments joined.
+    pub(crate) octets: Vec<u8>,
+    /// Where these stand in the file, in order.
+    pub(crate) pieces: Vec<Piece>,
+    /// The type of the document.
+    pub(crate) shape: &'static Shape,
+    pub(crate) named: Named,
+}
+
+/// The elements of a document of this type.
+pub(crate) fn named_elements(
+    alloc: Global,
+    octets: &[u8],
+    shape: &'static Shape,
+    limits: Limits,
+) -> Result<Named, AllocError>
+    ensures { IfOk result (λ named. IsNamed limits octets.now shape.entry
+        (named.elements.items, named.parting)) }
+{
+    match outline(alloc, octets, limits) {
+        Ok((events, stop)) => name_elements(alloc, octets, events.as_slice(), stop, shape),
+        Err(_) => Err(AllocError),
+    }
+}
+
+/// The documents inside the elements of the file, in order.
+pub(crate) fn documents_inside(
+    alloc: Global,
+    file: &[u8],
+    elements: &[Element],
+    limits: Limits,
+) -> Result<Vec<Inside>, AllocError>
+    ensures { IfOk result (λ insides. AreInsides limits file.now elements.now insides.items) }
+{
+    let mut all = Vec::new(alloc);
+    for i in 0..elements.len() {
+        push_inside(alloc, &mut all, file, elements, i, limits)?;
+    }
+    Ok(all)
+}
+
+/// The document inside the element of this number, where there is one.
+fn push_inside(
+    alloc: Global,
+    all: &mut Vec<Inside>,
+    file: &[u8],
+    elements: &[Element],
+    number: usize,
+    limits: Limits,
+) -> Result<(), AllocError>
+    ensures { OnOk result (AreInsides limits file.now elements.now all.old.items
+        → AreInsides limits file.now elements.now all.new.items) }
+{
+    let Some(element) = element_at(elements, number) else {
+        return Ok(());
+    };
+    let Some(shape) = contained(element) else {
+        return Ok(());
+    };
+    let inside = document_inside(alloc, file, &elements[number..], number, shape, limits)?;
+    all.push(inside)?;
+    Ok(())
+}
+
+/// The element of this number.
+pub(crate) fn element_at(elements: &[Element], number: usize) -> Option<&Element>
+    ensures item { option_map (λ r. r.now) result ≡ slice_get elements.now number }
+    ensures within { IfSome result (λ _. number < length elements.now) }
+{
+    elements.get(number)
+}
+
+/// The type of what an element contains, where that is a document and stands whole.
+fn contained(element: &Element) -> Option<&'static Shape>
+    ensures { result ≡ contained element.now }
+{
+    match (element.shape, element.end) {
+        (Some(Shape::Containing(_, shape)), Some(_)) => Some(shape),
+        _ => None,
+    }
+}
+
+/// The document inside the first of the elements.
+fn document_inside(
+    alloc: Global,
+    file: &[u8],
+    elements: &[Element],
+    container: usize,
+    shape: &'static Shape,
+    limits: Limits,
+) -> Result<Inside, AllocError>
+    ensures { IfOk result (λ inside.
+        IsDocumentIn limits file.now elements.now container shape.entry inside) }
+{
+    let mut octets = Vec::new(alloc);
+    let mut pieces = Vec::new(alloc);
+    push_segments(file, elements, &mut octets, &mut pieces)?;
+    let named = named_elements(alloc, octets.as_slice(), shape, limits)?;
+    Ok(Inside {
+        container,
+        octets,
+        pieces,
+        shape,
+        named,
+    })
+}
+
+/// The octets of the first of the elements, or those of all segments in it, and where they stand.
+fn push_segments(
+    file: &[u8],
+    elements: &[Element],
+    octets: &mut Vec<u8>,
+    pieces: &mut Vec<Piece>,
+) -> Result<(), AllocError>
+    ensures { OnOk result (octets.new.items
+        ≡ octets.old.items ++ contents_within file.now elements.now) }
+{
+    let [element, behind @ ..] = elements else {
+        return Ok(());
+    };
+    push_contents(file, element, octets, pieces)?;
+    push_deeper(file, element.header.depth, behind, octets, pieces)
+}
+
+/// The octets of elements as long as they are deeper.
+fn push_deeper(
+    file: &[u8],
+    depth: u64,
+    elements: &[Element],
+    octets: &mut Vec<u8>,
+    pieces: &mut Vec<Piece>,
+) -> Result<(), AllocError>
+    ensures { OnOk result (octets.new.items
+        ≡ octets.old.items ++ deeper_contents file.now depth elements.now) }
+{
+    let mut left = elements;
+    while let [element, behind @ ..] = left {
+        if element.header.depth <= depth {
+            return Ok(());
+        }
+        push_contents(file, element, octets, pieces)?;
+        left = behind;
+    }
+    Ok(())
+}
+
+/// The octets of a primitive element.
+fn push_contents(
+    file: &[u8],
+    element: &Element,
+    octets: &mut Vec<u8>,
+    pieces: &mut Vec<Piece>,
+) -> Result<(), AllocError>
+    ensures { OnOk result (octets.new.items
+        ≡ octets.old.items ++ own_contents file.now element.now) }
+{
+    let Some(contents) = contents_of(file, element) else {
+        return Ok(());
+    };
+    octets.extend_from_slice(contents)?;
+    if let Some(at) = element.begin {
+        pieces.push(Piece {
+            at,
+            octets: contents.len() as u64,
+        })?;
+    }
+    Ok(())
+}
+
+/// How many of the elements are the first one and what is in it.
+pub(crate) fn subtree(elements: &[Element]) -> usize
+    ensures { result ≤ length elements.now }
+{
+    if elements.is_empty() {
+        return 0;
+    }
+    let depth = elements[0].header.depth;
+    for i in 1..elements.len() {
+        if elements[i].header.depth <= depth {
+            return i;
+        }
+    }
+    elements.len()
+}
+
+/// The place in the file of the octet of this number, counted over the pieces.
+pub(crate) fn place_of(pieces: &[Piece], number: u64) -> Option<u64> {
+    let mut left = number;
+    for piece in pieces {
+        if left < piece.octets {
+            return piece.at.checked_add(left);
+        }
+        left -= piece.octets;
+    }
+    None
+}
+
+/// The place in the file behind so many octets of the pieces.
+pub(crate) fn end_of(pieces: &[Piece], count: u64) -> Option<u64> {
+    if count == 0 {
+        return place_of(pieces, 0);
+    }
+    match place_of(pieces, count - 1) {
+        Some(last) => last.checked_add(1),
+        None => None,
+    }
+}
+
+/// The pieces from that of the octet of this number on, and how many octets those before have.
+pub(crate) fn pieces_from(pieces: &[Piece], number: u64) -> (&[Piece], u64) {
+    let mut left = number;
+    for i in 0..pieces.len() {
+        let octets = pieces[i].octets;
+        if left < octets {
+            return (&pieces[i..], number.saturating_sub(left));
+        }
+        left -= octets;
+    }
+    (&pieces[..0], number.saturating_sub(left))
+}

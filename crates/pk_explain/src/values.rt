@@ -1,0 +1,227 @@
+//! What contents say, and whether a report tells it.
+ghost use Rattle.std.specs.Prelude.{◌≡◌, ◌==◌, IfOk, cond};
+ghost use Rattle.std.specs.Option.{option_map};
+ghost use Rattle.pk_explain.specs.Contents.{between, contents_in};
+ghost use Rattle.pk_explain.specs.Public.{Says, Tells, is_field, is_guarded, is_public, sort_of, sort_of_leaf, sort_of_number, tells_all};
+
+use asn_names::element::{Element, Step};
+use asn_shapes::identifiers::identifier_of;
+use asn_shapes::shape::{Contents, Shape};
+use itoa::Buffer;
+use pk_reports::report::Value;
+use std::alloc::{AllocError, Global};
+use tlv_core::oid::{Oid, OidError};
+use tlv_core::tag::{Class, Tag};
+
+/// How much a report tells.
+#[derive(Clone, Copy)]
+pub(crate) enum Rule {
+    /// Of an accepted document.
+    Accepted,
+    /// Of a refused request or public key.
+    Refused,
+    /// Of any other refused document: a private key may be in it.
+    Guarded,
+}
+
+/// What the contents of a primitive element are.
+#[derive(Clone, Copy, PartialEq, Eq)]
+pub(crate) enum Sort {
+    Boolean,
+    Integer,
+    Null,
+    Identifier,
+    Bits,
+    Characters,
+    Octets,
+}
+
+/// What the contents of an element are, by its type; by its tag where that is open.
+pub(crate) fn sort_of(element: &Element) -> Sort
+    ensures { result ≡ sort_of element.now }
+{
+    match element.shape {
+        Some(Shape::Leaf(_, contents)) => sort_of_leaf(*contents),
+        Some(Shape::Open) => sort_of_tag(element.header.tag),
+        _ => Sort::Octets,
+    }
+}
+
+fn sort_of_leaf(contents: Contents) -> Sort
+    ensures { result ≡ sort_of_leaf contents }
+{
+    match contents {
+        Contents::Boolean => Sort::Boolean,
+        Contents::Integer => Sort::Integer,
+        Contents::Null => Sort::Null,
+        Contents::ObjectIdentifier => Sort::Identifier,
+        Contents::BitString => Sort::Bits,
+        Contents::OctetString => Sort::Octets,
+        Contents::Utf8String => Sort::Characters,
+    }
+}
+
+/// By the universal tags of X.680 8.4.
+fn sort_of_tag(tag: Tag) -> Sort
+    ensures { result ≡ cond (tag.class == 0) (sort_of_number tag.number) Sort.Octets }
+{
+    if tag.class() != Class::Universal {
+        return Sort::Octets;
+    }
+    sort_of_number(tag.number())
+}
+
+fn sort_of_number(number: u32) -> Sort
+    ensures { result ≡ sort_of_number number }
+{
+    match number {
+        1 => Sort::Boolean,
+        2 | 10 => Sort::Integer,
+        3 => Sort::Bits,
+        5 => Sort::Null,
+        6 => Sort::Identifier,
+        12 | 18..=28 | 30 => Sort::Characters,
+        _ => Sort::Octets,
+    }
+}
+
+/// Whether contents of this sort are public in an element that isn't private: those of a refused private key that are
+/// one of its versions or identifiers; else all but keys, signatures and strings that aren't a subject's.
+pub(crate) fn is_public(rule: Rule, sort: Sort, step: Step) -> bool
+    ensures { result ≡ is_public rule sort step }
+{
+    match sort {
+        Sort::Null | Sort::Identifier => true,
+        Sort::Integer => !is_guarded(rule) || is_field(step, "version"),
+        Sort::Boolean | Sort::Bits => !is_guarded(rule),
+        Sort::Characters => !is_guarded(rule) && is_field(step, "value"),
+        Sort::Octets => false,
+    }
+}
+
+/// Whether a private key may be in the document, which is refused.
+pub(crate) fn is_guarded(rule: Rule) -> bool
+    ensures { result ≡ is_guarded rule }
+{
+    match rule {
+        Rule::Guarded => true,
+        Rule::Accepted | Rule::Refused => false,
+    }
+}
+
+/// Whether an element is the field of this name.
+pub(crate) fn is_field(step: Step, name: &str) -> bool
+    ensures { result ≡ is_field step name.now }
+{
+    match step {
+        Step::Field(own) => own == name,
+        _ => false,
+    }
+}
+
+/// What is told of the contents of a primitive element that stands whole: their number alone, where they aren't
+/// public.
+pub(crate) fn told_value(
+    alloc: Global,
+    rule: Rule,
+    element: &Element,
+    contents: &[u8],
+) -> Result<Value, AllocError>
+    ensures { IfOk result (λ value. Tells rule element.now contents.now value) }
+{
+    let sort = sort_of(element);
+    if element.private || !is_public(rule, sort, element.step) {
+        return Ok(Value::Size(contents.len() as u64));
+    }
+    value_of(alloc, rule, sort, contents)
+}
+
+/// What public contents say: their number alone, where they aren't short, or aren't what they have to be.
+fn value_of(alloc: Global, rule: Rule, sort: Sort, contents: &[u8]) -> Result<Value, AllocError>
+    ensures { IfOk result (λ value. Says rule sort contents.now value) }
+{
+    let size = Value::Size(contents.len() as u64);
+    match (sort, contents) {
+        (Sort::Boolean, [octet]) => Ok(Value::Boolean(*octet != 0)),
+        (Sort::Integer, [octet]) if *octet < 128 => Ok(Value::Number(*octet)),
+        (Sort::Null, []) => Ok(Value::Null),
+        (Sort::Identifier, _) => identifier_value(alloc, rule, contents),
+        (Sort::Bits, [unused, behind @ ..]) if *unused < 8 => {
+            Ok(Value::Bits(behind.len() as u64, *unused))
+        }
+        (Sort::Characters, _) => Ok(Value::Characters(contents.to_vec(alloc)?)),
+        _ => Ok(size),
+    }
+}
+
+/// An object identifier by its name, or by its arcs; where a private key may be, by its name alone.
+fn identifier_value(alloc: Global, rule: Rule, contents: &[u8]) -> Result<Value, AllocError>
+    ensures { IfOk result (λ value. Says rule Sort.Identifier contents.now value) }
+{
+    if let Some(known) = identifier_of(contents) {
+        return Ok(Value::Named(known));
+    }
+    if is_guarded(rule) {
+        return Ok(Value::Size(contents.len() as u64));
+    }
+    match Oid::from_content(alloc, contents) {
+        Ok(id) => Ok(Value::Arcs(arcs_text(alloc, &id)?)),
+        Err(OidError::Bad) => Ok(Value::Size(contents.len() as u64)),
+        Err(OidError::Memory) => Err(AllocError),
+    }
+}
+
+/// The arcs of an object identifier in decimal, a full stop between each two.
+fn arcs_text(alloc: Global, id: &Oid) -> Result<String, AllocError> {
+    let mut text = String::new(alloc);
+    let (first, second, mut later) = id.arcs();
+    push_number(&mut text, first)?;
+    push_arc(&mut text, second)?;
+    while let Some(arc) = later.next() {
+        push_arc(&mut text, arc)?;
+    }
+    Ok(text)
+}
+
+fn push_arc(text: &mut String, arc: u128) -> Result<(), AllocError> {
+    text.push_str(".")?;
+    push_number(text, arc)
+}
+
+fn push_number(text: &mut String, number: u128) -> Result<(), AllocError> {
+    let mut buffer = Buffer::new();
+    text.push_str(buffer.format(number))
+}
+
+/// Whether all octets that were passed are told by this value.
+pub(crate) fn tells_all(value: &Value) -> bool
+    ensures { result ≡ tells_all value.now }
+{
+    match value {
+        Value::Null | Value::Number(_) | Value::Named(_) | Value::Size(0) => true,
+        _ => false,
+    }
+}
+
+/// The contents octets of a primitive element that stands whole.
+pub(crate) fn contents_of<'a>(octets: &'a [u8], element: &Element) -> Option<&'a [u8]>
+    ensures { option_map (λ r. r.now) result ≡ contents_in octets.now element.now }
+{
+    if element.header.constructed {
+        return None;
+    }
+    match (element.begin, element.end) {
+        (Some(begin), Some(end)) => octets_between(octets, begin, end),
+        _ => None,
+    }
+}
+
+fn octets_between(octets: &[u8], begin: u64, end: u64) -> Option<&[u8]>
+    ensures { option_map (λ r. r.now) result ≡ between octets.now (Some begin) (Some end) }
+{
+    if begin <= end && end <= octets.len() as u64 {
+        Some(&octets[begin as usize..end as usize])
+    } else {
+        None
+    }
+}

@@ -1,0 +1,50 @@
+//! A report as it is written.
+ghost use Rattle.std.specs.Prelude.{◌≡◌, IfOk, string_bytes};
+ghost use Rattle.pk_explain.specs.Written.{IsWritten, written_text};
+
+use crate::explained::explain;
+use crate::version::VERSION;
+use pk_documents::kind::Kind;
+use pk_reports::json_report::report_json;
+use pk_reports::report::{Answer, Report};
+use pk_reports::report_text;
+use std::alloc::{AllocError, Global};
+use tlv_core::limits::Limits;
+
+/// How a report is written.
+#[derive(Clone, Copy, Debug, PartialEq, Eq)]
+pub struct Form {
+    /// As one object of JSON.
+    pub json: bool,
+    /// With all elements listed.
+    pub all: bool,
+}
+
+/// As many places that aren't in DER are told in JSON, at most.
+const PLACES: u64 = 100;
+
+/// The report of octets that have to be one document of the kind, as it is written, and the answer of `check` in it.
+pub fn explain_text(
+    alloc: Global,
+    octets: &[u8],
+    kind: Kind,
+    limits: Limits,
+    form: Form,
+) -> Result<(String, Answer), AllocError>
+    ensures { IfOk result (λ written. IsWritten form limits kind octets.now
+        (string_bytes written.0) written.1) }
+{
+    let report = explain(alloc, octets, kind, limits)?;
+    let text = written(alloc, &report, form)?;
+    Ok((text, report.answer))
+}
+
+/// A report in this form.
+fn written(alloc: Global, report: &Report, form: Form) -> Result<String, AllocError>
+    ensures { IfOk result (λ text. string_bytes text ≡ written_text form report.now) }
+{
+    if form.json {
+        return report_json(alloc, report, VERSION, None, form.all, PLACES);
+    }
+    report_text(alloc, report, form.all)
+}

@@ -1,0 +1,4 @@
+pub mod Appends
+pub mod Characters
+pub mod Steps
+pub mod Tags

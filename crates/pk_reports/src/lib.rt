@@ -1,0 +1,50 @@
+//! What is reported of a document, and how it is written.
+//!
+//! `text` and those that begin so have the lines, `json_report` and those that begin so the JSON; the others have what
+//! both say.
+//!
+//! Proved: the text of a report is `report_lines` of `specs/Reports.antt`, and its JSON the tokens `report_object` of
+//! `specs/Json.antt`, wherever there is memory for it. Those are functions of the report (of JSON also of the version,
+//! the file's name and how much is asked for) and of nothing else, so two reports that are the same have the same text.
+#![tactic(auto)]
+
+ghost use Rattle.std.specs.Prelude.{◌≡◌, IfOk, string_bytes};
+ghost use Rattle.pk_reports.specs.Reports.{report_lines};
+
+mod advice;
+mod field;
+mod hints;
+mod json_lists;
+pub mod json_report;
+mod json_text;
+mod json_words;
+mod paths;
+mod picks;
+mod placed_advice;
+mod reason_due;
+pub mod report;
+mod text;
+mod text_lines;
+mod text_listing;
+mod text_report;
+mod text_wrap;
+mod type_words;
+mod words;
+
+use crate::report::Report;
+use crate::text_listing::push_listing;
+use crate::text_report::{push_answer, push_head, push_notes, push_told_lines};
+use std::alloc::{AllocError, Global};
+
+/// The report in lines, each ended by a line feed: with all lines of the listing, or with those that matter.
+pub fn report_text(alloc: Global, report: &Report, all: bool) -> Result<String, AllocError>
+    ensures { IfOk result (λ text. string_bytes text ≡ report_lines report.now all) }
+{
+    let mut text = String::new(alloc);
+    push_head(&mut text, report)?;
+    push_answer(&mut text, report.answer)?;
+    push_listing(alloc, &mut text, report, all)?;
+    push_told_lines(alloc, &mut text, report)?;
+    push_notes(alloc, &mut text, report, &report.notes)?;
+    Ok(text)
+}

@@ -1,0 +1,34 @@
+-- What taking the octets of an input does. They are told before the call and after it, where the source tells them.
+use Rattle.std.specs.Prelude.{◌≡◌, ◌++◌, ◌<◌, ◌≤◌, ℕ, List, Option, length}
+use Rattle.std.specs.Io.KnownBytes.{Consumes, IsAtEnd, Keeps}
+use Rattle.tlv_core.specs.declared.fault.ReadError.{ReadError}
+use Rattle.tlv_core.specs.declared.fault.ReadError.TheVariants.{Fault, Memory, Read}
+
+-- The first octets were taken: all of them, or `most`.
+pub record TakesFirst (most : ℕ) (before after : Option (List ℕ)) (octets : List ℕ) : Type 0 where
+  pub takes : Consumes before after octets
+  pub few : length octets ≤ most
+  pub all : length octets < most → IsAtEnd after
+
+-- Fewer than `most` were taken, and then a read failed; or memory ran out behind some.
+abbrev pub StopsTaking : ℕ → ReadError → Option (List ℕ) → Option (List ℕ) → Type 0
+StopsTaking most (Fault found) before after = ⊥
+StopsTaking most (Read at) before after =
+    (octets : List ℕ) × Consumes before after octets × (at ≡ length octets) × (at < most)
+StopsTaking most Memory before after = (octets : List ℕ) × Consumes before after octets × (length octets ≤ most)
+
+-- Some octets more were taken, `most` at most, and none only at the end.
+pub record Takes (most count : ℕ) (before after : Option (List ℕ)) (old new : List ℕ) : Type 0 where
+  pub octets : List ℕ
+  pub takes : Consumes before after octets
+  pub grown : new ≡ old ++ octets
+  pub counted : count ≡ length octets
+  pub few : count ≤ most
+  pub all : count ≡ 0 → IsAtEnd after
+
+-- None more were taken, and a read failed; or memory ran out behind some.
+abbrev pub StopsBehind : ℕ → ReadError → Option (List ℕ) → Option (List ℕ) → List ℕ → Type 0
+StopsBehind most (Fault found) before after old = ⊥
+StopsBehind most (Read at) before after old = (at ≡ length old) × Keeps before after
+StopsBehind most Memory before after old =
+    (octets : List ℕ) × Consumes before after octets × (length octets ≤ most)

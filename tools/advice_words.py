@@ -1,0 +1,75 @@
+#!/usr/bin/env python3
+"""advice_words.py: the words on reasons in crates/pk_reports, beside the manual's table of the 27 reasons.
+
+No proof sees that the words of a report are those of the manual. This compares each of the three texts of each reason
+with its cell of the table, and the reasons with those of the crate tlv_core, in their order. Then it plants another
+word in each text, and sees that this is told.
+
+Each difference has a line; the last line is 'words: N passed, M failed', a text and a planted word counting once."""
+import os
+import re
+import sys
+
+TOP = os.path.dirname(os.path.dirname(os.path.realpath(__file__)))
+WORDS, PAGE, REASONS = "crates/pk_reports/src/advice.rt", "docs/manual.md", "crates/tlv_core/src/reason.rt"
+ARM = re.compile(r"Reason::(\w+) => Advice \{(.*?)\n        \}", re.S)
+FIELD = re.compile(r'(means|likely|act):\s*"((?:[^"\\]|\\.)*)"', re.S)
+PARTS = ("means", "likely", "act")
+
+
+def text_of(file):
+    with open(f"{TOP}/{file}", encoding="utf-8") as it:
+        return it.read()
+
+
+def reasons():
+    body = re.search(r"pub enum Reason \{(.*?)\n\}", text_of(REASONS), re.S)[1]
+    return re.findall(r"^    (\w+),$", body, re.M)
+
+
+def of_code(text):
+    """The texts by reason and part."""
+    found = {}
+    for reason, body in ARM.findall(text):
+        for part, words in FIELD.findall(body):
+            found[reason, part] = re.sub(r"\\\n\s*", "", words)
+    return found
+
+
+def of_page(page):
+    """The cells of the table by reason and part."""
+    table = page.split("## The 27 reasons", 1)[1].split("\n## ", 1)[0]
+    found = {}
+    for line in re.findall(r"^\| [A-Z][A-Za-z]+ \|.*$", table, re.M):
+        reason, *cells = (cell.strip() for cell in line.strip("|").split("|"))
+        if reason != "Reason":
+            found.update({(reason, part): cell.replace("`", "") for part, cell in zip(PARTS, cells, strict=True)})
+    return found
+
+
+def differences(code, page):
+    return [it for it in sorted({*code, *page}) if code.get(it) != page.get(it)]
+
+
+def main():
+    names = reasons()
+    code, page = of_code(text_of(WORDS)), of_page(text_of(PAGE))
+    due = [(reason, part) for reason in names for part in PARTS]
+    wrong = differences(code, page) + [it for it in due if it not in code or it not in page]
+    for it in wrong:
+        print(f"{it[0]}, {it[1]}\n  {WORDS}: {code.get(it)}\n  {PAGE}: {page.get(it)}")
+    if len(names) != 27 or [it for it, _ in ARM.findall(text_of(WORDS))] != names:
+        wrong.append("the reasons")
+        print("the reasons aren't those of tlv_core, in their order")
+    text = text_of(WORDS)
+    missed = [text[it.start(2):it.end(2)] for it in FIELD.finditer(text)
+              if not differences(of_code(f"{text[:it.start(2)]}planted {text[it.start(2):]}"), page)]
+    for it in missed:
+        print(f"NOT TOLD: {it}")
+    failed = len(wrong) + len(missed)
+    print(f"words: {2 * len(due) - failed} passed, {failed} failed")
+    return 1 if failed else 0
+
+
+if __name__ == "__main__":
+    sys.exit(main())

@@ -1,0 +1,84 @@
+"""Reports of `pkder explain`, and the documents that they are asked of."""
+import glob
+import json
+import os
+import shlex
+import subprocess
+
+import independent_reader
+from independent_reader import ACTIONS, DEPTH, KINDS, OCTETS
+from rows import rows_of
+
+TOP = os.path.dirname(os.path.dirname(os.path.realpath(__file__)))
+SECONDS = 60
+HELP = {"--help", "-h"}
+
+
+class Document:
+    """Octets that are taken for a document of a kind, under limits."""
+
+    def __init__(self, name, kind, octets, depth=DEPTH, limit=OCTETS):
+        self.name, self.kind, self.octets, self.depth, self.limit = name, kind, octets, depth, limit
+
+    def key(self):
+        return self.kind, self.octets, self.depth, self.limit
+
+    def words(self, action, *more):
+        """The arguments of the program."""
+        limits = [f"--depth={self.depth}"] * (self.depth != DEPTH) + [f"--octets={self.limit}"] * (self.limit != OCTETS)
+        return [action, "--kind", self.kind, *limits, *more]
+
+    def due(self):
+        """The status and the line of `check`, as tools/independent_reader.py has them."""
+        status, output, error = independent_reader.answer("check", self.kind, self.octets, self.depth, self.limit)
+        return status, error or output.decode().removesuffix("\n")
+
+    def accepted(self):
+        return self.due()[0] < 2
+
+
+def files():
+    """Each file of examples/, as a document of each kind."""
+    for path in sorted(glob.glob(f"{TOP}/examples/*.der")):
+        with open(path, "rb") as it:
+            octets = it.read()
+        for kind in KINDS:
+            yield Document(f"{os.path.basename(path)}, kind {kind}", kind, octets)
+
+
+def of_tables():
+    """The documents of the tables for pkder, of the kinds and limits of their rows."""
+    for path in [*sorted(glob.glob(f"{TOP}/tests/pkder/*.tsv")), f"{TOP}/examples/answers.tsv"]:
+        for number, row in rows_of(path):
+            words = row.words.split()
+            if words and words[0] in ACTIONS and row.status < 3 and not row.device and not HELP & {*words}:
+                asked = independent_reader.command_line().parse_args(shlex.split(row.words))
+                name = f"{os.path.relpath(path, TOP)}:{number}: {row.rule}"
+                yield Document(name, asked.kind, row.input, asked.depth, asked.octets)
+
+
+def documents():
+    """All of these, each once."""
+    seen = set()
+    for it in [*files(), *of_tables()]:
+        if it.key() not in seen:
+            seen.add(it.key())
+            yield it
+
+
+def answer(program, words, octets):
+    """The status, standard output and standard error of a run."""
+    how = {"capture_output": True, "timeout": SECONDS, "close_fds": False}
+    ran = subprocess.run([program, *words], input=octets, **how)
+    return ran.returncode, ran.stdout, ran.stderr
+
+
+def objects_in(output):
+    """The object of a line of JSON, which is all that there is. Raises ValueError where it isn't."""
+    text = output.decode("utf-8")
+    if text.count("\n") != 1 or not text.endswith("\n"):
+        raise ValueError("not one line")
+    found = json.loads(text)
+    if not isinstance(found, dict):
+        raise ValueError("no object")
+    return found
