@@ -4,9 +4,9 @@
 Each line has six cells between tabs: rule, words, input, status, output, error. The words are a command and its
 options, none left out, as
   normalise --kind key --depth 32 --octets 1048576
-(check and show the same; signed has --part in place of --kind). Input and output are in hex, and the error is a line.
-tools/rows.py reads such a table too. Left out are help and command lines that are refused, which no call has, rows
-whose reads or writes fail, and rows that state no answer."""
+(check and show the same; signed has --part in place of --kind; explain may have --all and --json behind them). Input
+and output are in hex, and the error is a line. tools/rows.py reads such a table too. Left out are help and command
+lines that are refused, which no call has, rows whose reads or writes fail, and rows that state no answer."""
 import os
 import sys
 
@@ -15,6 +15,7 @@ sys.path.insert(0, f"{HERE}/../tools")
 import rows  # noqa: E402
 
 USUAL = {"depth": "32", "octets": "1048576"}
+FLAGS = ("--all", "--json")
 
 
 def options_of(words):
@@ -30,17 +31,18 @@ def options_of(words):
 
 def call_of(words):
     """The words of the call, none left out, or None where they are none."""
-    if not words or words[0] not in ("check", "normalise", "show", "signed"):
+    if not words or words[0] not in ("check", "normalise", "show", "signed", "explain"):
         return None
     what = "part" if words[0] == "signed" else "kind"
-    options = options_of(words[1:])
+    flags = [it for it in FLAGS if it in words and words[0] == "explain"]
+    options = options_of(it for it in words[1:] if it not in flags)
     if options is None:
         return None
     options = {**({"part": "info"} if what == "part" else {}), **USUAL, **options}
     if {*options} != {what, *USUAL}:
         return None
     depth, octets = (str(int(options[it])) for it in USUAL)
-    return " ".join([words[0], f"--{what}", options[what], "--depth", depth, "--octets", octets])
+    return " ".join([words[0], f"--{what}", options[what], "--depth", depth, "--octets", octets, *flags])
 
 
 def line_of(row):

@@ -1,7 +1,8 @@
 /* pkder: reads private keys, public keys and certification requests (CSRs) in BER and DER (PKCS #8, RFC 5915, RFC 8410,
  * PKCS #10), and gives their one DER text, which is their DER encoding, whether they are in DER, what they are in
- * lines, a part of them; or the first fault, with its place and its reason. It does no cryptography, and says of a
- * document that it has a sound form and nothing more. It reads the octets (bytes) of the document itself, and no PEM.
+ * lines, a part of them; or the first fault, with its place and its reason; and of any octets a report for people, as
+ * text or as JSON. It does no cryptography, and says of a document that it has a sound form and nothing more. It reads
+ * the octets (bytes) of the document itself, and no PEM.
  *
  * Compile by `cc FILE.c $(pkg-config --cflags --libs pkder)`, which is -lpkder; the program finds libpkder.so.0 once
  * ldconfig has seen it, or by LD_LIBRARY_PATH. docs/library.md has first steps, and docs/manual.md what each reason
@@ -83,22 +84,28 @@ extern "C" {
 #define PKDER_MOST_DEPTH 64u
 #define PKDER_MOST_OCTETS UINT64_C(2147483647)
 
+/* The form of a report (pkder_explain): text with the elements that matter, or one of these, or both of them added. */
+#define PKDER_ALL 1u  /* with all elements */
+#define PKDER_JSON 2u /* as one object of JSON, in one line: docs/report.schema.json states it */
+
 /* Octets of stack that are enough for a call. Tested and not proved. It grows with the depth that is allowed: half of
  * it is enough up to PKDER_DEPTH. Nothing checks it: a call with less runs past the end of its thread's stack. So look
  * at threads with small stacks (musl gives 128 KiB where nothing else is asked for). */
 #define PKDER_STACK 262144
 
 /* What comes of a call. Ask whether it is PKDER_ACCEPTED, and never whether it isn't PKDER_FAULT. */
-#define PKDER_ACCEPTED 0u  /* the octets are a document, and what was asked for is done */
-#define PKDER_FAULT 1u     /* they are none: reason and at, inside_reason and inside_at say why */
-#define PKDER_NO_ROOM 2u   /* they are a document, and dst_len is less than size: dst is as it was */
-#define PKDER_NO_MEMORY 3u /* malloc refused: of the octets nothing is said */
-#define PKDER_BAD_CALL 4u  /* no kind, or no part, has that number, or the limits are out of range */
-#define PKDER_NOT_DER 5u   /* pkder_check alone: the octets are a document, and not in DER */
+#define PKDER_ACCEPTED 0u   /* the octets are a document, and what was asked for is done */
+#define PKDER_FAULT 1u      /* they are none: reason and at, inside_reason and inside_at say why */
+#define PKDER_NO_ROOM 2u    /* they are a document, and dst_len is less than size: dst is as it was */
+#define PKDER_NO_MEMORY 3u  /* malloc refused: of the octets nothing is said */
+#define PKDER_BAD_CALL 4u   /* no kind, part or form has that number, or the limits are out of range */
+#define PKDER_NOT_DER 5u    /* pkder_check alone: the octets are a document, and not in DER */
+#define PKDER_REPORTED 6u   /* pkder_explain alone: the report is written, whatever the octets are */
+#define PKDER_UNREPORTED 7u /* pkder_explain alone: the same, but dst_len is less than size: dst is as it was */
 
 /* A number that a status doesn't use is 0. */
 typedef struct pkder_outcome {
-    uint32_t status;        /* PKDER_ACCEPTED to PKDER_NOT_DER */
+    uint32_t status;        /* PKDER_ACCEPTED to PKDER_UNREPORTED */
     uint32_t reason;        /* of a fault: the number of its reason, 1 to 27 */
     uint32_t inside_reason; /* of a fault inside an OCTET STRING (PKDER_REASON_INNER): the number of its reason */
     uint32_t spare;         /* 0 */
@@ -106,8 +113,9 @@ typedef struct pkder_outcome {
                              * octet */
     uint64_t inside_at;     /* of a fault inside an OCTET STRING: its place in the octets that the string holds, which
                              * may stand in src in several pieces */
-    uint64_t taken;         /* accepted, no room, not in DER: src_len */
-    uint64_t size;          /* accepted, no room: the octets that are written, or would be; pkder_check: 0 */
+    uint64_t taken;         /* of a document, accepted, not in DER or without room: src_len; of others 0 */
+    uint64_t size;          /* accepted, reported, without room: the octets that are written, or would be; of
+                             * pkder_check 0 */
 } pkder_outcome;
 
 /* The reasons. pkder_reason_name has their names. Where nothing else is said, `at` is where the identifier of the
@@ -191,6 +199,24 @@ pkder_outcome pkder_signed(uint32_t part, uint32_t depth, uint64_t octets, const
  * `size` the number of their octets: a call with a dst_len of 0 tells it. */
 pkder_outcome pkder_show(uint32_t kind, uint32_t depth, uint64_t octets, const uint8_t *src, size_t src_len,
                          uint8_t *dst, size_t dst_len);
+
+/* Writes the report of the octets of src where dst begins: what pkder_check answers, as the program's line, the
+ * elements with their places, names and sizes, and of octets that are no document which field is at fault, what is due
+ * there, what stands there, the usual cause and what to do. As text it is printable ASCII, as JSON UTF-8; each line ends
+ * in a line feed. No octet 0 stands behind them. Octets of private keys and values of attributes aren't in it.
+ *
+ * Promised, by status:
+ *   PKDER_REPORTED: the first `size` octets of dst are the report of the octets in this form (docs/proved.md says what
+ *     is proved of reports), the others are as they were. reason, at, inside_reason, inside_at and taken are those of
+ *     pkder_check for the same octets, kind and limits: so a reason of 0 says that they are a document, and an `at` of
+ *     0 then that it is in DER.
+ *   PKDER_UNREPORTED: the same of the numbers; `size` is greater than dst_len, and dst is as it was. A call with a
+ *     dst_len of 0 tells the size.
+ *   PKDER_NO_MEMORY: dst is as it was.
+ *   PKDER_BAD_CALL: dst is as it was. The status comes exactly where no kind or no form has that number or the limits
+ *     are out of range. */
+pkder_outcome pkder_explain(uint32_t kind, uint32_t depth, uint64_t octets, uint32_t form, const uint8_t *src,
+                            size_t src_len, uint8_t *dst, size_t dst_len);
 
 /* Writes the name of a reason, as "Truncated", and an octet 0 behind it, where dst begins.
  *

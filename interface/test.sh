@@ -50,10 +50,10 @@ names_of() {
 # what a library that prints nothing, opens nothing and ends no process may call
 wanted='malloc|realloc|free|mem(cpy|move|set|cmp)|explicit_bzero|malloc_usable_size|_GLOBAL_OFFSET_TABLE_'
 
-# The library has six names, wants few of others, and has no memory of its own that lasts from call to call.
+# The library has seven names, wants few of others, and has no memory of its own that lasts from call to call.
 symbols() {
     sed -n 's/^ *\(pkder_[a-z_]*\);$/\1/p' "$here/pkder.map" | sort > "$work/due"
-    [ "$(wc -l < "$work/due")" = 6 ] || return 1
+    [ "$(wc -l < "$work/due")" = 7 ] || return 1
     names_of --defined-only "$out/libpkder.a" | cmp - "$work/due" || return 1
     names_of --defined-only -D "$out/libpkder.so.0" | cmp - "$work/due" || return 1
     objdump -p "$out/libpkder.so.0" | grep 'SONAME *libpkder.so.0$' || return 1
@@ -64,7 +64,7 @@ symbols() {
     objdump -h "$out/libpkder.a" | awk '$2 ~ /^\.t?(data|bss)/ && $2 !~ /^\.data\.rel\.ro/ && $3 !~ /^0*(1|10)?$/' |
         grep . && return 1
     objdump -p "$out/libpkder.so.0" | grep -A 1 STACK | grep 'flags rw-$' || return 1
-    echo "six names"
+    echo "seven names"
 }
 
 # header COMPILER STANDARD..: pkder.h, twice in one source, by the compiler in each of the standards
@@ -95,6 +95,7 @@ in_c() {
     compiled secrets secrets -O2 -Wl,--wrap=free
     try "rows in C" python3 "$top/tools/rows.py" "$work/calls.tsv" "$work/filter" "$work/filter_watched"
     random_documents
+    reports
     try "check_files" files
     try "probe" env "ROUNDS=${ROUNDS:-200}" "$work/probe" "$top"/examples/*.der
     try "probe under ASan and UBSan" env "ROUNDS=$((${ROUNDS:-200} / 10))" "$work/probe_watched" "$top"/examples/*.der
@@ -114,6 +115,35 @@ random_documents() {
     try "random documents" python3 "$top/tools/random_documents.py" --count "${DOCUMENTS:-500}" --whole "$@"
 }
 
+# The library's reports, beside what is due of them, and beside the program's, word for word.
+reports() {
+    try "reports" python3 "$top/tools/explained_reports.py" "$work/filter"
+    if [ -f "$top/crates/pkder/out/pkder" ]; then
+        try "reports under ASan and UBSan beside the program" same_reports
+    else
+        echo "left out: no program beside reports (run 'python3 tools/build.py')"
+    fi
+}
+
+same_reports() {
+    count=0
+    for file in "$top"/tests/pkder/explained/*.der "$top"/examples/*.der; do
+        for kind in key ec request public encrypted package; do
+            for form in "" --all --json "--all --json"; do
+                "$work/filter_watched" explain --kind $kind $form < "$file" > "$work/report"
+                status=$?
+                "$top/crates/pkder/out/pkder" explain --kind $kind $form < "$file" > "$work/due"
+                if [ $? != $status ] || ! cmp "$work/report" "$work/due"; then
+                    echo "$file, $kind $form"
+                    return 1
+                fi
+                count=$((count + 1))
+            done
+        done
+    done
+    echo "$count reports"
+}
+
 files() (
     cd "$top/examples" || exit
     "$work/check_files" key smallest.der long-lengths.der cut-short.der > "$work/files"
@@ -127,7 +157,7 @@ files() (
 
 refused() {
     while read -r kind file; do
-        for command in check normalise show; do
+        for command in check normalise show explain explain-all-json; do
             try "allocations of $command, $kind" "$work/refuse" $command "$kind" "$top/examples/$file.der"
         done
     done << END
@@ -141,12 +171,21 @@ END
     for part in info algorithm key signature; do
         try "allocations of signed, $part" "$work/refuse" signed $part "$top/examples/request-indefinite.der"
     done
+    # (documents that are refused)
+    while read -r kind file; do
+        for command in explain explain-all explain-json explain-all-json; do
+            try "allocations of $command, $file" "$work/refuse" $command "$kind" "$top/tests/pkder/explained/$file.der"
+        done
+    done << END
+key inner-trailing
+request latin-1-name
+END
 }
 
 # The usual heap frees blocks that hold octets of a key; heap_wiping.c, if the library was built with it, none.
 secrets() {
     sum=0
-    for command in check normalise show; do
+    for command in check normalise show explain explain-all-json; do
         blocks=$("$work/secrets" $command key "$top/examples/ed25519.der" 16 32) || return 1
         sum=$((sum + blocks))
     done

@@ -1,5 +1,5 @@
 /* What the callers in this folder share: names of commands, kinds and parts, tasks, files read whole, and what an
- * outcome says. */
+ * outcome says. A report is asked for by a call of its own for each of its forms. */
 #ifndef COMMON_H
 #define COMMON_H
 #include <inttypes.h>
@@ -16,6 +16,31 @@ static const char *const kinds[] = {"key", "ec", "request", "public", "encrypted
 
 /* A call that writes a text. */
 typedef pkder_outcome text_call(uint32_t, uint32_t, uint64_t, const uint8_t *, size_t, uint8_t *, size_t);
+
+/* pkder_explain in one of its forms. */
+#define REPORT_CALL(name, form)                                                                                        \
+    static inline pkder_outcome name(uint32_t kind, uint32_t depth, uint64_t octets, const uint8_t *src, size_t len,   \
+                                     uint8_t *dst, size_t room) {                                                      \
+        return pkder_explain(kind, depth, octets, form, src, len, dst, room);                                          \
+    }
+
+REPORT_CALL(explain_text, 0)
+REPORT_CALL(explain_all, PKDER_ALL)
+REPORT_CALL(explain_json, PKDER_JSON)
+REPORT_CALL(explain_all_json, PKDER_ALL | PKDER_JSON)
+
+/* By the numbers of the forms. */
+static text_call *const reports[] = {explain_text, explain_all, explain_json, explain_all_json};
+#define REPORTS (sizeof reports / sizeof *reports)
+
+static inline int is_report(text_call *call) {
+    for (size_t form = 0; form < REPORTS; form++) {
+        if (call == reports[form]) {
+            return 1;
+        }
+    }
+    return 0;
+}
 
 /* What a document is handed over for. */
 struct task {
@@ -45,9 +70,11 @@ static inline uint32_t number_of(const char *name, const char *const *names) {
 
 /* Takes a command and a kind, or a part under "signed", or else NULL for the part "info"; 0 where they are none. */
 static inline int is_task(struct task *task, const char *command, const char *what) {
-    static const char *const commands[] = {"check", "normalise", "show", "signed", NULL};
+    static const char *const commands[] = {
+        "check", "normalise", "show", "signed", "explain", "explain-all", "explain-json", "explain-all-json", NULL};
     static const char *const parts[] = {"info", "algorithm", "key", "signature", NULL};
-    static text_call *const calls[] = {NULL, pkder_normalise, pkder_show, pkder_signed};
+    static text_call *const calls[] = {NULL,         pkder_normalise, pkder_show,   pkder_signed,
+                                       explain_text, explain_all,     explain_json, explain_all_json};
     uint32_t number = number_of(command, commands);
     if (number == 0) {
         return 0;

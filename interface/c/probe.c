@@ -1,6 +1,6 @@
 /* probe FILE..: what pkder.h promises and a caller can see, on each file, on it cut at each octet and changed by
  * chance, and on octets by chance, in each kind and part. Octets handed over end where a page begins that can't be
- * touched, or begin where one ends. Also: bad calls, no octets, names, one page for both, four threads. ROUNDS is how
+ * touched, or begin where one ends. Also: bad calls, no octets, names, one page for both, six threads. ROUNDS is how
  * often by chance (200). */
 #define _DEFAULT_SOURCE
 #include <pthread.h>
@@ -10,6 +10,7 @@
 #include "trial.h"
 
 #define MOST 16384
+#define MOST_REPORTED 65536
 
 /* Octets between closed pages. */
 struct room {
@@ -21,8 +22,8 @@ static struct room src_room, dst_room;
 static int at_start;
 static unsigned long documents, accepted;
 
-static struct room new_room(void) {
-    size_t page = (size_t)sysconf(_SC_PAGESIZE), size = MOST / page * page;
+static struct room new_room(size_t most) {
+    size_t page = (size_t)sysconf(_SC_PAGESIZE), size = most / page * page;
     uint8_t *at = mmap(NULL, size + 2 * page, PROT_NONE, MAP_PRIVATE | MAP_ANONYMOUS, -1, 0);
     CHECK(at != MAP_FAILED && mprotect(at + page, size, PROT_READ | PROT_WRITE) == 0);
     return (struct room){at + page, size};
@@ -108,8 +109,49 @@ static void one(const struct task *task, const uint8_t *given, size_t len) {
     }
 }
 
+/* Whether octets are lines of printable ASCII, or none; of JSON there may be other characters. */
+static int are_lines(text_call *call, const uint8_t *text, size_t size) {
+    int is_json = call == explain_json || call == explain_all_json;
+    for (size_t i = 0; i < size; i++) {
+        if (text[i] != '\n' && (text[i] < ' ' || text[i] == 127 || (text[i] > 127 && !is_json))) {
+            return 0;
+        }
+    }
+    return size == 0 || text[size - 1] == '\n';
+}
+
+/* The report, with so much room; `due` is what is due of it but the status. */
+static void check_report(const struct task *task, const uint8_t *src, size_t len, pkder_outcome due, size_t room) {
+    size_t size = (size_t)due.size, written = room < size ? 0 : size;
+    due.status = room < size ? PKDER_UNREPORTED : PKDER_REPORTED;
+    fill(dst_room.at, dst_room.size);
+    uint8_t *dst = place(dst_room, room);
+    pkder_outcome said = do_task(task, src, len, dst, room);
+    CHECK(is_same(&said, &due) && are_lines(task->call, dst, written));
+    CHECK(is_filled(dst_room.at, (size_t)(dst - dst_room.at)));
+    CHECK(is_filled(dst + written, (size_t)(dst_room.at + dst_room.size - dst) - written));
+}
+
+/* Whatever the octets are there is a report of them, and its numbers are those of pkder_check. */
+static void one_report(const struct task *task, const uint8_t *given, size_t len) {
+    uint8_t *src = place(src_room, len);
+    memcpy(src, given, len);
+    pkder_outcome due = pkder_check(task->what, task->depth, task->octets, src, len);
+    pkder_outcome said = do_task(task, src, len, NULL, 0);
+    CHECK(said.status == PKDER_UNREPORTED && said.size > 0 && said.size < dst_room.size);
+    due.size = said.size;
+    for (size_t room = (size_t)said.size - 1; room <= said.size + 1; room++) {
+        check_report(task, src, len, due, room);
+    }
+    CHECK(memcmp(src, given, len) == 0);
+}
+
 static void all(uint32_t depth, uint64_t octets, const uint8_t *given, size_t len) {
+    static unsigned long turn;
+    turn++;
     for (uint32_t what = 1; what <= 6; what++) {
+        /* (the forms take turns) */
+        one_report(&(struct task){reports[(turn + what) % REPORTS], what, depth, octets}, given, len);
         one(&(struct task){pkder_normalise, what, depth, octets}, given, len);
         one(&(struct task){pkder_show, what, depth, octets}, given, len);
         if (what <= PKDER_SIGNATURE) {
@@ -158,10 +200,10 @@ static void try_chance(unsigned rounds) {
     }
 }
 
-/* All four calls on the octets, which have one outcome and leave the room alone. */
-static void check_each(const struct task *task, const uint8_t *src, size_t len, const pkder_outcome *due) {
-    static text_call *const calls[] = {NULL, pkder_normalise, pkder_show, pkder_signed};
-    for (size_t i = 0; i < sizeof calls / sizeof *calls; i++) {
+/* Calls on the octets, which have one outcome and leave the room alone. */
+static void check_calls(text_call *const *calls, size_t number, const struct task *task, const uint8_t *src, size_t len,
+                        const pkder_outcome *due) {
+    for (size_t i = 0; i < number; i++) {
         uint8_t dst[8];
         fill(dst, sizeof dst);
         const struct task other = {calls[i], task->what, task->depth, task->octets};
@@ -170,6 +212,12 @@ static void check_each(const struct task *task, const uint8_t *src, size_t len, 
         said = do_task(&other, src, len, NULL, 0);
         CHECK(is_same(&said, due));
     }
+}
+
+/* The four calls that refuse what is no document. */
+static void check_each(const struct task *task, const uint8_t *src, size_t len, const pkder_outcome *due) {
+    static text_call *const calls[] = {NULL, pkder_normalise, pkder_show, pkder_signed};
+    check_calls(calls, sizeof calls / sizeof *calls, task, src, len, due);
 }
 
 /* Numbers out of range, some of which are in range by their last octets. */
@@ -189,6 +237,15 @@ static void try_bad_calls(void) {
     for (size_t i = 0; i < sizeof rows / sizeof *rows; i++) {
         check_each(&rows[i], src, sizeof src, &due);
         check_each(&rows[i], NULL, 0, &due);
+        check_calls(reports, REPORTS, &rows[i], src, sizeof src, &due);
+        check_calls(reports, REPORTS, &rows[i], NULL, 0, &due);
+    }
+    static const uint32_t forms[] = {4, 5, 6, 7, 8, 256, 257, 0x10001, 0x80000002u, UINT32_MAX};
+    for (size_t i = 0; i < sizeof forms / sizeof *forms; i++) {
+        fill(dst_room.at, dst_room.size);
+        pkder_outcome said =
+            pkder_explain(PKDER_KEY, PKDER_DEPTH, PKDER_OCTETS, forms[i], src, sizeof src, dst_room.at, dst_room.size);
+        CHECK(is_same(&said, &due) && is_filled(dst_room.at, dst_room.size));
     }
     /* (six kinds, four parts) */
     for (uint32_t part = 5; part < 7; part++) {
@@ -208,6 +265,11 @@ static void try_nothing(void) {
         for (uint32_t kind = 1; kind <= PKDER_PACKAGE; kind++) {
             pkder_outcome said = pkder_check(kind, PKDER_DEPTH, PKDER_OCTETS, pointers[i], 0);
             CHECK(is_same(&said, &due));
+            for (size_t form = 0; form < REPORTS; form++) {
+                said = reports[form](kind, PKDER_DEPTH, PKDER_OCTETS, pointers[i], 0, NULL, 0);
+                CHECK(said.status == PKDER_UNREPORTED && said.reason == PKDER_REASON_TRUNCATED);
+                CHECK(said.at == 0 && said.taken == 0 && said.size > 0);
+            }
         }
     }
 }
@@ -270,7 +332,7 @@ static void try_one_page(void) {
 struct repeated {
     struct task task;
     pkder_outcome due;
-    uint8_t text[256];
+    uint8_t text[4096];
 };
 
 static pkder_outcome write_anew(const struct task *task, uint8_t *text, size_t room) {
@@ -288,22 +350,24 @@ static void *call_often(void *argument) {
     return NULL;
 }
 
-/* Four threads at once, each with a call of its own. */
+/* Threads at once, each with a call of its own. */
 static void try_threads(void) {
-    static text_call *const calls[] = {NULL, pkder_normalise, pkder_show, pkder_signed};
-    static const uint32_t due[] = {PKDER_ACCEPTED, PKDER_ACCEPTED, PKDER_ACCEPTED, PKDER_FAULT};
-    static struct repeated repeated[4];
-    pthread_t threads[4];
-    for (size_t i = 0; i < 4; i++) {
+    static text_call *const calls[] = {NULL, pkder_normalise, pkder_show, pkder_signed, explain_text, explain_all_json};
+    static const uint32_t due[] = {PKDER_ACCEPTED, PKDER_ACCEPTED, PKDER_ACCEPTED,
+                                   PKDER_FAULT,    PKDER_REPORTED, PKDER_REPORTED};
+    enum { THREADS = sizeof calls / sizeof *calls };
+    static struct repeated repeated[THREADS];
+    pthread_t threads[THREADS];
+    for (size_t i = 0; i < THREADS; i++) {
         struct repeated *it = &repeated[i];
         it->task = (struct task){calls[i], PKDER_PUBLIC, PKDER_DEPTH, PKDER_OCTETS};
         it->due = write_anew(&it->task, it->text, sizeof it->text);
         CHECK(it->due.status == due[i]);
     }
-    for (size_t i = 0; i < 4; i++) {
+    for (size_t i = 0; i < THREADS; i++) {
         CHECK(pthread_create(&threads[i], NULL, call_often, &repeated[i]) == 0);
     }
-    for (size_t i = 0; i < 4; i++) {
+    for (size_t i = 0; i < THREADS; i++) {
         CHECK(pthread_join(threads[i], NULL) == 0);
     }
 }
@@ -311,8 +375,8 @@ static void try_threads(void) {
 int main(int count, char **names) {
     const char *rounds = getenv("ROUNDS");
     unsigned often = rounds != NULL ? (unsigned)atoi(rounds) : 200;
-    src_room = new_room();
-    dst_room = new_room();
+    src_room = new_room(MOST);
+    dst_room = new_room(MOST_REPORTED);
     CHECK(pkder_interface() == PKDER_INTERFACE && sizeof(pkder_outcome) == 48);
     try_bad_calls();
     try_nothing();

@@ -1,9 +1,10 @@
 /* refuse COMMAND KIND-OR-PART FILE: a call with each of its allocations refused in turn, linked to libpkder.a with
  * -Wl,--wrap=malloc,--wrap=realloc,--wrap=free. A refusal gives PKDER_NO_MEMORY and leaves the room as it was, or
- * changes nothing (a block that isn't made smaller); and whatever comes, nothing stays allocated. */
+ * changes nothing (a block that isn't made smaller); and whatever comes, nothing stays allocated. A command is one of
+ * the program's; of explain explain-all, explain-json and explain-all-json, too. */
 #include "trial.h"
 
-#define ROOM 16384
+#define ROOM 65536
 
 void *__real_malloc(size_t size);
 void *__real_realloc(void *old, size_t size);
@@ -59,7 +60,8 @@ static int refuse_each(const struct task *task) {
     static const pkder_outcome none = {PKDER_NO_MEMORY, 0, 0, 0, 0, 0, 0, 0};
     static uint8_t text[ROOM];
     const pkder_outcome due = call(task, -1);
-    CHECK((due.status == PKDER_ACCEPTED || due.status == PKDER_NOT_DER) && live == 0);
+    uint32_t usual = task->call == NULL ? PKDER_NOT_DER : is_report(task->call) ? PKDER_REPORTED : PKDER_ACCEPTED;
+    CHECK((due.status == PKDER_ACCEPTED || due.status == usual) && live == 0);
     memcpy(text, dst, sizeof text);
     for (long at = 0;; at++) {
         const pkder_outcome said = call(task, at);

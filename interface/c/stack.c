@@ -61,7 +61,8 @@ static void *call_deep(void *argument) {
     const struct task *task = argument;
     if (task != NULL) {
         pkder_outcome said = do_task(task, deep, deep_len, NULL, 0);
-        CHECK(said.status == (task->call == NULL ? PKDER_NOT_DER : PKDER_NO_ROOM));
+        uint32_t short_of = is_report(task->call) ? PKDER_UNREPORTED : PKDER_NO_ROOM;
+        CHECK(said.status == (task->call == NULL ? PKDER_NOT_DER : short_of) && said.reason == 0);
     }
     return NULL;
 }
@@ -86,11 +87,12 @@ static size_t written(size_t size, struct task *task) {
 
 /* Calls at this depth take no more than `enough`, beside what the thread itself takes. */
 static void try_depth(uint32_t depth, size_t enough) {
-    static text_call *const calls[] = {NULL, pkder_normalise, pkder_show, pkder_signed};
-    size_t most = 0, idle = written(1 << 16, NULL);
+    static text_call *const calls[] = {NULL,        pkder_normalise, pkder_show,       explain_text,
+                                       explain_all, explain_json,    explain_all_json, pkder_signed};
+    size_t number = sizeof calls / sizeof *calls, most = 0, idle = written(1 << 16, NULL);
     for (size_t i = 0; i < sizeof shapes / sizeof *shapes; i++) {
         make_deep(&shapes[i], depth);
-        for (size_t j = 0; j < (shapes[i].kind == PKDER_REQUEST ? 4 : 3); j++) {
+        for (size_t j = 0; j < (shapes[i].kind == PKDER_REQUEST ? number : number - 1); j++) {
             uint32_t what = calls[j] == pkder_signed ? PKDER_SUBJECT_KEY : shapes[i].kind;
             size_t took = written(idle + enough, &(struct task){calls[j], what, depth, PKDER_MOST_OCTETS});
             most = took > most ? took : most;

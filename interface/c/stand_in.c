@@ -1,5 +1,5 @@
 /* A stand-in for the library, for the tests of the packages: of three octets each call answers the status, the reason
- * and the reason inside that they say. So a package meets what no document brings: want of memory, and what a later
+ * and the reason inside that they say, and writes nothing. So a package meets what no document brings: want of memory, and what a later
  * library may answer, a status that has no name yet or the reason 28. */
 #include <string.h>
 
@@ -31,6 +31,12 @@ pkder_outcome pkder_check(uint32_t kind, uint32_t depth, uint64_t octets, const 
 TEXT_CALL(pkder_normalise)
 TEXT_CALL(pkder_signed)
 TEXT_CALL(pkder_show)
+
+pkder_outcome pkder_explain(uint32_t kind, uint32_t depth, uint64_t octets, uint32_t form, const uint8_t *src,
+                            size_t src_len, uint8_t *dst, size_t dst_len) {
+    (void)kind, (void)depth, (void)octets, (void)form, (void)dst, (void)dst_len;
+    return told(src, src_len);
+}
 
 size_t pkder_reason_name(uint32_t reason, uint8_t *dst, size_t dst_len) {
     static const char name[] = "Later";

@@ -29,12 +29,7 @@ static inline void fill(uint8_t *octets, size_t len) {
 
 /* Whether the octets are as `fill` left them. */
 static inline int is_filled(const uint8_t *octets, size_t len) {
-    for (size_t i = 0; i < len; i++) {
-        if (octets[i] != 0xA5) {
-            return 0;
-        }
-    }
-    return 1;
+    return len == 0 || (octets[0] == 0xA5 && memcmp(octets, octets + 1, len - 1) == 0);
 }
 
 static inline int is_same(const pkder_outcome *one, const pkder_outcome *other) {

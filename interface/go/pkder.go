@@ -8,7 +8,8 @@
 //		return err
 //	}
 //
-// All other calls take BER, too. Of Check look at the Form, and not at err alone.
+// All other calls take BER, too. Of Check look at the Form, and not at err alone. Explain has a report of any octets, for
+// people; of a document that is refused its err is nil, and its Report tells the Fault.
 package pkder
 
 /*
@@ -143,6 +144,32 @@ func (form Form) String() string {
 	return fmt.Sprintf("not DER at %d", form.At)
 }
 
+// ReportForm is how a report is written: the zero value as text with the elements that matter.
+type ReportForm struct {
+	All  bool // with all elements
+	JSON bool // as one object of JSON, in a line
+}
+
+// number is the form's number in pkder.h.
+func (form ReportForm) number() C.uint32_t {
+	var number C.uint32_t
+	if form.All {
+		number |= C.PKDER_ALL
+	}
+	if form.JSON {
+		number |= C.PKDER_JSON
+	}
+	return number
+}
+
+// Report is a report of a document, refused or not. Fault is why it is refused, and nil where it is sound; of a sound
+// one Form says whether it is in DER. So Form.DER is true of a document in DER alone.
+type Report struct {
+	Text  string
+	Form  Form
+	Fault *Fault
+}
+
 // RequireDER answers nil where the document is in DER, a *NotDER where it is sound and isn't, and else why it is
 // refused.
 func RequireDER(kind Kind, limits Limits, document []byte) error {
@@ -185,32 +212,67 @@ func Show(kind Kind, limits Limits, document []byte) (string, error) {
 	return string(text), err
 }
 
-// textOf answers what the call writes, with as much room as it asks for.
+// Explain answers a report of the octets, whether they are a document or not: its elements with their places, and of a
+// refused one which field is at fault, what is due there, the usual cause and what to do. No octets of private keys and
+// no values of attributes are in it.
+func Explain(kind Kind, limits Limits, document []byte, form ReportForm) (Report, error) {
+	text, outcome, err := written(firstRoom, C.PKDER_REPORTED, C.PKDER_UNREPORTED, func(room []byte) C.pkder_outcome {
+		return C.pkder_explain(C.uint32_t(kind), C.uint32_t(limits.Depth), C.uint64_t(limits.Octets), form.number(),
+			start(document), C.size_t(len(document)), start(room), C.size_t(len(room)))
+	})
+	report := Report{Text: string(text)}
+	switch {
+	case err != nil:
+		return Report{}, err
+	case outcome.reason != 0:
+		report.Fault = faultOf(outcome)
+	default:
+		report.Form = Form{DER: outcome.at == 0, At: uint64(outcome.at)}
+	}
+	return report, nil
+}
+
+// firstRoom is room for a report at first; those of all elements may need more.
+const firstRoom = 8192
+
+// textOf answers what the call writes; nearly always the document's own size is enough.
 func textOf(call C.text_call, what uint32, limits Limits, document []byte) ([]byte, error) {
-	size := len(document)
+	text, _, err := written(len(document), C.PKDER_ACCEPTED, C.PKDER_NO_ROOM, func(room []byte) C.pkder_outcome {
+		return C.text_of(call, C.uint32_t(what), C.uint32_t(limits.Depth), C.uint64_t(limits.Octets),
+			start(document), C.size_t(len(document)), start(room), C.size_t(len(room)))
+	})
+	return text, err
+}
+
+// written answers what the call writes, with this room at first and then with as much as it asks for, and its outcome.
+// The status is done of a call that wrote, and short of one with too little room.
+func written(size int, done, short C.uint32_t, call func([]byte) C.pkder_outcome) ([]byte, C.pkder_outcome, error) {
 	for {
 		room := make([]byte, size)
-		outcome := C.text_of(call, C.uint32_t(what), C.uint32_t(limits.Depth), C.uint64_t(limits.Octets),
-			start(document), C.size_t(len(document)), start(room), C.size_t(size))
+		outcome := call(room)
 		switch outcome.status {
-		case C.PKDER_ACCEPTED:
-			return room[:outcome.size], nil
-		case C.PKDER_NO_ROOM:
+		case done:
+			return room[:outcome.size], outcome, nil
+		case short:
 			size = int(outcome.size)
 		default:
-			return nil, errorOf(outcome)
+			return nil, outcome, errorOf(outcome)
 		}
 	}
+}
+
+func faultOf(outcome C.pkder_outcome) *Fault {
+	fault := &Fault{At: uint64(outcome.at), Reason: nameOf(outcome.reason), InsideAt: uint64(outcome.inside_at)}
+	if outcome.inside_reason != 0 {
+		fault.InsideReason = nameOf(outcome.inside_reason)
+	}
+	return fault
 }
 
 func errorOf(outcome C.pkder_outcome) error {
 	switch outcome.status {
 	case C.PKDER_FAULT:
-		fault := &Fault{At: uint64(outcome.at), Reason: nameOf(outcome.reason), InsideAt: uint64(outcome.inside_at)}
-		if outcome.inside_reason != 0 {
-			fault.InsideReason = nameOf(outcome.inside_reason)
-		}
-		return fault
+		return faultOf(outcome)
 	case C.PKDER_NO_MEMORY:
 		return ErrMemory
 	case C.PKDER_BAD_CALL:

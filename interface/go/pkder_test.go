@@ -45,6 +45,10 @@ func said(t *testing.T, words []string, given []byte) (string, []byte, string) {
 		var lines string
 		lines, err = Show(kinds[words[2]], limits, given)
 		text = []byte(lines)
+	case "explain":
+		var report Report
+		report, err = Explain(kinds[words[2]], limits, given, ReportForm{All: has(words, "--all"), JSON: has(words, "--json")})
+		text, status = []byte(report.Text), statusOf(report)
 	case "check":
 		var form Form
 		form, err = Check(kinds[words[2]], limits, given)
@@ -57,6 +61,39 @@ func said(t *testing.T, words []string, given []byte) (string, []byte, string) {
 		return "2", nil, err.Error()
 	}
 	return status, text, ""
+}
+
+func has(words []string, word string) bool {
+	for _, it := range words {
+		if it == word {
+			return true
+		}
+	}
+	return false
+}
+
+// statusOf is the program's status for a report.
+func statusOf(report Report) string {
+	switch {
+	case report.Fault != nil:
+		return "2"
+	case !report.Form.DER:
+		return "1"
+	}
+	return "0"
+}
+
+// reported is what a report tells of what Check is asked for: its second line, and that of its Fault or Form.
+func reported(t *testing.T, words []string, given []byte) (string, string) {
+	report, err := Explain(kinds[words[2]], limitsOf(t, words), given, ReportForm{})
+	lines := strings.Split(report.Text, "\n")
+	if err != nil || len(lines) < 3 {
+		t.Fatal(words, err, report.Text)
+	}
+	if report.Fault != nil {
+		return lines[1], report.Fault.Error()
+	}
+	return lines[1], report.Form.String()
 }
 
 // required is the line of what RequireDER answers that is asked for as Check is.
@@ -93,6 +130,9 @@ func TestRows(t *testing.T) {
 			if line := required(t, strings.Split(cells[1], " "), octetsOf(t, cells[2])); line != due {
 				t.Errorf("%s: %s: %s", cells[0], cells[1], line)
 			}
+			if line, told := reported(t, strings.Split(cells[1], " "), octetsOf(t, cells[2])); line != due || told != due {
+				t.Errorf("%s: %s: %s, %s", cells[0], cells[1], line, told)
+			}
 		}
 	}
 	if len(lines) <= 800 {
@@ -103,6 +143,9 @@ func TestRows(t *testing.T) {
 func TestBadCalls(t *testing.T) {
 	for _, limits := range []Limits{{0, 9}, {65, 9}, {288, 9}, {1, 0}, {1, 1 << 31}, {1, 1<<32 + 9}} {
 		if _, err := Check(Key, limits, nil); err != ErrCall {
+			t.Error(limits, err)
+		}
+		if _, err := Explain(Key, limits, nil, ReportForm{}); err != ErrCall {
 			t.Error(limits, err)
 		}
 	}
@@ -126,6 +169,43 @@ func TestCareless(t *testing.T) {
 	err := RequireDER(Public, Usual(), inBER)
 	if !errors.As(err, &notDER) || notDER.At != 1 || err.Error() != "not DER at 1" {
 		t.Error(err)
+	}
+}
+
+// Reports in each form, of a document in BER and of a refused one.
+func TestReports(t *testing.T) {
+	key := append(octetsOf(t, "302a300506032b6570032100"), make([]byte, 32)...)
+	inBER := append([]byte{0x30, 0x81}, key[1:]...)
+	for _, form := range []ReportForm{{}, {All: true}, {JSON: true}, {All: true, JSON: true}} {
+		report, err := Explain(Public, Usual(), inBER, form)
+		if err != nil || report.Fault != nil || (report.Form != Form{At: 1}) {
+			t.Error(form, report, err)
+		}
+		// (with all elements it lists subjectPublicKey too, at 10)
+		if isListed := strings.Contains(report.Text, "\n10  03 21"); isListed != (form == ReportForm{All: true}) {
+			t.Error(form, report.Text)
+		}
+		if strings.HasPrefix(report.Text, "{") != form.JSON {
+			t.Error(form, report.Text)
+		}
+		report, err = Explain(Public, Usual(), key[:20], form)
+		if err != nil || report.Form.DER || report.Fault == nil || report.Fault.Reason != ReasonTruncated {
+			t.Error(form, report, err)
+		}
+	}
+}
+
+// A report of all elements that is longer than the room that it gets at first.
+func TestLongReport(t *testing.T) {
+	names := bytes.Repeat(octetsOf(t, "310b300906035504030c026161"), 400)
+	// (the octets end behind the subject)
+	request := append(octetsOf(t, "30827fff30827ff002010030821450"), names...)
+	report, err := Explain(Request, Usual(), request, ReportForm{All: true, JSON: true})
+	if err != nil || len(report.Text) <= 2*firstRoom || !strings.HasSuffix(report.Text, "}\n") {
+		t.Error(len(report.Text), err)
+	}
+	if report.Fault == nil || report.Fault.At != uint64(len(request)) {
+		t.Error(report.Fault)
 	}
 }
 
@@ -198,6 +278,10 @@ func TestThreads(t *testing.T) {
 			for j := 0; j < 5000; j++ {
 				if text, err := Normalise(Public, Usual(), key); err != nil || !bytes.Equal(text, key) {
 					t.Error(text, err)
+					return
+				}
+				if report, err := Explain(Public, Usual(), key, ReportForm{}); err != nil || !report.Form.DER {
+					t.Error(report, err)
 					return
 				}
 			}

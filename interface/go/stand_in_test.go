@@ -7,7 +7,16 @@ import (
 	"testing"
 )
 
-// refusal is what all calls answer of the octets.
+// refusalOfAll is what all calls answer of the octets, Explain too.
+func refusalOfAll(t *testing.T, document []byte) error {
+	refused := refusal(t, document)
+	if _, err := Explain(Key, Usual(), document, ReportForm{}); err == nil || err.Error() != refused.Error() {
+		t.Fatal(document, refused, err)
+	}
+	return refused
+}
+
+// refusal is what the other calls answer of the octets.
 func refusal(t *testing.T, document []byte) error {
 	_, checked := Check(Key, Usual(), document)
 	_, normalised := Normalise(Key, Usual(), document)
@@ -25,17 +34,28 @@ func refusal(t *testing.T, document []byte) error {
 // What the package makes of answers that no document brings: go test -tags stand_in -run StandIn, where pkg-config finds
 // the stand-in of interface/c/stand_in.c.
 func TestStandIn(t *testing.T) {
-	if err := refusal(t, []byte{3, 0, 0}); err != ErrMemory {
+	if err := refusalOfAll(t, []byte{3, 0, 0}); err != ErrMemory {
 		t.Error(err)
 	}
-	if err := refusal(t, []byte{4, 0, 0}); err != ErrCall {
+	if err := refusalOfAll(t, []byte{4, 0, 0}); err != ErrCall {
 		t.Error(err)
 	}
+	if err := refusalOfAll(t, []byte{8, 0, 0}); err.Error() != "libpkder answers the status 8" {
+		t.Error(err)
+	}
+	// (statuses of reports are no answer of other calls)
 	if err := refusal(t, []byte{6, 0, 0}); err.Error() != "libpkder answers the status 6" {
 		t.Error(err)
 	}
+	if err := refusal(t, []byte{7, 0, 0}); err.Error() != "libpkder answers the status 7" {
+		t.Error(err)
+	}
+	report, err := Explain(Key, Usual(), []byte{6, 28, 28}, ReportForm{})
+	if err != nil || report.Form.DER || report.Fault.Error() != "fault at 5: Later inside at 7: Later" {
+		t.Error(report, err)
+	}
 	var fault *Fault
-	if err := refusal(t, []byte{1, 28, 28}); !errors.As(err, &fault) ||
+	if err := refusalOfAll(t, []byte{1, 28, 28}); !errors.As(err, &fault) ||
 		fault.Error() != "fault at 5: Later inside at 7: Later" {
 		t.Error(err)
 	}

@@ -1,5 +1,5 @@
 -- What is said of kinds and limits, said of their numbers; and what is put and told of it.
-use Rattle.std.proofs.Common.{◌≡◌, Err, IfErr, IfOk, List, Ok, Option, Result, inl, inr, subst, ℕ}
+use Rattle.std.proofs.Common.{◌≡◌, Err, IfErr, IfOk, List, Ok, Option, Result, inl, inr, subst, sym, ℕ}
 use Rattle.tlv_core.specs.Limits.{IsLimits, Limits}
 use Rattle.x690.specs.Values.{Value}
 use Rattle.pk_documents.specs.Kinds.{type_of}
@@ -7,8 +7,11 @@ use Rattle.pk_documents.specs.declared.document.Document.{Document}
 use Rattle.pk_documents.specs.declared.kind.Kind.{Kind}
 use Rattle.pk_documents.specs.declared.kind.Kind.TheVariants.{Request}
 use Rattle.pk_documents.specs.declared.request_part.Part.{Part}
-use Rattle.pkder_c.specs.Calls.{AreLines, Checked, IsPartText, IsPlace, IsText, KindRefused, PartRefused, Put, Wrote}
-use Rattle.pkder_c.specs.Numbers.{kind_number, part_number}
+use Rattle.pk_explain.specs.Written.{IsWritten}
+use Rattle.pk_explain.specs.declared.written.Form.{Form}
+use Rattle.pk_reports.specs.declared.report.Answer.{Answer}
+use Rattle.pkder_c.specs.Calls.{AreLines, Checked, IsPartText, IsPlace, IsReport, IsText, KindRefused, PartRefused, Put, PutReport, ReportRefused, Reported, Wrote}
+use Rattle.pkder_c.specs.Numbers.{IsFormNumber, form_number, kind_number, part_number}
 use Rattle.pkder_c.specs.Outcomes.{checked_outcome, refused_outcome}
 use Rattle.pkder_c.specs.Wholes.{WholeChecked, WholeFault, WholeLines, WholePart, WholeRefused, WholeText}
 use Rattle.pkder_c.specs.declared.outcome.PkderOutcome.{PkderOutcome}
@@ -87,3 +90,31 @@ pub checked : (r : Result (Option ℕ) Refusal) (Found : Option ℕ → Type 0) 
     → Checked Found Refused taken outcome
 checked (Ok place) Found Refused taken outcome found holds is told = inl (place, found, is)
 checked (Err refusal) Found Refused taken outcome found holds is told = inr (refusal, holds, told)
+
+pub report_for : {V : Type 0} (r : Result V Refusal) (items : V → List ℕ) (answer : V → Answer) (form number : ℕ)
+    (wanted : Form) (kind : Kind) (made limits : Limits) (given : List ℕ)
+    → form_number wanted ≡ form → kind_number kind ≡ number → made ≡ limits → IsLimits limits
+    → IfOk r (λ v. IsWritten wanted made kind given (items v) (answer v))
+    → IfOk r (λ v. IsReport form number limits given (items v) (answer v))
+report_for (Ok v) items answer form number wanted kind made limits given f k e fine h =
+    (kind, k, fine, (wanted, f, subst (λ z. IsWritten wanted z kind given (items v) (answer v)) e h))
+report_for (Err refusal) items answer form number wanted kind made limits given f k e fine h = tt
+
+pub report_refused : {V : Type 0} (r : Result V Refusal) (form number : ℕ) (kind : Kind) (limits : Limits)
+    → IsFormNumber form → kind_number kind ≡ number → IsLimits limits
+    → IfErr r (λ refusal. refusal ≡ refusals.Memory) → IfErr r (ReportRefused form number limits)
+report_refused (Ok v) form number kind limits f k fine h = tt
+report_refused (Err refusal) form number kind limits f k fine h =
+    subst (ReportRefused form number limits) (sym h) (kind, k, fine, f)
+
+pub reported : {V : Type 0} (r : Result V Refusal) (items : V → List ℕ) (answer : V → Answer)
+    (Due : List ℕ → Answer → Type 0) (Refused : Refusal → Type 0) (taken : ℕ) (old new : List ℕ)
+    (outcome : PkderOutcome)
+    → IfOk r (λ v. Due (items v) (answer v)) → IfErr r Refused
+    → IfOk r (λ v. PutReport (items v) (answer v) taken old new outcome)
+    → IfErr r (λ refusal. (outcome ≡ refused_outcome refusal) × (new ≡ old))
+    → Reported Due Refused taken old new outcome
+reported (Ok v) items answer Due Refused taken old new outcome due holds put told =
+    inl (items v, answer v, due, put)
+reported (Err refusal) items answer Due Refused taken old new outcome due holds put told =
+    inr (refusal, holds, told.0, told.1)

@@ -9,8 +9,11 @@ use Rattle.pk_documents.specs.declared.document.Document.{Document}
 use Rattle.pk_documents.specs.declared.kind.Kind.{Kind}
 use Rattle.pk_documents.specs.declared.kind.Kind.TheVariants.{Request}
 use Rattle.pk_documents.specs.declared.request_part.Part.{Part}
-use Rattle.pkder_c.specs.Numbers.{IsKindNumber, IsPartNumber, IsReasonNumber, kind_number, part_number}
-use Rattle.pkder_c.specs.Outcomes.{accepted_outcome, checked_outcome, refused_outcome, too_small_outcome}
+use Rattle.pk_explain.specs.Written.{IsWritten}
+use Rattle.pk_explain.specs.declared.written.Form.{Form}
+use Rattle.pk_reports.specs.declared.report.Answer.{Answer}
+use Rattle.pkder_c.specs.Numbers.{IsFormNumber, IsKindNumber, IsPartNumber, IsReasonNumber, form_number, kind_number, part_number}
+use Rattle.pkder_c.specs.Outcomes.{accepted_outcome, checked_outcome, refused_outcome, reported_outcome, too_small_outcome, unreported_outcome}
 use Rattle.pkder_c.specs.Wholes.{WholeChecked, WholeFault, WholeLines, WholePart, WholeText}
 use Rattle.pkder_c.specs.declared.outcome.PkderOutcome.{PkderOutcome}
 use Rattle.pkder_c.specs.declared.refusal.Refusal.{Refusal}
@@ -44,6 +47,12 @@ AreLines value_of number limits given text =
 abbrev pub IsPartText : ℕ → Limits → List ℕ → List ℕ → Type 0
 IsPartText number limits given text = ForPart number limits (λ allowed part. WholePart allowed part given text)
 
+-- The text is the report of the octets in the form of this number, and the answer the one in it.
+abbrev pub IsReport : ℕ → ℕ → Limits → List ℕ → List ℕ → Answer → Type 0
+IsReport form number limits given text answer =
+    ForKind number limits
+    (λ allowed kind. (wanted : Form) × (form_number wanted ≡ form) × IsWritten wanted allowed kind given text answer)
+
 -- Why there is none: the call is bad exactly where no kind has the number or the limits are none.
 abbrev pub KindRefused : ℕ → Limits → List ℕ → Refusal → Type 0
 KindRefused number limits given refusals.Call = IsKindNumber number → IsLimits limits → ⊥
@@ -57,6 +66,13 @@ PartRefused number limits given (refusals.Fault found) =
     ForPart number limits (λ allowed part. WholeFault allowed (type_of Request) found given)
 PartRefused number limits given refusals.Memory = ForPart number limits (λ allowed part. Unit {0})
 
+-- Of a report: the call is bad exactly where no form or kind has its number or the limits are none. Else there is one,
+-- where there is memory for it.
+abbrev pub ReportRefused : ℕ → ℕ → Limits → Refusal → Type 0
+ReportRefused form number limits refusals.Call = IsFormNumber form → IsKindNumber number → IsLimits limits → ⊥
+ReportRefused form number limits (refusals.Fault found) = ⊥
+ReportRefused form number limits refusals.Memory = ForKind number limits (λ allowed kind. IsFormNumber form)
+
 -- The text stands where the room `old` began, and the rest of the room is as it was; or there is too little room, which
 -- is told, and all of it is as it was.
 pub record Put (text : List ℕ) (taken : ℕ) (old new : List ℕ) (outcome : PkderOutcome) : Type 0 where
@@ -64,11 +80,24 @@ pub record Put (text : List ℕ) (taken : ℕ) (old new : List ℕ) (outcome : P
       → (outcome ≡ accepted_outcome taken (length text)) × (new ≡ text ++ drop (length text) old)
   pub short : length old < length text → (outcome ≡ too_small_outcome taken (length text)) × (new ≡ old)
 
+-- So with a report, and the answer in it.
+pub record PutReport (text : List ℕ) (answer : Answer) (taken : ℕ) (old new : List ℕ) (outcome : PkderOutcome) : Type 0
+  where
+    pub fits : length text ≤ length old
+        → (outcome ≡ reported_outcome taken answer (length text)) × (new ≡ text ++ drop (length text) old)
+    pub short : length old < length text → (outcome ≡ unreported_outcome taken answer (length text)) × (new ≡ old)
+
 -- A text that is due was put; or the octets are refused, for a reason that holds and is told,
 -- and the room is as it was.
 abbrev pub Wrote : (List ℕ → Type 0) → (Refusal → Type 0) → ℕ → List ℕ → List ℕ → PkderOutcome → Type 0
 Wrote Due Refused taken old new outcome =
     ((text : List ℕ) × Due text × Put text taken old new outcome)
+    ⊎ ((refusal : Refusal) × Refused refusal × (outcome ≡ refused_outcome refusal) × (new ≡ old))
+
+-- A report was put; or the call is refused, for a reason that holds and is told, and the room is as it was.
+abbrev pub Reported : (List ℕ → Answer → Type 0) → (Refusal → Type 0) → ℕ → List ℕ → List ℕ → PkderOutcome → Type 0
+Reported Due Refused taken old new outcome =
+    ((text : List ℕ) × (answer : Answer) × Due text answer × PutReport text answer taken old new outcome)
     ⊎ ((refusal : Refusal) × Refused refusal × (outcome ≡ refused_outcome refusal) × (new ≡ old))
 
 -- What was found is told; or the octets are refused, for a reason that holds and is told.

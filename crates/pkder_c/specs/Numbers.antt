@@ -1,9 +1,10 @@
--- The numbers of kinds, parts and reasons.
-use Rattle.std.specs.Prelude.{ℕ, ◌≤◌}
+-- The numbers of kinds, parts, forms and reasons.
+use Rattle.std.specs.Prelude.{ℕ, ◌+◌, ◌≤◌, cond}
 use Rattle.pk_documents.specs.declared.kind.Kind.{Kind}
 use Rattle.pk_documents.specs.declared.kind.Kind.TheVariants as kinds
 use Rattle.pk_documents.specs.declared.request_part.Part.{Part}
 use Rattle.pk_documents.specs.declared.request_part.Part.TheVariants as parts
+use Rattle.pk_explain.specs.declared.written.Form.{Form}
 
 abbrev pub kind_number : Kind → ℕ
 kind_number kinds.Key = 1
@@ -24,6 +25,13 @@ part_number parts.Signature = 4
 
 abbrev pub IsPartNumber : ℕ → Type 0
 IsPartNumber number = (1 ≤ number) × (number ≤ 4)
+
+-- a report with all elements, and one in JSON
+abbrev pub form_number : Form → ℕ
+form_number form = cond form.all 1 0 + cond form.json 2 0
+
+abbrev pub IsFormNumber : ℕ → Type 0
+IsFormNumber number = number ≤ 3
 
 -- `number_of` of tlv_core has the numbers themselves
 abbrev pub IsReasonNumber : ℕ → Type 0

@@ -2,6 +2,8 @@
 use Rattle.std.specs.Prelude.{ℕ, None, Option, Some}
 use Rattle.tlv_core.specs.Reasons.{number_of}
 use Rattle.tlv_core.specs.declared.reason.Reason.{Reason}
+use Rattle.pk_reports.specs.declared.report.Answer.{Answer}
+use Rattle.pk_reports.specs.declared.report.Answer.TheVariants as answers
 use Rattle.pkder_c.specs.declared.outcome.PkderOutcome.{PkderOutcome}
 use Rattle.pkder_c.specs.declared.refusal.Refusal.{Refusal}
 use Rattle.pkder_c.specs.declared.refusal.Refusal.TheVariants.{Call, Fault, Memory}
@@ -41,3 +43,17 @@ refused_outcome Memory =
     record { status = 3; reason = 0; inside_reason = 0; spare = 0; at = 0; inside_at = 0; taken = 0; size = 0 }
 refused_outcome Call =
     record { status = 4; reason = 0; inside_reason = 0; spare = 0; at = 0; inside_at = 0; taken = 0; size = 0 }
+
+-- what `check` tells of octets with this answer
+abbrev pub answered_outcome : ℕ → Answer → PkderOutcome
+answered_outcome taken answers.Der = checked_outcome taken None
+answered_outcome taken (answers.NotDer place) = checked_outcome taken (Some place)
+answered_outcome taken (answers.Refused found) = refused_outcome (Fault found)
+
+-- the same with the octets of a report that is written
+abbrev pub reported_outcome : ℕ → Answer → ℕ → PkderOutcome
+reported_outcome taken answer size = record (answered_outcome taken answer) { status = 6; size = size }
+
+-- of one that there is no room for
+abbrev pub unreported_outcome : ℕ → Answer → ℕ → PkderOutcome
+unreported_outcome taken answer size = record (answered_outcome taken answer) { status = 7; size = size }

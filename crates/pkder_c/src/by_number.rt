@@ -1,11 +1,12 @@
 //! Documents by arguments that are numbers.
 ghost use Rattle.std.specs.Prelude.{IfErr, IfOk};
-ghost use Rattle.pkder_c.specs.Calls.{AreLines, IsPartText, IsPlace, IsText, KindRefused, PartRefused};
+ghost use Rattle.pkder_c.specs.Calls.{AreLines, IsPartText, IsPlace, IsReport, IsText, KindRefused, PartRefused, ReportRefused};
 
-use crate::numbers::{kind_of, limits_of, request_part_of};
+use crate::numbers::{form_of, kind_of, limits_of, request_part_of};
 use crate::refusal::Refusal;
-use crate::whole::{whole_lines, whole_part, whole_place, whole_text};
+use crate::whole::{whole_lines, whole_part, whole_place, whole_report, whole_text};
 use pk_documents::document::{Document, Valued};
+use pk_reports::report::Answer;
 use std::alloc::Global;
 
 /// The document's DER text.
@@ -94,4 +95,30 @@ pub fn part_of(
         return Err(Refusal::Call);
     };
     whole_part(alloc, wanted, limits, src)
+}
+
+/// The report of the octets, and the answer of `check` in it.
+pub fn report_of(
+    alloc: Global,
+    kind: u32,
+    depth: u32,
+    octets: u64,
+    form: u32,
+    src: &[u8],
+) -> Result<(Vec<u8>, Answer), Refusal>
+    ensures report { IfOk result (λ made. IsReport form kind
+        (record { depth = depth; octets = octets }) src.now made.0.items made.1) }
+    ensures refused { IfErr result (ReportRefused form kind
+        (record { depth = depth; octets = octets })) }
+{
+    let Some(wanted) = form_of(form) else {
+        return Err(Refusal::Call);
+    };
+    let Some(document) = kind_of(kind) else {
+        return Err(Refusal::Call);
+    };
+    let Some(limits) = limits_of(depth, octets) else {
+        return Err(Refusal::Call);
+    };
+    whole_report(alloc, document, limits, wanted, src)
 }

@@ -1,10 +1,11 @@
 //! What comes of a call, put where the caller sees it.
 ghost use Rattle.std.specs.Prelude.{◌≡◌, IfErr, IfOk, length};
-ghost use Rattle.pkder_c.specs.Calls.{Put};
+ghost use Rattle.pkder_c.specs.Calls.{Put, PutReport};
 ghost use Rattle.pkder_c.specs.Outcomes.{checked_outcome, refused_outcome};
 
-use crate::outcome::{PkderOutcome, accepted, checked, refused, too_small};
+use crate::outcome::{PkderOutcome, accepted, checked, refused, reported, too_small, unreported};
 use crate::refusal::Refusal;
+use pk_reports::report::Answer;
 
 /// Writes the text of the document in `src` where `dst` begins, if it fits there; nothing otherwise.
 pub fn deliver(made: Result<Vec<u8>, Refusal>, src: &[u8], dst: &mut [u8]) -> PkderOutcome
@@ -21,6 +22,24 @@ pub fn deliver(made: Result<Vec<u8>, Refusal>, src: &[u8], dst: &mut [u8]) -> Pk
     }
     dst[..text.len()].copy_from_slice(&text);
     accepted(src.len() as u64, text.len() as u64)
+}
+
+/// Writes the report of the octets in `src` where `dst` begins, if it fits there; nothing otherwise.
+pub fn report(made: Result<(Vec<u8>, Answer), Refusal>, src: &[u8], dst: &mut [u8]) -> PkderOutcome
+    ensures put { IfOk made (λ made. PutReport made.0.items made.1 (length src.now)
+        dst.old dst.new result) }
+    ensures refused { IfErr made (λ refusal. (result ≡ refused_outcome refusal)
+        × (dst.new ≡ dst.old)) }
+{
+    let (text, answer) = match made {
+        Ok(made) => made,
+        Err(refusal) => return refused(&refusal),
+    };
+    if text.len() > dst.len() {
+        return unreported(src.len() as u64, answer, text.len() as u64);
+    }
+    dst[..text.len()].copy_from_slice(&text);
+    reported(src.len() as u64, answer, text.len() as u64)
 }
 
 /// What was found of the document in `src`.

@@ -1,4 +1,4 @@
-//! pkder for C: a document in octets is normalised, checked, shown, or a part of it taken out. `interface/pkder.h`
+//! pkder for C: a document in octets is normalised, checked, shown, reported on, or a part of it taken out. `interface/pkder.h`
 //! declares these functions and says what a caller owes.
 //!
 //! Proved of every call whose pointers are good: what `pk_documents` and `pk_show` promise, of a document that has to
@@ -9,7 +9,7 @@
 #![tactic(auto)]
 
 ghost use Rattle.std.specs.Prelude.{◌≡◌, length};
-ghost use Rattle.pkder_c.specs.Calls.{AreLines, Checked, IsPartText, IsPlace, IsText, KindRefused, Named, PartRefused, Wrote};
+ghost use Rattle.pkder_c.specs.Calls.{AreLines, Checked, IsPartText, IsPlace, IsReport, IsText, KindRefused, Named, PartRefused, ReportRefused, Reported, Wrote};
 
 mod by_number;
 mod delivery;
@@ -18,8 +18,8 @@ mod outcome;
 mod refusal;
 mod whole;
 
-use crate::by_number::{lines_of, part_of, place_of, text_of};
-use crate::delivery::{deliver, tell};
+use crate::by_number::{lines_of, part_of, place_of, report_of, text_of};
+use crate::delivery::{deliver, report, tell};
 use crate::numbers::reason_of;
 use crate::outcome::PkderOutcome;
 use pk_documents::document::{Document, Valued};
@@ -100,6 +100,25 @@ pub extern "C" fn pkder_show(
         (length src.now) dst.old dst.new result }
 {
     deliver(lines_of(alloc, kind, depth, octets, src), src, dst)
+}
+
+/// Writes the report of the octets where `dst` begins, if it fits there: by the number of its form 1 with all elements,
+/// 2 in JSON, 3 both.
+#[unsafe(no_mangle)]
+pub extern "C" fn pkder_explain(
+    alloc: Global,
+    kind: u32,
+    depth: u32,
+    octets: u64,
+    form: u32,
+    src: &[u8],
+    dst: &mut [u8],
+) -> PkderOutcome
+    ensures { Reported (IsReport form kind (record { depth = depth; octets = octets }) src.now)
+        (ReportRefused form kind (record { depth = depth; octets = octets }))
+        (length src.now) dst.old dst.new result }
+{
+    report(report_of(alloc, kind, depth, octets, form, src), src, dst)
 }
 
 /// Writes the name of the reason, and an octet 0 behind it, where `dst` has room for both. Answers the octets of the

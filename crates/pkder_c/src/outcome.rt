@@ -1,15 +1,17 @@
 //! Outcomes as C sees them.
 ghost use Rattle.std.specs.Prelude.{◌≡◌};
-ghost use Rattle.pkder_c.specs.Outcomes.{accepted_outcome, checked_outcome, inside_of, refused_outcome, too_small_outcome};
+ghost use Rattle.pkder_c.specs.Outcomes.{accepted_outcome, answered_outcome, checked_outcome, inside_of, refused_outcome, reported_outcome, too_small_outcome, unreported_outcome};
 
 use crate::refusal::Refusal;
+use pk_reports::report::Answer;
 use tlv_core::reason::Reason;
 
 /// What comes of a call. Numbers that a status doesn't use are 0.
 #[repr(C)]
 #[derive(Clone, Copy, Debug, PartialEq, Eq)]
 pub struct PkderOutcome {
-    /// 0 accepted, 1 a fault, 2 no room, 3 out of memory, 4 a bad call, 5 accepted and not in DER.
+    /// 0 accepted, 1 a fault, 2 no room, 3 out of memory, 4 a bad call, 5 accepted and not in DER, 6 reported, 7 no room
+    /// for a report.
     pub status: u32,
     /// Of a fault: the number of its reason, 1 to 27.
     pub reason: u32,
@@ -24,7 +26,7 @@ pub struct PkderOutcome {
     pub inside_at: u64,
     /// Accepted, no room or not in DER: the octets of the document.
     pub taken: u64,
-    /// Accepted or no room: the octets of what is written, or would be.
+    /// Accepted, reported or no room: the octets of what is written, or would be.
     pub size: u64,
 }
 
@@ -87,6 +89,39 @@ pub fn refused(refusal: &Refusal) -> PkderOutcome
         }
         Refusal::Memory => PkderOutcome { status: 3, ..none },
         Refusal::Call => PkderOutcome { status: 4, ..none },
+    }
+}
+
+/// It is reported, by the answer of `check`.
+pub fn reported(taken: u64, answer: Answer, size: u64) -> PkderOutcome
+    ensures { result ≡ reported_outcome taken answer size }
+{
+    PkderOutcome {
+        status: 6,
+        size,
+        ..answered(taken, answer)
+    }
+}
+
+/// There is no room for its report.
+pub fn unreported(taken: u64, answer: Answer, size: u64) -> PkderOutcome
+    ensures { result ≡ unreported_outcome taken answer size }
+{
+    PkderOutcome {
+        status: 7,
+        size,
+        ..answered(taken, answer)
+    }
+}
+
+/// What `check` tells of it.
+fn answered(taken: u64, answer: Answer) -> PkderOutcome
+    ensures { result ≡ answered_outcome taken answer }
+{
+    match answer {
+        Answer::Der => checked(taken, None),
+        Answer::NotDer(at) => checked(taken, Some(at)),
+        Answer::Refused(fault) => refused(&Refusal::Fault(fault)),
     }
 }
 

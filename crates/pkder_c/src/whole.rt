@@ -4,6 +4,7 @@ ghost use Rattle.pk_documents.specs.Kinds.{type_of};
 ghost use Rattle.pk_documents.specs.RequestParts.{part_of};
 ghost use Rattle.pk_documents.specs.declared.kind.Kind.TheVariants.{Request as request_kind};
 ghost use Rattle.pk_show.specs.Shown.{document_lines};
+ghost use Rattle.pk_explain.specs.Written.{IsWritten};
 ghost use Rattle.pkder_c.specs.Wholes.{WholeChecked, WholeLines, WholePart, WholeRefused, WholeText};
 ghost use Rattle.pkder_c.specs.declared.refusal.Refusal.TheVariants.{Memory};
 
@@ -15,6 +16,8 @@ use pk_documents::document::{Document, Valued, read_whole_document};
 use pk_documents::kind::Kind;
 use pk_documents::normalise::normalise_whole_document;
 use pk_documents::request_part::{Part, write_part};
+use pk_explain::written::{Form, explain_text};
+use pk_reports::report::Answer;
 use pk_requests::request::CertificationRequest;
 use pk_show::show_text;
 use std::alloc::Global;
@@ -105,6 +108,23 @@ fn part_text(alloc: Global, request: &CertificationRequest, part: Part) -> Resul
     let mut target = ToWrite::new(Vec::new(alloc));
     match write_part(request, part, &mut target) {
         Ok(_) => Ok(target.into_inner()),
+        Err(_) => Err(Refusal::Memory),
+    }
+}
+
+/// The report of the octets, and the answer of `check` in it.
+pub fn whole_report(
+    alloc: Global,
+    kind: Kind,
+    limits: Limits,
+    form: Form,
+    src: &[u8],
+) -> Result<(Vec<u8>, Answer), Refusal>
+    ensures report { IfOk result (λ made. IsWritten form limits kind src.now made.0.items made.1) }
+    ensures memory { IfErr result (λ refusal. refusal ≡ Memory) }
+{
+    match explain_text(alloc, src, kind, limits, form) {
+        Ok((text, answer)) => Ok((text.into_bytes(), answer)),
         Err(_) => Err(Refusal::Memory),
     }
 }

@@ -7,7 +7,7 @@ import unittest
 
 import pkder
 
-MEMORY, BAD_CALL, LATER = b"\3\0\0", b"\4\0\0", b"\6\0\0"
+MEMORY, BAD_CALL, LATER = b"\3\0\0", b"\4\0\0", b"\10\0\0"
 
 
 def calls(document):
@@ -17,6 +17,7 @@ def calls(document):
     yield lambda: pkder.normalise(pkder.Kind.KEY, document)
     yield lambda: pkder.show(pkder.Kind.KEY, document)
     yield lambda: pkder.signed(pkder.Part.INFO, document)
+    yield lambda: pkder.explain(pkder.Kind.KEY, document)
 
 
 class Answers(unittest.TestCase):
@@ -34,6 +35,19 @@ class Answers(unittest.TestCase):
                 with self.subTest(line=line), self.assertRaises(pkder.Fault) as raised:
                     call()
                 self.assertEqual(str(raised.exception), line)
+
+    def test_reports_of_a_later_library(self):
+        lines = {b"\6\x1c\0": "fault at 5: Later", b"\6\x1c\x1c": "fault at 5: Later inside at 7: Later"}
+        for document, line in lines.items():
+            report = pkder.explain(pkder.Kind.KEY, document)
+            with self.subTest(line=line):
+                self.assertEqual((report.is_der, str(report.fault)), (False, line))
+
+    def test_statuses_of_reports_are_no_answer_of_other_calls(self):
+        for document in b"\6\0\0", b"\7\0\0":
+            for call in list(calls(document))[:-1]:
+                with self.subTest(document=document), self.assertRaises(RuntimeError):
+                    call()
 
     def test_libraries_that_are_none(self):
         for name in ("no-such-file", "libc.so.6"):

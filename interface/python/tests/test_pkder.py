@@ -1,7 +1,8 @@
 """The rows that PKDER_CALLS names (interface/calls.py makes them), the reasons of pkder.h, which PKDER_HEADER names,
-calls that are wrong or careless, and threads.
+reports, calls that are wrong or careless, and threads.
 
 python3 -m unittest discover -s tests, with PKDER_LIBRARY where the library isn't installed."""
+import json
 import os
 import re
 import threading
@@ -28,6 +29,9 @@ def said(words, document):
             return 0, pkder.normalise(kind, document, **limits), ""
         if command == "show":
             return 0, pkder.show(kind, document, **limits).encode(), ""
+        if command == "explain":
+            report = pkder.explain(kind, document, all="--all" in words, json="--json" in words, **limits)
+            return 0 if report.is_der else 2 if report.fault else 1, report.text.encode(), ""
         form = pkder.check(kind, document, **limits)
         return 0 if form.is_der else 1, f"{form}\n".encode(), ""
     except pkder.Fault as fault:
@@ -47,6 +51,27 @@ def refusal(words, document):
         return 2, str(why)
 
 
+def reported(words, document):
+    """The line of check in the report that explain makes of what check is asked for, and in its JSON, and the line of
+    the report's numbers."""
+    options = dict(zip(words[1::2], words[2::2]))
+    kind = pkder.Kind[options["--kind"].upper()]
+    limits = {"depth": int(options["--depth"]), "octets": int(options["--octets"])}
+    report = pkder.explain(kind, document, **limits)
+    told = json.loads(pkder.explain(kind, document, json=True, **limits).text)
+    return report.text.splitlines()[1], line_of(told), str(report.fault or pkder.Form(report.differs_at))
+
+
+def line_of(told):
+    """The line of check that a report in JSON tells."""
+    if told["verdict"] == "der":
+        return str(pkder.Form())
+    if told["verdict"] == "not_der":
+        return str(pkder.Form(told["at"]))
+    inside = told.get("inside")
+    return str(pkder.Fault(told["at"], told["reason"], inside and (inside["at"], inside["reason"])))
+
+
 class Rows(unittest.TestCase):
     def test_rows(self):
         with open(os.environ["PKDER_CALLS"], encoding="utf-8") as it:
@@ -59,6 +84,7 @@ class Rows(unittest.TestCase):
                 if words.startswith("check"):
                     line = error or bytes.fromhex(output).decode().rstrip("\n")
                     self.assertEqual(refusal(words.split(), bytes.fromhex(given)), (int(status), line))
+                    self.assertEqual(reported(words.split(), bytes.fromhex(given)), (line, line, line))
 
 
 class Careless(unittest.TestCase):
@@ -88,6 +114,47 @@ class Careless(unittest.TestCase):
         judged = pkder.require_der(pkder.Kind.KEY, document)
         document[:] = KEY_IN_BER
         self.assertEqual(judged, KEY)
+
+
+class Reports(unittest.TestCase):
+    def test_a_sound_document(self):
+        report = pkder.explain(pkder.Kind.KEY, KEY)
+        self.assertEqual((report.is_der, report.differs_at, report.fault), (True, None, None))
+        self.assertTrue(report.text.startswith("key, 48 octets\nDER\n"))
+
+    def test_a_document_in_ber(self):
+        report = pkder.explain(pkder.Kind.KEY, KEY_IN_BER)
+        self.assertEqual((report.is_der, report.differs_at, report.fault), (False, 1, None))
+        # (with all elements it lists privateKey too, at 13)
+        whole = pkder.explain(pkder.Kind.KEY, KEY_IN_BER, all=True)
+        self.assertEqual([bool(re.search("^13 ", it.text, re.M)) for it in (report, whole)], [False, True])
+
+    def test_a_refused_document_does_not_raise(self):
+        report = pkder.explain(pkder.Kind.KEY, KEY[:20])
+        self.assertEqual((report.is_der, report.differs_at, report.fault.at), (False, None, 20))
+        self.assertEqual(report.fault.reason, pkder.Reason.TRUNCATED)
+
+    def test_more_room_than_there_was_at_first(self):
+        names = bytes.fromhex("31 0b 30 09 06 03 55 04 03 0c 02 61 61") * 400
+        # (the octets end behind the subject)
+        request = bytes.fromhex("30 82 7f ff 30 82 7f f0 02 01 00 30 82") + len(names).to_bytes(2, "big") + names
+        report = pkder.explain(pkder.Kind.REQUEST, request, all=True, json=True)
+        self.assertGreater(len(report.text), 2 * pkder._REPORT)
+        self.assertEqual(json.loads(report.text)["verdict"], "refused")
+        self.assertTrue(report.text.endswith("}\n"))
+
+    def test_json_with_a_name_that_is_not_ascii(self):
+        name = bytes.fromhex("31 0e 30 0c 06 03 55 04 03 0c 05") + "Zoë-".encode()
+        # (the octets end behind the subject)
+        request = bytes.fromhex("30 7f 30 7d 02 01 00 30") + bytes([len(name)]) + name
+        lines = json.loads(pkder.explain(pkder.Kind.REQUEST, request, all=True, json=True).text)["lines"]
+        self.assertEqual(lines[-1]["value"], {"characters": "Zoë-"})
+
+    def test_a_report_is_no_truth_value(self):
+        for document in KEY, KEY_IN_BER, KEY[:20]:
+            with self.subTest(document=document.hex()), self.assertRaisesRegex(TypeError, "is_der.*require_der"):
+                if pkder.explain(pkder.Kind.KEY, document):
+                    pass
 
 
 class Header(unittest.TestCase):
@@ -124,13 +191,17 @@ class Calls(unittest.TestCase):
             with self.subTest(kind=kind, depth=depth, octets=octets), self.assertRaises(ValueError) as raised:
                 pkder.check(kind, b"", depth=depth, octets=octets)
             self.assertNotIsInstance(raised.exception, pkder.Fault)
+            with self.subTest(kind=kind, depth=depth, octets=octets), self.assertRaises(ValueError):
+                pkder.explain(kind, b"", depth=depth, octets=octets)
 
     def test_threads(self):
         wrong = []
 
+        report = pkder.explain(pkder.Kind.KEY, KEY)
+
         def call():
             for _ in range(2000):
-                if pkder.normalise(pkder.Kind.KEY, KEY) != KEY:
+                if pkder.normalise(pkder.Kind.KEY, KEY) != KEY or pkder.explain(pkder.Kind.KEY, KEY) != report:
                     wrong.append(1)
 
         threads = [threading.Thread(target=call) for _ in range(4)]

@@ -15,6 +15,18 @@
 //! # Ok::<(), pkder::Error>(())
 //! ```
 //!
+//! Of any octets, a refused document's too, `explain` has a report for people, as text or as JSON:
+//!
+//! ```
+//! use pkder::{explain, Kind, ReportForm};
+//!
+//! let report = explain(Kind::Public, &[0x30, 0x2A], ReportForm::default())?;
+//! assert!(!report.is_der());
+//! assert_eq!(report.verdict.unwrap_err().to_string(), "fault at 2: Truncated");
+//! print!("{}", report.text);
+//! # Ok::<(), pkder::Error>(())
+//! ```
+//!
 //! Each call takes a whole document, and all but `require_der` take BER, too. The library wipes nothing unless it is
 //! built so, and neither does this crate: a text that is a private key is the caller's to wipe.
 mod raw;
@@ -196,6 +208,37 @@ impl fmt::Display for Fault {
     }
 }
 
+/// How a report is written: as text with the elements that matter, or by these otherwise.
+#[derive(Clone, Copy, Debug, Default, PartialEq, Eq)]
+pub struct ReportForm {
+    /// With all elements.
+    pub all: bool,
+    /// As one object of JSON, in a line.
+    pub json: bool,
+}
+
+impl ReportForm {
+    /// Its number in pkder.h.
+    fn number(self) -> u32 {
+        u32::from(self.all) | u32::from(self.json) << 1
+    }
+}
+
+/// A report of a document, refused or not.
+#[derive(Clone, Debug, PartialEq, Eq)]
+pub struct Report {
+    pub text: String,
+    /// What `check` says of the document: its form where it is sound, and else its first fault.
+    pub verdict: Result<Form, Fault>,
+}
+
+impl Report {
+    /// Whether the document is in DER.
+    pub fn is_der(&self) -> bool {
+        self.verdict == Ok(Form::Der)
+    }
+}
+
 /// Why a call has no answer.
 #[derive(Clone, Copy, Debug, PartialEq, Eq)]
 #[non_exhaustive]
@@ -254,7 +297,7 @@ impl Limits {
 
     /// As the free function of the name.
     pub fn normalise(self, kind: Kind, document: &[u8]) -> Result<Vec<u8>, Error> {
-        text_of(raw::normalise, kind as u32, self, document)
+        text_of(document, |room| raw::normalise(kind as u32, self, document, room))
     }
 
     /// As the free function of the name.
@@ -269,13 +312,26 @@ impl Limits {
 
     /// As the free function of the name.
     pub fn signed(self, part: Part, request: &[u8]) -> Result<Vec<u8>, Error> {
-        text_of(raw::signed, part as u32, self, request)
+        text_of(request, |room| raw::signed(part as u32, self, request, room))
     }
 
     /// As the free function of the name.
     pub fn show(self, kind: Kind, document: &[u8]) -> Result<String, Error> {
-        let text = text_of(raw::show, kind as u32, self, document)?;
+        let text = text_of(document, |room| raw::show(kind as u32, self, document, room))?;
         Ok(String::from_utf8_lossy(&text).into_owned())
+    }
+
+    /// As the free function of the name.
+    pub fn explain(self, kind: Kind, document: &[u8], form: ReportForm) -> Result<Report, Error> {
+        let statuses = (raw::REPORTED, raw::UNREPORTED);
+        let call = |room: &mut [u8]| raw::explain(kind as u32, self, form, document, room);
+        let (text, outcome) = written(REPORT, statuses, call)?;
+        let verdict = match (outcome.reason, outcome.at) {
+            (0, 0) => Ok(Form::Der),
+            (0, at) => Ok(Form::DiffersAt(at)),
+            _ => Err(fault_of(&outcome)),
+        };
+        Ok(Report { text: String::from_utf8_lossy(&text).into_owned(), verdict })
     }
 }
 
@@ -304,34 +360,55 @@ pub fn show(kind: Kind, document: &[u8]) -> Result<String, Error> {
     Limits::default().show(kind, document)
 }
 
-/// What the call writes, with as much room as it asks for.
-fn text_of(call: raw::TextCall, what: u32, limits: Limits, document: &[u8]) -> Result<Vec<u8>, Error> {
+/// A report of the octets, whether they are a document or not: its elements with their places, and of a refused one
+/// which field is at fault, what is due there, the usual cause and what to do. No octets of private keys and no values
+/// of attributes are in it.
+pub fn explain(kind: Kind, document: &[u8], form: ReportForm) -> Result<Report, Error> {
+    Limits::default().explain(kind, document, form)
+}
+
+/// Room for a report at first; those of all elements may need more.
+const REPORT: usize = 8192;
+
+/// What the call writes of the document; nearly always the document's own size is enough.
+fn text_of(document: &[u8], call: impl Fn(&mut [u8]) -> Outcome) -> Result<Vec<u8>, Error> {
+    written(document.len(), (raw::ACCEPTED, raw::NO_ROOM), call).map(|(text, _)| text)
+}
+
+/// What the call writes, with this room at first and then with as much as it asks for, and its outcome. The statuses are
+/// those of a call that wrote and of one with too little room.
+fn written(
+    mut room: usize,
+    (done, short): (u32, u32),
+    call: impl Fn(&mut [u8]) -> Outcome,
+) -> Result<(Vec<u8>, Outcome), Error> {
     let mut text = Vec::new();
-    let mut room = document.len();
     loop {
         text.try_reserve_exact(room).map_err(|_| Error::Memory)?;
         text.resize(room, 0);
-        let outcome = call(what, limits, document, &mut text);
+        let outcome = call(&mut text);
         let size = usize::try_from(outcome.size).map_err(|_| Error::Memory)?;
-        match outcome.status {
-            raw::ACCEPTED => {
-                text.truncate(size);
-                return Ok(text);
-            }
-            // (nothing was written)
-            raw::NO_ROOM => {
-                text.clear();
-                room = size;
-            }
-            _ => return Err(error_of(&outcome)),
+        if outcome.status == done {
+            text.truncate(size);
+            return Ok((text, outcome));
         }
+        if outcome.status != short {
+            return Err(error_of(&outcome));
+        }
+        // (nothing was written)
+        text.clear();
+        room = size;
     }
 }
 
-fn error_of(outcome: &Outcome) -> Error {
+fn fault_of(outcome: &Outcome) -> Fault {
     let inside = (outcome.inside_reason != 0).then_some((outcome.inside_at, Reason(outcome.inside_reason)));
+    Fault { at: outcome.at, reason: Reason(outcome.reason), inside }
+}
+
+fn error_of(outcome: &Outcome) -> Error {
     match outcome.status {
-        raw::FAULT => Error::Fault(Fault { at: outcome.at, reason: Reason(outcome.reason), inside }),
+        raw::FAULT => Error::Fault(fault_of(outcome)),
         raw::NO_MEMORY => Error::Memory,
         raw::BAD_CALL => Error::Limits,
         status => Error::Unknown(status),

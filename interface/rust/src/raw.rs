@@ -1,5 +1,5 @@
 //! The calls of pkder.h on slices; all that is unsafe stands here.
-use crate::Limits;
+use crate::{Limits, ReportForm};
 
 pub const ACCEPTED: u32 = 0;
 pub const FAULT: u32 = 1;
@@ -7,6 +7,8 @@ pub const NO_ROOM: u32 = 2;
 pub const NO_MEMORY: u32 = 3;
 pub const BAD_CALL: u32 = 4;
 pub const NOT_DER: u32 = 5;
+pub const REPORTED: u32 = 6;
+pub const UNREPORTED: u32 = 7;
 
 /// `pkder_outcome`.
 #[repr(C)]
@@ -21,9 +23,6 @@ pub struct Outcome {
     pub taken: u64,
     pub size: u64,
 }
-
-/// A call that writes a text, by kind or part, limits, document and room.
-pub type TextCall = fn(u32, Limits, &[u8], &mut [u8]) -> Outcome;
 
 type TextFunction = unsafe extern "C" fn(u32, u32, u64, *const u8, usize, *mut u8, usize) -> Outcome;
 
@@ -55,6 +54,16 @@ extern "C" {
         dst: *mut u8,
         dst_len: usize,
     ) -> Outcome;
+    fn pkder_explain(
+        kind: u32,
+        depth: u32,
+        octets: u64,
+        form: u32,
+        src: *const u8,
+        src_len: usize,
+        dst: *mut u8,
+        dst_len: usize,
+    ) -> Outcome;
     fn pkder_check(kind: u32, depth: u32, octets: u64, src: *const u8, src_len: usize) -> Outcome;
     fn pkder_reason_name(reason: u32, dst: *mut u8, dst_len: usize) -> usize;
 }
@@ -74,6 +83,12 @@ pub fn signed(part: u32, limits: Limits, src: &[u8], dst: &mut [u8]) -> Outcome 
 
 pub fn show(kind: u32, limits: Limits, src: &[u8], dst: &mut [u8]) -> Outcome {
     text(pkder_show, kind, limits, src, dst)
+}
+
+pub fn explain(kind: u32, limits: Limits, form: ReportForm, src: &[u8], dst: &mut [u8]) -> Outcome {
+    let Limits { depth, octets } = limits;
+    // SAFETY: both are slices, which don't overlap since one is exclusive.
+    unsafe { pkder_explain(kind, depth, octets, form.number(), src.as_ptr(), src.len(), dst.as_mut_ptr(), dst.len()) }
 }
 
 pub fn check(kind: u32, limits: Limits, src: &[u8]) -> Outcome {

@@ -1,5 +1,7 @@
-//! The rows that PKDER_CALLS names (interface/calls.py makes them), calls that are wrong, and threads.
-use pkder::{check, normalise, require_der, show, Error, Form, Kind, Limits, Part, Reason};
+//! The rows that PKDER_CALLS names (interface/calls.py makes them), reports, calls that are wrong, and threads.
+use pkder::{
+    check, explain, normalise, require_der, show, Error, Form, Kind, Limits, Part, Reason, Report, ReportForm,
+};
 
 /// An answer: status, output and line on standard error, as the program's.
 type Said = (u32, Vec<u8>, String);
@@ -30,10 +32,19 @@ fn part_of(name: &str) -> Part {
     }
 }
 
+fn limits_of(words: &[&str]) -> Limits {
+    Limits { depth: words[4].parse().unwrap(), octets: words[6].parse().unwrap() }
+}
+
+/// The program's status for a report.
+fn status_of(report: &Report) -> u32 {
+    report.verdict.map_or(2, |form| u32::from(!form.is_der()))
+}
+
 /// What the call answers that the words ask for.
 fn said(words: &str, given: &[u8]) -> Said {
     let words: Vec<&str> = words.split(' ').collect();
-    let limits = Limits { depth: words[4].parse().unwrap(), octets: words[6].parse().unwrap() };
+    let limits = limits_of(&words);
     let mut status = 0;
     let answer = match words[0] {
         "normalise" => limits.normalise(kind_of(words[2]), given),
@@ -43,6 +54,13 @@ fn said(words: &str, given: &[u8]) -> Said {
             status = u32::from(!form.is_der());
             format!("{form}\n").into_bytes()
         }),
+        "explain" => {
+            let form = ReportForm { all: words.contains(&"--all"), json: words.contains(&"--json") };
+            limits.explain(kind_of(words[2]), given, form).map(|report| {
+                status = status_of(&report);
+                report.text.into_bytes()
+            })
+        }
         _ => panic!("no command {}", words[0]),
     };
     match answer {
@@ -54,8 +72,15 @@ fn said(words: &str, given: &[u8]) -> Said {
 /// The line of what `require_der` answers that is asked for as `check` is.
 fn refusal(words: &str, given: &[u8]) -> String {
     let words: Vec<&str> = words.split(' ').collect();
-    let limits = Limits { depth: words[4].parse().unwrap(), octets: words[6].parse().unwrap() };
-    limits.require_der(kind_of(words[2]), given).map_or_else(|why| why.to_string(), |()| "DER".to_owned())
+    limits_of(&words).require_der(kind_of(words[2]), given).map_or_else(|why| why.to_string(), |()| "DER".to_owned())
+}
+
+/// What the report tells of what `check` is asked for: its second line, and that of its verdict.
+fn reported(words: &str, given: &[u8]) -> (String, String) {
+    let words: Vec<&str> = words.split(' ').collect();
+    let report = limits_of(&words).explain(kind_of(words[2]), given, ReportForm::default()).unwrap();
+    let line = report.verdict.map_or_else(|fault| fault.to_string(), |form| form.to_string());
+    (report.text.lines().nth(1).unwrap().to_owned(), line)
 }
 
 #[test]
@@ -68,8 +93,9 @@ fn rows() {
         let due: Said = (cells[3].parse().unwrap(), octets(cells[4]), cells[5].to_owned());
         assert_eq!(said(cells[1], &octets(cells[2])), due, "{}: {}", cells[0], cells[1]);
         if cells[1].starts_with("check") {
-            let line = String::from_utf8(due.1).unwrap() + &due.2;
-            assert_eq!(refusal(cells[1], &octets(cells[2])), line.trim_end(), "{}: {}", cells[0], cells[1]);
+            let line = (String::from_utf8(due.1).unwrap() + &due.2).trim_end().to_owned();
+            assert_eq!(refusal(cells[1], &octets(cells[2])), line, "{}: {}", cells[0], cells[1]);
+            assert_eq!(reported(cells[1], &octets(cells[2])), (line.clone(), line), "{}: {}", cells[0], cells[1]);
         }
         rows += 1;
     }
@@ -99,7 +125,32 @@ fn limits_out_of_range() {
         assert_eq!(limits.normalise(Kind::Key, &[]), Err(Error::Limits));
         assert_eq!(limits.show(Kind::Key, &[]), Err(Error::Limits));
         assert_eq!(limits.signed(Part::Info, &[]), Err(Error::Limits));
+        assert_eq!(limits.explain(Kind::Key, &[], ReportForm::default()), Err(Error::Limits));
     }
+}
+
+#[test]
+fn reports_have_forms_and_verdicts() {
+    let key = octets("302a300506032b6570032100aaaaaaaaaaaaaaaaaaaaaaaaaaaaaaaaaaaaaaaaaaaaaaaaaaaaaaaaaaaaaaaa");
+    let in_ber = [&[0x30, 0x81][..], &key[1..]].concat();
+    let verdict = |document: &[u8]| explain(Kind::Public, document, ReportForm::default()).unwrap().verdict;
+    assert_eq!((verdict(&key), verdict(&in_ber)), (Ok(Form::Der), Ok(Form::DiffersAt(1))));
+    assert_eq!(verdict(&key[..20]).unwrap_err().reason, Reason::TRUNCATED);
+    let text = |all, json| explain(Kind::Public, &in_ber, ReportForm { all, json }).unwrap().text;
+    // (with all elements it lists subjectPublicKey too, at 10)
+    assert_eq!([text(false, false), text(true, false)].map(|it| it.contains("\n10  03 21")), [false, true]);
+    assert!(text(false, true).starts_with('{') && text(true, true).starts_with('{'));
+}
+
+/// A report of all elements that is longer than the room that it gets at first.
+#[test]
+fn a_long_report_is_whole() {
+    let names = octets("310b300906035504030c026161").repeat(400);
+    // (the octets end behind the subject)
+    let request = [octets("30827fff30827ff0020100308214").as_slice(), &[0x50], &names].concat();
+    let report = explain(Kind::Request, &request, ReportForm { all: true, json: true }).unwrap();
+    assert!(report.text.len() > 16384 && report.text.ends_with("}\n"), "{} octets", report.text.len());
+    assert_eq!(report.verdict.unwrap_err().at, request.len() as u64);
 }
 
 #[test]
@@ -124,7 +175,12 @@ fn threads() {
     let key = octets("302a300506032b6570032100aaaaaaaaaaaaaaaaaaaaaaaaaaaaaaaaaaaaaaaaaaaaaaaaaaaaaaaaaaaaaaaa");
     std::thread::scope(|scope| {
         for _ in 0..4 {
-            scope.spawn(|| (0..5000).for_each(|_| assert_eq!(normalise(Kind::Public, &key).as_ref(), Ok(&key))));
+            scope.spawn(|| {
+                for _ in 0..5000 {
+                    assert_eq!(normalise(Kind::Public, &key).as_ref(), Ok(&key));
+                    assert!(explain(Kind::Public, &key, ReportForm::default()).unwrap().is_der());
+                }
+            });
         }
     });
 }

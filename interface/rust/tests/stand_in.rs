@@ -1,6 +1,6 @@
 //! What the crate makes of answers that no document brings: `cargo test --test stand_in -- --ignored`, linked to the
 //! stand-in of interface/c/stand_in.c.
-use pkder::{check, normalise, require_der, show, signed, Error, Kind, Part};
+use pkder::{check, explain, normalise, require_der, show, signed, Error, Kind, Part, ReportForm};
 
 /// What all calls answer of the octets.
 fn refusal(document: &[u8]) -> Error {
@@ -12,17 +12,39 @@ fn refusal(document: &[u8]) -> Error {
     error
 }
 
+/// What all calls answer of the octets, `explain` too.
+fn refusal_of_all(document: &[u8]) -> Error {
+    let error = refusal(document);
+    assert_eq!(explain(Kind::Key, document, ReportForm::default()), Err(error));
+    error
+}
+
 #[test]
 #[ignore = "not linked to the stand-in"]
 fn refusals() {
-    assert_eq!(refusal(&[3, 0, 0]), Error::Memory);
-    assert_eq!(refusal(&[4, 0, 0]), Error::Limits);
+    assert_eq!(refusal_of_all(&[3, 0, 0]), Error::Memory);
+    assert_eq!(refusal_of_all(&[4, 0, 0]), Error::Limits);
+    assert_eq!(refusal_of_all(&[8, 0, 0]), Error::Unknown(8));
+}
+
+#[test]
+#[ignore = "not linked to the stand-in"]
+fn statuses_of_reports_are_no_answer_of_other_calls() {
     assert_eq!(refusal(&[6, 0, 0]), Error::Unknown(6));
+    assert_eq!(refusal(&[7, 0, 0]), Error::Unknown(7));
+}
+
+#[test]
+#[ignore = "not linked to the stand-in"]
+fn reports_of_a_later_library() {
+    let report = explain(Kind::Key, &[6, 28, 28], ReportForm::default()).unwrap();
+    assert_eq!(report.verdict.unwrap_err().to_string(), "fault at 5: Later inside at 7: Later");
+    assert!(!report.is_der());
 }
 
 #[test]
 #[ignore = "not linked to the stand-in"]
 fn faults_of_a_later_library() {
-    assert_eq!(refusal(&[1, 28, 0]).to_string(), "fault at 5: Later");
-    assert_eq!(refusal(&[1, 28, 28]).to_string(), "fault at 5: Later inside at 7: Later");
+    assert_eq!(refusal_of_all(&[1, 28, 0]).to_string(), "fault at 5: Later");
+    assert_eq!(refusal_of_all(&[1, 28, 28]).to_string(), "fault at 5: Later inside at 7: Later");
 }

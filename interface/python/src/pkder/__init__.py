@@ -5,17 +5,19 @@
     pkder.normalise(pkder.Kind.KEY, octets)      the DER text, which is the DER encoding
     pkder.show(pkder.Kind.KEY, octets)           what it says, in lines
     pkder.signed(pkder.Part.INFO, octets)        what the signature of a request covers, or another part of it
+    pkder.explain(pkder.Kind.KEY, octets)        a report for people: .text, and .is_der, .differs_at or .fault
 
-Each takes a whole document, and raises Fault where that is refused. All but the first take BER, too. The library is
-libpkder.so.0, where the system's loader finds it, or the file that the environment names as PKDER_LIBRARY."""
+Each takes a whole document, and raises Fault where that is refused, but explain, which has a report of any octets. All
+but the first take BER, too. The library is libpkder.so.0, where the system's loader finds it, or the file that the
+environment names as PKDER_LIBRARY."""
 import ctypes
 import dataclasses
 import enum
 import os
 from typing import Any, Dict, List, Optional, Tuple, Union
 
-__all__ = ["DEPTH", "OCTETS", "Fault", "Form", "Kind", "NotDer", "Part", "Reason", "Refused", "check", "normalise",
-           "require_der", "show", "signed"]
+__all__ = ["DEPTH", "OCTETS", "Fault", "Form", "Kind", "NotDer", "Part", "Reason", "Refused", "Report", "check",
+           "explain", "normalise", "require_der", "show", "signed"]
 
 # The limits unless said otherwise.
 DEPTH = 32
@@ -126,16 +128,39 @@ class Form:
         return "DER" if self.differs_at is None else f"not DER at {self.differs_at}"
 
 
+@dataclasses.dataclass(frozen=True)
+class Report:
+    """A report of a document: its text, and what check says of it. fault is why it is refused, and None of a sound
+    document; of one that isn't in DER differs_at is the first place where it differs from its DER text. It is no truth
+    value, since refused documents have reports, too."""
+
+    text: str
+    differs_at: Optional[int] = None
+    fault: Optional[Fault] = None
+
+    @property
+    def is_der(self) -> bool:
+        """Whether the document is in DER."""
+        return self.fault is None and self.differs_at is None
+
+    def __bool__(self) -> bool:
+        raise TypeError("a report isn't true or false: write explain(..).is_der, or require_der(..)")
+
+
 class _Outcome(ctypes.Structure):
     _fields_ = [(name, ctypes.c_uint32) for name in ("status", "reason", "inside_reason", "spare")] + [
         (name, ctypes.c_uint64) for name in ("at", "inside_at", "taken", "size")
     ]
 
 
-_ACCEPTED, _FAULT, _NO_ROOM, _NO_MEMORY, _BAD_CALL, _NOT_DER = range(6)
+_ACCEPTED, _FAULT, _NO_ROOM, _NO_MEMORY, _BAD_CALL, _NOT_DER, _REPORTED, _UNREPORTED = range(8)
+_ALL, _JSON = 1, 2
+# Room for a report at first; those of all elements may need more.
+_REPORT = 8192
 _INTERFACE = 1
 _SRC: List[Any] = [ctypes.c_uint32, ctypes.c_uint32, ctypes.c_uint64, ctypes.c_char_p, ctypes.c_size_t]
 _DST: List[Any] = [ctypes.c_char_p, ctypes.c_size_t]
+_FORMED = [*_SRC[:3], ctypes.c_uint32, *_SRC[3:]]
 # What the functions take and give.
 _CALLS: Dict[str, Tuple[List[Any], Any]] = {
     "pkder_interface": ([], ctypes.c_uint32),
@@ -143,6 +168,7 @@ _CALLS: Dict[str, Tuple[List[Any], Any]] = {
     "pkder_check": (_SRC, _Outcome),
     "pkder_signed": (_SRC + _DST, _Outcome),
     "pkder_show": (_SRC + _DST, _Outcome),
+    "pkder_explain": (_FORMED + _DST, _Outcome),
     "pkder_reason_name": ([ctypes.c_uint32, *_DST], ctypes.c_size_t),
 }
 
@@ -173,11 +199,15 @@ def _name(reason: int) -> str:
     return room.value.decode("ascii")
 
 
+def _fault(outcome: _Outcome) -> Fault:
+    inside = (outcome.inside_at, _name(outcome.inside_reason)) if outcome.inside_reason else None
+    return Fault(outcome.at, _name(outcome.reason), inside)
+
+
 def _refusal(outcome: _Outcome) -> Exception:
     """What is raised for an outcome that is no answer."""
     if outcome.status == _FAULT:
-        inside = (outcome.inside_at, _name(outcome.inside_reason)) if outcome.inside_reason else None
-        return Fault(outcome.at, _name(outcome.reason), inside)
+        return _fault(outcome)
     if outcome.status == _NO_MEMORY:
         return MemoryError("libpkder ran out of memory")
     if outcome.status == _BAD_CALL:
@@ -199,19 +229,25 @@ def _octets(document: Octets) -> bytes:
     return document if isinstance(document, bytes) else memoryview(document).tobytes()
 
 
-def _text(call: str, what: int, document: Octets, depth: int, octets: int) -> bytes:
-    """What the call writes, with as much room as it asks for."""
-    _check_limits(depth, octets)
-    src = _octets(document)
-    size = len(src)
+def _written(call: str, numbers: Tuple[int, ...], src: bytes, size: int,
+             statuses: Tuple[int, int] = (_ACCEPTED, _NO_ROOM)) -> Tuple[bytes, _Outcome]:
+    """What the call writes, with as much room as it asks for, and its outcome. The statuses are those of a call that
+    wrote and of one with too little room."""
+    done, short = statuses
     while True:
         room = ctypes.create_string_buffer(max(size, 1))
-        outcome = getattr(_library, call)(what, depth, octets, src, len(src), room, size)
-        if outcome.status == _ACCEPTED:
-            return ctypes.string_at(room, outcome.size)
-        if outcome.status != _NO_ROOM:
+        outcome = getattr(_library, call)(*numbers, src, len(src), room, size)
+        if outcome.status == done:
+            return ctypes.string_at(room, outcome.size), outcome
+        if outcome.status != short:
             raise _refusal(outcome)
         size = outcome.size
+
+
+def _text(call: str, what: int, document: Octets, depth: int, octets: int) -> bytes:
+    _check_limits(depth, octets)
+    src = _octets(document)
+    return _written(call, (what, depth, octets), src, len(src))[0]
 
 
 def check(kind: Kind, document: Octets, *, depth: int = DEPTH, octets: int = OCTETS) -> Form:
@@ -249,3 +285,18 @@ def signed(part: Part, document: Octets, *, depth: int = DEPTH, octets: int = OC
     """A part of a request: the DER text of what its signature covers, of the signature's algorithm or of the public
     key; or the octets of the signature."""
     return _text("pkder_signed", Part(part), document, depth, octets)
+
+
+def explain(kind: Kind, document: Octets, *, all: bool = False, json: bool = False, depth: int = DEPTH,
+            octets: int = OCTETS) -> Report:
+    """The report of a document, refused or not: the elements with their places in it, and of a refused one which field
+    is at fault, the usual cause and what to do. No octets of private keys and no values of attributes are in it. By all
+    it lists all elements, and by json it is one object of JSON."""
+    _check_limits(depth, octets)
+    src = _octets(document)
+    form = (_ALL if all else 0) | (_JSON if json else 0)
+    statuses = _REPORTED, _UNREPORTED
+    text, outcome = _written("pkder_explain", (Kind(kind), depth, octets, form), src, _REPORT, statuses)
+    if outcome.reason:
+        return Report(text.decode("utf-8"), fault=_fault(outcome))
+    return Report(text.decode("utf-8"), outcome.at or None)
