@@ -4,6 +4,7 @@ import json
 import os
 import shlex
 import subprocess
+import sys
 
 import independent_reader
 from independent_reader import ACTIONS, DEPTH, KINDS, OCTETS
@@ -82,3 +83,19 @@ def objects_in(output):
     if not isinstance(found, dict):
         raise ValueError("no object")
     return found
+
+
+def try_all(name, doc, words, cases, wrong):
+    """Tries each case, which has a title, with each program that the words name, and answers the status of the test: what
+    `wrong` says of a program and a case is told, and last of all 'NAME: N passed, M failed'."""
+    programs = [os.path.abspath(it) for it in words]
+    if not programs:
+        sys.exit(doc)
+    passed, failed = 0, 0
+    for title, case in cases:
+        said = [f"{title}: {it}: {why}" for it in programs for why in wrong(it, case)]
+        print("".join(f"{it}\n" for it in said), end="", flush=True)
+        passed, failed = passed + (not said), failed + bool(said)
+    failed += not passed
+    print(f"{name}: {passed} passed, {failed} failed", flush=True)
+    return 1 if failed else 0

@@ -6,11 +6,10 @@ that of `check` and of tools/independent_reader.py; its first line has the kind 
 are read; its second line is the line of `check`, word for word; a field is told of each document that is refused; and
 nothing is on standard error. Under --json the same stands in one line, with the same status, kind, number of octets,
 places and reasons. The last line is 'explained_answers: N passed, M failed'."""
-import os
 import re
 import sys
 
-from explained import answer, documents, objects_in
+from explained import answer, documents, objects_in, try_all
 
 LINE = re.compile(r"fault at (\d+): (\w+)(?: inside at (\d+): (\w+))?")
 FIELD = re.compile(r"^field +(\S.*)$", re.M)
@@ -90,17 +89,7 @@ def wrong(program, document):
 
 
 def main(words):
-    programs = [os.path.abspath(it) for it in words]
-    if not programs:
-        sys.exit(__doc__)
-    passed, failed = 0, 0
-    for document in documents():
-        said = [f"{it}: {why}" for it in programs for why in wrong(it, document)]
-        print("".join(f"{document.name}: {it}\n" for it in said), end="", flush=True)
-        passed, failed = passed + (not said), failed + bool(said)
-    failed += not passed
-    print(f"explained_answers: {passed} passed, {failed} failed", flush=True)
-    return 1 if failed else 0
+    return try_all("explained_answers", __doc__, words, ((it.name, it) for it in documents()), wrong)
 
 
 if __name__ == "__main__":

@@ -7,12 +7,11 @@ that of the container, or of a field that may come next; and where it begins or 
 of this container or of a field that it lacks. Of a document in which a private key may be, what is behind the first
 octets that aren't told has the name of its type alone, or its path. The types are written here anew. The last line is
 'explained_fields: N passed, M failed'."""
-import os
 import random
 import re
 import sys
 
-from explained import Document, answer, documents, objects_in
+from explained import Document, answer, documents, objects_in, try_all
 from explained_answers import LINE
 from identifier_names import known_contents
 from independent_reader import EC_PUBLIC_KEY, EXTENSION_REQUEST, KINDS, RSA_ENCRYPTION
@@ -287,25 +286,23 @@ def random_refused():
         yield Document(f"random document {number}", kind, octets)
 
 
+def wrong(program, case):
+    """What is wrong with the field that the program names of a document with this fault, where these are due."""
+    document, fault, due = case
+    field = objects_in(answer(program, document.words("explain", "--json"), document.octets)[1]).get("field")
+    if field not in due:
+        yield f"{fault[0]}: field {field!r}, and not one of {sorted(due)}\n  {document.octets.hex()[:400]}"
+
+
+def cases():
+    """The documents that are refused, with what is due of each."""
+    for it in [*documents(), *random_refused()]:
+        if fault := LINE.fullmatch(it.due()[1]):
+            yield it.name, (it, fault, due_paths(it, fault))
+
+
 def main(words):
-    programs = [os.path.abspath(it) for it in words]
-    if not programs:
-        sys.exit(__doc__)
-    passed, failed = 0, 0
-    for document in [*documents(), *random_refused()]:
-        fault = LINE.fullmatch(document.due()[1])
-        if not fault:
-            continue
-        due, said = due_paths(document, fault), []
-        for it in programs:
-            field = objects_in(answer(it, document.words("explain", "--json"), document.octets)[1]).get("field")
-            if field not in due:
-                said.append(f"{it}: {fault[0]}: field {field!r}, and not one of {sorted(due)}")
-        print("".join(f"{document.name}: {it}\n  {document.octets.hex()[:400]}\n" for it in said), end="", flush=True)
-        passed, failed = passed + (not said), failed + bool(said)
-    failed += not passed
-    print(f"explained_fields: {passed} passed, {failed} failed", flush=True)
-    return 1 if failed else 0
+    return try_all("explained_fields", __doc__, words, cases(), wrong)
 
 
 if __name__ == "__main__":

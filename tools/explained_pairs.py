@@ -15,6 +15,7 @@ import random
 import re
 import sys
 from collections import Counter
+from itertools import groupby
 
 import independent_reader
 from explained import answer
@@ -46,7 +47,7 @@ def octets_told(text):
         yield bytes.fromhex(digits[1:-1])
     for found in NUMBERS.findall(text):
         numbers = [*map(int, re.findall("[0-9]+", found))]
-        yield bytes(it for it in numbers if it < 256)
+        yield from (bytes(those) for are_octets, those in groupby(numbers, lambda it: it < 256) if are_octets)
         yield b"".join(map(base_128, numbers))
         if len(numbers) > 1:
             yield b"".join(map(base_128, [40 * numbers[0] + numbers[1], *numbers[2:]]))

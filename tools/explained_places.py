@@ -9,13 +9,12 @@ none may be there that openssl hasn't.
 
 Documents that openssl can't list are counted. The last line is 'explained_places: N passed, M failed'; where there is
 no openssl, that is said and nothing fails."""
-import os
 import re
 import shutil
 import subprocess
 import sys
 
-from explained import answer, documents, objects_in
+from explained import answer, documents, objects_in, try_all
 from independent_reader import EC_PUBLIC_KEY, EXTENSION_REQUEST, RFC_8410, RSA_ENCRYPTION
 
 LISTED = re.compile(r" *(\d+):d=(\d+) +hl=(\d+) l= *(\d+|inf) +(cons|prim): (\S.{17}|\S.*)")
@@ -191,25 +190,20 @@ def differences(program, document, due):
     return said
 
 
+def wrong(program, case):
+    """The first differences of a document, whose lines are due so."""
+    return differences(program, *case)[:SHOWN]
+
+
 def main(words):
-    programs = [os.path.abspath(it) for it in words]
-    if not programs:
-        sys.exit(__doc__)
     if not shutil.which("openssl"):
         print("left out: no openssl (Debian: openssl)\nexplained_places: 1 passed, 0 failed")
         return 0
-    passed, failed, unlisted, lines = 0, 0, 0, 0
-    for document in documents():
-        due = due_lines(document) if document.accepted() else []
-        unlisted += due is None
-        if due:
-            wrong = [f"{it}: {why}" for it in programs for why in differences(it, document, due)[:SHOWN]]
-            print("".join(f"{document.name}: {it}\n" for it in wrong), end="", flush=True)
-            passed, failed, lines = passed + (not wrong), failed + bool(wrong), lines + len(due)
-    print(f"{lines} lines of {passed + failed} documents; {unlisted} documents that openssl can't list")
-    failed += not passed
-    print(f"explained_places: {passed} passed, {failed} failed", flush=True)
-    return 1 if failed else 0
+    listed = [(it, due_lines(it)) for it in documents() if it.accepted()]
+    lines = sum(len(due) for _, due in listed if due)
+    print(f"{lines} lines; {sum(due is None for _, due in listed)} documents that openssl can't list")
+    cases = ((it.name, (it, due)) for it, due in listed if due)
+    return try_all("explained_places", __doc__, words, cases, wrong)
 
 
 if __name__ == "__main__":

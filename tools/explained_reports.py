@@ -16,11 +16,10 @@ to stand there each, in small or capital letters:
   marked     the place of a line with carets under it
 What is listed without --all is of these lines: at most the first 4, those round the fault, and the last 7, or the ways
 to the elements that aren't in DER. The last line is 'explained_reports: N passed, M failed'."""
-import os
 import re
 import sys
 
-from explained import TOP, answer, objects_in
+from explained import TOP, answer, objects_in, try_all
 
 FOLDER = f"{TOP}/tests/pkder/explained"
 LABELS = ("field", "due", "found", "likely", "do")
@@ -162,17 +161,7 @@ def said_of(program, block):
 
 
 def main(words):
-    programs = [os.path.abspath(it) for it in words]
-    if not programs:
-        sys.exit(__doc__)
-    passed, failed = 0, 0
-    for block in blocks():
-        said = [f"{it}: {why}" for it in programs for why in said_of(it, block)]
-        print("".join(f"{block['document'][0]}: {it}\n" for it in said), end="", flush=True)
-        passed, failed = passed + (not said), failed + bool(said)
-    failed += not passed
-    print(f"explained_reports: {passed} passed, {failed} failed", flush=True)
-    return 1 if failed else 0
+    return try_all("explained_reports", __doc__, words, ((it["document"][0], it) for it in blocks()), said_of)
 
 
 if __name__ == "__main__":
