@@ -31,9 +31,10 @@ The record, tools/edits_refused.tsv, has for each crate how many edits were refu
 (not of the kit that it comes in), the crate's files and its table. What the crate stands on isn't in it: a contract
 below that gets too weak to refuse an edit is found by the quarter that comes to the crate, and so is a false record.
 
-What was refused is kept for later runs on this machine, in clones too, in pkder/refused_edits of the user's folder for
-caches ($XDG_CACHE_HOME, or ~/.cache): by the sum of the edit, its crate, all crates below, the toolchain and this
-script. Where one of them isn't refused after all, nothing more is believed that was kept of its crate.
+What was refused is kept, round by round, for later runs on this machine, in clones too, in pkder/refused_edits of the
+user's folder for caches ($XDG_CACHE_HOME, or ~/.cache): by the sum of the edit, its crate, all crates below, the
+toolchain and this script. Where one of them isn't refused after all, nothing more is believed that was kept of its
+crate.
 
 LIBRARIES=proved takes the libraries below a crate as `rt ci` left them just before. Without it, and where the toolchain
 doesn't take them so, `rt check` proves them first.
@@ -252,8 +253,25 @@ class Record:
 class Share:
     """The processors between the crates that are tried side by side."""
 
-    def __init__(self, jobs):
+    def __init__(self, jobs, kept):
         self.jobs, self.left, self.lock = jobs, 0, threading.Lock()
+        self.kept, self.settled, self.is_controlled = kept, {}, False
+
+    def settle(self, crate, ended):
+        """Keeps what a round refused, so that a run which is stopped doesn't lose it: once the control has ended well,
+        since without it it isn't known what an answer says."""
+        with self.lock:
+            self.settled.setdefault(crate, {}).update(ended)
+            if self.is_controlled:
+                for it, of_crate in self.settled.items():
+                    if it in self.kept:
+                        self.kept[it].keep(of_crate)
+                self.settled = {}
+
+    def control(self, crate):
+        """The control has ended well."""
+        self.is_controlled = True
+        self.settle(crate, {})
 
     def words(self):
         """The words that give a check its share."""
@@ -452,6 +470,8 @@ class Trial:
                     batch.append(it)
                     taken |= proofs
             states = self.round(batch, flags)
+            settled = {it: why for it, why in states.items() if why and not (flags and is_doubtful(why))}
+            self.share.settle(self.crate.name, {it: refusal(why) for it, why in settled.items()})
             # (where all wait, each for another one, no further round would tell more)
             is_stuck = not any(states.values())
             ended.update({it: why or "" for it, why in states.items() if why is not None or is_stuck})
@@ -461,7 +481,7 @@ class Trial:
 
     def unsettled(self, whys):
         """The edits whose function isn't proved as it stands with half of the searches' counts."""
-        doubtful = [it for it, why in whys.items() if why and FALSE not in why and ": error: " not in why]
+        doubtful = [it for it, why in whys.items() if why and is_doubtful(why)]
         functions = set().union(*(it.functions for it in doubtful))
         said = self.check({}, functions, [HALF]) if doubtful else None
         return [it for it in doubtful if not it.functions <= said.proved]
@@ -476,6 +496,11 @@ class Trial:
             say(f"{self.crate.name}: {len(again)} edits are tried with all of the searches' counts")
             whys.update(self.rounds(again, []))
         return {it: refusal(whys[it]) if whys.get(it) else self.alone(it, []) for it in edits}
+
+
+def is_doubtful(why):
+    """Whether it may be a search that was too short, and not the edit."""
+    return FALSE not in why and ": error: " not in why
 
 
 def is_well(text):
@@ -507,10 +532,11 @@ class Refused:
         is_false = any(self.sum_of(it) in self.known for it, text in ended.items() if not is_well(text))
         if self.record.sum_of_all(self.crate) != self.of_all:
             return
+        self.known = refused if is_false else self.known | refused
         try:
             os.makedirs(KEPT, exist_ok=True)
             with open(f"{self.file}.{os.getpid()}", "w", encoding="utf-8") as it:
-                it.writelines(f"{one}\n" for one in sorted(refused if is_false else self.known | refused))
+                it.writelines(f"{one}\n" for one in sorted(self.known))
             os.replace(f"{self.file}.{os.getpid()}", self.file)
         except OSError as error:
             say(f"{self.crate.name}: what was refused isn't kept: {error}")
@@ -570,8 +596,9 @@ def note_all(record, came, kept, sizes):
 
 def run(record, chosen, jobs, mode, lines=("all",)):
     """Tries edits, {crate: edits}, and says, keeps and records how it went."""
-    crates, share = crates_here(), Share(jobs)
+    crates = crates_here()
     kept = {it: Refused(record, crates[it]) for it in chosen}
+    share = Share(jobs, kept)
     sizes = {} if mode in ("--quarter", "EDIT") else {it: len(edits) for it, edits in chosen.items()}
     wanted = {crates[it]: edits for it, edits in chosen.items()}
     for it, edits in wanted.items() if mode in ("--quarter", "--stale") else ():
@@ -581,19 +608,18 @@ def run(record, chosen, jobs, mode, lines=("all",)):
     with tempfile.TemporaryDirectory(prefix="edits-") as room, concurrent.futures.ThreadPoolExecutor(jobs) as lanes:
         for it in in_turn(wanted, lines):
             running[lanes.submit(try_crate, it, wanted[it], it.name == CONTROL_CRATE, room, share)] = it
-        is_controlled = False
         for came in concurrent.futures.as_completed(running):
             waiting[running[came]], control = came.result()
-            is_controlled = is_controlled or control is True
+            if control:
+                share.control(CONTROL_CRATE)
             for text in waiting[running[came]].values():
                 counts[is_well(text)] += 1
-            # (without the control it isn't known what an answer says)
-            if is_controlled:
+            if share.is_controlled:
                 note_all(record, waiting, kept, sizes)
                 waiting = {}
-    if not is_controlled:
+    if not share.is_controlled:
         say("the control failed, so nothing that is said here counts")
-    counts[is_controlled] += 1
+    counts[share.is_controlled] += 1
     counts[False] += sum(len(edits) for it, edits in wanted.items() if it not in running.values())
     say(f"edits: {counts[True]} passed, {counts[False]} failed")
     return 1 if counts[False] else 0

@@ -86,8 +86,8 @@ def objects_in(output):
 
 
 def try_all(name, doc, words, cases, wrong):
-    """Tries each case, which has a title, with each program that the words name, and answers the status of the test: what
-    `wrong` says of a program and a case is told, and last of all 'NAME: N passed, M failed'."""
+    """Tries each case, which has a title, with each program that the words name, and answers the status of the test:
+    what `wrong` says of a program and a case is told, and last of all 'NAME: N passed, M failed'."""
     programs = [os.path.abspath(it) for it in words]
     if not programs:
         sys.exit(doc)

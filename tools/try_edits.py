@@ -187,6 +187,19 @@ def try_kept(it):
     it.see("mended once more", it.run("--stale")[0], 0)
 
 
+def try_stopped(it):
+    """What a run that is stopped leaves of the rounds that had ended."""
+    room = "s = e.Share(1, {'middle': e.Refused(r, r.crates['middle'])})"
+    settle = "s.settle('middle', {it: 'refused: ' for it in r.crates['middle'].edits()})"
+    it.change("crates/middle/src/lib.rt", "\n    4", "\n     4")
+    it.forge(f"{room}; {settle}")
+    it.see("before the control", it.run("--stale"), (0, "edits: 3 passed, 0 failed"), "middle: 0 of its 2")
+    for told in (f"{settle}; s.control('tlv_core')", f"s.control('tlv_core'); {settle}"):
+        it.change("crates/middle/src/lib.rt", "    4", "     4")
+        it.forge(f"{room}; {told}")
+        it.see("beside it", it.run("--stale"), (0, "edits: 1 passed, 0 failed"), "middle: 2 of its 2")
+
+
 def try_quarters(it):
     """Four commits come to each crate once, over libraries that were left or that `rt` proves."""
     shutil.rmtree(it.kept)
@@ -210,7 +223,7 @@ def try_quarters(it):
 def main():
     with tempfile.TemporaryDirectory() as folder:
         it = Repository(folder)
-        for trial in (try_records, try_edits, try_kept, try_quarters):
+        for trial in (try_records, try_edits, try_kept, try_stopped, try_quarters):
             trial(it)
         print(f"try_edits: {it.count - len(it.wrong)} passed, {len(it.wrong)} failed")
         return 1 if it.wrong else 0
