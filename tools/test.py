@@ -77,7 +77,8 @@ def parts(program=build.PROGRAM):
         "records": lambda: [["python3", "tools/edits.py", "--check"], ["python3", "tools/try_edits.py"],
                             ["python3", "tools/what_to_read.py", "--check"],
                             ["python3", "tools/shape_names.py"], ["python3", "tools/identifier_names.py"],
-                            ["python3", "tools/advice_words.py"], ["python3", "tools/report_schema.py"]],
+                            ["python3", "tools/advice_words.py"], ["python3", "tools/report_schema.py"],
+                            ["python3", "tools/about.py"]],
         "lint": lambda: [["python3", "tools/lint.py"]],
         "proofs": lambda: [PROOFS],
         "edits": lambda: [EDITS],
@@ -96,6 +97,8 @@ def parts(program=build.PROGRAM):
         ],
         "explained": lambda: [["python3", f"tools/explained_{it}.py", *builds(program)] for it in EXPLAINED],
         "growths": lambda: [[*GROWTHS, built("rows"), *tables("rows")]],
+        # (what needs packagers' tools is tried by hand: tools/release.py --try)
+        "release": lambda: [["python3", "tools/release_checks.py"]],
     }
 
 
@@ -110,7 +113,7 @@ def quick_parts(program):
     if program:
         # (what else stands here need not be of one build with it)
         found["rows"] = lambda: [rows_of("pkder", program)]
-        left_out += ["interface", "growths", "rows of other programs"]
+        left_out += ["interface", "growths", "release", "rows of other programs"]
     if not shutil.which("rt"):
         left_out += ["logic", "records"]
     print(f"left out: {', '.join(left_out)}", flush=True)

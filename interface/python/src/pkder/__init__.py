@@ -8,8 +8,8 @@
     pkder.explain(pkder.Kind.KEY, octets)        a report for people: .text, and .is_der, .differs_at or .fault
 
 Each takes a whole document, and raises Fault where that is refused, but explain, which has a report of any octets. All
-but the first take BER, too. The library is libpkder.so.0, where the system's loader finds it, or the file that the
-environment names as PKDER_LIBRARY."""
+but the first take BER, too. The library is the file that the environment names as PKDER_LIBRARY, else the libpkder.so.0
+that came with the package, as a wheel's does, else the one that the system's loader finds."""
 import ctypes
 import dataclasses
 import enum
@@ -174,7 +174,8 @@ _CALLS: Dict[str, Tuple[List[Any], Any]] = {
 
 
 def _loaded() -> ctypes.CDLL:
-    name = os.environ.get("PKDER_LIBRARY", "libpkder.so.0")
+    beside = os.path.join(os.path.dirname(os.path.abspath(__file__)), "libpkder.so.0")
+    name = os.environ.get("PKDER_LIBRARY", beside if os.path.isfile(beside) else "libpkder.so.0")
     try:
         library = ctypes.CDLL(name)
     except OSError as why:

@@ -1,0 +1,39 @@
+/* The words of the command line for a program that is linked with musl, in the place of what the toolchain has for
+ * glibc: that takes them where .init_array is run, to which musl hands none. The program's own main has another name
+ * there (tools/static_program.sh). Not proved: what the program's proofs assume of the two calls has to be read here. */
+#include <stddef.h>
+#include <stdint.h>
+#include <sys/types.h>
+
+static size_t count;
+static char **words;
+
+int program_main(int argc, char **argv);
+size_t rattle_arg_count(void);
+ssize_t rattle_arg(size_t at, uint8_t *dst, size_t room);
+
+size_t rattle_arg_count(void) {
+    return count;
+}
+
+/* Writes the octets of a word where dst begins and answers how many; -1 where there is no such word, -2 where dst is
+ * too small. */
+ssize_t rattle_arg(size_t at, uint8_t *dst, size_t room) {
+    if (at >= count || words[at] == NULL) {
+        return -1;
+    }
+    size_t size = 0;
+    for (; words[at][size] != '\0'; size++) {
+        if (size == room) {
+            return -2;
+        }
+        dst[size] = (uint8_t)words[at][size];
+    }
+    return (ssize_t)size;
+}
+
+int main(int argc, char **argv) {
+    count = (size_t)argc;
+    words = argv;
+    return program_main(argc, argv);
+}
