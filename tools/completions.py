@@ -1,19 +1,48 @@
 #!/usr/bin/env python3
-"""completions.py [--write] PROGRAM: completions for bash, zsh and fish, as the program's own help has its command line.
+"""completions.py [--write | --installed] PROGRAM: completions for bash, zsh and fish, as the program's own help has its
+command line.
 
 They stand in docs/completions, and tools/install.sh puts them in place. --write writes them. Without it they are
-compared with what the program's help says now, and tried in bash and fish, where the machine has them: lines that are
-typed so far, beside the words that docs/manual.md has for them. zsh reads its file, and offers nothing without a
-terminal. The last line is 'completions: N passed, M failed'."""
+compared with what the program's help says now, and tried in bash, zsh and fish, where the machine has them: lines that
+are typed so far, beside the words that docs/manual.md has for them. --installed takes those that Debian's package put
+in place. The last line is 'completions: N passed, M failed'."""
+import contextlib
 import os
+import pty
 import re
 import shlex
 import shutil
 import subprocess
 import sys
+import tempfile
 import textwrap
+import threading
 
 FOLDER = os.path.join(os.path.dirname(os.path.dirname(os.path.realpath(__file__))), "docs/completions")
+# where the files stand, and where Debian's package puts them
+PLACES = [f"{FOLDER}/{it}" for it in ("pkder.bash", "_pkder", "pkder.fish")]
+INSTALLED = ["/usr/share/bash-completion/completions/pkder", "/usr/share/zsh/vendor-completions/_pkder",
+             "/usr/share/fish/vendor_completions.d/pkder.fish"]
+# what has zsh say in a file what it would offer, and leave at the first tab
+ZSHRC = """\
+PROMPT= RPROMPT=
+fpath=({folder} $fpath)
+autoload -Uz compinit && compinit -u -D
+compadd() {{
+    if [[ ${{@[1,(i)(-|--)]}} == *-(O|A|D)\\ * ]]; then
+        builtin compadd "$@"
+        return
+    fi
+    local -a found
+    builtin compadd -A found "$@"
+    print -rl -- $found >> {said}
+    return 1
+}}
+offer() {{ zle complete-word; exit }}
+zle -N offer
+bindkey '^I' offer
+"""
+SECONDS = 20
 MADE_BY = "by tools/completions.py, from the program's help"
 OPTION = re.compile(r"  (?:-(\w), |    )--([a-z-]+)(?: <(\w+)>)?  +(.*)")
 COMMAND = re.compile(r"  ([a-z]+)  +(.*)")
@@ -162,18 +191,42 @@ def fish(top, commands):
     return "\n".join(lines) + "\n"
 
 
-def in_bash(typed):
+def in_bash(file, typed):
     """The words that bash offers."""
     words = [it for it in re.split(" +|(=)", typed) if it is not None]
-    script = f"""source {FOLDER}/pkder.bash
+    script = f"""source {file}
 COMP_WORDS=({shlex.join(words)}) COMP_CWORD={len(words) - 1}
 _pkder && printf '%s\\n' "${{COMPREPLY[@]}}" """
     return {*subprocess.run(["bash", "-c", script], capture_output=True, text=True).stdout.split()}
 
 
-def in_fish(typed):
+def in_zsh(file, typed):
+    """The words that zsh offers, which has to have a terminal."""
+    with tempfile.TemporaryDirectory() as work:
+        said = f"{work}/said"
+        for name, text in ((said, ""), (f"{work}/.zshrc", ZSHRC.format(folder=os.path.dirname(file), said=said))):
+            with open(name, "w", encoding="utf-8") as it:
+                it.write(text)
+        ours, its = pty.openpty()
+        how = {"stdin": its, "stdout": its, "stderr": its, "env": {**os.environ, "ZDOTDIR": work, "TERM": "dumb"}}
+        with subprocess.Popen(["zsh", "-i", "--no-globalrcs"], start_new_session=True, **how) as ran:
+            os.close(its)
+            late = threading.Timer(SECONDS, ran.kill)
+            late.start()
+            os.write(ours, f"{typed}\t".encode())
+            # (where the other end is closed reading fails)
+            with contextlib.suppress(OSError):
+                while os.read(ours, 4096):
+                    pass
+            late.cancel()
+        os.close(ours)
+        with open(said, encoding="utf-8") as it:
+            return {*it.read().split()}
+
+
+def in_fish(file, typed):
     """The words that fish offers."""
-    script = f"source {FOLDER}/pkder.fish; complete -C {fish_quote(typed)}"
+    script = f"source {file}; complete -C {fish_quote(typed)}"
     ran = subprocess.run(["fish", "--no-config", "-c", script], capture_output=True, text=True)
     found = {line.split("\t")[0] for line in ran.stdout.splitlines()}
     return {it.split("=")[-1] for it in found}
@@ -186,31 +239,29 @@ def has(shell):
     return shutil.which(shell)
 
 
-def looks_at(made):
+def looks_at(made, places):
     """Each look at the files, by what is looked at, and whether it is as it should be."""
-    for name, text in made.items():
-        with open(f"{FOLDER}/{name}", encoding="utf-8") as file:
-            yield f"{name}: python3 tools/completions.py --write PROGRAM writes it anew", file.read() == text
-    for shell, offered in (("bash", in_bash), ("fish", in_fish)):
+    for text, place in zip(made, places):
+        with open(place, encoding="utf-8") as file:
+            yield f"{place}: python3 tools/completions.py --write PROGRAM writes it anew", file.read() == text
+    for shell, offered, place in zip(("bash", "zsh", "fish"), (in_bash, in_zsh, in_fish), places):
         if has(shell):
-            yield from ((f"{shell}: {typed!r}", offered(typed) == due) for typed, due in TYPED)
-    if has("zsh"):
-        yield "zsh: _pkder", not subprocess.run(["zsh", "-n", f"{FOLDER}/_pkder"]).returncode
+            yield from ((f"{shell}: {typed!r}", offered(place, typed) == due) for typed, due in TYPED)
 
 
 def main(words):
-    programs = [it for it in words if it != "--write"]
-    if len(programs) != 1:
+    programs = [it for it in words if not it.startswith("-")]
+    if len(programs) != 1 or len(words) > 2 or {*words} - {"--write", "--installed", *programs}:
         sys.exit(__doc__)
     top, commands = command_line(os.path.abspath(programs[0]))
-    made = {"pkder.bash": bash(top, commands), "_pkder": zsh(top, commands), "pkder.fish": fish(top, commands)}
+    made = bash(top, commands), zsh(top, commands), fish(top, commands)
     if "--write" in words:
         os.makedirs(FOLDER, exist_ok=True)
-        for name, text in made.items():
-            with open(f"{FOLDER}/{name}", "w", encoding="utf-8") as file:
+        for name, text in zip(PLACES, made):
+            with open(name, "w", encoding="utf-8") as file:
                 file.write(text)
         return 0
-    looks = [*looks_at(made)]
+    looks = [*looks_at(made, INSTALLED if "--installed" in words else PLACES)]
     wrong = [what for what, is_right in looks if not is_right]
     for what in wrong:
         print(what)
