@@ -13,11 +13,12 @@ from concurrent.futures import ThreadPoolExecutor
 TOP = os.path.dirname(os.path.dirname(os.path.realpath(__file__)))
 PARSED = "import ast, sys; [ast.parse(open(it).read(), it) for it in sys.argv[1:]]"
 RUSTFMT = ("rustfmt", "--config-path", "interface/rust", "--check", "--color", "never", "--edition")
+SHELL = ("debian/tests/completions", "debian/tests/library", "debian/tests/program")
 # the files, the command, and the package of Debian that has it
 LOOKS = [
-    (("*.py",), ("python3", "-c", PARSED), "python3"),
-    (("*.py",), ("flake8",), "flake8"),
-    (("*.sh", "*.bash", ".ci/run"), ("shellcheck",), "shellcheck"),
+    (("*.py", "debian/tests/python"), ("python3", "-c", PARSED), "python3"),
+    (("*.py", "debian/tests/python"), ("flake8",), "flake8"),
+    (("*.sh", "*.bash", ".ci/run", *SHELL), ("shellcheck",), "shellcheck"),
     (("*.c", "*.h"), ("clang-format", "--dry-run", "-Werror"), "clang-format"),
     (("interface/rust/*.rs",), (*RUSTFMT, "2021"), "rustfmt"),
     (("bench/*.rs",), (*RUSTFMT, "2024"), "none; rustup has a later rustfmt"),

@@ -27,8 +27,8 @@ LIBRARIES = tuple(f"{TOP}/{it}" for it in build.MADE[1:])
 TOOLS = {"musl-gcc": "musl-tools", "objcopy": "binutils", "cc": "gcc", "dpkg-buildpackage": "dpkg-dev",
          "dh": "debhelper", "dh_python3": "dh-python"}
 # what of the repository a packager's tree has
-TREE = ("CHANGELOG.md", "README.md", "SECURITY.md", "crates.txt", "crates/pk_explain/src/version.rt", "debian", "docs",
-        "examples", "interface", "tools")
+TREE = ("CHANGELOG.md", "README.md", "SECURITY.md", "crates.txt", build.logic.SOURCE, "debian", "docs", "examples",
+        "interface", "tools")
 PROVED = """\
 proved: each function of the program and of the library meets its contract; docs/proved.md says what these promise
 not proved: what compiles, links and packs them, C libraries, pkder.h, packages for other languages, time, stack
@@ -66,7 +66,7 @@ def proved_by(program, is_trial):
     sums = {"pkder": program, **{os.path.basename(it): it for it in LIBRARIES}}
     rows = "".join(f"{packing.sum_of(path)}  {name}\n" for name, path in sums.items())
     linked = f"program: {bom.lowest.needs(program)}, linked with {how}\n"
-    return f"{TRIAL if is_trial else ''}{head}{linked}{TRIAL if is_trial else PROVED}{rows}"
+    return f"{head}{linked}{TRIAL if is_trial else PROVED}{rows}"
 
 
 def stage(tree, program, is_trial):

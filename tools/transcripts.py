@@ -100,25 +100,35 @@ def folder_with(folder, program):
     return place
 
 
-def outputs(steps, program):
-    """What each step printed and its status, as far as the shell came."""
-    shell = "bash" if any(it.shell == "bash" for it in steps) else "sh"
+def script_of(steps):
+    """The script that runs the steps, and prints behind each its status."""
     script = "exec 2>&1 < /dev/null\n"
     for at, step in enumerate(steps):
         script += f"{{\n{step.text}\n}}\nprintf '\\n{MARK} {at} %s\\n' $?\n"
+    return script
+
+
+def answers_in(said):
+    """What each step printed and its status, of what the script printed."""
+    parts = re.split(rf"\n{MARK} [0-9]+ ([0-9]+)\n", said)
+    return list(zip(parts[0::2], map(int, parts[1::2])))
+
+
+def outputs(steps, program):
+    """What each step printed and its status, as far as the shell came."""
+    shell = "bash" if any(it.shell == "bash" for it in steps) else "sh"
     with tempfile.TemporaryDirectory() as folder:
         place = folder_with(folder, program)
         path = f"{folder}/bin:{os.environ['PATH']}"
         told = {**os.environ, "PATH": path, "LC_ALL": "C.UTF-8", "HOME": place, "TMPDIR": folder}
         with open(f"{folder}/script", "w", encoding="utf-8") as it:
-            it.write(script)
+            it.write(script_of(steps))
         try:
             ran = subprocess.run([shell, f"{folder}/script"], cwd=place, env=told, capture_output=True, timeout=SECONDS)
             said = ran.stdout
         except subprocess.TimeoutExpired as late:
             said = late.stdout or b""
-    parts = re.split(rf"\n{MARK} [0-9]+ ([0-9]+)\n", said.decode(errors="replace"))
-    return list(zip(parts[0::2], map(int, parts[1::2])))
+    return answers_in(said.decode(errors="replace"))
 
 
 def is_like(lines, due):
