@@ -26,6 +26,9 @@ LIBRARIES = tuple(f"{TOP}/{it}" for it in build.MADE[1:])
 # what packing needs, and the package of Debian that has it
 TOOLS = {"musl-gcc": "musl-tools", "objcopy": "binutils", "cc": "gcc", "dpkg-buildpackage": "dpkg-dev",
          "dh": "debhelper", "dh_python3": "dh-python"}
+JAVA = f"{TOP}/interface/java/build.sh"
+if os.path.isfile(JAVA):
+    TOOLS["javac"] = "default-jdk-headless"
 # what of the repository a packager's tree has
 TREE = ("CHANGELOG.md", "README.md", "SECURITY.md", "crates.txt", build.logic.SOURCE, "debian", "docs", "examples",
         "interface", "tools")
@@ -134,6 +137,14 @@ def python(out):
     return [wheel.write_wheel(out, LIBRARIES[-1], bom.licences([LIBRARIES[-1]])), wheel.write_sources(out)]
 
 
+def java(work, out):
+    """Makes the jar, where this checkout has the package for Java, and returns its name in a list."""
+    if not os.path.isfile(JAVA):
+        return []
+    subprocess.run(["sh", JAVA, f"{TOP}/interface/out", f"{work}/of-java"], check=True, stdout=subprocess.DEVNULL)
+    return [shutil.copy(f"{work}/of-java/pkder.jar", f"{out}/pkder-{NUMBER}.jar")]
+
+
 def made(out, work, static, dynamic, is_trial):
     """Makes all files, and returns what each is by its name."""
     debs = {"pkder_": "Debian: the program", "libpkder0_": "Debian: the shared library",
@@ -141,6 +152,7 @@ def made(out, work, static, dynamic, is_trial):
     found = {archive(work, out, static, is_trial): "program, libraries, header, pages, completions, papers"}
     for name in debian(work, out, dynamic, is_trial):
         found[name] = next(what for begin, what in debs.items() if os.path.basename(name).startswith(begin))
+    found |= {it: "Java, with the library" for it in java(work, out)}
     with_library, sources = python(out)
     return {**found, with_library: "Python, with the library", sources: "Python, for a library of the system"}
 
