@@ -1,7 +1,7 @@
 #!/bin/sh
-# test.sh: the library, built by build.sh, and tried from C, C++, Python, Rust and Go. What the machine has no compiler
-# or interpreter for is left out, and said. The last line is 'interface: N passed, M failed', a command counting once.
-# LIBRARY=built takes the library that stands in interface/out.
+# test.sh: the library, built by build.sh, and tried from C, C++, Python, Rust, Go and Java. What the machine has no
+# compiler or interpreter for is left out, and said. The last line is 'interface: N passed, M failed', a command
+# counting once. LIBRARY=built takes the library that stands in interface/out.
 # By hand: ROUNDS=5000 DOCUMENTS=20000 sh interface/test.sh probes for minutes (200 and 500 unless said otherwise);
 # HEAP=wiping has the wiping heap tried.
 # shellcheck disable=SC2086 # (lists of flags)
@@ -182,6 +182,11 @@ request latin-1-name
 END
 }
 
+# Whether the library was built with heap_wiping.c.
+is_wiping() {
+    nm "$out/libpkder.a" | grep -q ' U explicit_bzero$'
+}
+
 # The usual heap frees blocks that hold octets of a key; heap_wiping.c, if the library was built with it, none.
 secrets() {
     sum=0
@@ -189,7 +194,7 @@ secrets() {
         blocks=$("$work/secrets" $command key "$top/examples/ed25519.der" 16 32) || return 1
         sum=$((sum + blocks))
     done
-    if nm "$out/libpkder.a" | grep -q ' U explicit_bzero$'; then
+    if is_wiping; then
         [ $sum = 0 ] || return 1
     fi
     echo "$sum blocks with octets of the key"
@@ -251,6 +256,58 @@ in_go() {
         -tags stand_in -run StandIn .
 }
 
+# java_runs TESTS WORD..: the tests under these words of java's, which may say nothing of what JNI is misused for
+java_runs() {
+    tests=$1
+    shift
+    PKDER_CALLS=$work/calls.tsv PKDER_HEADER=$here/pkder.h java -Xmx16m -Xcheck:jni "$@" "$tests" > "$work/java" 2>&1
+    status=$?
+    cat "$work/java"
+    [ $status = 0 ] && ! grep -E '^(WARNING|FATAL ERROR) in native' "$work/java"
+}
+
+# No octets of a key stay in Java's heap, nor in blocks that are freed outside it. (Whether a program over the same
+# library frees some says that the look at blocks finds what there is.)
+java_copies() (
+    COPIES_SECRET=a1b2c3d4e5f60718293a4b5c6d7e8f901f2e3d4c5b6a798897a6b5c4d3e2f10f
+    export COPIES_SECRET
+    set -- java -cp "$work/java_jar/pkder.jar:$work/java_tests" Copies
+    "$@" dump || exit
+    cc -std=c11 $warnings -O2 -fPIC -shared -o "$work/freed.so" "$here/java/tests/freed.c" || exit
+    LD_PRELOAD=$work/freed.so "$@" 2> "$work/freed"
+    status=$?
+    cat "$work/freed"
+    [ $status = 0 ] && grep -qx '0 blocks with octets of the secret' "$work/freed" || exit 1
+    python3 -c 'import sys; sys.stdout.buffer.write(bytes.fromhex(sys.argv[1]))' \
+        "302e020100300506032b657004220420$COPIES_SECRET" > "$work/key"
+    LD_PRELOAD=$work/freed.so "$work/filter" normalise --kind key < "$work/key" > "$work/text" 2> "$work/freed" || exit
+    cmp "$work/text" "$work/key" || exit
+    cat "$work/freed"
+    is_wiping || grep -qx '[1-9][0-9]* blocks with octets of the secret' "$work/freed" || exit 1
+    echo "two arrays, and no freed blocks"
+)
+
+in_java() {
+    jar=$work/java_jar/pkder.jar
+    set -- env JAVAC_FLAGS='-Xlint:all -Xdoclint:all/protected -Werror' CFLAGS="-std=c11 $warnings" \
+        sh "$here/java/build.sh"
+    try "built for Java" "$@" "$out" "$work/java_jar"
+    try "built for Java again" "$@" "$out" "$work/java_again"
+    try "the same jar" cmp "$work/java_again/pkder.jar" "$jar"
+    try "compiled tests in Java" javac --release 11 -Xlint:all -Werror -cp "$jar" -d "$work/java_tests" \
+        "$here"/java/tests/*.java
+    try "rows in Java" java_runs Tests -cp "$jar:$work/java_tests"
+    try "copies in Java" java_copies
+    try "stand-in for Java" "$@" "$work/stand_in" "$work/java_stand_in"
+    # (as a module; and named as a file, which is taken in the place of the library in the jar)
+    try "stand-in in Java" java_runs StandIn -p "$work/java_stand_in/pkder.jar" --add-modules pkder \
+        -cp "$work/java_tests"
+    native=native/Linux-amd64/libpkder_jni.so
+    try "unpacked for Java" python3 -m zipfile -e "$work/java_stand_in/pkder.jar" "$work/java_stand_in"
+    try "stand-in in Java, named" java_runs StandIn "-Dpkder.library=$work/java_stand_in/$native" \
+        -cp "$jar:$work/java_tests"
+}
+
 in_valgrind() {
     try "compiled for valgrind" cc -std=c11 -O1 -g -I"$here" -o "$work/probe_plain" "$here/c/probe.c" \
         "$out/libpkder.a" -lpthread
@@ -279,14 +336,15 @@ installed() {
     echo "found"
 }
 
-# What stands in docs/library.md and in the README of the Python package, as it stands there. pip puts the package into
+# What stands in docs/library.md and in the READMEs of the packages, as it stands there. pip puts the package into
 # a folder of its own and asks no network; without pip it is found where it lies. (rustup looks for itself at home)
 documents() {
     site=$work/documents
     set -- "PKG_CONFIG_PATH=$out" "LD_LIBRARY_PATH=$out" "PYTHONPATH=$site:$here/python/src" "PIP_TARGET=$site" \
         PIP_NO_INDEX=1 PIP_NO_BUILD_ISOLATION=0 PIP_QUIET=1 PIP_ROOT_USER_ACTION=ignore PYTHONDONTWRITEBYTECODE=1 \
         CARGO_NET_OFFLINE=true "RUSTUP_HOME=${RUSTUP_HOME:-$HOME/.rustup}" GOPROXY=off "GOCACHE=$work/gocache"
-    env "$@" python3 "$top/tools/transcripts.py" "$top/docs/library.md" "$here/python/README.md" "$work/filter"
+    env "$@" python3 "$top/tools/transcripts.py" "$top/docs/library.md" "$here/python/README.md" \
+        "$here/java/README.md" "$work/filter"
 }
 
 man_page() {
@@ -324,6 +382,7 @@ if [ "$failed" = 0 ] && tools; then
     in_python
     if has cargo cargo; then in_rust; fi
     if has go golang-go && has pkg-config pkg-config; then in_go; fi
+    if has javac default-jdk-headless; then in_java; fi
     if has valgrind valgrind; then in_valgrind; fi
     try "documents" documents
     if has mandoc mandoc; then try "man page" man_page "$top/docs/pkder.3"; fi

@@ -23,7 +23,7 @@ import tempfile
 TOP = os.path.dirname(os.path.dirname(os.path.realpath(__file__)))
 SECONDS = 120
 # what a POSIX system may lack, and what pip builds with
-TOOLS = ("openssl", "xxd", "jq", "mandoc", "cc", "pkg-config", "cargo", "go", "pip")
+TOOLS = ("openssl", "xxd", "jq", "mandoc", "cc", "pkg-config", "cargo", "go", "javac", "pip")
 BUILT_WITH = {"pip": ("setuptools", "wheel")}
 MARK = "-- step"
 PROVED_BY = "crates/pkder/out/PROVED-BY"

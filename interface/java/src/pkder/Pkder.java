@@ -1,0 +1,217 @@
+package pkder;
+
+import java.nio.charset.StandardCharsets;
+import java.util.Objects;
+
+/**
+ * Reads, checks and normalises private keys, public keys and certification requests (CSRs) in BER and DER, by libpkder,
+ * which is proved. {@link #requireDer(Kind, byte[])} refuses whatever isn't in DER; all other calls take BER, too.
+ *
+ * <p>Each call takes the bytes (octets) of one whole document, and not PEM. It judges them as they are when it begins, so
+ * whoever hands an array on has to keep others from writing to it. It may come from any thread. It wipes the copy of the
+ * document that it makes, and keeps nothing; a text that is a private key is the caller's to wipe.
+ *
+ * <p>Each throws {@link NullPointerException} where an argument is null, {@link OutOfMemoryError} where memory ran out,
+ * {@link StackOverflowError} where the thread has too little stack left for the depth that is allowed, and
+ * {@link IllegalStateException} where a later library answers what this package doesn't know. None of these says anything
+ * of the document.
+ */
+public final class Pkder {
+    private Pkder() {}
+
+    /** A native call on a document. */
+    private interface Call {
+        byte[] on(byte[] document, long[] outcome);
+    }
+
+    /**
+     * Returns where the document is in DER, and throws otherwise.
+     *
+     * @param kind what the document is
+     * @param document its octets
+     * @throws FaultException where the document is refused
+     * @throws NotDerException where it is sound and isn't in DER
+     */
+    public static void requireDer(Kind kind, byte[] document) throws FaultException, NotDerException {
+        requireDer(kind, document, Limits.USUAL);
+    }
+
+    /**
+     * Returns where the document is in DER, and throws otherwise.
+     *
+     * @param kind what the document is
+     * @param document its octets
+     * @param limits the limits of what is read
+     * @throws FaultException where the document is refused
+     * @throws NotDerException where it is sound and isn't in DER
+     */
+    public static void requireDer(Kind kind, byte[] document, Limits limits) throws FaultException, NotDerException {
+        Verdict verdict = check(kind, document, limits);
+        if (!verdict.isDer()) {
+            throw new NotDerException(verdict);
+        }
+    }
+
+    /**
+     * Says whether the document is in DER, and else the first place where it differs from its DER encoding. A line that
+     * doesn't look at the verdict takes BER: {@link #requireDer(Kind, byte[])} doesn't.
+     *
+     * @param kind what the document is
+     * @param document its octets
+     * @return the verdict
+     * @throws FaultException where the document is refused
+     */
+    public static Verdict check(Kind kind, byte[] document) throws FaultException {
+        return check(kind, document, Limits.USUAL);
+    }
+
+    /**
+     * Says whether the document is in DER, and else the first place where it differs from its DER encoding.
+     *
+     * @param kind what the document is
+     * @param document its octets
+     * @param limits the limits of what is read
+     * @return the verdict
+     * @throws FaultException where the document is refused
+     */
+    public static Verdict check(Kind kind, byte[] document, Limits limits) throws FaultException {
+        int number = kind.number();
+        Outcome outcome = new Outcome();
+        Native.check(number, limits.depth(), limits.octets(), present(document), outcome.numbers);
+        if (outcome.status() != Outcome.ACCEPTED && outcome.status() != Outcome.NOT_DER) {
+            throw outcome.refusal();
+        }
+        return outcome.verdict();
+    }
+
+    /**
+     * Answers the document's DER encoding: two documents say the same exactly where these are equal.
+     *
+     * @param kind what the document is
+     * @param document its octets
+     * @return the encoding, in an array of its own
+     * @throws FaultException where the document is refused
+     */
+    public static byte[] normalise(Kind kind, byte[] document) throws FaultException {
+        return normalise(kind, document, Limits.USUAL);
+    }
+
+    /**
+     * Answers the document's DER encoding: two documents say the same exactly where these are equal.
+     *
+     * @param kind what the document is
+     * @param document its octets
+     * @param limits the limits of what is read
+     * @return the encoding, in an array of its own
+     * @throws FaultException where the document is refused
+     */
+    public static byte[] normalise(Kind kind, byte[] document, Limits limits) throws FaultException {
+        int number = kind.number();
+        return written(
+            document, (octets, outcome) -> Native.normalise(number, limits.depth(), limits.octets(), octets, outcome));
+    }
+
+    /**
+     * Answers a part of a certification request.
+     *
+     * @param part which part
+     * @param request the request's octets
+     * @return the part's octets, as DER has them, in an array of its own
+     * @throws FaultException where the request is refused
+     */
+    public static byte[] signed(Part part, byte[] request) throws FaultException {
+        return signed(part, request, Limits.USUAL);
+    }
+
+    /**
+     * Answers a part of a certification request.
+     *
+     * @param part which part
+     * @param request the request's octets
+     * @param limits the limits of what is read
+     * @return the part's octets, as DER has them, in an array of its own
+     * @throws FaultException where the request is refused
+     */
+    public static byte[] signed(Part part, byte[] request, Limits limits) throws FaultException {
+        int number = part.number();
+        return written(
+            request, (octets, outcome) -> Native.signed(number, limits.depth(), limits.octets(), octets, outcome));
+    }
+
+    /**
+     * Answers what the document says, a line for each part; of private keys the number of octets alone, of a request all
+     * attributes, a challengePassword among them.
+     *
+     * @param kind what the document is
+     * @param document its octets
+     * @return the lines, each of which ends in a line feed
+     * @throws FaultException where the document is refused
+     */
+    public static String show(Kind kind, byte[] document) throws FaultException {
+        return show(kind, document, Limits.USUAL);
+    }
+
+    /**
+     * Answers what the document says, a line for each part; of private keys the number of octets alone, of a request all
+     * attributes, a challengePassword among them.
+     *
+     * @param kind what the document is
+     * @param document its octets
+     * @param limits the limits of what is read
+     * @return the lines, each of which ends in a line feed
+     * @throws FaultException where the document is refused
+     */
+    public static String show(Kind kind, byte[] document, Limits limits) throws FaultException {
+        int number = kind.number();
+        byte[] lines = written(
+            document, (octets, outcome) -> Native.show(number, limits.depth(), limits.octets(), octets, outcome));
+        return new String(lines, StandardCharsets.US_ASCII);
+    }
+
+    /**
+     * Answers a report of the octets for people, whether they are a document or not: the elements with their places, and
+     * of a refused document which field is at fault, what is due there, the usual cause and what to do. No octets of
+     * private keys and no values of attributes are in it.
+     *
+     * @param kind what the document is
+     * @param document its octets
+     * @return the report, as text with the elements that matter
+     */
+    public static Report explain(Kind kind, byte[] document) {
+        return explain(kind, document, ReportForm.TEXT, Limits.USUAL);
+    }
+
+    /**
+     * Answers a report of the octets for people, whether they are a document or not.
+     *
+     * @param kind what the document is
+     * @param document its octets
+     * @param form how the report is written
+     * @param limits the limits of what is read
+     * @return the report
+     */
+    public static Report explain(Kind kind, byte[] document, ReportForm form, Limits limits) {
+        int number = kind.number();
+        Outcome outcome = new Outcome();
+        byte[] octets =
+            Native.explain(number, limits.depth(), limits.octets(), form.number(), present(document), outcome.numbers);
+        if (outcome.status() != Outcome.REPORTED) {
+            throw outcome.failure();
+        }
+        String text = new String(octets, StandardCharsets.UTF_8);
+        return outcome.hasFault() ? Report.of(text, outcome.fault()) : Report.of(text, outcome.verdict());
+    }
+
+    private static byte[] written(byte[] document, Call call) throws FaultException {
+        Outcome outcome = new Outcome();
+        byte[] text = call.on(present(document), outcome.numbers);
+        if (outcome.status() != Outcome.ACCEPTED) {
+            throw outcome.refusal();
+        }
+        return text;
+    }
+
+    private static byte[] present(byte[] document) {
+        return Objects.requireNonNull(document, "document");
+    }
+}

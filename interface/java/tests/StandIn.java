@@ -1,0 +1,98 @@
+import java.util.ArrayList;
+import java.util.LinkedHashMap;
+import java.util.List;
+import java.util.Map;
+import pkder.FaultException;
+import pkder.Kind;
+import pkder.Part;
+import pkder.Pkder;
+import pkder.Reason;
+import pkder.Report;
+
+/** What the package makes of answers that no document brings, over a jar with the stand-in of interface/c/stand_in.c. */
+public final class StandIn {
+    private StandIn() {}
+
+    /**
+     * Runs the tests.
+     *
+     * @param words none
+     */
+    public static void main(String[] words) {
+        Map<String, Claims.Attempt> tests = new LinkedHashMap<>();
+        tests.put("errors", StandIn::errors);
+        tests.put("faults of a later library", StandIn::faults);
+        tests.put("reports of a later library", StandIn::reports);
+        tests.put("statuses of other calls", StandIn::statuses);
+        System.exit(Tests.failed(tests) == 0 ? 0 : 1);
+    }
+
+    /** The calls on a document of three octets, but explain. */
+    private static List<Claims.Attempt> calls(int... told) {
+        byte[] document = document(told);
+        List<Claims.Attempt> calls = new ArrayList<>();
+        calls.add(() -> Pkder.check(Kind.KEY, document));
+        calls.add(() -> Pkder.requireDer(Kind.KEY, document));
+        calls.add(() -> Pkder.normalise(Kind.KEY, document));
+        calls.add(() -> Pkder.show(Kind.KEY, document));
+        calls.add(() -> Pkder.signed(Part.INFO, document));
+        return calls;
+    }
+
+    private static byte[] document(int... told) {
+        return new byte[] {(byte) told[0], (byte) told[1], (byte) told[2]};
+    }
+
+    private static List<Claims.Attempt> callsAndReport(int... told) {
+        List<Claims.Attempt> calls = calls(told);
+        calls.add(() -> Pkder.explain(Kind.KEY, document(told)));
+        return calls;
+    }
+
+    private static void errors() {
+        for (Claims.Attempt call : callsAndReport(3, 0, 0)) {
+            Claims.thrown(OutOfMemoryError.class, call, "want of memory");
+        }
+        for (Claims.Attempt call : callsAndReport(4, 0, 0)) {
+            Claims.thrown(IllegalArgumentException.class, call, "a bad call");
+        }
+        for (Claims.Attempt call : callsAndReport(8, 0, 0)) {
+            String line = Claims.thrown(IllegalStateException.class, call, "a later status").getMessage();
+            Claims.equal(line, "libpkder answers the status 8", "a later status");
+        }
+    }
+
+    private static void faults() {
+        for (Claims.Attempt call : calls(1, 28, 28)) {
+            FaultException why = Claims.thrown(FaultException.class, call, "a later reason");
+            Claims.equal(why.getMessage(), "fault at 5: Later inside at 7: Later", "a later reason");
+            Claims.equal(why.reason() + " " + why.fault().reasonName(), "UNKNOWN Later", "a later reason");
+        }
+        for (Claims.Attempt call : calls(1, 28, 0)) {
+            FaultException why = Claims.thrown(FaultException.class, call, "a later reason");
+            Claims.equal(why.getMessage(), "fault at 5: Later", "a later reason");
+        }
+    }
+
+    private static void reports() {
+        Report report = Pkder.explain(Kind.KEY, document(6, 28, 28));
+        Claims.equal(report.isDer() + " " + report.differsAt() + " " + report.fault().orElseThrow(),
+            "false OptionalLong.empty fault at 5: Later inside at 7: Later", "a later reason");
+    }
+
+    /** Statuses of reports are no answer of other calls, nor are theirs one of a report. */
+    private static void statuses() {
+        for (int status : new int[] {2, 6, 7}) {
+            for (Claims.Attempt call : calls(status, 0, 0)) {
+                Claims.thrown(IllegalStateException.class, call, "status " + status);
+            }
+        }
+        for (int status : new int[] {0, 1, 2, 5, 7}) {
+            Claims.Attempt call = () -> Pkder.explain(Kind.KEY, document(status, 0, 0));
+            Claims.thrown(IllegalStateException.class, call, "status " + status + " of a report");
+        }
+        for (Claims.Attempt call : calls(5, 0, 0).subList(2, 5)) {
+            Claims.thrown(IllegalStateException.class, call, "status 5 of a text");
+        }
+    }
+}

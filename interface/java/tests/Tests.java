@@ -1,0 +1,56 @@
+import java.util.LinkedHashMap;
+import java.util.Map;
+
+/**
+ * The tests of the package, over the rows that PKDER_CALLS names and the header that PKDER_HEADER names. The last line is
+ * "N tests"; the status is 1 where one failed.
+ */
+public final class Tests {
+    private Tests() {}
+
+    private static Map<String, Claims.Attempt> all() {
+        Map<String, Claims.Attempt> tests = new LinkedHashMap<>();
+        tests.put("numbers of the header", Header::numbers);
+        tests.put("names of reasons", Header::names);
+        tests.put("rows", Rows::all);
+        tests.put("careless lines", Calls::careless);
+        tests.put("verdicts", Calls::verdicts);
+        tests.put("faults", Calls::faults);
+        tests.put("faults inside", Calls::faultsInside);
+        tests.put("reports", Calls::reports);
+        tests.put("a long report", Calls::longReport);
+        tests.put("limits", Calls::limits);
+        tests.put("nulls", Calls::nulls);
+        tests.put("arrays", Calls::arrays);
+        tests.put("threads", Threads::atOnce);
+        tests.put("stacks", Threads::stacks);
+        tests.put("class loaders", Threads::loaders);
+        tests.put("memory", Threads::memory);
+        return tests;
+    }
+
+    /**
+     * Runs the tests.
+     *
+     * @param words none
+     */
+    public static void main(String[] words) {
+        System.exit(failed(all()) == 0 ? 0 : 1);
+    }
+
+    /** Runs these tests, and answers how many failed. */
+    static int failed(Map<String, Claims.Attempt> tests) {
+        int failed = 0;
+        for (Map.Entry<String, Claims.Attempt> test : tests.entrySet()) {
+            try {
+                test.getValue().run();
+            } catch (Exception | Error why) {
+                failed++;
+                System.out.println(test.getKey() + ": " + why);
+                why.printStackTrace(System.out);
+            }
+        }
+        System.out.println(tests.size() + " tests");
+        return failed;
+    }
+}
