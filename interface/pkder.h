@@ -1,8 +1,8 @@
 /* pkder: reads private keys, public keys and certification requests (CSRs) in BER and DER (PKCS #8, RFC 5915, RFC 8410,
- * PKCS #10), and gives their one DER text, which is their DER encoding, whether they are in DER, what they are in
- * lines, a part of them; or the first fault, with its place and its reason; and of any octets a report for people, as
- * text or as JSON. It does no cryptography, and says of a document that it has a sound form and nothing more. It reads
- * the octets (bytes) of the document itself, and no PEM.
+ * PKCS #10), and gives their one DER text, which is their DER encoding, whether they are in DER, whether two are the
+ * same, what they are in lines, a part of them; or the first fault, with its place and its reason; and of any octets a
+ * report for people, as text or as JSON. It does no cryptography, and says of a document that it has a sound form and
+ * nothing more. It reads the octets (bytes) of the document itself, and no PEM.
  *
  * Compile by `cc FILE.c $(pkg-config --cflags --libs pkder)`, which is -lpkder; the program finds libpkder.so.0 once
  * ldconfig has seen it, or by LD_LIBRARY_PATH. docs/library.md has first steps, and docs/manual.md what each reason
@@ -13,7 +13,7 @@
  *
  * The caller owes, of each call:
  *   - src points to src_len octets, and dst to dst_len octets, whatever is in them; with a length of 0 goes any
- *     pointer, NULL too;
+ *     pointer, NULL too; what is said of src holds of first and of second, too, which may be the same octets;
  *   - until the call returns nothing else writes the octets of src, nor reads or writes those of dst;
  *   - src and dst don't overlap: no document is normalised in place;
  *   - a length is that of one object, so at most PTRDIFF_MAX;
@@ -54,8 +54,8 @@ extern "C" {
 #endif
 
 /* The number of this interface. Functions, kinds, parts, statuses and reasons may be added under the same number; none
- * is changed or taken away, and pkder_outcome stays as it is. So take a status or a reason that this header doesn't
- * name for one that refuses. */
+ * is changed or taken away, and pkder_outcome keeps its layout, and its numbers their meaning. So take a status or a
+ * reason that this header doesn't name for one that refuses. */
 #define PKDER_INTERFACE 1
 
 /* What a document is; the caller says. All of the octets given have to be one: octets behind it are a fault. Octets of
@@ -102,20 +102,22 @@ extern "C" {
 #define PKDER_NOT_DER 5u    /* pkder_check alone: the octets are a document, and not in DER */
 #define PKDER_REPORTED 6u   /* pkder_explain alone: the report is written, whatever the octets are */
 #define PKDER_UNREPORTED 7u /* pkder_explain alone: the same, but dst_len is less than size: dst is as it was */
+#define PKDER_ANOTHER 8u    /* pkder_same alone: both are documents, and not the same */
 
 /* A number that a status doesn't use is 0. */
 typedef struct pkder_outcome {
-    uint32_t status;        /* PKDER_ACCEPTED to PKDER_UNREPORTED */
+    uint32_t status;        /* PKDER_ACCEPTED to PKDER_ANOTHER */
     uint32_t reason;        /* of a fault: the number of its reason, 1 to 27 */
     uint32_t inside_reason; /* of a fault inside an OCTET STRING (PKDER_REASON_INNER): the number of its reason */
-    uint32_t spare;         /* 0 */
+    uint32_t which;         /* of a fault that pkder_same tells: 1 in first, 2 in second; of all other calls 0 */
     uint64_t at;            /* of a fault: its place in src; not in DER: the first place where the DER text has another
                              * octet */
     uint64_t inside_at;     /* of a fault inside an OCTET STRING: its place in the octets that the string holds, which
                              * may stand in src in several pieces */
-    uint64_t taken;         /* of a document, accepted, not in DER or without room: src_len; of others 0 */
+    uint64_t taken;         /* of a document, accepted, not in DER or without room: src_len; of others, and of
+                             * pkder_same, 0 */
     uint64_t size;          /* accepted, reported, without room: the octets that are written, or would be; of
-                             * pkder_check 0 */
+                             * pkder_check and pkder_same 0 */
 } pkder_outcome;
 
 /* The reasons. pkder_reason_name has their names. Where nothing else is said, `at` is where the identifier of the
@@ -182,6 +184,22 @@ pkder_outcome pkder_normalise(uint32_t kind, uint32_t depth, uint64_t octets, co
  *     and each has an octet there. `size` is 0.
  *   PKDER_FAULT, PKDER_NO_MEMORY, PKDER_BAD_CALL: as above. */
 pkder_outcome pkder_check(uint32_t kind, uint32_t depth, uint64_t octets, const uint8_t *src, size_t src_len);
+
+/* Whether the octets of first and those of second are documents of the kind, and the same: whether they say the same,
+ * however they are laid out. Nothing is written. Two documents of one key that say different things, as one of them has
+ * its public key beside it, aren't the same.
+ *
+ * Promised, by status:
+ *   PKDER_ACCEPTED: the octets of each spell exactly one value, as above, and the two values are the same (members of a
+ *     SET OF in any order): their DER texts are equal. All other numbers are 0.
+ *   PKDER_ANOTHER: the octets of each spell exactly one value, and the two aren't the same: their DER texts aren't
+ *     equal. All other numbers are 0.
+ *   PKDER_FAULT: `which` is 1, and first is refused; or `which` is 2, first is a document, and second is refused.
+ *     reason, at, inside_reason and inside_at are the fault of the one that `which` names, as pkder_check tells it. So
+ *     what is refused is the same as nothing, octets that are equal to it among them.
+ *   PKDER_NO_MEMORY, PKDER_BAD_CALL: as above. */
+pkder_outcome pkder_same(uint32_t kind, uint32_t depth, uint64_t octets, const uint8_t *first, size_t first_len,
+                         const uint8_t *second, size_t second_len);
 
 /* Writes a part of the certification request that the octets of src are, where dst begins.
  *

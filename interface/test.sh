@@ -50,10 +50,10 @@ names_of() {
 # what a library that prints nothing, opens nothing and ends no process may call
 wanted='malloc|realloc|free|mem(cpy|move|set|cmp)|explicit_bzero|malloc_usable_size|_GLOBAL_OFFSET_TABLE_'
 
-# The library has seven names, wants few of others, and has no memory of its own that lasts from call to call.
+# The library has eight names, wants few of others, and has no memory of its own that lasts from call to call.
 symbols() {
     sed -n 's/^ *\(pkder_[a-z_]*\);$/\1/p' "$here/pkder.map" | sort > "$work/due"
-    [ "$(wc -l < "$work/due")" = 7 ] || return 1
+    [ "$(wc -l < "$work/due")" = 8 ] || return 1
     names_of --defined-only "$out/libpkder.a" | cmp - "$work/due" || return 1
     names_of --defined-only -D "$out/libpkder.so.0" | cmp - "$work/due" || return 1
     objdump -p "$out/libpkder.so.0" | grep 'SONAME *libpkder.so.0$' || return 1
@@ -64,7 +64,7 @@ symbols() {
     objdump -h "$out/libpkder.a" | awk '$2 ~ /^\.t?(data|bss)/ && $2 !~ /^\.data\.rel\.ro/ && $3 !~ /^0*(1|10)?$/' |
         grep . && return 1
     objdump -p "$out/libpkder.so.0" | grep -A 1 STACK | grep 'flags rw-$' || return 1
-    echo "seven names"
+    echo "eight names"
 }
 
 # header COMPILER STANDARD..: pkder.h, twice in one source, by the compiler in each of the standards
@@ -87,6 +87,7 @@ in_cxx() {
 in_c() {
     compiled filter filter -O2
     compiled check_files check_files -O2
+    compiled pairs_watched pairs -O1 -g -fsanitize=address,undefined -fno-sanitize-recover=all
     compiled probe probe -O2 -lpthread
     compiled stack stack -O2 -lpthread
     compiled probe_watched probe -O1 -g -fsanitize=address,undefined -fno-sanitize-recover=all -lpthread
@@ -94,6 +95,7 @@ in_c() {
     compiled refuse refuse -O2 -Wl,--wrap=malloc,--wrap=realloc,--wrap=free
     compiled secrets secrets -O2 -Wl,--wrap=free
     try "rows in C" python3 "$top/tools/rows.py" "$work/calls.tsv" "$work/filter" "$work/filter_watched"
+    try "pairs in C under ASan and UBSan" pairs
     random_documents
     reports
     try "check_files" files
@@ -144,6 +146,12 @@ same_reports() {
     echo "$count reports"
 }
 
+pairs() {
+    "$work/pairs_watched" "$work/pairs.tsv" > "$work/answers" || return 1
+    cut -f 7 "$work/pairs.tsv" | diff - "$work/answers" || return 1
+    echo "$(wc -l < "$work/answers") pairs"
+}
+
 files() (
     cd "$top/examples" || exit
     "$work/check_files" key smallest.der long-lengths.der cut-short.der > "$work/files"
@@ -157,7 +165,7 @@ files() (
 
 refused() {
     while read -r kind file; do
-        for command in check normalise show explain explain-all-json; do
+        for command in check same normalise show explain explain-all-json; do
             try "allocations of $command, $kind" "$work/refuse" $command "$kind" "$top/examples/$file.der"
         done
     done << END
@@ -190,7 +198,7 @@ is_wiping() {
 # The usual heap frees blocks that hold octets of a key; heap_wiping.c, if the library was built with it, none.
 secrets() {
     sum=0
-    for command in check normalise show explain explain-all-json; do
+    for command in check same normalise show explain explain-all-json; do
         blocks=$("$work/secrets" $command key "$top/examples/ed25519.der" 16 32) || return 1
         sum=$((sum + blocks))
     done
@@ -234,7 +242,7 @@ in_python() {
         echo "left out: no pip with setuptools and wheel (Debian: apt-get install python3-pip)"
     fi
     try "rows in Python" env "PYTHONPATH=$place" "PKDER_LIBRARY=$out/libpkder.so.0" "PKDER_CALLS=$work/calls.tsv" \
-        "PKDER_HEADER=$here/pkder.h" python3 -m unittest discover -s "$work/python/tests"
+        "PKDER_PAIRS=$work/pairs.tsv" "PKDER_HEADER=$here/pkder.h" python3 -m unittest discover -s "$work/python/tests"
     try "stand-in in Python" env "PYTHONPATH=$place" "PKDER_LIBRARY=$work/stand_in/libpkder.so.0" \
         python3 "$work/python/tests/stand_in.py"
 }
@@ -242,15 +250,16 @@ in_python() {
 in_rust() {
     cp -r "$here/rust" "$work/rust"
     set -- cargo test --offline --quiet --manifest-path "$work/rust/Cargo.toml"
-    try "rows in Rust" env "PKDER_LIB_DIR=$out" "PKDER_CALLS=$work/calls.tsv" "PKDER_HEADER=$here/pkder.h" "$@"
+    try "rows in Rust" env "PKDER_LIB_DIR=$out" "PKDER_CALLS=$work/calls.tsv" "PKDER_PAIRS=$work/pairs.tsv" \
+        "PKDER_HEADER=$here/pkder.h" "$@"
     try "stand-in in Rust" env "PKDER_LIB_DIR=$work/stand_in" "$@" --test stand_in -- --ignored
 }
 
 in_go() {
     cp -r "$here/go" "$work/go"
     # shellcheck disable=SC2016 # (for the inner shell)
-    set -- env "GOCACHE=$work/gocache" "PKDER_CALLS=$work/calls.tsv" "PKDER_HEADER=$here/pkder.h" GOPROXY=off \
-        sh -c 'cd "$0" && exec go "$@"' "$work/go"
+    set -- env "GOCACHE=$work/gocache" "PKDER_CALLS=$work/calls.tsv" "PKDER_PAIRS=$work/pairs.tsv" \
+        "PKDER_HEADER=$here/pkder.h" GOPROXY=off sh -c 'cd "$0" && exec go "$@"' "$work/go"
     try "rows in Go" env "PKG_CONFIG_PATH=$out" "LD_LIBRARY_PATH=$out" "$@" test -count=1 .
     try "stand-in in Go" env "PKG_CONFIG_PATH=$work/stand_in" "LD_LIBRARY_PATH=$work/stand_in" "$@" test -count=1 \
         -tags stand_in -run StandIn .
@@ -370,6 +379,7 @@ made() {
 try "build" made
 if [ "$failed" = 0 ] && tools; then
     python3 "$here/calls.py" "$top"/tests/pkder/*.tsv "$top/examples/answers.tsv" > "$work/calls.tsv"
+    python3 "$here/pairs.py" "$work/calls.tsv" "$here/pairs.tsv" > "$work/pairs.tsv"
     printf '#include <pkder.h>\nint main() { return pkder_interface() == PKDER_INTERFACE ? 0 : 1; }\n' > "$work/main.cc"
     try "symbols" symbols
     try "header by cc" header cc c:c99 c:c11 c:c17

@@ -1,7 +1,7 @@
 /* probe FILE..: what pkder.h promises and a caller can see, on each file, on it cut at each octet and changed by
  * chance, and on octets by chance, in each kind and part. Octets handed over end where a page begins that can't be
- * touched, or begin where one ends. Also: bad calls, no octets, names, one page for both, six threads. ROUNDS is how
- * often by chance (200). */
+ * touched, or begin where one ends; each beside the one before it. Also: bad calls, no octets, names, one page for
+ * both, seven threads. ROUNDS is how often by chance (200). */
 #define _DEFAULT_SOURCE
 #include <pthread.h>
 #include <sys/mman.h>
@@ -36,7 +36,7 @@ static uint8_t *place(struct room room, size_t len) {
 
 /* A fault has its numbers and no others. */
 static void check_fault(const pkder_outcome *fault, size_t len) {
-    CHECK(fault->status == PKDER_FAULT && fault->spare == 0 && fault->taken == 0 && fault->size == 0);
+    CHECK(fault->status == PKDER_FAULT && fault->which == 0 && fault->taken == 0 && fault->size == 0);
     CHECK(fault->reason >= 1 && fault->reason <= 27 && fault->inside_reason <= 27 && fault->at <= len);
     int is_inner = fault->reason == PKDER_REASON_INNER;
     CHECK(is_inner == (fault->inside_reason != 0) && (is_inner || fault->inside_at == 0));
@@ -93,7 +93,7 @@ static void one(const struct task *task, const uint8_t *given, size_t len) {
         return;
     }
     accepted++;
-    CHECK(said.status == (said.size ? PKDER_NO_ROOM : PKDER_ACCEPTED) && said.taken == len && said.spare == 0);
+    CHECK(said.status == (said.size ? PKDER_NO_ROOM : PKDER_ACCEPTED) && said.taken == len && said.which == 0);
     CHECK(said.reason == 0 && said.inside_reason == 0 && said.at == 0 && said.inside_at == 0);
     size_t size = (size_t)said.size;
     CHECK(size < dst_room.size);
@@ -146,9 +146,58 @@ static void one_report(const struct task *task, const uint8_t *given, size_t len
     CHECK(memcmp(src, given, len) == 0);
 }
 
+/* What pkder_same has to answer, by what pkder_normalise answers and writes of each. */
+static pkder_outcome due_of_pair(const struct task *task, const uint8_t *first, size_t first_len, const uint8_t *second,
+                                 size_t second_len) {
+    static uint8_t text[2 * MOST], other[2 * MOST];
+    pkder_outcome said = do_task(task, first, first_len, text, sizeof text);
+    said.which = said.status == PKDER_FAULT ? 1 : 0;
+    if (said.status == PKDER_ACCEPTED) {
+        size_t size = (size_t)said.size;
+        said = do_task(task, second, second_len, other, sizeof other);
+        said.which = said.status == PKDER_FAULT ? 2 : 0;
+        if (said.status == PKDER_ACCEPTED) {
+            int is_equal = said.size == size && memcmp(text, other, size) == 0;
+            return (pkder_outcome){is_equal ? PKDER_ACCEPTED : PKDER_ANOTHER, 0, 0, 0, 0, 0, 0, 0};
+        }
+    }
+    return said;
+}
+
+/* Two inputs beside each other, either way round, each in a room of its own; and one beside itself. */
+static void one_pair(uint32_t kind, uint32_t depth, uint64_t octets, const uint8_t *given, size_t len,
+                     const uint8_t *given_other, size_t other_len) {
+    const struct task task = {pkder_normalise, kind, depth, octets};
+    uint8_t *first = place(src_room, len), *second = place(dst_room, other_len);
+    memcpy(first, given, len);
+    memcpy(second, given_other, other_len);
+    pkder_outcome due = due_of_pair(&task, first, len, second, other_len);
+    pkder_outcome said = pkder_same(kind, depth, octets, first, len, second, other_len);
+    CHECK(is_same(&said, &due));
+    due = due_of_pair(&task, second, other_len, first, len);
+    said = pkder_same(kind, depth, octets, second, other_len, first, len);
+    CHECK(is_same(&said, &due));
+    due = due_of_pair(&task, first, len, first, len);
+    said = pkder_same(kind, depth, octets, first, len, first, len);
+    CHECK(is_same(&said, &due));
+    CHECK(memcmp(first, given, len) == 0 && memcmp(second, given_other, other_len) == 0);
+}
+
+/* The inputs beside the ones that came before them. */
+static void pairs(uint32_t depth, uint64_t octets, const uint8_t *given, size_t len) {
+    static uint8_t before[MOST / 4];
+    static size_t before_len;
+    for (uint32_t kind = 1; kind <= PKDER_PACKAGE; kind++) {
+        one_pair(kind, depth, octets, given, len, before, before_len);
+    }
+    before_len = len;
+    memcpy(before, given, len);
+}
+
 static void all(uint32_t depth, uint64_t octets, const uint8_t *given, size_t len) {
     static unsigned long turn;
     turn++;
+    pairs(depth, octets, given, len);
     for (uint32_t what = 1; what <= 6; what++) {
         /* (the forms take turns) */
         one_report(&(struct task){reports[(turn + what) % REPORTS], what, depth, octets}, given, len);
@@ -214,7 +263,7 @@ static void check_calls(text_call *const *calls, size_t number, const struct tas
     }
 }
 
-/* The four calls that refuse what is no document. */
+/* The four calls that refuse what is no document, and have one. */
 static void check_each(const struct task *task, const uint8_t *src, size_t len, const pkder_outcome *due) {
     static text_call *const calls[] = {NULL, pkder_normalise, pkder_show, pkder_signed};
     check_calls(calls, sizeof calls / sizeof *calls, task, src, len, due);
@@ -233,12 +282,15 @@ static void try_bad_calls(void) {
         {NULL, 1, 32, UINT64_MAX},  {NULL, 0, 0, 0},
     };
     /* clang-format on */
+    static text_call *const of_two = same_as_itself;
     const pkder_outcome due = {PKDER_BAD_CALL, 0, 0, 0, 0, 0, 0, 0};
     for (size_t i = 0; i < sizeof rows / sizeof *rows; i++) {
         check_each(&rows[i], src, sizeof src, &due);
         check_each(&rows[i], NULL, 0, &due);
         check_calls(reports, REPORTS, &rows[i], src, sizeof src, &due);
         check_calls(reports, REPORTS, &rows[i], NULL, 0, &due);
+        check_calls(&of_two, 1, &rows[i], src, sizeof src, &due);
+        check_calls(&of_two, 1, &rows[i], NULL, 0, &due);
     }
     static const uint32_t forms[] = {4, 5, 6, 7, 8, 256, 257, 0x10001, 0x80000002u, UINT32_MAX};
     for (size_t i = 0; i < sizeof forms / sizeof *forms; i++) {
@@ -257,6 +309,7 @@ static void try_bad_calls(void) {
 /* With a length of 0 goes any pointer. */
 static void try_nothing(void) {
     const pkder_outcome due = {PKDER_FAULT, PKDER_REASON_TRUNCATED, 0, 0, 0, 0, 0, 0};
+    const pkder_outcome due_of_first = {PKDER_FAULT, PKDER_REASON_TRUNCATED, 0, 1, 0, 0, 0, 0};
     const uint8_t *const pointers[] = {NULL, (const uint8_t *)1, src_room.at + src_room.size};
     for (size_t i = 0; i < sizeof pointers / sizeof *pointers; i++) {
         for (uint32_t what = 1; what <= PKDER_SIGNATURE; what++) {
@@ -265,6 +318,8 @@ static void try_nothing(void) {
         for (uint32_t kind = 1; kind <= PKDER_PACKAGE; kind++) {
             pkder_outcome said = pkder_check(kind, PKDER_DEPTH, PKDER_OCTETS, pointers[i], 0);
             CHECK(is_same(&said, &due));
+            said = pkder_same(kind, PKDER_DEPTH, PKDER_OCTETS, pointers[i], 0, pointers[0], 0);
+            CHECK(is_same(&said, &due_of_first));
             for (size_t form = 0; form < REPORTS; form++) {
                 said = reports[form](kind, PKDER_DEPTH, PKDER_OCTETS, pointers[i], 0, NULL, 0);
                 CHECK(said.status == PKDER_UNREPORTED && said.reason == PKDER_REASON_TRUNCATED);
@@ -352,8 +407,9 @@ static void *call_often(void *argument) {
 
 /* Threads at once, each with a call of its own. */
 static void try_threads(void) {
-    static text_call *const calls[] = {NULL, pkder_normalise, pkder_show, pkder_signed, explain_text, explain_all_json};
-    static const uint32_t due[] = {PKDER_ACCEPTED, PKDER_ACCEPTED, PKDER_ACCEPTED,
+    static text_call *const calls[] = {NULL,         same_as_itself, pkder_normalise, pkder_show,
+                                       pkder_signed, explain_text,   explain_all_json};
+    static const uint32_t due[] = {PKDER_ACCEPTED, PKDER_ACCEPTED, PKDER_ACCEPTED, PKDER_ACCEPTED,
                                    PKDER_FAULT,    PKDER_REPORTED, PKDER_REPORTED};
     enum { THREADS = sizeof calls / sizeof *calls };
     static struct repeated repeated[THREADS];

@@ -1,7 +1,7 @@
 /* refuse COMMAND KIND-OR-PART FILE: a call with each of its allocations refused in turn, linked to libpkder.a with
  * -Wl,--wrap=malloc,--wrap=realloc,--wrap=free. A refusal gives PKDER_NO_MEMORY and leaves the room as it was, or
  * changes nothing (a block that isn't made smaller); and whatever comes, nothing stays allocated. A command is one of
- * the program's; of explain explain-all, explain-json and explain-all-json, too. */
+ * the program's; of explain explain-all, explain-json and explain-all-json, too; same is a document beside itself. */
 #include "trial.h"
 
 #define ROOM 65536
@@ -80,7 +80,7 @@ static int refuse_each(const struct task *task) {
 
 int main(int count, char **words) {
     struct task task;
-    if (count != 4 || !is_task(&task, words[1], words[2])) {
+    if (count != 4 || !is_trial(&task, words[1], words[2])) {
         fputs("refuse COMMAND KIND-OR-PART FILE\n", stderr);
         return 2;
     }

@@ -35,7 +35,7 @@ void __wrap_free(void *old) {
 
 int main(int count, char **words) {
     struct task task;
-    if (count != 6 || !is_task(&task, words[1], words[2])) {
+    if (count != 6 || !is_trial(&task, words[1], words[2])) {
         fputs("secrets COMMAND KIND FILE OFFSET LENGTH\n", stderr);
         return 2;
     }

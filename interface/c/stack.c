@@ -57,12 +57,19 @@ static void make_deep(const struct shape *shape, uint32_t depth) {
     put(shape->behind, shape->behind_len, 1);
 }
 
+/* The status of a call on a document that isn't in DER, without room. */
+static uint32_t due_of(text_call *call) {
+    if (call == NULL) {
+        return PKDER_NOT_DER;
+    }
+    return call == same_as_itself ? PKDER_ACCEPTED : is_report(call) ? PKDER_UNREPORTED : PKDER_NO_ROOM;
+}
+
 static void *call_deep(void *argument) {
     const struct task *task = argument;
     if (task != NULL) {
         pkder_outcome said = do_task(task, deep, deep_len, NULL, 0);
-        uint32_t short_of = is_report(task->call) ? PKDER_UNREPORTED : PKDER_NO_ROOM;
-        CHECK(said.status == (task->call == NULL ? PKDER_NOT_DER : short_of) && said.reason == 0);
+        CHECK(said.status == due_of(task->call) && said.reason == 0);
     }
     return NULL;
 }
@@ -87,8 +94,8 @@ static size_t written(size_t size, struct task *task) {
 
 /* Calls at this depth take no more than `enough`, beside what the thread itself takes. */
 static void try_depth(uint32_t depth, size_t enough) {
-    static text_call *const calls[] = {NULL,        pkder_normalise, pkder_show,       explain_text,
-                                       explain_all, explain_json,    explain_all_json, pkder_signed};
+    static text_call *const calls[] = {NULL,        same_as_itself, pkder_normalise,  pkder_show,  explain_text,
+                                       explain_all, explain_json,   explain_all_json, pkder_signed};
     size_t number = sizeof calls / sizeof *calls, most = 0, idle = written(1 << 16, NULL);
     for (size_t i = 0; i < sizeof shapes / sizeof *shapes; i++) {
         make_deep(&shapes[i], depth);

@@ -1,6 +1,7 @@
 /* A stand-in for the library, for the tests of the packages: of three octets each call answers the status, the reason
- * and the reason inside that they say, and writes nothing. So a package meets what no document brings: want of memory, and what a later
- * library may answer, a status that has no name yet or the reason 28. */
+ * and the reason inside that they say, and writes nothing; pkder_same of the three of `first`, and of a fault that it
+ * is in `second`. So a package meets what no document brings: want of memory, and what a later library may answer, a
+ * status that has no name yet or the reason 28. */
 #include <string.h>
 
 #include "pkder.h"
@@ -19,6 +20,14 @@ uint32_t pkder_interface(void) {
 pkder_outcome pkder_check(uint32_t kind, uint32_t depth, uint64_t octets, const uint8_t *src, size_t src_len) {
     (void)kind, (void)depth, (void)octets;
     return told(src, src_len);
+}
+
+pkder_outcome pkder_same(uint32_t kind, uint32_t depth, uint64_t octets, const uint8_t *first, size_t first_len,
+                         const uint8_t *second, size_t second_len) {
+    (void)kind, (void)depth, (void)octets, (void)second, (void)second_len;
+    pkder_outcome said = told(first, first_len);
+    said.which = said.status == PKDER_FAULT ? 2 : 0;
+    return said;
 }
 
 #define TEXT_CALL(name)                                                                                                \

@@ -1,4 +1,5 @@
-/* What the trials in this folder share: claims, files, and room that shows whether it was written to. */
+/* What the trials in this folder share: claims, files, room that shows whether it was written to, and a document beside
+ * itself. */
 #ifndef TRIAL_H
 #define TRIAL_H
 #include "common.h"
@@ -34,6 +35,22 @@ static inline int is_filled(const uint8_t *octets, size_t len) {
 
 static inline int is_same(const pkder_outcome *one, const pkder_outcome *other) {
     return memcmp(one, other, sizeof *one) == 0;
+}
+
+/* pkder_same of a document and itself. */
+static inline pkder_outcome same_as_itself(uint32_t kind, uint32_t depth, uint64_t octets, const uint8_t *src,
+                                           size_t len, uint8_t *dst, size_t room) {
+    (void)dst, (void)room;
+    return pkder_same(kind, depth, octets, src, len, src, len);
+}
+
+/* As is_task, which also takes "same" and a kind. */
+static inline int is_trial(struct task *task, const char *command, const char *what) {
+    if (strcmp(command, "same") != 0) {
+        return is_task(task, command, what);
+    }
+    *task = (struct task){same_as_itself, number_of(what, kinds), PKDER_DEPTH, PKDER_OCTETS};
+    return task->what != 0;
 }
 
 #endif

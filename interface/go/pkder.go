@@ -8,8 +8,9 @@
 //		return err
 //	}
 //
-// All other calls take BER, too. Of Check look at the Form, and not at err alone. Explain has a report of any octets, for
-// people; of a document that is refused its err is nil, and its Report tells the Fault.
+// All other calls take BER, too. Of Check look at the Form, and not at err alone. Same tells whether two documents are
+// the same; of one that is refused its err is a Fault, which says which one it is. Explain has a report of any octets,
+// for people; of a document that is refused its err is nil, and its Report tells the Fault.
 package pkder
 
 /*
@@ -94,17 +95,25 @@ const (
 )
 
 // Fault is the first fault of a document that is refused. InsideReason is empty unless Reason is Inner; then it and
-// InsideAt are of what is inside privateKey.
+// InsideAt are of what is inside privateKey. Which says of Same in which document it is, 1 or 2, and is 0 of all other
+// calls.
 type Fault struct {
 	At           uint64
 	Reason       string
 	InsideAt     uint64
 	InsideReason string
+	Which        int
 }
 
-// Error is the line that the program prints.
+// Error is the line that the program prints; of Same behind the words "first: " or "second: ".
 func (fault *Fault) Error() string {
 	line := fmt.Sprintf("fault at %d: %s", fault.At, fault.Reason)
+	switch fault.Which {
+	case 1:
+		line = "first: " + line
+	case 2:
+		line = "second: " + line
+	}
 	if fault.InsideReason != "" {
 		line += fmt.Sprintf(" inside at %d: %s", fault.InsideAt, fault.InsideReason)
 	}
@@ -201,6 +210,20 @@ func Check(kind Kind, limits Limits, document []byte) (Form, error) {
 	return Form{}, errorOf(outcome)
 }
 
+// Same answers whether two documents are the same: whether they say the same, however they are laid out, which is
+// whether their DER texts are equal. One that is refused is the same as none: the error is its *Fault.
+func Same(kind Kind, limits Limits, first, second []byte) (bool, error) {
+	outcome := C.pkder_same(C.uint32_t(kind), C.uint32_t(limits.Depth), C.uint64_t(limits.Octets),
+		start(first), C.size_t(len(first)), start(second), C.size_t(len(second)))
+	switch outcome.status {
+	case C.PKDER_ACCEPTED:
+		return true, nil
+	case C.PKDER_ANOTHER:
+		return false, nil
+	}
+	return false, errorOf(outcome)
+}
+
 // Signed answers a part of a request.
 func Signed(part Part, limits Limits, request []byte) ([]byte, error) {
 	return textOf(C.text_call(C.pkder_signed), uint32(part), limits, request)
@@ -262,7 +285,10 @@ func written(size int, done, short C.uint32_t, call func([]byte) C.pkder_outcome
 }
 
 func faultOf(outcome C.pkder_outcome) *Fault {
-	fault := &Fault{At: uint64(outcome.at), Reason: nameOf(outcome.reason), InsideAt: uint64(outcome.inside_at)}
+	fault := &Fault{
+		At: uint64(outcome.at), Reason: nameOf(outcome.reason), InsideAt: uint64(outcome.inside_at),
+		Which: int(outcome.which),
+	}
 	if outcome.inside_reason != 0 {
 		fault.InsideReason = nameOf(outcome.inside_reason)
 	}

@@ -140,6 +140,58 @@ func TestRows(t *testing.T) {
 	}
 }
 
+// compared is the answer of Same in the words of the table of pairs.
+func compared(kind Kind, limits Limits, first, second []byte) string {
+	same, err := Same(kind, limits, first, second)
+	switch {
+	case err != nil:
+		return err.Error()
+	case same:
+		return "the same"
+	}
+	return "another"
+}
+
+// The pairs that PKDER_PAIRS names; interface/pairs.py makes them.
+func TestPairs(t *testing.T) {
+	table, err := os.ReadFile(os.Getenv("PKDER_PAIRS"))
+	if err != nil {
+		t.Fatal(err)
+	}
+	lines := strings.Split(strings.TrimSuffix(string(table), "\n"), "\n")
+	for _, line := range lines {
+		cells := strings.Split(line, "\t")
+		limits := limitsOf(t, []string{4: cells[2], 6: cells[3]})
+		answer := compared(kinds[cells[1]], limits, octetsOf(t, cells[4]), octetsOf(t, cells[5]))
+		if answer != cells[6] {
+			t.Errorf("%s: %s: %s", cells[0], cells[1], answer)
+		}
+	}
+	if len(lines) <= 1000 {
+		t.Error(len(lines), "pairs")
+	}
+}
+
+// A fault says which document it is in; of calls that take one it says none.
+func TestWhich(t *testing.T) {
+	key := append(octetsOf(t, "302a300506032b6570032100"), make([]byte, 32)...)
+	for which, pair := range [][2][]byte{1: {key[:20], key}, 2: {key, key[:20]}} {
+		var fault *Fault
+		same, err := Same(Public, Usual(), pair[0], pair[1])
+		if which > 0 && (same || !errors.As(err, &fault) || fault.Which != which || fault.At != 20) {
+			t.Error(which, same, err)
+		}
+	}
+	var fault *Fault
+	if err := RequireDER(Public, Usual(), key[:20]); !errors.As(err, &fault) || fault.Which != 0 {
+		t.Error(err)
+	}
+	// (two that are refused are never the same)
+	if same, err := Same(Public, Usual(), key[:20], key[:20]); same || err == nil {
+		t.Error(same, err)
+	}
+}
+
 func TestBadCalls(t *testing.T) {
 	for _, limits := range []Limits{{0, 9}, {65, 9}, {288, 9}, {1, 0}, {1, 1 << 31}, {1, 1<<32 + 9}} {
 		if _, err := Check(Key, limits, nil); err != ErrCall {
@@ -147,6 +199,9 @@ func TestBadCalls(t *testing.T) {
 		}
 		if _, err := Explain(Key, limits, nil, ReportForm{}); err != ErrCall {
 			t.Error(limits, err)
+		}
+		if same, err := Same(Key, limits, nil, nil); same || err != ErrCall {
+			t.Error(limits, same, err)
 		}
 	}
 	if _, err := Normalise(7, Usual(), nil); err != ErrCall {
@@ -282,6 +337,10 @@ func TestThreads(t *testing.T) {
 				}
 				if report, err := Explain(Public, Usual(), key, ReportForm{}); err != nil || !report.Form.DER {
 					t.Error(report, err)
+					return
+				}
+				if same, err := Same(Public, Usual(), key, key); err != nil || !same {
+					t.Error(same, err)
 					return
 				}
 			}

@@ -4,6 +4,7 @@ package pkder
 
 import (
 	"errors"
+	"fmt"
 	"testing"
 )
 
@@ -40,6 +41,10 @@ func TestStandIn(t *testing.T) {
 	if err := refusalOfAll(t, []byte{4, 0, 0}); err != ErrCall {
 		t.Error(err)
 	}
+	if err := refusalOfAll(t, []byte{9, 0, 0}); err.Error() != "libpkder answers the status 9" {
+		t.Error(err)
+	}
+	// (that of two documents is no answer of other calls)
 	if err := refusalOfAll(t, []byte{8, 0, 0}); err.Error() != "libpkder answers the status 8" {
 		t.Error(err)
 	}
@@ -58,5 +63,23 @@ func TestStandIn(t *testing.T) {
 	if err := refusalOfAll(t, []byte{1, 28, 28}); !errors.As(err, &fault) ||
 		fault.Error() != "fault at 5: Later inside at 7: Later" {
 		t.Error(err)
+	}
+}
+
+// What the package makes of answers to two documents.
+func TestStandInOfTwo(t *testing.T) {
+	due := map[byte]string{
+		0: "true <nil>", 8: "false <nil>", 1: "false second: fault at 5: ", 3: "false out of memory",
+		4: "false no such kind, part or limits",
+	}
+	for _, status := range []byte{2, 5, 6, 7, 9} {
+		due[status] = fmt.Sprintf("false libpkder answers the status %d", status)
+	}
+	for status, line := range due {
+		document := []byte{status, 0, 0}
+		same, err := Same(Key, Usual(), document, document)
+		if told := fmt.Sprint(same, " ", err); told != line {
+			t.Error(status, told)
+		}
 	}
 }

@@ -1,5 +1,5 @@
 -- What is said of kinds and limits, said of their numbers; and what is put and told of it.
-use Rattle.std.proofs.Common.{◌≡◌, Err, IfErr, IfOk, List, Ok, Option, Result, inl, inr, subst, sym, ℕ}
+use Rattle.std.proofs.Common.{◌≡◌, Bool, Err, IfErr, IfOk, List, Ok, Option, Result, inl, inr, subst, sym, ℕ}
 use Rattle.tlv_core.specs.Limits.{IsLimits, Limits}
 use Rattle.x690.specs.Values.{Value}
 use Rattle.pk_documents.specs.Kinds.{type_of}
@@ -10,11 +10,13 @@ use Rattle.pk_documents.specs.declared.request_part.Part.{Part}
 use Rattle.pk_explain.specs.Written.{IsWritten}
 use Rattle.pk_explain.specs.declared.written.Form.{Form}
 use Rattle.pk_reports.specs.declared.report.Answer.{Answer}
-use Rattle.pkder_c.specs.Calls.{AreLines, Checked, IsPartText, IsPlace, IsReport, IsText, KindRefused, PartRefused, Put, PutReport, ReportRefused, Reported, Wrote}
+use Rattle.pkder_c.specs.Calls.{AreLines, Checked, Compared, IsPartText, IsPlace, IsReport, IsSame, IsText, KindRefused, PairRefused, PartRefused, Put, PutReport, ReportRefused, Reported, Wrote}
 use Rattle.pkder_c.specs.Numbers.{IsFormNumber, form_number, kind_number, part_number}
-use Rattle.pkder_c.specs.Outcomes.{checked_outcome, refused_outcome}
-use Rattle.pkder_c.specs.Wholes.{WholeChecked, WholeFault, WholeLines, WholePart, WholeRefused, WholeText}
+use Rattle.pkder_c.specs.Outcomes.{checked_outcome, compared_outcome, refused_outcome, uncompared_outcome}
+use Rattle.pkder_c.specs.Wholes.{IsWhole, WholeChecked, WholeFault, WholeLines, WholePairRefused, WholePart, WholeRefused, WholeSame, WholeText}
 use Rattle.pkder_c.specs.declared.outcome.PkderOutcome.{PkderOutcome}
+use Rattle.pkder_c.specs.declared.refusal.PairRefusal.{PairRefusal}
+use Rattle.pkder_c.specs.declared.refusal.PairRefusal.TheVariants as pairs
 use Rattle.pkder_c.specs.declared.refusal.Refusal.{Refusal}
 use Rattle.pkder_c.specs.declared.refusal.Refusal.TheVariants as refusals
 use Rattle.pkder_c.proofs.Wholes.{text_room}
@@ -37,6 +39,25 @@ pub place_for : (r : Result (Option ℕ) Refusal) (number : ℕ) (kind : Kind) (
 place_for (Ok place) number kind made limits given k e fine h =
     (kind, k, fine, subst (λ z. WholeChecked z (type_of kind) given place) e h)
 place_for (Err refusal) number kind made limits given k e fine h = tt
+
+pub same_for : (r : Result Bool PairRefusal) (number : ℕ) (kind : Kind) (made limits : Limits) (first second : List ℕ)
+    → kind_number kind ≡ number → made ≡ limits → IsLimits limits
+    → IfOk r (WholeSame made (type_of kind) first second) → IfOk r (IsSame number limits first second)
+same_for (Ok same) number kind made limits first second k e fine h =
+    (kind, k, fine, subst (λ z. WholeSame z (type_of kind) first second same) e h)
+same_for (Err refusal) number kind made limits first second k e fine h = tt
+
+pub pair_refused : (r : Result Bool PairRefusal) (number : ℕ) (kind : Kind) (made limits : Limits)
+    (first second : List ℕ)
+    → kind_number kind ≡ number → made ≡ limits → IsLimits limits
+    → IfErr r (WholePairRefused made (type_of kind) first second) → IfErr r (PairRefused number limits first second)
+pair_refused (Ok same) number kind made limits first second k e fine h = tt
+pair_refused (Err pairs.Call) number kind made limits first second k e fine h = absurd h
+pair_refused (Err (pairs.First found)) number kind made limits first second k e fine h =
+    (kind, k, fine, subst (λ z. WholeFault z (type_of kind) found first) e h)
+pair_refused (Err (pairs.Second found)) number kind made limits first second k e fine h =
+    (kind, k, fine, subst (λ z. IsWhole z (type_of kind) first × WholeFault z (type_of kind) found second) e h)
+pair_refused (Err pairs.Memory) number kind made limits first second k e fine h = (kind, k, fine, tt)
 
 pub lines_for : {V : Type 0} (r : Result V Refusal) (items : V → List ℕ) (value_of : Document → Value) (number : ℕ)
     (kind : Kind) (made limits : Limits) (given : List ℕ)
@@ -90,6 +111,14 @@ pub checked : (r : Result (Option ℕ) Refusal) (Found : Option ℕ → Type 0) 
     → Checked Found Refused taken outcome
 checked (Ok place) Found Refused taken outcome found holds is told = inl (place, found, is)
 checked (Err refusal) Found Refused taken outcome found holds is told = inr (refusal, holds, told)
+
+pub compared : (r : Result Bool PairRefusal) (Found : Bool → Type 0) (Refused : PairRefusal → Type 0)
+    (outcome : PkderOutcome)
+    → IfOk r Found → IfErr r Refused
+    → IfOk r (λ same. outcome ≡ compared_outcome same) → IfErr r (λ refusal. outcome ≡ uncompared_outcome refusal)
+    → Compared Found Refused outcome
+compared (Ok same) Found Refused outcome found holds is told = inl (same, found, is)
+compared (Err refusal) Found Refused outcome found holds is told = inr (refusal, holds, told)
 
 pub report_for : {V : Type 0} (r : Result V Refusal) (items : V → List ℕ) (answer : V → Answer) (form number : ℕ)
     (wanted : Form) (kind : Kind) (made limits : Limits) (given : List ℕ)

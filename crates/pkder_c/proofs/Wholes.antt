@@ -1,5 +1,5 @@
 -- Octets that are one document, all of them: what is said where the source ends behind it.
-use Rattle.std.proofs.Common.{◌≡◌, ◌∙◌, ◌⊎◌, ◌++◌, ◌*◌, ◌≤◌, Err, IfErr, IfOk, List, Ok, Option, Result, Some, [], ℕ, ap, append-nil, append_assoc, arith, inl, inr, length, subst, sym}
+use Rattle.std.proofs.Common.{◌≡◌, ◌↔◌, ◌∙◌, ◌⊎◌, ◌++◌, ◌*◌, ◌≤◌, Bool, Err, IfErr, IfOk, IsTrue, List, Ok, Option, Result, Some, [], ℕ, ap, append-nil, append_assoc, arith, inl, inr, length, subst, sym}
 use Rattle.std.proofs.lemmas.List.{length-append}
 use Rattle.tlv_core.specs.Limits.{IsLimits, Limits}
 use Rattle.tlv_core.specs.declared.fault.ReadError.{ReadError}
@@ -26,8 +26,9 @@ use Rattle.pk_documents.specs.declared.request_part.Part.{Part}
 use Rattle.pk_documents.proofs.LawfulKinds.{kinds_are_lawful}
 use Rattle.pk_documents.proofs.RequestParts.{part_same}
 use Rattle.pk_show.specs.Shown.{document_lines}
-use Rattle.pkder_c.specs.Refusals.{unread_refusal, unwritten_refusal}
-use Rattle.pkder_c.specs.Wholes.{WholeChecked, WholeLines, WholePart, WholeRefused, WholeText}
+use Rattle.pkder_c.specs.Refusals.{first_refusal, unread_refusal, unwritten_refusal}
+use Rattle.pkder_c.specs.Wholes.{WholeChecked, WholeLines, WholePairRefused, WholePart, WholeRefused, WholeSame, WholeText}
+use Rattle.pkder_c.specs.declared.refusal.PairRefusal.{PairRefusal}
 use Rattle.pkder_c.specs.declared.refusal.Refusal.{Refusal}
 use Rattle.pkder_c.specs.declared.refusal.Refusal.TheVariants as refusals
 
@@ -102,6 +103,36 @@ place_made l T given rest taken place ends c =
           (subst (λ z. CheckedAs l T v (Some given) (Some rest) z place)
           (count_all given rest t.octets taken ends t.takes t.taken_are) c.1),
     )
+
+-- ---- what was compared
+
+pub same_made : (l : Limits) (T : TypeTerm) (first second text other : List ℕ) (same : Bool)
+    → (IsTrue same ↔ (text ≡ other)) → WholeText l T first text → WholeText l T second other
+    → WholeSame l T first second same
+same_made l T first second text other same is n m =
+    let took = n.1.took in
+    let texts : IsTrue same ↔ (der n.0 ≡ der m.0) =
+    (λ h. sym n.1.writes ∙ is.0 h ∙ m.1.writes, λ e. is.1 (n.1.writes ∙ e ∙ sym m.1.writes)) in
+    let told = m.1.same l n.0 took.octets took.spells in
+    record {
+      value = n.0;
+      other = m.0;
+      took = took;
+      took_other = m.1.took;
+      values = (λ h. told.0 (texts.0 h), λ s. texts.1 (told.1 s));
+      texts = texts;
+    }
+
+first_made : (l : Limits) (T : TypeTerm) (first second : List ℕ) (refusal : Refusal) → WholeRefused l T first refusal
+    → WholePairRefused l T first second (first_refusal refusal)
+first_made l T first second refusals.Call h = absurd h
+first_made l T first second (refusals.Fault found) h = h
+first_made l T first second refusals.Memory h = tt
+
+pub first_pair : (l : Limits) (T : TypeTerm) (first second : List ℕ) (refusal : Refusal) (made : PairRefusal)
+    → made ≡ first_refusal refusal → WholeRefused l T first refusal → WholePairRefused l T first second made
+first_pair l T first second refusal made is h =
+    subst (WholePairRefused l T first second) (sym is) (first_made l T first second refusal h)
 
 -- ---- what was shown, and parts
 

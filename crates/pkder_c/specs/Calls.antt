@@ -1,5 +1,5 @@
 -- What each call answers and writes.
-use Rattle.std.specs.Prelude.{◌≡◌, ◌<◌, ◌≤◌, ◌+◌, ◌*◌, ◌⊎◌, ℕ, List, ◌∷◌, ◌++◌, Option, drop, length}
+use Rattle.std.specs.Prelude.{◌≡◌, ◌<◌, ◌≤◌, ◌+◌, ◌*◌, ◌⊎◌, ℕ, Bool, List, ◌∷◌, ◌++◌, Option, drop, length}
 use Rattle.tlv_core.specs.Limits.{IsLimits, Limits}
 use Rattle.tlv_core.specs.Reasons.{name_of, number_of}
 use Rattle.tlv_core.specs.declared.reason.Reason.{Reason}
@@ -13,9 +13,11 @@ use Rattle.pk_explain.specs.Written.{IsWritten}
 use Rattle.pk_explain.specs.declared.written.Form.{Form}
 use Rattle.pk_reports.specs.declared.report.Answer.{Answer}
 use Rattle.pkder_c.specs.Numbers.{IsFormNumber, IsKindNumber, IsPartNumber, IsReasonNumber, form_number, kind_number, part_number}
-use Rattle.pkder_c.specs.Outcomes.{accepted_outcome, checked_outcome, refused_outcome, reported_outcome, too_small_outcome, unreported_outcome}
-use Rattle.pkder_c.specs.Wholes.{WholeChecked, WholeFault, WholeLines, WholePart, WholeText}
+use Rattle.pkder_c.specs.Outcomes.{accepted_outcome, checked_outcome, compared_outcome, refused_outcome, reported_outcome, too_small_outcome, uncompared_outcome, unreported_outcome}
+use Rattle.pkder_c.specs.Wholes.{IsWhole, WholeChecked, WholeFault, WholeLines, WholePart, WholeSame, WholeText}
 use Rattle.pkder_c.specs.declared.outcome.PkderOutcome.{PkderOutcome}
+use Rattle.pkder_c.specs.declared.refusal.PairRefusal.{PairRefusal}
+use Rattle.pkder_c.specs.declared.refusal.PairRefusal.TheVariants as pairs
 use Rattle.pkder_c.specs.declared.refusal.Refusal.{Refusal}
 use Rattle.pkder_c.specs.declared.refusal.Refusal.TheVariants as refusals
 
@@ -38,6 +40,11 @@ abbrev pub IsPlace : ℕ → Limits → List ℕ → Option ℕ → Type 0
 IsPlace number limits given place =
     ForKind number limits (λ allowed kind. WholeChecked allowed (type_of kind) given place)
 
+-- The octets are two documents, and this tells whether they are the same.
+abbrev pub IsSame : ℕ → Limits → List ℕ → List ℕ → Bool → Type 0
+IsSame number limits first second same =
+    ForKind number limits (λ allowed kind. WholeSame allowed (type_of kind) first second same)
+
 -- They are one, and these are its lines.
 abbrev pub AreLines : (Document → Value) → ℕ → Limits → List ℕ → List ℕ → Type 0
 AreLines value_of number limits given text =
@@ -59,6 +66,17 @@ KindRefused number limits given refusals.Call = IsKindNumber number → IsLimits
 KindRefused number limits given (refusals.Fault found) =
     ForKind number limits (λ allowed kind. WholeFault allowed (type_of kind) found given)
 KindRefused number limits given refusals.Memory = ForKind number limits (λ allowed kind. Unit {0})
+
+-- Of two documents: the call is bad exactly there, too. Else the first one is refused; or it is a document, and the
+-- second one is refused.
+abbrev pub PairRefused : ℕ → Limits → List ℕ → List ℕ → PairRefusal → Type 0
+PairRefused number limits first second pairs.Call = IsKindNumber number → IsLimits limits → ⊥
+PairRefused number limits first second (pairs.First found) =
+    ForKind number limits (λ allowed kind. WholeFault allowed (type_of kind) found first)
+PairRefused number limits first second (pairs.Second found) =
+    ForKind number limits
+    (λ allowed kind. IsWhole allowed (type_of kind) first × WholeFault allowed (type_of kind) found second)
+PairRefused number limits first second pairs.Memory = ForKind number limits (λ allowed kind. Unit {0})
 
 abbrev pub PartRefused : ℕ → Limits → List ℕ → Refusal → Type 0
 PartRefused number limits given refusals.Call = IsPartNumber number → IsLimits limits → ⊥
@@ -105,6 +123,12 @@ abbrev pub Checked : (Option ℕ → Type 0) → (Refusal → Type 0) → ℕ �
 Checked Found Refused taken outcome =
     ((place : Option ℕ) × Found place × (outcome ≡ checked_outcome taken place))
     ⊎ ((refusal : Refusal) × Refused refusal × (outcome ≡ refused_outcome refusal))
+
+-- Whether two documents are the same is told; or why that isn't known, for a reason that holds.
+abbrev pub Compared : (Bool → Type 0) → (PairRefusal → Type 0) → PkderOutcome → Type 0
+Compared Found Refused outcome =
+    ((same : Bool) × Found same × (outcome ≡ compared_outcome same))
+    ⊎ ((refusal : PairRefusal) × Refused refusal × (outcome ≡ uncompared_outcome refusal))
 
 -- The name of a reason and an octet 0, where there is room for both.
 pub record NamesReason (number : ℕ) (old new : List ℕ) (size : ℕ) : Type 0 where

@@ -3,6 +3,8 @@ use Rattle.tlv_core.specs.declared.fault.ReadError.{ReadError}
 use Rattle.tlv_core.specs.declared.fault.ReadError.TheVariants as errors
 use Rattle.asn_documents.specs.declared.normalise.NormaliseError.{NormaliseError}
 use Rattle.asn_documents.specs.declared.normalise.NormaliseError.TheVariants.{Read, Write}
+use Rattle.pkder_c.specs.declared.refusal.PairRefusal.{PairRefusal}
+use Rattle.pkder_c.specs.declared.refusal.PairRefusal.TheVariants as pairs
 use Rattle.pkder_c.specs.declared.refusal.Refusal.{Refusal}
 use Rattle.pkder_c.specs.declared.refusal.Refusal.TheVariants as refusals
 
@@ -14,3 +16,14 @@ unread_refusal errors.Memory = refusals.Memory
 abbrev pub unwritten_refusal : NormaliseError → Refusal
 unwritten_refusal (Read error) = unread_refusal error
 unwritten_refusal (Write error) = refusals.Memory
+
+-- Why two documents are not compared, by why one of them has nothing to answer.
+abbrev pub first_refusal : Refusal → PairRefusal
+first_refusal refusals.Call = pairs.Call
+first_refusal (refusals.Fault found) = pairs.First found
+first_refusal refusals.Memory = pairs.Memory
+
+abbrev pub second_refusal : Refusal → PairRefusal
+second_refusal refusals.Call = pairs.Call
+second_refusal (refusals.Fault found) = pairs.Second found
+second_refusal refusals.Memory = pairs.Memory

@@ -1,14 +1,15 @@
 -- What is said of octets that have to be one document, all of them.
-use Rattle.std.specs.Prelude.{◌≡◌, ◌≤◌, ◌⊎◌, ℕ, List, [], ◌++◌, Option, Some, length}
+use Rattle.std.specs.Prelude.{◌≡◌, ◌↔◌, ◌≤◌, ◌⊎◌, ℕ, Bool, IsTrue, List, [], ◌++◌, Option, Some, length}
 use Rattle.tlv_core.specs.Faults.{InsideMatches}
 use Rattle.tlv_core.specs.Limits.{Limits}
 use Rattle.tlv_core.specs.declared.fault.Fault.{Fault}
 use Rattle.tlv_core.specs.declared.reason.Reason.TheVariants.{Trailing}
 use Rattle.x690.specs.Answers.{Refused, answer}
+use Rattle.x690.specs.DerTexts.{der}
 use Rattle.x690.specs.Fitting.{Spells}
 use Rattle.x690.specs.Points.{fault}
 use Rattle.x690.specs.TypeTerms.{TypeTerm}
-use Rattle.x690.specs.Values.{Value}
+use Rattle.x690.specs.Values.{Same, Value}
 use Rattle.asn_documents.specs.Checked.{CheckedAs}
 use Rattle.asn_documents.specs.Normalised.{NormalisedAs, Took, Unspelled}
 use Rattle.asn_documents.specs.ReadValues.{ReadsValue}
@@ -20,6 +21,8 @@ use Rattle.pk_documents.specs.declared.kind.Kind.{Kind}
 use Rattle.pk_documents.specs.declared.kind.Kind.TheVariants.{Request}
 use Rattle.pk_documents.specs.declared.request_part.Part.{Part}
 use Rattle.pk_show.specs.Shown.{document_lines}
+use Rattle.pkder_c.specs.declared.refusal.PairRefusal.{PairRefusal}
+use Rattle.pkder_c.specs.declared.refusal.PairRefusal.TheVariants as pairs
 use Rattle.pkder_c.specs.declared.refusal.Refusal.{Refusal}
 use Rattle.pkder_c.specs.declared.refusal.Refusal.TheVariants as refusals
 
@@ -50,6 +53,20 @@ WholePart limits part given text =
     × Took limits (type_of Request) value (Some given) (Some []) (length given)
     × (text ≡ part_of part value)
 
+-- They spell one value.
+abbrev pub IsWhole : Limits → TypeTerm → List ℕ → Type 0
+IsWhole limits type given = (value : Value) × Took limits type value (Some given) (Some []) (length given)
+
+-- Each of the two spells one value, and this tells whether these are the same, which is whether their DER texts are
+-- equal.
+pub record WholeSame (limits : Limits) (type : TypeTerm) (first second : List ℕ) (same : Bool) : Type 0 where
+  pub value : Value
+  pub other : Value
+  pub took : Took limits type value (Some first) (Some []) (length first)
+  pub took_other : Took limits type other (Some second) (Some []) (length second)
+  pub values : IsTrue same ↔ Same value other
+  pub texts : IsTrue same ↔ (der value ≡ der other)
+
 -- Nothing that the octets begin with spells a value, and this is the fault that the definitions give.
 abbrev pub FirstFault : Limits → TypeTerm → Fault → List ℕ → Type 0
 FirstFault limits type found given =
@@ -73,3 +90,12 @@ abbrev pub WholeRefused : Limits → TypeTerm → List ℕ → Refusal → Type 
 WholeRefused limits type given refusals.Call = ⊥
 WholeRefused limits type given (refusals.Fault found) = WholeFault limits type found given
 WholeRefused limits type given refusals.Memory = Unit {0}
+
+-- Why two are not compared: the first one is refused, or it spells a value and the second one is refused. One that is
+-- refused is the same as no other, whatever that is.
+abbrev pub WholePairRefused : Limits → TypeTerm → List ℕ → List ℕ → PairRefusal → Type 0
+WholePairRefused limits type first second pairs.Call = ⊥
+WholePairRefused limits type first second (pairs.First found) = WholeFault limits type found first
+WholePairRefused limits type first second (pairs.Second found) =
+    IsWhole limits type first × WholeFault limits type found second
+WholePairRefused limits type first second pairs.Memory = Unit {0}

@@ -1,10 +1,10 @@
 //! Documents by arguments that are numbers.
 ghost use Rattle.std.specs.Prelude.{IfErr, IfOk};
-ghost use Rattle.pkder_c.specs.Calls.{AreLines, IsPartText, IsPlace, IsReport, IsText, KindRefused, PartRefused, ReportRefused};
+ghost use Rattle.pkder_c.specs.Calls.{AreLines, IsPartText, IsPlace, IsReport, IsSame, IsText, KindRefused, PairRefused, PartRefused, ReportRefused};
 
 use crate::numbers::{form_of, kind_of, limits_of, request_part_of};
-use crate::refusal::Refusal;
-use crate::whole::{whole_lines, whole_part, whole_place, whole_report, whole_text};
+use crate::refusal::{PairRefusal, Refusal};
+use crate::whole::{whole_lines, whole_part, whole_place, whole_report, whole_same, whole_text};
 use pk_documents::document::{Document, Valued};
 use pk_reports::report::Answer;
 use std::alloc::Global;
@@ -51,6 +51,29 @@ pub fn place_of(
         return Err(Refusal::Call);
     };
     whole_place(alloc, document, limits, src)
+}
+
+/// Whether the two documents are the same.
+pub fn same_of(
+    alloc: Global,
+    kind: u32,
+    depth: u32,
+    octets: u64,
+    first: &[u8],
+    second: &[u8],
+) -> Result<bool, PairRefusal>
+    ensures same { IfOk result (λ same. IsSame kind
+        (record { depth = depth; octets = octets }) first.now second.now same) }
+    ensures refused { IfErr result (PairRefused kind
+        (record { depth = depth; octets = octets }) first.now second.now) }
+{
+    let Some(document) = kind_of(kind) else {
+        return Err(PairRefusal::Call);
+    };
+    let Some(limits) = limits_of(depth, octets) else {
+        return Err(PairRefusal::Call);
+    };
+    whole_same(alloc, document, limits, first, second)
 }
 
 /// The document's lines.

@@ -1,10 +1,12 @@
 //! What comes of a call, put where the caller sees it.
 ghost use Rattle.std.specs.Prelude.{◌≡◌, IfErr, IfOk, length};
 ghost use Rattle.pkder_c.specs.Calls.{Put, PutReport};
-ghost use Rattle.pkder_c.specs.Outcomes.{checked_outcome, refused_outcome};
+ghost use Rattle.pkder_c.specs.Outcomes.{checked_outcome, compared_outcome, refused_outcome, uncompared_outcome};
 
-use crate::outcome::{PkderOutcome, accepted, checked, refused, reported, too_small, unreported};
-use crate::refusal::Refusal;
+use crate::outcome::{
+    PkderOutcome, accepted, checked, compared, refused, reported, too_small, uncompared, unreported,
+};
+use crate::refusal::{PairRefusal, Refusal};
 use pk_reports::report::Answer;
 
 /// Writes the text of the document in `src` where `dst` begins, if it fits there; nothing otherwise.
@@ -50,5 +52,16 @@ pub fn tell(found: Result<Option<u64>, Refusal>, src: &[u8]) -> PkderOutcome
     match found {
         Ok(place) => checked(src.len() as u64, place),
         Err(refusal) => refused(&refusal),
+    }
+}
+
+/// What was found of two documents.
+pub fn tell_pair(found: Result<bool, PairRefusal>) -> PkderOutcome
+    ensures compared { IfOk found (λ same. result ≡ compared_outcome same) }
+    ensures refused { IfErr found (λ refusal. result ≡ uncompared_outcome refusal) }
+{
+    match found {
+        Ok(same) => compared(same),
+        Err(refusal) => uncompared(&refusal),
     }
 }

@@ -1,5 +1,5 @@
-//! pkder for C: a document in octets is normalised, checked, shown, reported on, or a part of it taken out. `interface/pkder.h`
-//! declares these functions and says what a caller owes.
+//! pkder for C: a document in octets is normalised, checked, compared, shown, reported on, or a part of it taken out.
+//! `interface/pkder.h` declares these functions and says what a caller owes.
 //!
 //! Proved of every call whose pointers are good: what `pk_documents` and `pk_show` promise, of a document that has to
 //! be all of the octets given, told by a status and numbers. No call asks for anything of its numbers.
@@ -9,7 +9,7 @@
 #![tactic(auto)]
 
 ghost use Rattle.std.specs.Prelude.{◌≡◌, length};
-ghost use Rattle.pkder_c.specs.Calls.{AreLines, Checked, IsPartText, IsPlace, IsReport, IsText, KindRefused, Named, PartRefused, ReportRefused, Reported, Wrote};
+ghost use Rattle.pkder_c.specs.Calls.{AreLines, Checked, Compared, IsPartText, IsPlace, IsReport, IsSame, IsText, KindRefused, Named, PairRefused, PartRefused, ReportRefused, Reported, Wrote};
 
 mod by_number;
 mod delivery;
@@ -18,8 +18,8 @@ mod outcome;
 mod refusal;
 mod whole;
 
-use crate::by_number::{lines_of, part_of, place_of, report_of, text_of};
-use crate::delivery::{deliver, report, tell};
+use crate::by_number::{lines_of, part_of, place_of, report_of, same_of, text_of};
+use crate::delivery::{deliver, report, tell, tell_pair};
 use crate::numbers::reason_of;
 use crate::outcome::PkderOutcome;
 use pk_documents::document::{Document, Valued};
@@ -65,6 +65,22 @@ pub extern "C" fn pkder_check(
         (length src.now) result }
 {
     tell(place_of(alloc, kind, depth, octets, src), src)
+}
+
+/// Whether the two documents are the same, which is whether their DER texts are equal.
+#[unsafe(no_mangle)]
+pub extern "C" fn pkder_same(
+    alloc: Global,
+    kind: u32,
+    depth: u32,
+    octets: u64,
+    first: &[u8],
+    second: &[u8],
+) -> PkderOutcome
+    ensures { Compared (IsSame kind (record { depth = depth; octets = octets }) first.now second.now)
+        (PairRefused kind (record { depth = depth; octets = octets }) first.now second.now) result }
+{
+    tell_pair(same_of(alloc, kind, depth, octets, first, second))
 }
 
 /// Writes a part of a certification request where `dst` begins, if it fits there.

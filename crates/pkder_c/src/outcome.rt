@@ -1,8 +1,8 @@
 //! Outcomes as C sees them.
 ghost use Rattle.std.specs.Prelude.{◌≡◌};
-ghost use Rattle.pkder_c.specs.Outcomes.{accepted_outcome, answered_outcome, checked_outcome, inside_of, refused_outcome, reported_outcome, too_small_outcome, unreported_outcome};
+ghost use Rattle.pkder_c.specs.Outcomes.{accepted_outcome, answered_outcome, checked_outcome, compared_outcome, inside_of, refused_outcome, reported_outcome, too_small_outcome, uncompared_outcome, unreported_outcome};
 
-use crate::refusal::Refusal;
+use crate::refusal::{PairRefusal, Refusal};
 use pk_reports::report::Answer;
 use tlv_core::reason::Reason;
 
@@ -10,15 +10,15 @@ use tlv_core::reason::Reason;
 #[repr(C)]
 #[derive(Clone, Copy, Debug, PartialEq, Eq)]
 pub struct PkderOutcome {
-    /// 0 accepted, 1 a fault, 2 no room, 3 out of memory, 4 a bad call, 5 accepted and not in DER, 6 reported, 7 no room
-    /// for a report.
+    /// 0 accepted, 1 a fault, 2 no room, 3 out of memory, 4 a bad call, 5 accepted and not in DER, 6 reported, 7 no
+    /// room for a report, 8 two documents that are not the same.
     pub status: u32,
     /// Of a fault: the number of its reason, 1 to 27.
     pub reason: u32,
     /// Of a fault in the octets of an OCTET STRING: the number of its reason there.
     pub inside_reason: u32,
-    /// 0.
-    pub spare: u32,
+    /// Of a fault in one of two documents: 1 in the first one, 2 in the second one.
+    pub which: u32,
     /// Of a fault: its place, in octets from the start of the document. Not in DER: the first place that is another one
     /// in the DER text.
     pub at: u64,
@@ -38,7 +38,7 @@ pub fn accepted(taken: u64, size: u64) -> PkderOutcome
         status: 0,
         reason: 0,
         inside_reason: 0,
-        spare: 0,
+        which: 0,
         at: 0,
         inside_at: 0,
         taken,
@@ -89,6 +89,37 @@ pub fn refused(refusal: &Refusal) -> PkderOutcome
         }
         Refusal::Memory => PkderOutcome { status: 3, ..none },
         Refusal::Call => PkderOutcome { status: 4, ..none },
+    }
+}
+
+/// Two documents are compared, by whether they are the same.
+pub fn compared(same: bool) -> PkderOutcome
+    ensures { result ≡ compared_outcome same }
+{
+    if same {
+        return accepted(0, 0);
+    }
+    PkderOutcome {
+        status: 8,
+        ..accepted(0, 0)
+    }
+}
+
+/// They are not compared.
+pub fn uncompared(refusal: &PairRefusal) -> PkderOutcome
+    ensures { result ≡ uncompared_outcome refusal.now }
+{
+    match refusal {
+        PairRefusal::Call => refused(&Refusal::Call),
+        PairRefusal::First(fault) => PkderOutcome {
+            which: 1,
+            ..refused(&Refusal::Fault(*fault))
+        },
+        PairRefusal::Second(fault) => PkderOutcome {
+            which: 2,
+            ..refused(&Refusal::Fault(*fault))
+        },
+        PairRefusal::Memory => refused(&Refusal::Memory),
     }
 }
 

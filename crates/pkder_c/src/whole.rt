@@ -5,10 +5,10 @@ ghost use Rattle.pk_documents.specs.RequestParts.{part_of};
 ghost use Rattle.pk_documents.specs.declared.kind.Kind.TheVariants.{Request as request_kind};
 ghost use Rattle.pk_show.specs.Shown.{document_lines};
 ghost use Rattle.pk_explain.specs.Written.{IsWritten};
-ghost use Rattle.pkder_c.specs.Wholes.{WholeChecked, WholeLines, WholePart, WholeRefused, WholeText};
+ghost use Rattle.pkder_c.specs.Wholes.{WholeChecked, WholeLines, WholePairRefused, WholePart, WholeRefused, WholeSame, WholeText};
 ghost use Rattle.pkder_c.specs.declared.refusal.Refusal.TheVariants.{Memory};
 
-use crate::refusal::{Refusal, unread, unwritten};
+use crate::refusal::{PairRefusal, Refusal, first_refused, second_refused, unread, unwritten};
 use asn_documents::whole::read_whole_input;
 use asn_values::der_text::DerText;
 use pk_documents::check::check_whole_document;
@@ -55,6 +55,27 @@ pub fn whole_place(
     match check_whole_document(alloc, &mut rest, kind, limits) {
         Ok((_taken, place)) => Ok(place),
         Err(error) => Err(unread(&error)),
+    }
+}
+
+/// Whether the two documents are the same.
+pub fn whole_same(
+    alloc: Global,
+    kind: Kind,
+    limits: Limits,
+    first: &[u8],
+    second: &[u8],
+) -> Result<bool, PairRefusal>
+    ensures same { IfOk result (WholeSame limits (type_of kind) first.now second.now) }
+    ensures refused { IfErr result (WholePairRefused limits (type_of kind) first.now second.now) }
+{
+    let text = match whole_text(alloc, kind, limits, first) {
+        Ok(text) => text,
+        Err(refusal) => return Err(first_refused(&refusal)),
+    };
+    match whole_text(alloc, kind, limits, second) {
+        Ok(other) => Ok(text == other),
+        Err(refusal) => Err(second_refused(&refusal)),
     }
 }
 

@@ -7,7 +7,9 @@ import unittest
 
 import pkder
 
-MEMORY, BAD_CALL, LATER = b"\3\0\0", b"\4\0\0", b"\10\0\0"
+MEMORY, BAD_CALL, LATER = b"\3\0\0", b"\4\0\0", b"\11\0\0"
+# (of same, which is the second document)
+FAULTS = {b"\1\x1c\0": "fault at 5: Later", b"\1\x1c\x1c": "fault at 5: Later inside at 7: Later"}
 
 
 def calls(document):
@@ -20,21 +22,28 @@ def calls(document):
     yield lambda: pkder.explain(pkder.Kind.KEY, document)
 
 
+def same(document):
+    """Whether the document is the same as itself."""
+    return pkder.same(pkder.Kind.KEY, document, document)
+
+
 class Answers(unittest.TestCase):
     def test_refusals(self):
         for document, error in (MEMORY, MemoryError), (BAD_CALL, ValueError), (LATER, RuntimeError):
-            for call in calls(document):
+            for call in [*calls(document), lambda document=document: same(document)]:
                 with self.subTest(error=error), self.assertRaises(error) as raised:
                     call()
                 self.assertNotIsInstance(raised.exception, pkder.Refused)
 
     def test_faults_of_a_later_library(self):
-        lines = {b"\1\x1c\0": "fault at 5: Later", b"\1\x1c\x1c": "fault at 5: Later inside at 7: Later"}
-        for document, line in lines.items():
+        for document, line in FAULTS.items():
             for call in calls(document):
                 with self.subTest(line=line), self.assertRaises(pkder.Fault) as raised:
                     call()
                 self.assertEqual(str(raised.exception), line)
+            with self.subTest(line=line), self.assertRaises(pkder.Fault) as raised:
+                same(document)
+            self.assertEqual((raised.exception.which, str(raised.exception)), (2, f"second: {line}"))
 
     def test_reports_of_a_later_library(self):
         lines = {b"\6\x1c\0": "fault at 5: Later", b"\6\x1c\x1c": "fault at 5: Later inside at 7: Later"}
@@ -45,9 +54,19 @@ class Answers(unittest.TestCase):
 
     def test_statuses_of_reports_are_no_answer_of_other_calls(self):
         for document in b"\6\0\0", b"\7\0\0":
-            for call in list(calls(document))[:-1]:
+            for call in [*list(calls(document))[:-1], lambda document=document: same(document)]:
                 with self.subTest(document=document), self.assertRaises(RuntimeError):
                     call()
+
+    def test_two_documents(self):
+        self.assertIs(same(b"\0\0\0"), True)
+        self.assertIs(same(b"\10\0\0"), False)
+        for call in calls(b"\10\0\0"):
+            with self.assertRaises(RuntimeError):
+                call()
+        for document in b"\2\0\0", b"\5\0\0":
+            with self.subTest(document=document), self.assertRaises(RuntimeError):
+                same(document)
 
     def test_libraries_that_are_none(self):
         for name in ("no-such-file", "libc.so.6"):

@@ -1,9 +1,11 @@
-"""The rows that PKDER_CALLS names (interface/calls.py makes them), the reasons of pkder.h, which PKDER_HEADER names,
-reports, calls that are wrong or careless, and threads.
+"""The rows that PKDER_CALLS names (interface/calls.py makes them), the pairs of documents that PKDER_PAIRS names
+(interface/pairs.py), the reasons of pkder.h, which PKDER_HEADER names, reports, calls that are wrong or careless, and
+threads.
 
 python3 -m unittest discover -s tests, with PKDER_LIBRARY where the library isn't installed."""
 import json
 import os
+import pickle
 import re
 import threading
 import unittest
@@ -87,6 +89,49 @@ class Rows(unittest.TestCase):
                     self.assertEqual(reported(words.split(), bytes.fromhex(given)), (line, line, line))
 
 
+def compared(kind, depth, octets, first, second):
+    """The answer of same in the words of the table of pairs."""
+    kind, limits = pkder.Kind[kind.upper()], {"depth": int(depth), "octets": int(octets)}
+    try:
+        return {True: "the same", False: "another"}[pkder.same(kind, first, second, **limits)]
+    except pkder.Fault as fault:
+        return str(fault)
+
+
+class Pairs(unittest.TestCase):
+    def test_pairs(self):
+        with open(os.environ["PKDER_PAIRS"], encoding="utf-8") as it:
+            rows = [line.split("\t") for line in it.read().splitlines()]
+        self.assertGreater(len(rows), 1000)
+        for rule, kind, depth, octets, *given, due in rows:
+            first, second = (bytes.fromhex(it) for it in given)
+            with self.subTest(rule=rule, kind=kind):
+                self.assertEqual(compared(kind, depth, octets, first, second), due)
+
+    def test_which_document_is_refused(self):
+        for which, pair in enumerate([(KEY[:20], KEY), (KEY_IN_BER, KEY[:20])], 1):
+            with self.assertRaises(pkder.Fault) as raised:
+                pkder.same(pkder.Kind.KEY, *pair)
+            fault = raised.exception
+            self.assertEqual((fault.which, fault.at, fault.reason), (which, 20, pkder.Reason.TRUNCATED))
+            self.assertEqual(str(pickle.loads(pickle.dumps(fault))), str(fault))
+        for call in pkder.normalise, pkder.check, pkder.require_der, pkder.show:
+            with self.assertRaises(pkder.Fault) as raised:
+                call(pkder.Kind.KEY, KEY[:20])
+            self.assertEqual((raised.exception.which, str(raised.exception)), (0, "fault at 20: Truncated"))
+
+    def test_octets_of_any_type(self):
+        for first in KEY, bytearray(KEY), memoryview(KEY):
+            for second in KEY_IN_BER, bytearray(KEY_IN_BER), memoryview(KEY_IN_BER):
+                self.assertIs(pkder.same(pkder.Kind.KEY, first, second), True)
+
+    def test_bad_calls(self):
+        for kind, depth, octets in (1, 0, 9), (1, 65, 9), (1, 2**32 + 1, 9), (1, 1, 0), (1, 1, 2**31), (7, 1, 9):
+            with self.subTest(kind=kind, depth=depth, octets=octets), self.assertRaises(ValueError) as raised:
+                pkder.same(kind, KEY, KEY, depth=depth, octets=octets)
+            self.assertNotIsInstance(raised.exception, pkder.Fault)
+
+
 class Careless(unittest.TestCase):
     """Lines that look at no more than a call's name, of a document in BER."""
 
@@ -108,6 +153,11 @@ class Careless(unittest.TestCase):
         self.assertEqual(pkder.check(pkder.Kind.KEY, KEY), pkder.Form())
         self.assertEqual(pkder.check(pkder.Kind.KEY, KEY_IN_BER), pkder.Form(1))
         self.assertNotEqual(pkder.Form(), None)
+
+    def test_refused_documents_are_not_the_same(self):
+        with self.assertRaises(pkder.Fault):
+            if pkder.same(pkder.Kind.KEY, KEY[:20], KEY[:20]):
+                self.fail("two refused documents are the same")
 
     def test_octets_that_change_later(self):
         document = bytearray(KEY)
@@ -203,6 +253,8 @@ class Calls(unittest.TestCase):
             for _ in range(2000):
                 if pkder.normalise(pkder.Kind.KEY, KEY) != KEY or pkder.explain(pkder.Kind.KEY, KEY) != report:
                     wrong.append(1)
+                if not pkder.same(pkder.Kind.KEY, KEY, KEY_IN_BER):
+                    wrong.append(2)
 
         threads = [threading.Thread(target=call) for _ in range(4)]
         for it in threads:

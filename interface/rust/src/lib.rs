@@ -15,6 +15,23 @@
 //! # Ok::<(), pkder::Error>(())
 //! ```
 //!
+//! Two documents are the same where they say the same, however they are laid out; one that is refused is the same as
+//! none, and its error says which one it is:
+//!
+//! ```
+//! use pkder::{same, Error, Kind};
+//!
+//! let key = [&[0x30, 0x2A, 0x30, 0x05, 0x06, 0x03, 0x2B, 0x65, 0x70, 0x03, 0x21, 0x00][..], &[7; 32]].concat();
+//! // (its outer length has two octets)
+//! let in_ber = [&[0x30, 0x81][..], &key[1..]].concat();
+//! assert!(same(Kind::Public, &key, &in_ber)?);
+//! match same(Kind::Public, &key, &key[..20]) {
+//!     Err(Error::Fault(fault)) => assert_eq!((fault.which, fault.at), (2, 20)),
+//!     other => panic!("{other:?}"),
+//! }
+//! # Ok::<(), pkder::Error>(())
+//! ```
+//!
 //! Of any octets, a refused document's too, `explain` has a report for people, as text or as JSON:
 //!
 //! ```
@@ -196,10 +213,18 @@ pub struct Fault {
     pub reason: Reason,
     /// Its place and reason inside `privateKey`, where the reason is Inner.
     pub inside: Option<(u64, Reason)>,
+    /// Of `same`, in which document it is, 1 or 2; of all other calls 0.
+    pub which: u32,
 }
 
 impl fmt::Display for Fault {
+    /// The line that the program prints; of `same` behind the words `first: ` or `second: `.
     fn fmt(&self, f: &mut fmt::Formatter<'_>) -> fmt::Result {
+        f.write_str(match self.which {
+            1 => "first: ",
+            2 => "second: ",
+            _ => "",
+        })?;
         write!(f, "fault at {}: {}", self.at, self.reason)?;
         match self.inside {
             Some((at, reason)) => write!(f, " inside at {at}: {reason}"),
@@ -311,6 +336,17 @@ impl Limits {
     }
 
     /// As the free function of the name.
+    #[must_use = "whether the documents are the same is what it answers"]
+    pub fn same(self, kind: Kind, first: &[u8], second: &[u8]) -> Result<bool, Error> {
+        let outcome = raw::same(kind as u32, self, first, second);
+        match outcome.status {
+            raw::ACCEPTED => Ok(true),
+            raw::ANOTHER => Ok(false),
+            _ => Err(error_of(&outcome)),
+        }
+    }
+
+    /// As the free function of the name.
     pub fn signed(self, part: Part, request: &[u8]) -> Result<Vec<u8>, Error> {
         text_of(request, |room| raw::signed(part as u32, self, request, room))
     }
@@ -348,6 +384,13 @@ pub fn normalise(kind: Kind, document: &[u8]) -> Result<Vec<u8>, Error> {
 /// Whether the document is in DER.
 pub fn check(kind: Kind, document: &[u8]) -> Result<Form, Error> {
     Limits::default().check(kind, document)
+}
+
+/// Whether two documents are the same: whether they say the same, however they are laid out, which is whether their DER
+/// texts are equal. A document that is refused is the same as none, and its fault says which one it is.
+#[must_use = "whether the documents are the same is what it answers"]
+pub fn same(kind: Kind, first: &[u8], second: &[u8]) -> Result<bool, Error> {
+    Limits::default().same(kind, first, second)
 }
 
 /// A part of a request.
@@ -403,7 +446,7 @@ fn written(
 
 fn fault_of(outcome: &Outcome) -> Fault {
     let inside = (outcome.inside_reason != 0).then_some((outcome.inside_at, Reason(outcome.inside_reason)));
-    Fault { at: outcome.at, reason: Reason(outcome.reason), inside }
+    Fault { at: outcome.at, reason: Reason(outcome.reason), inside, which: outcome.which }
 }
 
 fn error_of(outcome: &Outcome) -> Error {

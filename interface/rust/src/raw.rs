@@ -9,6 +9,7 @@ pub const BAD_CALL: u32 = 4;
 pub const NOT_DER: u32 = 5;
 pub const REPORTED: u32 = 6;
 pub const UNREPORTED: u32 = 7;
+pub const ANOTHER: u32 = 8;
 
 /// `pkder_outcome`.
 #[repr(C)]
@@ -17,7 +18,7 @@ pub struct Outcome {
     pub status: u32,
     pub reason: u32,
     pub inside_reason: u32,
-    pub spare: u32,
+    pub which: u32,
     pub at: u64,
     pub inside_at: u64,
     pub taken: u64,
@@ -65,6 +66,15 @@ extern "C" {
         dst_len: usize,
     ) -> Outcome;
     fn pkder_check(kind: u32, depth: u32, octets: u64, src: *const u8, src_len: usize) -> Outcome;
+    fn pkder_same(
+        kind: u32,
+        depth: u32,
+        octets: u64,
+        first: *const u8,
+        first_len: usize,
+        second: *const u8,
+        second_len: usize,
+    ) -> Outcome;
     fn pkder_reason_name(reason: u32, dst: *mut u8, dst_len: usize) -> usize;
 }
 
@@ -94,6 +104,12 @@ pub fn explain(kind: u32, limits: Limits, form: ReportForm, src: &[u8], dst: &mu
 pub fn check(kind: u32, limits: Limits, src: &[u8]) -> Outcome {
     // SAFETY: `src` is a slice.
     unsafe { pkder_check(kind, limits.depth, limits.octets, src.as_ptr(), src.len()) }
+}
+
+pub fn same(kind: u32, limits: Limits, first: &[u8], second: &[u8]) -> Outcome {
+    let Limits { depth, octets } = limits;
+    // SAFETY: both are slices, which the call only reads.
+    unsafe { pkder_same(kind, depth, octets, first.as_ptr(), first.len(), second.as_ptr(), second.len()) }
 }
 
 pub fn reason_name(reason: u32, dst: &mut [u8]) -> usize {

@@ -1,6 +1,7 @@
-//! The rows that PKDER_CALLS names (interface/calls.py makes them), reports, calls that are wrong, and threads.
+//! The rows that PKDER_CALLS names (interface/calls.py makes them), the pairs that PKDER_PAIRS names
+//! (interface/pairs.py), reports, calls that are wrong, and threads.
 use pkder::{
-    check, explain, normalise, require_der, show, Error, Form, Kind, Limits, Part, Reason, Report, ReportForm,
+    check, explain, normalise, require_der, same, show, Error, Form, Kind, Limits, Part, Reason, Report, ReportForm,
 };
 
 /// An answer: status, output and line on standard error, as the program's.
@@ -102,6 +103,45 @@ fn rows() {
     assert!(rows > 800, "{rows} rows");
 }
 
+/// The answer of `same` in the words of the table of pairs.
+fn compared(kind: &str, limits: Limits, first: &[u8], second: &[u8]) -> String {
+    match limits.same(kind_of(kind), first, second) {
+        Ok(true) => "the same".to_owned(),
+        Ok(false) => "another".to_owned(),
+        Err(error) => error.to_string(),
+    }
+}
+
+#[test]
+fn pairs() {
+    let name = std::env::var("PKDER_PAIRS").expect("PKDER_PAIRS names the pairs");
+    let table = std::fs::read_to_string(name).unwrap();
+    for line in table.lines() {
+        let cells: Vec<&str> = line.split('\t').collect();
+        let limits = Limits { depth: cells[2].parse().unwrap(), octets: cells[3].parse().unwrap() };
+        let answer = compared(cells[1], limits, &octets(cells[4]), &octets(cells[5]));
+        assert_eq!(answer, cells[6], "{}: {}", cells[0], cells[1]);
+    }
+    assert!(table.lines().count() > 1000);
+}
+
+#[test]
+fn a_fault_says_which_document_it_is_in() {
+    let key = octets("302a300506032b6570032100aaaaaaaaaaaaaaaaaaaaaaaaaaaaaaaaaaaaaaaaaaaaaaaaaaaaaaaaaaaaaaaa");
+    let which = |first: &[u8], second: &[u8]| match same(Kind::Public, first, second) {
+        Err(Error::Fault(fault)) => (fault.which, fault.at, fault.reason),
+        other => panic!("{other:?}"),
+    };
+    assert_eq!(which(&key[..20], &key), (1, 20, Reason::TRUNCATED));
+    assert_eq!(which(&key, &key[..19]), (2, 19, Reason::TRUNCATED));
+    // (two that are refused are never the same)
+    assert_eq!(which(&key[..20], &key[..20]), (1, 20, Reason::TRUNCATED));
+    match check(Kind::Public, &key[..20]) {
+        Err(Error::Fault(fault)) => assert_eq!((fault.which, fault.to_string()), (0, "fault at 20: Truncated".into())),
+        other => panic!("{other:?}"),
+    }
+}
+
 #[test]
 fn a_careless_line_refuses_ber() {
     let accept = |key: &[u8]| require_der(Kind::Public, key);
@@ -123,6 +163,7 @@ fn limits_out_of_range() {
         assert_eq!(limits.check(Kind::Key, &[]), Err(Error::Limits));
         assert_eq!(limits.require_der(Kind::Key, &[]), Err(Error::Limits));
         assert_eq!(limits.normalise(Kind::Key, &[]), Err(Error::Limits));
+        assert_eq!(limits.same(Kind::Key, &[], &[]), Err(Error::Limits));
         assert_eq!(limits.show(Kind::Key, &[]), Err(Error::Limits));
         assert_eq!(limits.signed(Part::Info, &[]), Err(Error::Limits));
         assert_eq!(limits.explain(Kind::Key, &[], ReportForm::default()), Err(Error::Limits));
@@ -179,6 +220,7 @@ fn threads() {
                 for _ in 0..5000 {
                     assert_eq!(normalise(Kind::Public, &key).as_ref(), Ok(&key));
                     assert!(explain(Kind::Public, &key, ReportForm::default()).unwrap().is_der());
+                    assert_eq!(same(Kind::Public, &key, &key), Ok(true));
                 }
             });
         }

@@ -1,6 +1,6 @@
 //! What the crate makes of answers that no document brings: `cargo test --test stand_in -- --ignored`, linked to the
 //! stand-in of interface/c/stand_in.c.
-use pkder::{check, explain, normalise, require_der, show, signed, Error, Kind, Part, ReportForm};
+use pkder::{check, explain, normalise, require_der, same, show, signed, Error, Kind, Part, ReportForm};
 
 /// What all calls answer of the octets.
 fn refusal(document: &[u8]) -> Error {
@@ -19,12 +19,31 @@ fn refusal_of_all(document: &[u8]) -> Error {
     error
 }
 
+/// Whether the document is the same as itself.
+fn is_same(document: &[u8]) -> Result<bool, Error> {
+    same(Kind::Key, document, document)
+}
+
 #[test]
 #[ignore = "not linked to the stand-in"]
 fn refusals() {
     assert_eq!(refusal_of_all(&[3, 0, 0]), Error::Memory);
     assert_eq!(refusal_of_all(&[4, 0, 0]), Error::Limits);
+    assert_eq!(refusal_of_all(&[9, 0, 0]), Error::Unknown(9));
+    assert_eq!(is_same(&[3, 0, 0]), Err(Error::Memory));
+    assert_eq!(is_same(&[4, 0, 0]), Err(Error::Limits));
+    assert_eq!(is_same(&[9, 0, 0]), Err(Error::Unknown(9)));
+}
+
+#[test]
+#[ignore = "not linked to the stand-in"]
+fn two_documents() {
+    assert_eq!(is_same(&[0, 0, 0]), Ok(true));
+    assert_eq!(is_same(&[8, 0, 0]), Ok(false));
     assert_eq!(refusal_of_all(&[8, 0, 0]), Error::Unknown(8));
+    for status in [2, 5, 6, 7] {
+        assert_eq!(is_same(&[status, 0, 0]), Err(Error::Unknown(status.into())));
+    }
 }
 
 #[test]
@@ -47,4 +66,6 @@ fn reports_of_a_later_library() {
 fn faults_of_a_later_library() {
     assert_eq!(refusal_of_all(&[1, 28, 0]).to_string(), "fault at 5: Later");
     assert_eq!(refusal_of_all(&[1, 28, 28]).to_string(), "fault at 5: Later inside at 7: Later");
+    // (of the second document)
+    assert_eq!(is_same(&[1, 28, 28]).unwrap_err().to_string(), "second: fault at 5: Later inside at 7: Later");
 }

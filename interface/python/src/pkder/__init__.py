@@ -3,13 +3,15 @@
     pkder.require_der(pkder.Kind.KEY, octets)    the octets, where they are in DER; else it raises NotDer or Fault
     pkder.check(pkder.Kind.KEY, octets)          the form: .is_der, and .differs_at, the first place that differs
     pkder.normalise(pkder.Kind.KEY, octets)      the DER text, which is the DER encoding
+    pkder.same(pkder.Kind.KEY, octets, others)   whether two are the same document: True or False
     pkder.show(pkder.Kind.KEY, octets)           what it says, in lines
     pkder.signed(pkder.Part.INFO, octets)        what the signature of a request covers, or another part of it
     pkder.explain(pkder.Kind.KEY, octets)        a report for people: .text, and .is_der, .differs_at or .fault
 
-Each takes a whole document, and raises Fault where that is refused, but explain, which has a report of any octets. All
-but the first take BER, too. The library is the file that the environment names as PKDER_LIBRARY, else the libpkder.so.0
-that came with the package, as a wheel's does, else the one that the system's loader finds."""
+Each takes a whole document, and raises Fault where that is refused, but explain, which has a report of any octets; same
+takes two, and raises Fault where one of them is refused. All but the first take BER, too. The library is the file that
+the environment names as PKDER_LIBRARY, else the libpkder.so.0 that came with the package, as a wheel's does, else the
+one that the system's loader finds."""
 import ctypes
 import dataclasses
 import enum
@@ -17,7 +19,7 @@ import os
 from typing import Any, Dict, List, Optional, Tuple, Union
 
 __all__ = ["DEPTH", "OCTETS", "Fault", "Form", "Kind", "NotDer", "Part", "Reason", "Refused", "Report", "check",
-           "explain", "normalise", "require_der", "show", "signed"]
+           "explain", "normalise", "require_der", "same", "show", "signed"]
 
 # The limits unless said otherwise.
 DEPTH = 32
@@ -98,15 +100,17 @@ class NotDer(Refused):
 
 class Fault(Refused):
     """The first fault of a document that is refused: at is its place, reason its name, and inside None, or the place
-    and the name of the reason inside privateKey."""
+    and the name of the reason inside privateKey. Of same, which says in which document it is, 1 or 2; of all other
+    calls it is 0."""
 
-    def __init__(self, at: int, reason: str, inside: Optional[Tuple[int, str]] = None) -> None:
+    def __init__(self, at: int, reason: str, inside: Optional[Tuple[int, str]] = None, which: int = 0) -> None:
         super().__init__(at, reason, inside)
-        self.at, self.reason, self.inside = at, reason, inside
+        self.at, self.reason, self.inside, self.which = at, reason, inside, which
 
     def __str__(self) -> str:
+        which = {1: "first: ", 2: "second: "}.get(self.which, "")
         inside = f" inside at {self.inside[0]}: {self.inside[1]}" if self.inside else ""
-        return f"fault at {self.at}: {self.reason}{inside}"
+        return f"{which}fault at {self.at}: {self.reason}{inside}"
 
 
 @dataclasses.dataclass(frozen=True)
@@ -148,12 +152,12 @@ class Report:
 
 
 class _Outcome(ctypes.Structure):
-    _fields_ = [(name, ctypes.c_uint32) for name in ("status", "reason", "inside_reason", "spare")] + [
+    _fields_ = [(name, ctypes.c_uint32) for name in ("status", "reason", "inside_reason", "which")] + [
         (name, ctypes.c_uint64) for name in ("at", "inside_at", "taken", "size")
     ]
 
 
-_ACCEPTED, _FAULT, _NO_ROOM, _NO_MEMORY, _BAD_CALL, _NOT_DER, _REPORTED, _UNREPORTED = range(8)
+_ACCEPTED, _FAULT, _NO_ROOM, _NO_MEMORY, _BAD_CALL, _NOT_DER, _REPORTED, _UNREPORTED, _ANOTHER = range(9)
 _ALL, _JSON = 1, 2
 # Room for a report at first; those of all elements may need more.
 _REPORT = 8192
@@ -166,6 +170,7 @@ _CALLS: Dict[str, Tuple[List[Any], Any]] = {
     "pkder_interface": ([], ctypes.c_uint32),
     "pkder_normalise": (_SRC + _DST, _Outcome),
     "pkder_check": (_SRC, _Outcome),
+    "pkder_same": (_SRC + _SRC[3:], _Outcome),
     "pkder_signed": (_SRC + _DST, _Outcome),
     "pkder_show": (_SRC + _DST, _Outcome),
     "pkder_explain": (_FORMED + _DST, _Outcome),
@@ -202,7 +207,7 @@ def _name(reason: int) -> str:
 
 def _fault(outcome: _Outcome) -> Fault:
     inside = (outcome.inside_at, _name(outcome.inside_reason)) if outcome.inside_reason else None
-    return Fault(outcome.at, _name(outcome.reason), inside)
+    return Fault(outcome.at, _name(outcome.reason), inside, outcome.which)
 
 
 def _refusal(outcome: _Outcome) -> Exception:
@@ -270,6 +275,17 @@ def require_der(kind: Kind, document: Octets, *, depth: int = DEPTH, octets: int
     if form.differs_at is not None:
         raise NotDer(form.differs_at)
     return judged
+
+
+def same(kind: Kind, first: Octets, second: Octets, *, depth: int = DEPTH, octets: int = OCTETS) -> bool:
+    """Whether two documents are the same: whether they say the same, however they are laid out, which is whether their
+    DER texts are equal. Fault is raised where one of them is refused: what is refused is the same as nothing."""
+    _check_limits(depth, octets)
+    one, other = _octets(first), _octets(second)
+    outcome = _library.pkder_same(Kind(kind), depth, octets, one, len(one), other, len(other))
+    if outcome.status in (_ACCEPTED, _ANOTHER):
+        return bool(outcome.status == _ACCEPTED)
+    raise _refusal(outcome)
 
 
 def normalise(kind: Kind, document: Octets, *, depth: int = DEPTH, octets: int = OCTETS) -> bytes:
