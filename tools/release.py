@@ -62,6 +62,14 @@ def make_static():
     packing.write(MADE_BY, of_static())
 
 
+def measured():
+    """Ends where a program or library needs something else than tools/about.toml says."""
+    for file in (STATIC, DYNAMIC, LIBRARIES[-1]):
+        name, found = os.path.basename(file), bom.lowest.needs(file)
+        if found != packing.ABOUT["lowest"][name]:
+            sys.exit(f"release: {name} needs {found}, and tools/about.toml says {packing.ABOUT['lowest'][name]}")
+
+
 def proved_by(program, is_trial):
     """The text of PROVED-BY for the program and the libraries, as they are packed."""
     how = "glibc" if bom.lowest.is_dynamic(program) else "musl, which is in it"
@@ -187,6 +195,7 @@ def main(words):
         sys.exit("release: no build of this commit stands: run 'python3 tools/build.py'")
     if not is_trial:
         make_static()
+        measured()
     release(out, is_trial)
     return 0
 
