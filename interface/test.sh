@@ -269,7 +269,8 @@ in_go() {
 java_runs() {
     tests=$1
     shift
-    PKDER_CALLS=$work/calls.tsv PKDER_HEADER=$here/pkder.h java -Xmx16m -Xcheck:jni "$@" "$tests" > "$work/java" 2>&1
+    PKDER_CALLS=$work/calls.tsv PKDER_PAIRS=$work/pairs.tsv PKDER_HEADER=$here/pkder.h \
+        java -Xmx16m -Xcheck:jni "$@" "$tests" > "$work/java" 2>&1
     status=$?
     cat "$work/java"
     [ $status = 0 ] && ! grep -E '^(WARNING|FATAL ERROR) in native' "$work/java"

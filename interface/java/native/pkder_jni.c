@@ -1,6 +1,6 @@
-/* The calls of libpkder for Java. A document is copied, judged and wiped, and what is written goes into an array of just
- * its octets. (An array that is held in place keeps the collector of many JVMs off all threads for the time of a call.)
- * Not proved. */
+/* The calls of libpkder for Java. Documents are copied, judged and wiped, and what is written goes into an array of
+ * just its octets. (An array that is held in place keeps the collector of many JVMs off all threads for the time of a
+ * call.) Not proved. */
 #define _GNU_SOURCE
 #include <pthread.h>
 #include <stdlib.h>
@@ -42,6 +42,18 @@ static int has_stack(jint depth) {
     }
     size_t due = (uint32_t)depth > PKDER_DEPTH ? PKDER_STACK : PKDER_STACK / 2;
     return (uintptr_t)__builtin_frame_address(0) - lowest >= due + KEPT_STACK;
+}
+
+/* Whether the stack is enough for a call; where it isn't, an error is thrown. */
+static int may_call(JNIEnv *env, jint depth) {
+    if (has_stack(depth)) {
+        return 1;
+    }
+    jclass error = (*env)->FindClass(env, "java/lang/StackOverflowError");
+    if (error != NULL) {
+        (*env)->ThrowNew(env, error, "too little stack is left for a call of libpkder");
+    }
+    return 0;
 }
 
 static pkder_outcome asked(const struct question *it, struct octets src, struct octets dst) {
@@ -94,7 +106,8 @@ static jbyteArray array_of(JNIEnv *env, struct octets text) {
 
 /* Hands over the numbers that pkder.Outcome has, in its order. */
 static void tell(JNIEnv *env, const pkder_outcome *said, jlongArray outcome) {
-    jlong numbers[] = {said->status, said->reason, said->inside_reason, (jlong)said->at, (jlong)said->inside_at};
+    jlong numbers[] = {said->status, said->reason,    said->inside_reason,
+                       said->which,  (jlong)said->at, (jlong)said->inside_at};
     (*env)->SetLongArrayRegion(env, outcome, 0, sizeof numbers / sizeof *numbers, numbers);
 }
 
@@ -108,13 +121,9 @@ static struct octets copied(JNIEnv *env, jbyteArray array) {
     return copy;
 }
 
-/* Asks of the document, tells the outcome, and answers what was written, where something was. (free wipes: wiping.c.) */
+/* Asks of the document, tells the outcome, and answers what was written, where something was. (free wipes: wiping.c) */
 static jbyteArray answer(JNIEnv *env, const struct question *it, jbyteArray document, jlongArray outcome) {
-    if (!has_stack(it->depth)) {
-        jclass error = (*env)->FindClass(env, "java/lang/StackOverflowError");
-        if (error != NULL) {
-            (*env)->ThrowNew(env, error, "too little stack is left for a call of libpkder");
-        }
+    if (!may_call(env, it->depth)) {
         return NULL;
     }
     struct octets src = copied(env, document), text = {NULL, 0};
@@ -156,6 +165,23 @@ JNIEXPORT jbyteArray JNICALL NAME(explain)(JNIEnv *env, jclass native, jint kind
                                            jbyteArray document, jlongArray outcome) {
     (void)native;
     return answer(env, &(struct question){EXPLAIN, kind, depth, octets, form}, document, outcome);
+}
+
+JNIEXPORT void JNICALL NAME(same)(JNIEnv *env, jclass native, jint kind, jint depth, jint octets, jbyteArray first,
+                                  jbyteArray second, jlongArray outcome) {
+    (void)native;
+    if (!may_call(env, depth)) {
+        return;
+    }
+    struct octets one = copied(env, first), other = copied(env, second);
+    pkder_outcome said = {.status = PKDER_NO_MEMORY};
+    if (one.start != NULL && other.start != NULL) {
+        said = pkder_same((uint32_t)kind, (uint32_t)depth, (uint64_t)octets, one.start, one.length, other.start,
+                          other.length);
+    }
+    free(one.start);
+    free(other.start);
+    tell(env, &said, outcome);
 }
 
 JNIEXPORT jint JNICALL NAME(interfaceNumber)(JNIEnv *env, jclass native) {

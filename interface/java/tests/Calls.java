@@ -2,7 +2,9 @@ import java.io.ByteArrayInputStream;
 import java.io.ByteArrayOutputStream;
 import java.io.ObjectInputStream;
 import java.io.ObjectOutputStream;
+import java.util.ArrayList;
 import java.util.Arrays;
+import java.util.List;
 import java.util.Optional;
 import java.util.OptionalLong;
 import pkder.Fault;
@@ -38,6 +40,17 @@ final class Calls {
             Compiled.says("if (pkder.Pkder.explain(pkder.Kind.KEY, key)) { }").contains("boolean"), "a report");
     }
 
+    /** A line that looks at a truth value alone takes no two refused documents for the same. */
+    static void carelessOfTwo() throws Exception {
+        Claims.equal(
+            Compiled.says("if (pkder.Pkder.same(pkder.Kind.KEY, key, key)) { }"), "", "whether two are the same");
+        Claims.thrown(FaultException.class, () -> {
+            if (Pkder.same(Kind.KEY, Documents.cutKey(), Documents.cutKey())) {
+                throw new AssertionError("two refused documents are the same");
+            }
+        }, "two refused documents");
+    }
+
     static void verdicts() throws Exception {
         Verdict der = Pkder.check(Kind.KEY, Documents.key());
         Verdict ber = Pkder.check(Kind.KEY, Documents.keyInBer());
@@ -62,6 +75,34 @@ final class Calls {
         Claims.equal(same.getMessage(), why.getMessage(), "an exception that was written and read");
     }
 
+    /** The first document that is refused is told; of calls that take one document none is. */
+    static void which() throws Exception {
+        byte[] key = Documents.keyInBer();
+        byte[] cut = Documents.cutKey();
+        byte[] longer = keyThatIsLongerInside();
+        String line = Pkder.explain(Kind.KEY, longer).fault().orElseThrow().toString();
+        Claims.equal(refusal(key, longer), List.of(2, "second: " + line, 2), "inside the second");
+        Claims.equal(refusal(longer, cut), List.of(1, "first: " + line, 1), "inside the first");
+        Claims.equal(refusal(cut, key), List.of(1, "first: fault at 20: Truncated"), "the first");
+        Claims.equal(refusal(key, cut), List.of(2, "second: fault at 20: Truncated"), "the second");
+        Claims.equal(refusal(cut, cut), List.of(1, "first: fault at 20: Truncated"), "both");
+        FaultException one = Claims.thrown(FaultException.class, () -> Pkder.check(Kind.KEY, cut), "a cut key");
+        Claims.equal(one.which() + " " + one.getMessage(), "0 fault at 20: Truncated", "a call on one document");
+        FaultException of = Claims.thrown(FaultException.class, () -> Pkder.same(Kind.KEY, key, cut), "a cut key");
+        Claims.holds(!of.fault().equals(one.fault()), "faults of other documents");
+        Claims.equal(copied(of).fault(), of.fault(), "a fault that was written and read");
+    }
+
+    /** What is thrown of these two: which is refused, the line, and which it is of the fault inside, if it is there. */
+    private static List<Object> refusal(byte[] first, byte[] second) {
+        FaultException why =
+            Claims.thrown(FaultException.class, () -> Pkder.same(Kind.KEY, first, second), "a refused document");
+        Claims.equal(why.fault().which(), why.which(), "which document");
+        List<Object> found = new ArrayList<>(List.of(why.which(), why.getMessage()));
+        why.inside().map(Fault::which).ifPresent(found::add);
+        return found;
+    }
+
     private static FaultException copied(FaultException why) throws Exception {
         ByteArrayOutputStream written = new ByteArrayOutputStream();
         try (ObjectOutputStream to = new ObjectOutputStream(written)) {
@@ -72,12 +113,16 @@ final class Calls {
         }
     }
 
-    /** Of a key whose privateKey is longer than its octets (RFC 8410 section 7: an OCTET STRING inside). */
-    static void faultsInside() throws Exception {
+    /** A key whose privateKey is longer than its octets (RFC 8410 section 7: an OCTET STRING inside). */
+    private static byte[] keyThatIsLongerInside() {
         byte[] key = Documents.key();
         // (the OCTET STRING inside has a length of 33, and 32 octets)
         key[15] = 0x21;
-        Fault fault = Pkder.explain(Kind.KEY, key).fault().orElseThrow();
+        return key;
+    }
+
+    static void faultsInside() throws Exception {
+        Fault fault = Pkder.explain(Kind.KEY, keyThatIsLongerInside()).fault().orElseThrow();
         Claims.equal(fault.reason(), Reason.INNER, "reason");
         Fault inside = fault.inside().orElseThrow();
         Claims.equal(fault.toString(),
@@ -121,6 +166,9 @@ final class Calls {
         FaultException why =
             Claims.thrown(FaultException.class, () -> Pkder.check(Kind.KEY, Documents.key(), few), "47 octets");
         Claims.equal(why.reason(), Reason.TOO_LONG, "47 octets");
+        FaultException of = Claims.thrown(
+            FaultException.class, () -> Pkder.same(Kind.KEY, Documents.key(), Documents.key(), few), "47 octets");
+        Claims.equal(of.which() + " " + of.reason(), "1 TOO_LONG", "47 octets of two");
         Claims.equal(new Limits(32, 1048576), Limits.USUAL, "usual limits");
         Claims.holds(!few.equals(Limits.USUAL) && few.hashCode() != Limits.USUAL.hashCode(), "other limits");
     }
@@ -130,6 +178,10 @@ final class Calls {
         Claims.thrown(due, () -> Pkder.check(null, NONE), "no kind");
         Claims.thrown(due, () -> Pkder.check(Kind.KEY, null), "no document");
         Claims.thrown(due, () -> Pkder.requireDer(Kind.KEY, null), "no document");
+        Claims.thrown(due, () -> Pkder.same(null, NONE, NONE), "no kind");
+        Claims.thrown(due, () -> Pkder.same(Kind.KEY, null, NONE), "no document");
+        Claims.thrown(due, () -> Pkder.same(Kind.KEY, NONE, null), "no second document");
+        Claims.thrown(due, () -> Pkder.same(Kind.KEY, NONE, NONE, null), "no limits");
         Claims.thrown(due, () -> Pkder.normalise(Kind.KEY, null), "no document");
         Claims.thrown(due, () -> Pkder.signed(Part.INFO, null), "no document");
         Claims.thrown(due, () -> Pkder.signed(null, NONE), "no part");
@@ -144,6 +196,9 @@ final class Calls {
         byte[] text = Pkder.normalise(Kind.KEY, key);
         Claims.holds(Arrays.equals(key, Documents.keyInBer()), "the document");
         Claims.holds(Arrays.equals(text, Documents.key()), "its DER encoding");
+        Claims.holds(Pkder.same(Kind.KEY, key, text) && Pkder.same(Kind.KEY, key, key), "both, and one twice");
+        Claims.holds(Arrays.equals(key, Documents.keyInBer()), "the document that was compared");
+        Claims.holds(Arrays.equals(text, Documents.key()), "the other one");
         Arrays.fill(text, (byte) 0);
         Claims.holds(Arrays.equals(Pkder.normalise(Kind.KEY, key), Documents.key()), "its DER encoding again");
         Claims.equal(Pkder.check(Kind.KEY, key).differsAt(), OptionalLong.of(1), "its place");

@@ -5,6 +5,7 @@ import java.nio.channels.FileChannel;
 import java.nio.file.Files;
 import java.nio.file.Path;
 import java.util.Arrays;
+import pkder.FaultException;
 import pkder.Kind;
 import pkder.Pkder;
 
@@ -37,11 +38,25 @@ public final class Copies {
         Pkder.show(Kind.KEY, key);
         byte[] text = Pkder.normalise(Kind.KEY, key);
         Claims.holds(Arrays.equals(text, key), "the text");
+        compare(key, text);
         Claims.equal(isDumped ? places(secret) : 2, 2, "arrays with the private key");
         Arrays.fill(key, (byte) 0);
         Arrays.fill(text, (byte) 0);
         Claims.equal(isDumped ? places(secret) : 0, 0, "arrays with the private key once they are wiped");
         System.out.println("the heap's two arrays");
+    }
+
+    /**
+     * Compares the two, which are the same, and has each of them refused: the first as another kind, and the second.
+     */
+    private static void compare(byte[] key, byte[] text) throws Exception {
+        Claims.holds(Pkder.same(Kind.KEY, key, text), "the text is the same");
+        byte[] longer = Arrays.copyOf(key, key.length + 1);
+        Claims.equal(Claims.thrown(FaultException.class, () -> Pkder.same(Kind.EC, key, text), "no EC key").which(), 1,
+            "the first is refused");
+        Claims.equal(Claims.thrown(FaultException.class, () -> Pkder.same(Kind.KEY, text, longer), "longer").which(), 2,
+            "the second is refused");
+        Arrays.fill(longer, (byte) 0);
     }
 
     private static byte octet(String hex, int at) {

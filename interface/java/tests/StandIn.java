@@ -9,7 +9,9 @@ import pkder.Pkder;
 import pkder.Reason;
 import pkder.Report;
 
-/** What the package makes of answers that no document brings, over a jar with the stand-in of interface/c/stand_in.c. */
+/**
+ * What the package makes of answers that no document brings, over a jar with the stand-in of interface/c/stand_in.c.
+ */
 public final class StandIn {
     private StandIn() {}
 
@@ -24,10 +26,11 @@ public final class StandIn {
         tests.put("faults of a later library", StandIn::faults);
         tests.put("reports of a later library", StandIn::reports);
         tests.put("statuses of other calls", StandIn::statuses);
+        tests.put("two documents", StandIn::two);
         System.exit(Tests.failed(tests) == 0 ? 0 : 1);
     }
 
-    /** The calls on a document of three octets, but explain. */
+    /** The calls on one document, of three octets, but explain. */
     private static List<Claims.Attempt> calls(int... told) {
         byte[] document = document(told);
         List<Claims.Attempt> calls = new ArrayList<>();
@@ -43,22 +46,27 @@ public final class StandIn {
         return new byte[] {(byte) told[0], (byte) told[1], (byte) told[2]};
     }
 
-    private static List<Claims.Attempt> callsAndReport(int... told) {
+    private static boolean same(int... told) throws FaultException {
+        return Pkder.same(Kind.KEY, document(told), document(told));
+    }
+
+    private static List<Claims.Attempt> allCalls(int... told) {
         List<Claims.Attempt> calls = calls(told);
         calls.add(() -> Pkder.explain(Kind.KEY, document(told)));
+        calls.add(() -> same(told));
         return calls;
     }
 
     private static void errors() {
-        for (Claims.Attempt call : callsAndReport(3, 0, 0)) {
+        for (Claims.Attempt call : allCalls(3, 0, 0)) {
             Claims.thrown(OutOfMemoryError.class, call, "want of memory");
         }
-        for (Claims.Attempt call : callsAndReport(4, 0, 0)) {
+        for (Claims.Attempt call : allCalls(4, 0, 0)) {
             Claims.thrown(IllegalArgumentException.class, call, "a bad call");
         }
-        for (Claims.Attempt call : callsAndReport(8, 0, 0)) {
+        for (Claims.Attempt call : allCalls(9, 0, 0)) {
             String line = Claims.thrown(IllegalStateException.class, call, "a later status").getMessage();
-            Claims.equal(line, "libpkder answers the status 8", "a later status");
+            Claims.equal(line, "libpkder answers the status 9", "a later status");
         }
     }
 
@@ -80,19 +88,31 @@ public final class StandIn {
             "false OptionalLong.empty fault at 5: Later inside at 7: Later", "a later reason");
     }
 
-    /** Statuses of reports are no answer of other calls, nor are theirs one of a report. */
+    /** Statuses of reports and of two documents are no answer of other calls, nor are theirs one of a report. */
     private static void statuses() {
-        for (int status : new int[] {2, 6, 7}) {
+        for (int status : new int[] {2, 6, 7, 8}) {
             for (Claims.Attempt call : calls(status, 0, 0)) {
                 Claims.thrown(IllegalStateException.class, call, "status " + status);
             }
         }
-        for (int status : new int[] {0, 1, 2, 5, 7}) {
+        for (int status : new int[] {0, 1, 2, 5, 7, 8}) {
             Claims.Attempt call = () -> Pkder.explain(Kind.KEY, document(status, 0, 0));
             Claims.thrown(IllegalStateException.class, call, "status " + status + " of a report");
         }
         for (Claims.Attempt call : calls(5, 0, 0).subList(2, 5)) {
             Claims.thrown(IllegalStateException.class, call, "status 5 of a text");
         }
+    }
+
+    /** (The stand-in's fault of two is in the second.) */
+    private static void two() throws FaultException {
+        Claims.equal(same(0, 0, 0) + " " + same(8, 0, 0), "true false", "whether two are the same");
+        for (int status : new int[] {2, 5, 6, 7}) {
+            Claims.thrown(IllegalStateException.class, () -> same(status, 0, 0), "status " + status + " of two");
+        }
+        FaultException why = Claims.thrown(FaultException.class, () -> same(1, 28, 28), "a later reason");
+        Claims.equal(why.which() + " " + why.getMessage(), "2 second: fault at 5: Later inside at 7: Later",
+            "a later reason of the second");
+        Claims.equal(why.inside().orElseThrow().which(), 2, "inside the second");
     }
 }

@@ -2,8 +2,8 @@ import java.util.LinkedHashMap;
 import java.util.Map;
 
 /**
- * The tests of the package, over the rows that PKDER_CALLS names and the header that PKDER_HEADER names. The last line is
- * "N tests"; the status is 1 where one failed.
+ * The tests of the package, over the rows that PKDER_CALLS names, the pairs of documents that PKDER_PAIRS names and the
+ * header that PKDER_HEADER names. The last line is "N tests"; the status is 1 where one failed.
  */
 public final class Tests {
     private Tests() {}
@@ -13,10 +13,13 @@ public final class Tests {
         tests.put("numbers of the header", Header::numbers);
         tests.put("names of reasons", Header::names);
         tests.put("rows", Rows::all);
+        tests.put("pairs", Pairs::all);
         tests.put("careless lines", Calls::careless);
+        tests.put("careless lines of two", Calls::carelessOfTwo);
         tests.put("verdicts", Calls::verdicts);
         tests.put("faults", Calls::faults);
         tests.put("faults inside", Calls::faultsInside);
+        tests.put("which document is refused", Calls::which);
         tests.put("reports", Calls::reports);
         tests.put("a long report", Calls::longReport);
         tests.put("limits", Calls::limits);

@@ -13,6 +13,7 @@ import java.util.concurrent.ExecutorService;
 import java.util.concurrent.Executors;
 import java.util.concurrent.Future;
 import java.util.concurrent.FutureTask;
+import pkder.FaultException;
 import pkder.Kind;
 import pkder.Limits;
 import pkder.Pkder;
@@ -52,6 +53,7 @@ final class Threads {
             Claims.holds(Arrays.equals(Pkder.normalise(Kind.KEY, ber), der), "normalise");
             Claims.holds(Pkder.explain(Kind.KEY, der).isDer(), "explain");
             Claims.holds(!Pkder.check(Kind.KEY, ber).isDer(), "check");
+            Claims.holds(Pkder.same(Kind.KEY, ber, der), "same");
             String text = Pkder.explain(Kind.REQUEST, request, ReportForm.ALL_JSON, Limits.USUAL).text();
             Claims.holds(text.endsWith("}\n"), "a long report");
         }
@@ -60,11 +62,14 @@ final class Threads {
 
     /** A call with too little stack is an error of Java, and not the end of the process. */
     static void stacks() throws Exception {
-        Claims.Attempt deepest = () -> Pkder.check(Kind.PUBLIC, Documents.deep(64), DEEPEST);
-        Claims.equal(onStack(1024, () -> thrownBy(deepest)), "nothing", "a usual stack");
-        // (a small one may be that of a thread which has ended, of up to four times its size)
-        for (int kib : new int[] {144, 160, 192}) {
-            Claims.equal(onStack(kib, () -> thrownBy(deepest)), SHORT, kib + " KiB");
+        byte[] deep = Documents.deep(64);
+        for (Claims.Attempt deepest : List.<Claims.Attempt>of(
+                 () -> Pkder.check(Kind.PUBLIC, deep, DEEPEST), () -> Pkder.same(Kind.PUBLIC, deep, deep, DEEPEST))) {
+            Claims.equal(onStack(1024, () -> thrownBy(deepest)), "nothing", "a usual stack");
+            // (a small one may be that of a thread which has ended, of up to four times its size)
+            for (int kib : new int[] {144, 160, 192}) {
+                Claims.equal(onStack(kib, () -> thrownBy(deepest)), SHORT, kib + " KiB");
+            }
         }
         for (Claims.Attempt call : usualCalls(Documents.deep(32))) {
             Claims.equal(onStack(216, () -> thrownBy(call)), "nothing", "a small stack");
@@ -86,6 +91,8 @@ final class Threads {
                            -> Pkder.check(Kind.PUBLIC, document),
             ()
                 -> Pkder.normalise(Kind.PUBLIC, document),
+            ()
+                -> Pkder.same(Kind.PUBLIC, document, document),
             ()
                 -> Pkder.show(Kind.PUBLIC, document),
             () -> Pkder.explain(Kind.PUBLIC, document, ReportForm.ALL_JSON, Limits.USUAL));
@@ -135,6 +142,7 @@ final class Threads {
         long before = residentPages();
         for (int round = 0; round < 1000; round++) {
             Pkder.explain(Kind.KEY, zeros);
+            Claims.thrown(FaultException.class, () -> Pkder.same(Kind.KEY, zeros, zeros), "zeros");
         }
         long more = residentPages() - before;
         Claims.holds(more < 16384, more + " pages more");

@@ -1,5 +1,5 @@
-/* freed.so, to be loaded before a program (LD_PRELOAD): prints at its end how many blocks were freed that held octets of a
- * secret, eight in a row. COPIES_SECRET is its 32 octets, in hex. */
+/* freed.so, to be loaded before a program (LD_PRELOAD): prints at its end how many blocks were freed that held octets
+ * of a secret, eight in a row. COPIES_SECRET is its 32 octets, in hex. */
 #define _GNU_SOURCE
 #include <dlfcn.h>
 #include <malloc.h>

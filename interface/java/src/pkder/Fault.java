@@ -8,16 +8,27 @@ import java.util.Optional;
 public final class Fault implements Serializable {
     private static final long serialVersionUID = 1;
 
+    private final int which;
     private final long at;
     private final Reason reason;
     private final String reasonName;
     private final Fault inside;
 
-    Fault(long at, Reason reason, String reasonName, Fault inside) {
+    Fault(int which, long at, Reason reason, String reasonName, Fault inside) {
+        this.which = which;
         this.at = at;
         this.reason = reason;
         this.reasonName = reasonName;
         this.inside = inside;
+    }
+
+    /**
+     * Says of {@link Pkder#same(Kind, byte[], byte[])} which document the fault is in.
+     *
+     * @return 1 or 2; of all other calls 0
+     */
+    public int which() {
+        return which;
     }
 
     /**
@@ -58,19 +69,20 @@ public final class Fault implements Serializable {
 
     @Override
     public boolean equals(Object other) {
-        return other instanceof Fault && at == ((Fault) other).at && reasonName.equals(((Fault) other).reasonName)
-            && Objects.equals(inside, ((Fault) other).inside);
+        return other instanceof Fault && which == ((Fault) other).which && at == ((Fault) other).at
+            && reasonName.equals(((Fault) other).reasonName) && Objects.equals(inside, ((Fault) other).inside);
     }
 
     @Override
     public int hashCode() {
-        return Objects.hash(at, reasonName, inside);
+        return Objects.hash(which, at, reasonName, inside);
     }
 
-    /** The line that the program prints. */
+    /** The line that the program prints; where {@link #which} isn't 0, behind "first: " or "second: ". */
     @Override
     public String toString() {
-        return "fault " + place() + (inside == null ? "" : " inside " + inside.place());
+        String document = which == 1 ? "first: " : which == 2 ? "second: " : "";
+        return document + "fault " + place() + (inside == null ? "" : " inside " + inside.place());
     }
 
     private String place() {

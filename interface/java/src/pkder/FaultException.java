@@ -2,7 +2,7 @@ package pkder;
 
 import java.util.Optional;
 
-/** A document has a fault. */
+/** A document has a fault; of {@link Pkder#same(Kind, byte[], byte[])} the first one that has. */
 public final class FaultException extends PkderException {
     private static final long serialVersionUID = 1;
 
@@ -20,6 +20,15 @@ public final class FaultException extends PkderException {
      */
     public Fault fault() {
         return fault;
+    }
+
+    /**
+     * Says of {@link Pkder#same(Kind, byte[], byte[])} which document the fault is in.
+     *
+     * @return 1 or 2; of all other calls 0
+     */
+    public int which() {
+        return fault.which();
     }
 
     @Override

@@ -1,8 +1,8 @@
 package pkder;
 
 /**
- * The library's calls, by native/pkder_jni.c. Each judges a copy of the document, made when it begins and wiped when it
- * ends, and answers what was written in an array of just these octets, or null where nothing was.
+ * The library's calls, by native/pkder_jni.c. Each judges copies of what it is given, made when it begins and wiped
+ * when it ends, and answers what was written in an array of just these octets, or null where nothing was.
  */
 final class Native {
     static final int INTERFACE = 1;
@@ -19,6 +19,8 @@ final class Native {
     private static native int interfaceNumber();
 
     static native byte[] check(int kind, int depth, int octets, byte[] document, long[] outcome);
+
+    static native void same(int kind, int depth, int octets, byte[] first, byte[] second, long[] outcome);
 
     static native byte[] normalise(int kind, int depth, int octets, byte[] document, long[] outcome);
 

@@ -10,16 +10,18 @@ final class Outcome {
     static final int BAD_CALL = 4;
     static final int NOT_DER = 5;
     static final int REPORTED = 6;
+    static final int ANOTHER = 8;
 
     // The places of its numbers, as native/pkder_jni.c hands them over.
     private static final int STATUS_PLACE = 0;
     private static final int REASON_PLACE = 1;
     private static final int INSIDE_REASON_PLACE = 2;
-    private static final int AT_PLACE = 3;
-    private static final int INSIDE_AT_PLACE = 4;
+    private static final int WHICH_PLACE = 3;
+    private static final int AT_PLACE = 4;
+    private static final int INSIDE_AT_PLACE = 5;
 
     /** What a native call fills. */
-    final long[] numbers = new long[5];
+    final long[] numbers = new long[6];
 
     int status() {
         return (int) numbers[STATUS_PLACE];
@@ -41,9 +43,9 @@ final class Outcome {
         return fault(numbers[AT_PLACE], numbers[REASON_PLACE], inside);
     }
 
-    private static Fault fault(long at, long reason, Fault inside) {
+    private Fault fault(long at, long reason, Fault inside) {
         String name = new String(Native.reasonName((int) reason), StandardCharsets.US_ASCII);
-        return new Fault(at, Reason.of((int) reason), name, inside);
+        return new Fault((int) numbers[WHICH_PLACE], at, Reason.of((int) reason), name, inside);
     }
 
     /** What is thrown for an outcome that is no answer: the fault, or what says nothing of the document. */

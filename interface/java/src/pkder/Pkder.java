@@ -7,14 +7,15 @@ import java.util.Objects;
  * Reads, checks and normalises private keys, public keys and certification requests (CSRs) in BER and DER, by libpkder,
  * which is proved. {@link #requireDer(Kind, byte[])} refuses whatever isn't in DER; all other calls take BER, too.
  *
- * <p>Each call takes the bytes (octets) of one whole document, and not PEM. It judges them as they are when it begins, so
- * whoever hands an array on has to keep others from writing to it. It may come from any thread. It wipes the copy of the
- * document that it makes, and keeps nothing; a text that is a private key is the caller's to wipe.
+ * <p>Each call takes the bytes (octets) of one whole document, and {@link #same(Kind, byte[], byte[]) same} of two; and
+ * not PEM. It judges them as they are when it begins, so whoever hands an array on has to keep others from writing to
+ * it. It may come from any thread. It wipes the copies that it makes of what it is given, and keeps nothing; a text
+ * that is a private key is the caller's to wipe.
  *
  * <p>Each throws {@link NullPointerException} where an argument is null, {@link OutOfMemoryError} where memory ran out,
  * {@link StackOverflowError} where the thread has too little stack left for the depth that is allowed, and
- * {@link IllegalStateException} where a later library answers what this package doesn't know. None of these says anything
- * of the document.
+ * {@link IllegalStateException} where a later library answers what this package doesn't know. None of these says
+ * anything of the document.
  */
 public final class Pkder {
     private Pkder() {}
@@ -85,6 +86,42 @@ public final class Pkder {
     }
 
     /**
+     * Says whether two documents are the same: whether they say the same, however they are laid out, which is whether
+     * their DER encodings are equal. What is refused is the same as nothing, itself included.
+     *
+     * @param kind what both documents are
+     * @param first the octets of one
+     * @param second the octets of the other
+     * @return whether they are the same
+     * @throws FaultException where one of them is refused; {@link FaultException#which} says which one
+     */
+    public static boolean same(Kind kind, byte[] first, byte[] second) throws FaultException {
+        return same(kind, first, second, Limits.USUAL);
+    }
+
+    /**
+     * Says whether two documents are the same: whether they say the same, however they are laid out, which is whether
+     * their DER encodings are equal. What is refused is the same as nothing, itself included.
+     *
+     * @param kind what both documents are
+     * @param first the octets of one
+     * @param second the octets of the other
+     * @param limits the limits of what is read, of each document
+     * @return whether they are the same
+     * @throws FaultException where one of them is refused; {@link FaultException#which} says which one
+     */
+    public static boolean same(Kind kind, byte[] first, byte[] second, Limits limits) throws FaultException {
+        Objects.requireNonNull(first, "first");
+        Objects.requireNonNull(second, "second");
+        Outcome outcome = new Outcome();
+        Native.same(kind.number(), limits.depth(), limits.octets(), first, second, outcome.numbers);
+        if (outcome.status() != Outcome.ACCEPTED && outcome.status() != Outcome.ANOTHER) {
+            throw outcome.refusal();
+        }
+        return outcome.status() == Outcome.ACCEPTED;
+    }
+
+    /**
      * Answers the document's DER encoding: two documents say the same exactly where these are equal.
      *
      * @param kind what the document is
@@ -139,8 +176,8 @@ public final class Pkder {
     }
 
     /**
-     * Answers what the document says, a line for each part; of private keys the number of octets alone, of a request all
-     * attributes, a challengePassword among them.
+     * Answers what the document says, a line for each part; of private keys the number of octets alone, of a request
+     * all attributes, a challengePassword among them.
      *
      * @param kind what the document is
      * @param document its octets
@@ -152,8 +189,8 @@ public final class Pkder {
     }
 
     /**
-     * Answers what the document says, a line for each part; of private keys the number of octets alone, of a request all
-     * attributes, a challengePassword among them.
+     * Answers what the document says, a line for each part; of private keys the number of octets alone, of a request
+     * all attributes, a challengePassword among them.
      *
      * @param kind what the document is
      * @param document its octets
@@ -169,9 +206,9 @@ public final class Pkder {
     }
 
     /**
-     * Answers a report of the octets for people, whether they are a document or not: the elements with their places, and
-     * of a refused document which field is at fault, what is due there, the usual cause and what to do. No octets of
-     * private keys and no values of attributes are in it.
+     * Answers a report of the octets for people, whether they are a document or not: the elements with their places,
+     * and of a refused document which field is at fault, what is due there, the usual cause and what to do. No octets
+     * of private keys and no values of attributes are in it.
      *
      * @param kind what the document is
      * @param document its octets

@@ -4,8 +4,8 @@ import java.util.Optional;
 import java.util.OptionalLong;
 
 /**
- * A report of a document, refused or not: its text, and what {@link Pkder#check(Kind, byte[])} says of it. It is no truth
- * value, since refused documents have reports, too: ask {@link #isDer}.
+ * A report of a document, refused or not: its text, and what {@link Pkder#check(Kind, byte[])} says of it. It is no
+ * truth value, since refused documents have reports, too: ask {@link #isDer}.
  */
 public final class Report {
     private final String text;

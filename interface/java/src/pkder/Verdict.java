@@ -3,8 +3,8 @@ package pkder;
 import java.util.OptionalLong;
 
 /**
- * Whether a sound document is in DER. It is no truth value, since a document in BER is sound, too: ask {@link #isDer}, or
- * call {@link Pkder#requireDer(Kind, byte[])}, which refuses BER.
+ * Whether a sound document is in DER. It is no truth value, since a document in BER is sound, too: ask {@link #isDer},
+ * or call {@link Pkder#requireDer(Kind, byte[])}, which refuses BER.
  */
 public final class Verdict {
     private static final long NOWHERE = -1;
