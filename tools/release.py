@@ -4,7 +4,7 @@
 That is the archive, the packages for Debian, the wheel and the source archive of the package for Python, and
 SHA256SUMS. They are the same bytes from the same commit and toolchain. The build is the one that tools/build.py left;
 --trial takes what stands in its place, whatever that is, to try this script, and each PROVED-BY says so. What
-tools/static_program.sh makes is made anew where it isn't of this build.
+tools/static_program.sh makes is made anew where it isn't of these sources.
 
 --try tries by hand what stands in OUT as docs/install.md says: it needs root, a network, and some minutes."""
 import glob
@@ -22,6 +22,7 @@ from packing import NUMBER, TOP
 
 ARCHIVE = f"pkder-{NUMBER}-x86_64-linux"
 STATIC, DYNAMIC, MADE_BY = (f"{TOP}/tools/out/{it}" for it in ("pkder-static", "pkder-glibc", "MADE-BY"))
+MADE_OF = ("crates", "crates.txt", "tools/static_program.sh", "tools/words_for_musl.c")
 LIBRARIES = tuple(f"{TOP}/{it}" for it in build.MADE[1:])
 # what packing needs, and the package of Debian that has it
 TOOLS = {"musl-gcc": "musl-tools", "objcopy": "binutils", "cc": "gcc", "dpkg-buildpackage": "dpkg-dev",
@@ -46,13 +47,15 @@ def missing():
 
 
 def of_static():
-    """The text of MADE-BY, for the programs for every x86-64 that stand."""
+    """The text of MADE-BY, for the programs for every x86-64 that stand: what they were made of, and their sums."""
+    sources = packing.said("git", "rev-parse", *(f"HEAD:{it}" for it in MADE_OF)).replace("\n", " ")
+    musl = packing.said("dpkg-query", "--show", "musl-dev")
     sums = "".join(f"{packing.sum_of(it)}  {os.path.basename(it)}\n" for it in (STATIC, DYNAMIC))
-    return f"commit: {packing.commit()}\ntoolchain: {build.logic.toolchain()}\n{sums}"
+    return f"sources: {sources}\ntoolchain: {build.logic.toolchain()}\nmusl: {musl}\n{sums}"
 
 
 def make_static():
-    """Makes the programs for every x86-64, where they don't stand as this commit and toolchain gave them."""
+    """Makes the programs for every x86-64, where they don't stand as these sources and this toolchain gave them."""
     if all(map(os.path.isfile, (STATIC, DYNAMIC, MADE_BY))):
         with open(MADE_BY, encoding="utf-8") as file:
             if file.read() == of_static():
