@@ -29,6 +29,11 @@ def text_of(name):
         return file.read()
 
 
+def told_by(name):
+    """The file in which a library of the toolchain names the crates that it uses."""
+    return f"{KIT}/rlibs/{name}.rlib/format"
+
+
 def own_crates():
     """The crates of the repository, each with the names of those that it names."""
     rows = re.findall(r"(?m)^(\w+)[^:#\n]*:(.*)", text_of(f"{TOP}/crates.txt"))
@@ -39,7 +44,10 @@ def below(name, own):
     """The crates that a crate stands on."""
     if name in own:
         return sorted({*own[name], "std"})
-    return sorted(re.findall(r"(?m)^dep (\w+)$", text_of(f"{KIT}/rlibs/{name}.rlib/format")))
+    if not os.path.isfile(told_by(name)):
+        print(f"left out of the bill: what {name} stands on, for want of {told_by(name)}", file=sys.stderr)
+        return []
+    return sorted(re.findall(r"(?m)^dep (\w+)$", text_of(told_by(name))))
 
 
 def reached(files):
@@ -80,8 +88,9 @@ def kit_component(name):
     readme = f"{KIT}/rattle/{name}/README.md"
     port = PORT.search(text_of(readme)[:1000]) if os.path.isfile(readme) else None
     it = {"type": "library", "bom-ref": name, "group": "rattle", "name": name,
-          "version": port[2] if port else said("rt", "version").split()[0],
-          "hashes": [{"alg": "SHA-256", "content": packing.sum_of(f"{KIT}/rlibs/{name}.rlib/format")}]}
+          "version": port[2] if port else said("rt", "version").split()[0]}
+    if os.path.isfile(told_by(name)):
+        it["hashes"] = [{"alg": "SHA-256", "content": packing.sum_of(told_by(name))}]
     if port:
         it["description"] = f"after the Rust crate {port[1]} {port[2]}"
     if licence_of(name):

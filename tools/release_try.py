@@ -64,7 +64,7 @@ def lines_of_page(root_of):
         answers = transcripts.answers_in(said)
         for at, step in enumerate(steps):
             why = transcripts.wrong(step, answers[at] if at < len(answers) else None)
-            yield f"{PAGE}:{step.number}: {why}", not why
+            yield f"{PAGE}:{step.number}: {why or step.text}", not why
 
 
 def alone(out):
@@ -74,7 +74,7 @@ def alone(out):
         subprocess.run(["tar", "-xf", f"{out}/{release.ARCHIVE}.tar.gz", "--strip-components=2", "-C", folder, name],
                        check=True)
         said, status = ran("chroot", folder, "/pkder", "--version")
-        yield f"alone in a root: {said}", status == 0 and said.startswith(f"pkder {packing.NUMBER}, ")
+        yield f"alone in a root: {said.strip()}", status == 0 and said.startswith(f"pkder {packing.NUMBER}, ")
         with open(f"{TOP}/examples/long-lengths.der", "rb") as key:
             done = subprocess.run([*FIRST_PROCESSOR, f"{folder}/pkder", "check", "--kind", "key"], stdin=key,
                                   capture_output=True)
@@ -82,8 +82,7 @@ def alone(out):
         # (all rows of the program's tables)
         tables = [*sorted(glob.glob(f"{TOP}/tests/pkder/*.tsv")), f"{TOP}/examples/answers.tsv"]
         said, status = ran("python3", f"{TOP}/tools/rows.py", *tables, f"{folder}/pkder")
-        yield f"rows: {said[-200:]}", status == 0
-        print(said.splitlines()[-1])
+        yield said.splitlines()[-1], status == 0
 
 
 def packages(out):
@@ -108,7 +107,7 @@ apt-get install -qq --no-install-recommends ./*.deb {' '.join(it for it in depen
 AUTOPKGTEST_TMP=$(mktemp -d); export AUTOPKGTEST_TMP
 debian/tests/{fields['Tests']}
 """)
-        yield f"debian/tests/{fields['Tests']}: {said[-1000:]}", status == 0
+        yield f"debian/tests/{fields['Tests']}: {'' if status == 0 else said[-2000:]}", status == 0
 
 
 def looks(work, out):
