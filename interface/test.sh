@@ -297,6 +297,14 @@ java_copies() (
     echo "two arrays, and no freed blocks"
 )
 
+# Want of memory outside Java's heap is told by each call.
+java_refused() (
+    cc -std=c11 $warnings -O2 -fPIC -shared -o "$work/refusing.so" "$here/java/tests/refusing.c" || exit
+    LD_PRELOAD=$work/refusing.so
+    export LD_PRELOAD
+    java_runs Refused -cp "$work/java_jar/pkder.jar:$work/java_tests"
+)
+
 in_java() {
     jar=$work/java_jar/pkder.jar
     set -- env JAVAC_FLAGS='-Xlint:all -Xdoclint:all/protected -Werror' CFLAGS="-std=c11 $warnings" \
@@ -308,6 +316,7 @@ in_java() {
         "$here"/java/tests/*.java
     try "rows in Java" java_runs Tests -cp "$jar:$work/java_tests"
     try "copies in Java" java_copies
+    try "want of memory in Java" java_refused
     try "stand-in for Java" "$@" "$work/stand_in" "$work/java_stand_in"
     # (as a module; and named as a file, which is taken in the place of the library in the jar)
     try "stand-in in Java" java_runs StandIn -p "$work/java_stand_in/pkder.jar" --add-modules pkder \
