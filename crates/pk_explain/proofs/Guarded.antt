@@ -6,14 +6,14 @@ use Rattle.std.specs.Option.{is_some}
 use Rattle.asn_names.specs.declared.element.Element.{Element}
 use Rattle.asn_names.specs.declared.element.Step.{Step}
 use Rattle.asn_names.specs.declared.element.Step.TheVariants.{Field, Member, Outermost, Outside, Segment}
-use Rattle.pk_explain.specs.Hidden.{is_behind, is_deeper, is_member, is_private, is_private_placed, is_refused_here, told_by, told_in, walk_after}
-use Rattle.pk_explain.specs.Lines.{PushesLine}
+use Rattle.pk_explain.specs.Hidden.{ends_untold, is_behind, is_private, is_private_placed, is_refused_here, is_untold, told_by, told_in, walk_after}
+use Rattle.pk_explain.specs.Lines.{AddsLine, AddsPlace, IsPlaceLine}
 use Rattle.pk_explain.specs.Tellings.{AreGuarded, ArePublic, IsPublicLine, KeepsGuarded, StaysEnded}
 use Rattle.pk_explain.specs.declared.hidden.Point.{Point}
 use Rattle.pk_explain.specs.declared.hidden.Told.{Told}
 use Rattle.pk_explain.specs.declared.hidden.Told.TheVariants.{Header, Nothing, Place}
 use Rattle.pk_explain.specs.declared.hidden.Walk.{Walk}
-use Rattle.pk_explain.specs.declared.listing.Placed.{Placed}
+use Rattle.pk_explain.specs.declared.places.Placed.{Placed}
 use Rattle.pk_explain.specs.declared.values.Rule.{Rule}
 use Rattle.pk_explain.specs.declared.values.Rule.TheVariants.{Accepted, Guarded, Refused}
 use Rattle.pk_reports.specs.declared.report.Line.{Line}
@@ -82,10 +82,6 @@ private_false point element (Field name) h = inl (placed_false point element h)
 private_false point element (Member number) h = inl (placed_false point element h)
 private_false point element (Segment number) h = inl (placed_false point element h)
 
--- nothing hides an element that is told of
-hidden_false : (a b c d : Bool) → (a || b || c || d) ≡ false → a ≡ false
-hidden_false a b c d h = (or_false a b (or_false (a || b) c (or_false (a || b || c) d h).0).0).0
-
 -- An element whose header is told stands before the end of the telling, and isn't private or has no place.
 header_told : (point : Point) (walk : Walk) (element : Element) → told_in Guarded point walk element ≡ Header
     → (walk.ended ≡ false) × ((element.private ≡ false) ⊎ (element.step ≡ Outside))
@@ -93,30 +89,38 @@ header_told point walk element h =
     let both = not_nothing _ _ h in
     let open_private = or_false (is_private point element element.step) _ (or_false _ (not walk.sure)
     (not_place _ both.1)).0 in (
-      hidden_false walk.ended (is_behind point walk.fault element) (is_deeper walk.private element)
-          (is_member walk.members_of element) both.0,
+      (or_false walk.ended (is_untold Guarded point walk element) both.0).0,
       private_false point element element.step open_private.0,
     )
 
 place_told : (point : Point) (walk : Walk) (element : Element) → told_in Guarded point walk element ≡ Place
     → walk.ended ≡ false
 place_told point walk element h =
-    hidden_false walk.ended (is_behind point walk.fault element) (is_deeper walk.private element)
-    (is_member walk.members_of element) (not_nothing_place _ _ h)
+    (or_false walk.ended (is_untold Guarded point walk element) (not_nothing_place _ _ h)).0
 
 -- a line is added to those of the document behind others
 added : (others own old new : List Line) (line : Line) → new ≡ old ++ (line ∷ []) → old ≡ others ++ own
     → new ≡ others ++ (own ++ (line ∷ []))
 added others own old new line e h = e ∙ (ap (λ lines. lines ++ (line ∷ [])) h ∙ append_assoc others own (line ∷ []))
 
+-- a place adds a line, or none
+place_added : (placed : Placed) (element : Element) (step : Step) (old new : List Line)
+    → AddsPlace placed element step old new
+    → (new ≡ old) ⊎ ((line : Line) × (new ≡ old ++ (line ∷ [])) × IsPlaceLine placed element line)
+place_added placed element Outside old new h = inl h
+place_added placed element Outermost old new h = inr h
+place_added placed element (Field name) old new h = inr h
+place_added placed element (Member number) old new h = inr h
+place_added placed element (Segment number) old new h = inr h
+
 guarded : (point : Point) (walk : Walk) (element : Element) (told : Told) (all definite : Bool) (octets : List ℕ)
     (placed : Placed) (elements : List Element) (number : ℕ) (others old new : List Line)
     → told_in Guarded point walk element ≡ told → slice_get elements number ≡ Some element
-    → PushesLine Guarded told octets placed element old new → AreGuarded octets elements others number walk.ended old
+    → AddsLine Guarded told octets placed element old new all → AreGuarded octets elements others number walk.ended old
     → AreGuarded octets elements others (number + 1) (walk_after Guarded point walk element told all definite).ended new
 guarded point walk element Nothing all definite octets placed elements number others old new t l pushed g =
     guarded_more octets elements others number walk.ended (walk.ended || is_behind point walk.fault element) old new
-    (or_true walk.ended (is_behind point walk.fault element)) pushed g
+    (or_true walk.ended (is_behind point walk.fault element)) pushed.0 g
 guarded point walk element Header all definite octets placed elements number others old new t l pushed g =
     let told = header_told point walk element t in
     let before = all_public octets elements others number walk.ended old told.0 g in
@@ -134,7 +138,7 @@ guarded point walk element Header all definite octets placed elements number oth
     )
 guarded point walk element Place all definite octets placed elements number others old new t l pushed g =
     let before = all_public octets elements others number walk.ended old (place_told point walk element t) g in
-    elim pushed [
+    elim (place_added placed element element.step old new pushed.0) [
       | inl e ↦ (before.0, e ∙ before.1, inl (public_more octets elements number before.0 before.2))
       | inr h ↦ (
         before.0 ++ (h.0 ∷ []),
@@ -156,7 +160,7 @@ guarded point walk element Place all definite octets placed elements number othe
 pub keeps : (rule : Rule) (point : Point) (walk : Walk) (element : Element) (told : Told) (all definite : Bool)
     (octets : List ℕ) (placed : Placed) (elements : List Element) (number : ℕ) (old new : List Line)
     → told_in rule point walk element ≡ told → slice_get elements number ≡ Some element
-    → PushesLine rule told octets placed element old new
+    → AddsLine rule told octets placed element old new all
     → KeepsGuarded rule octets elements number walk.ended old
     (walk_after rule point walk element told all definite).ended new
 keeps Accepted point walk element told all definite octets placed elements number old new t l pushed =
@@ -172,25 +176,24 @@ ended_told : (rule : Rule) (point : Point) (walk : Walk) (element : Element) →
 ended_told rule point walk element e =
     ap
     (λ ended.
-    cond (ended || is_behind point walk.fault element || is_deeper walk.private element
-    || is_member walk.members_of element) Nothing
+    cond (ended || is_untold rule point walk element) Nothing
     (told_by rule
     (is_private point element element.step || (is_some walk.members_of && is_refused_here point element)) walk.sure))
     e
 
 stays_told : (rule : Rule) (point : Point) (walk : Walk) (element : Element) (told : Told) (all definite : Bool)
     (octets : List ℕ) (placed : Placed) (old new : List Line) → Nothing ≡ told
-    → PushesLine rule told octets placed element old new
+    → AddsLine rule told octets placed element old new all
     → StaysEnded walk.ended old (walk_after rule point walk element told all definite).ended new
 stays_told rule point walk element Nothing all definite octets placed old new t pushed =
-    λ e. (or_true walk.ended (is_behind point walk.fault element) e, pushed)
+    λ e. (or_true walk.ended (ends_untold rule point walk element) e, pushed.0)
 stays_told rule point walk element Header all definite octets placed old new t pushed = absurd (cc)
 stays_told rule point walk element Place all definite octets placed old new t pushed = absurd (cc)
 
 -- where nothing more is told
 pub stays : (rule : Rule) (point : Point) (walk : Walk) (element : Element) (told : Told) (all definite : Bool)
     (octets : List ℕ) (placed : Placed) (old new : List Line) → told_in rule point walk element ≡ told
-    → PushesLine rule told octets placed element old new
+    → AddsLine rule told octets placed element old new all
     → StaysEnded walk.ended old (walk_after rule point walk element told all definite).ended new
 stays rule point walk element told all definite octets placed old new t pushed =
     λ e.

@@ -1,7 +1,10 @@
 pub mod Files
 pub mod Guarded
+pub mod Listed
 pub mod Ordered
 pub mod Outlined
+pub mod Pieces
 pub mod Reported
 pub mod Sound
 pub mod Steps
+pub mod Whole

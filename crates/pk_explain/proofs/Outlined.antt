@@ -10,7 +10,7 @@ use Rattle.asn_outline.specs.Outlines.{IsOutline}
 use Rattle.asn_outline.specs.declared.event.Event.{Event}
 use Rattle.asn_outline.specs.declared.event.Stop.{Stop}
 use Rattle.asn_shapes.specs.declared.shape.Shape.{Shape}
-use Rattle.pk_explain.specs.Insides.{AreInsides, IsDocumentIn, IsInside, IsNamed, IsOneOf, contained, contents_within}
+use Rattle.pk_explain.specs.Insides.{AreInsides, IsDocumentIn, IsInside, IsNamed, IsOneOf, contained, contents_within, pieces_within}
 use Rattle.pk_explain.specs.declared.inside.Inside.{Inside}
 
 pub by_outline : {E : Type 0} → (limits : Limits) (document : List ℕ) (root : Bor Shape) (events : List Event)
@@ -39,6 +39,7 @@ document_in limits file elements number element shape inside listed contains is 
   listed = ap (slice_get elements) is.stands_in ∙ listed;
   contains = contains ∙ ap Some (sym is.type);
   octets = is.octets ∙ ap (λ n. contents_within file (drop n elements)) (sym is.stands_in);
+  pieces = is.pieces ∙ ap (λ n. pieces_within file (drop n elements)) (sym is.stands_in);
   named = is.named;
 }
 

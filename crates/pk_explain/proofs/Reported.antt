@@ -1,7 +1,7 @@
 -- How much is told, by the answer.
 use Rattle.std.proofs.Common.{Bool, ap, refl, subst, sym, true, ◌∙◌, ◌≡◌}
 use Rattle.pk_explain.specs.Public.{is_guarded}
-use Rattle.pk_explain.specs.Reports.{is_refusal, rule_of}
+use Rattle.pk_explain.specs.Rules.{is_refusal, rule_of}
 use Rattle.pk_explain.specs.declared.values.Rule.{Rule}
 use Rattle.pk_reports.specs.declared.report.Answer.{Answer}
 use Rattle.pk_reports.specs.declared.report.Answer.TheVariants.{Der, NotDer, Refused}

@@ -1,12 +1,12 @@
 -- The steps from the outermost element to another one.
-use Rattle.std.proofs.Common.{List, None, Option, Some, ℕ, [], ap, false, inl, inr, refl, subst, suc, sym, true, zero, ◌++◌, ◌∙◌, ◌≡◌}
+use Rattle.std.proofs.Common.{List, None, Option, Some, ℕ, [], ap, false, inl, inr, refl, subst, suc, sym, true, zero, ◌++◌, ◌∙◌, ◌≡◌, ◌⊎◌}
 use Rattle.std.proofs.lemmas.List.{append-nil, append_assoc}
 use Rattle.std.specs.List.{slice_get}
 use Rattle.std.specs.Option.{is_some}
 use Rattle.asn_names.specs.declared.element.Element.{Element}
 use Rattle.asn_names.specs.declared.element.Step.{Step}
-use Rattle.pk_explain.specs.Blames.{IsNearest, end_of}
-use Rattle.pk_explain.specs.Spots.{AddsWay, AddsWayTo, IsWayBy, due_steps, enclosed, own_step}
+use Rattle.pk_explain.specs.Blames.{IsNearest, LeadsTowards, end_of}
+use Rattle.pk_explain.specs.Spots.{AddsWay, AddsWayTo, IsWay, IsWayBy, IsWayTo, due_steps, enclosed, own_step}
 use Rattle.pk_explain.specs.declared.ways.Spot.{Spot}
 
 -- to the outermost one there are none
@@ -53,3 +53,24 @@ pub later_nearest : (elements : List Element) (number : ℕ) (element : Element)
     → IsNearest elements element.around found → IsNearest elements number found
 later_nearest elements number element found inner has later =
     (suc later.0, (element, inner, inr (has, later.1)))
+
+-- a way that is all there is leads to what the fault is about
+pub towards_spot : (elements : List Element) (spot : Spot) (old new : List Step) → old ≡ []
+    → AddsWayTo elements spot old new → LeadsTowards elements spot new
+towards_spot elements spot old new none adds =
+    let same : new ≡ adds.0 = adds.1 ∙ ap (λ steps. steps ++ adds.0) none in
+    inl (subst (IsWayTo elements spot) (sym same) adds.2)
+
+pub towards_none : (elements : List Element) (spot : Spot) (new : List Step) → new ≡ [] → LeadsTowards elements spot new
+towards_none elements spot new none = inr (inl none)
+
+-- or to another element
+pub towards_other : (elements : List Element) (spot : Spot) (old new : List Step) → old ≡ []
+    → ((new ≡ old) ⊎ ((number : ℕ) × AddsWay elements number old new)) → LeadsTowards elements spot new
+towards_other elements spot old new none adds =
+    elim adds [
+      | inl same ↦ inr (inl (same ∙ none))
+      | inr way ↦
+          let same : new ≡ way.1.0 = way.1.1 ∙ ap (λ steps. steps ++ way.1.0) none in
+          inr (inr (way.0, subst (IsWay elements way.0) (sym same) way.1.2))
+    ]

@@ -1,5 +1,5 @@
 -- What a report hides. A document is told from its first element on, in one walk.
-use Rattle.std.specs.Prelude.{Bool, None, Option, Some, cond, false, nat_le, nat_lt, not, true, ℕ, ◌&&◌, ◌==◌, ◌||◌}
+use Rattle.std.specs.Prelude.{Bool, None, Option, Some, cond, false, nat_le, nat_lt, not, true, ℕ, ◌-◌, ◌^◌, ◌&&◌, ◌==◌, ◌||◌}
 use Rattle.std.specs.Option.{is_some, option_map}
 use Rattle.asn_names.specs.declared.element.Element.{Element}
 use Rattle.asn_names.specs.declared.element.Level.{Level}
@@ -66,6 +66,19 @@ is_found_complete reasons.VersionRule = true
 is_found_complete reasons.TextTooLong = true
 is_found_complete _ = false
 
+-- where no element is refused: behind all of them
+abbrev pub no_point : Point
+no_point = record { at = 2 ^ 64 - 1; complete = false; private = false }
+
+-- where a document is refused, by the place and the reason of its fault and by where its type and its elements part
+abbrev pub point_of : ℕ → Reason → Parting → Point
+point_of at why parting =
+    record { at = at; complete = is_found_complete why; private = is_private_due parting }
+
+-- where a document inside an OCTET STRING is refused
+abbrev pub point_inside : ℕ → Reason → Point
+point_inside at why = record { at = at; complete = is_found_complete why; private = true }
+
 abbrev pub contains : Shape → Bool
 contains (Leaf tag contents) = false
 contains Open = false
@@ -117,19 +130,31 @@ abbrev pub is_member : Option ℕ → Element → Bool
 is_member None element = false
 is_member (Some container) element = element.private && (element.around == container)
 
+-- before the first element
+abbrev pub walk_start : Walk
+walk_start = record { ended = false; sure = true; private = None; members_of = None; fault = None }
+
 -- What is told of an element before the fault and not in a private one.
 abbrev pub told_by : Rule → Bool → Bool → Told
 told_by Accepted private sure = Header
 told_by Refused private sure = cond private Place Header
 told_by Guarded private sure = cond (private || not sure) Place Header
 
+-- Nothing is told of an element, before the end of the telling: in what is private; and in a refused document behind the
+-- fault, and behind the first member of a set of private ones.
+abbrev pub is_untold : Rule → Point → Walk → Element → Bool
+is_untold Accepted point walk element = is_deeper walk.private element
+is_untold Refused point walk element =
+    is_behind point walk.fault element || is_deeper walk.private element || is_member walk.members_of element
+is_untold Guarded point walk element =
+    is_behind point walk.fault element || is_deeper walk.private element || is_member walk.members_of element
+
 -- What is told of the next element: nothing behind the fault, and nothing in what is private; of an accepted document
 -- all else; of a refused one the place alone of what is private, and, where a private key may be in it, of what stands
 -- behind octets that aren't told, since a damaged length may have led there.
 abbrev pub told_in : Rule → Point → Walk → Element → Told
 told_in rule point walk element =
-    cond (walk.ended || is_behind point walk.fault element || is_deeper walk.private element
-    || is_member walk.members_of element) Nothing
+    cond (walk.ended || is_untold rule point walk element) Nothing
     (told_by rule
     (is_private point element element.step || (is_some walk.members_of && is_refused_here point element)) walk.sure)
 
@@ -138,6 +163,12 @@ abbrev pub ends_at : Rule → Bool → Bool → Bool
 ends_at Accepted hides definite = false
 ends_at Refused hides definite = hides && not definite
 ends_at Guarded hides definite = hides
+
+-- whether it has ended behind an element of which nothing is told: where that stands behind the fault
+abbrev pub ends_untold : Rule → Point → Walk → Element → Bool
+ends_untold Accepted point walk element = false
+ends_untold Refused point walk element = is_behind point walk.fault element
+ends_untold Guarded point walk element = is_behind point walk.fault element
 
 abbrev pub depth_if : Bool → ℕ → Option ℕ
 depth_if true depth = Some depth
@@ -155,6 +186,6 @@ walk_told rule point walk element hides all definite = record {
 
 abbrev pub walk_after : Rule → Point → Walk → Element → Told → Bool → Bool → Walk
 walk_after rule point walk element Nothing all definite =
-    record walk { ended = walk.ended || is_behind point walk.fault element }
+    record walk { ended = walk.ended || ends_untold rule point walk element }
 walk_after rule point walk element Header all definite = walk_told rule point walk element false all definite
 walk_after rule point walk element Place all definite = walk_told rule point walk element true all definite

@@ -1,5 +1,5 @@
 -- The elements of a document by its outline, and the documents inside its OCTET STRINGs.
-use Rattle.std.specs.Prelude.{List, None, Option, Some, [], cond, drop, nat_lt, slice_get, unwrap_or, ℕ, ◌++◌, ◌∷◌, ◌≡◌, ◌⊎◌}
+use Rattle.std.specs.Prelude.{List, None, Option, Some, [], cond, drop, length, nat_lt, slice_get, suc, unwrap_or, zero, ℕ, ◌++◌, ◌∷◌, ◌≡◌, ◌⊎◌}
 use Rattle.std.specs.Borrow.{Bor}
 use Rattle.tlv_core.specs.Limits.{Limits}
 use Rattle.asn_names.specs.Naming.{named_by}
@@ -11,6 +11,7 @@ use Rattle.asn_outline.specs.declared.event.Stop.{Stop}
 use Rattle.asn_shapes.specs.declared.shape.Shape.{Choice', Containing', DefinedBy', Leaf, ListOf', Named', Open, Private', Refused, Sequence', SetOf', Shape}
 use Rattle.pk_explain.specs.Contents.{contents_in}
 use Rattle.pk_explain.specs.declared.inside.Inside.{Inside}
+use Rattle.pk_explain.specs.declared.places.Piece.{Piece}
 
 -- The elements of a document by their names in this type, and where the two part.
 pub record IsNamed (limits : Limits) (document : List ℕ) (root : Bor Shape) (named : List Element × Parting)
@@ -60,6 +61,28 @@ contents_within document [] = []
 contents_within document (element ∷ elements) =
     own_contents document element ++ deeper_contents document element.header.depth elements
 
+-- where the contents octets of a primitive element stand in the document; those of another one nowhere
+abbrev pub piece_at : Option ℕ → Option (List ℕ) → List Piece
+piece_at None contents = []
+piece_at (Some at) None = []
+piece_at (Some at) (Some contents) = record { at = at; octets = length contents } ∷ []
+
+abbrev pub own_pieces : List ℕ → Element → List Piece
+own_pieces document element = piece_at element.begin (contents_in document element)
+
+-- where those of elements stand as long as they are deeper
+abbrev pub deeper_pieces : List ℕ → ℕ → List Element → List Piece
+deeper_pieces document depth [] = []
+deeper_pieces document depth (element ∷ elements) =
+    cond (nat_lt depth element.header.depth)
+    (own_pieces document element ++ deeper_pieces document depth elements) []
+
+-- where those of the first of the elements stand, or those of all segments in it
+abbrev pub pieces_within : List ℕ → List Element → List Piece
+pieces_within document [] = []
+pieces_within document (element ∷ elements) =
+    own_pieces document element ++ deeper_pieces document element.header.depth elements
+
 -- The document inside an element of a file: its octets are the element's contents, its elements have the names of the
 -- contained type.
 pub record IsInside (limits : Limits) (file : List ℕ) (elements : List Element) (inside : Inside) : Type 0 where
@@ -67,6 +90,7 @@ pub record IsInside (limits : Limits) (file : List ℕ) (elements : List Element
   pub listed : slice_get elements inside.container ≡ Some element
   pub contains : contained element ≡ Some inside.shape
   pub octets : inside.octets.items ≡ contents_within file (drop inside.container elements)
+  pub pieces : inside.pieces.items ≡ pieces_within file (drop inside.container elements)
   pub named : IsNamed limits inside.octets.items inside.shape (inside.named.elements.items, inside.named.parting)
 
 -- the same where its octets are these elements' and its type is this one
@@ -75,6 +99,7 @@ pub record IsDocumentIn (limits : Limits) (file : List ℕ) (elements : List Ele
   pub stands_in : inside.container ≡ container
   pub type : inside.shape ≡ shape
   pub octets : inside.octets.items ≡ contents_within file elements
+  pub pieces : inside.pieces.items ≡ pieces_within file elements
   pub named : IsNamed limits inside.octets.items inside.shape (inside.named.elements.items, inside.named.parting)
 
 abbrev pub IsOneOf : Inside → List Inside → Type 0
@@ -84,3 +109,25 @@ IsOneOf inside (other ∷ others) = (inside ≡ other) ⊎ IsOneOf inside others
 abbrev pub AreInsides : Limits → List ℕ → List Element → List Inside → Type 0
 AreInsides limits file elements insides =
     (inside : Inside) → IsOneOf inside insides → IsInside limits file elements inside
+
+abbrev pub contained_at : Option Element → Option (Bor Shape)
+contained_at None = None
+contained_at (Some element) = contained element
+
+-- The document inside the element of this number is one more, where that contains one.
+abbrev pub AddsContained : Limits → List ℕ → List Element → ℕ → Option (Bor Shape) → List Inside → List Inside → Type 0
+AddsContained limits file elements number None before after = after ≡ before
+AddsContained limits file elements number (Some shape) before after =
+    (inside : Inside) × IsDocumentIn limits file (drop number elements) number shape inside
+    × (after ≡ before ++ (inside ∷ []))
+
+abbrev pub AddsInside : Limits → List ℕ → List Element → ℕ → List Inside → List Inside → Type 0
+AddsInside limits file elements number before after =
+    AddsContained limits file elements number (contained_at (slice_get elements number)) before after
+
+-- They are the documents inside the first elements, so many, in their order: none is left out.
+abbrev pub HasInsides : Limits → List ℕ → List Element → ℕ → List Inside → Type 0
+HasInsides limits file elements zero insides = insides ≡ []
+HasInsides limits file elements (suc number) insides =
+    (before : List Inside) × HasInsides limits file elements number before
+    × AddsInside limits file elements number before insides

@@ -6,8 +6,14 @@ pub mod Hidden
 pub mod Insides
 pub mod Kinds
 pub mod Lines
+pub mod ListingLaws
+pub mod Listings
+pub mod PartLaws
+pub mod Parts
+pub mod Places
 pub mod Public
 pub mod Reports
+pub mod Rules
 pub mod Spots
 pub mod Tellings
 pub mod Written

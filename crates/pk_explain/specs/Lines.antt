@@ -1,14 +1,16 @@
 -- The lines of a report, one for each element that is told.
-use Rattle.std.specs.Prelude.{Bool, List, None, Option, Some, [], cond, false, length, min, nat_lt, true, unwrap_or, ℕ, ◌+◌, ◌++◌, ◌-◌, ◌^◌, ◌∷◌, ◌≡◌, ◌⊎◌}
+use Rattle.std.specs.Prelude.{Bool, List, None, Option, Some, [], cond, false, length, min, nat_lt, true, unwrap_or, ℕ, ◌+◌, ◌++◌, ◌-◌, ◌^◌, ◌∷◌, ◌≡◌}
 use Rattle.std.specs.Option.{option_map}
 use Rattle.asn_names.specs.declared.element.Element.{Element}
+use Rattle.asn_names.specs.declared.element.Step.{Step}
+use Rattle.asn_names.specs.declared.element.Step.TheVariants.{Outside}
 use Rattle.asn_outline.specs.declared.announced.Announced.{Announced}
 use Rattle.asn_outline.specs.declared.event.Header.{Header}
 use Rattle.pk_explain.specs.Contents.{contents_in}
-use Rattle.pk_explain.specs.Public.{Tells}
+use Rattle.pk_explain.specs.Public.{Tells, tells_all}
 use Rattle.pk_explain.specs.declared.hidden.Told.{Told}
 use Rattle.pk_explain.specs.declared.hidden.Told.TheVariants.{Header as HeaderTold, Place as PlaceTold, Nothing as NothingTold}
-use Rattle.pk_explain.specs.declared.listing.Placed.{Placed}
+use Rattle.pk_explain.specs.declared.places.Placed.{Placed}
 use Rattle.pk_explain.specs.declared.values.Rule.{Rule}
 use Rattle.pk_explain.specs.declared.values.Rule.TheVariants.{Accepted, Guarded, Refused}
 use Rattle.pk_reports.specs.declared.report.Length.{Length}
@@ -88,11 +90,17 @@ IsToldOf rule element (Some contents) value = Tells rule element contents value
 abbrev pub IsTold : Rule → List ℕ → Element → Value → Type 0
 IsTold rule octets element value = IsToldOf rule element (contents_in octets element) value
 
--- What the telling of an element adds to the lines before.
-abbrev pub PushesLine : Rule → Told → List ℕ → Placed → Element → List Line → List Line → Type 0
-PushesLine rule HeaderTold octets placed element old new =
+-- a line of its place and name, where it has a place in the type
+abbrev pub AddsPlace : Placed → Element → Step → List Line → List Line → Type 0
+AddsPlace placed element Outside old new = new ≡ old
+AddsPlace placed element _ old new =
+    (line : Line) × (new ≡ old ++ (line ∷ [])) × IsPlaceLine placed element line
+
+-- What the telling of an element adds to the lines before; `all` says that all octets of its contents are told.
+abbrev pub AddsLine : Rule → Told → List ℕ → Placed → Element → List Line → List Line → Bool → Type 0
+AddsLine rule HeaderTold octets placed element old new all =
     (line : Line) × (new ≡ old ++ (line ∷ [])) × IsHeaderLine placed element line
-    × IsTold rule octets element line.value
-PushesLine rule PlaceTold octets placed element old new =
-    (new ≡ old) ⊎ ((line : Line) × (new ≡ old ++ (line ∷ [])) × IsPlaceLine placed element line)
-PushesLine rule NothingTold octets placed element old new = new ≡ old
+    × IsTold rule octets element line.value × (all ≡ tells_all line.value)
+AddsLine rule PlaceTold octets placed element old new all =
+    AddsPlace placed element element.step old new × (all ≡ false)
+AddsLine rule NothingTold octets placed element old new all = (new ≡ old) × (all ≡ false)

@@ -1,8 +1,9 @@
 //! The line of a fault inside `privateKey`, where no other line tells of the element there.
 ghost use Rattle.std.specs.Prelude.{IfSome, OnOk};
-ghost use Rattle.pk_explain.specs.Tellings.{IsFaultLine, MayAddFault};
+ghost use Rattle.pk_explain.specs.Tellings.{AddsFault, IsFaultLine};
 
-use crate::inside::{Inside, end_of, place_of};
+use crate::inside::Inside;
+use crate::places::{end_of, place_of};
 use crate::told::{
     Told, is_hidden, is_near, line_at, line_of, line_of_element, told_inside, told_outside,
 };
@@ -49,7 +50,7 @@ pub(crate) fn push_fault_line(
     named: &Named,
     insides: &[Inside],
 ) -> Result<(), AllocError>
-    ensures { OnOk result (MayAddFault lines.old.items lines.new.items) }
+    ensures { OnOk result (AddsFault fault lines.old.items lines.new.items) }
 {
     let Some(fault) = fault else {
         return Ok(());

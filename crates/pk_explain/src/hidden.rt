@@ -1,7 +1,7 @@
 //! What a report hides.
-ghost use Rattle.std.specs.Prelude.{◌≡◌, ◌==◌, ◌&&◌, cond, false};
+ghost use Rattle.std.specs.Prelude.{◌≡◌, ◌==◌, ◌&&◌, cond};
 ghost use Rattle.std.specs.Option.{option_map};
-ghost use Rattle.pk_explain.specs.Hidden.{depth_if, ends_at, fields_hide, is_behind, is_deeper, is_found_complete, is_member, is_private, is_private_due, is_refused_here, is_unread, level_hides, may_hide, told_by, told_in, walk_after};
+ghost use Rattle.pk_explain.specs.Hidden.{depth_if, ends_at, ends_untold, fields_hide, is_behind, is_deeper, is_found_complete, is_member, is_private, is_private_due, is_refused_here, is_unread, is_untold, level_hides, may_hide, no_point, point_inside, point_of, told_by, told_in, walk_after, walk_start};
 
 use crate::values::Rule;
 use asn_names::element::{Element, Level, Parting, Step};
@@ -46,7 +46,7 @@ pub(crate) struct Walk {
 
 /// Before the first element.
 pub(crate) fn walk_start() -> Walk
-    ensures { result.ended ≡ false }
+    ensures { result ≡ walk_start }
 {
     Walk {
         ended: false,
@@ -58,7 +58,9 @@ pub(crate) fn walk_start() -> Walk
 }
 
 /// Where no element is refused.
-pub(crate) fn no_point() -> Point {
+pub(crate) fn no_point() -> Point
+    ensures { result ≡ no_point }
+{
     Point {
         at: u64::MAX,
         complete: false,
@@ -67,7 +69,9 @@ pub(crate) fn no_point() -> Point {
 }
 
 /// Where the document is refused whose type and elements part here.
-pub(crate) fn point_of(at: u64, why: Reason, parting: &Parting) -> Point {
+pub(crate) fn point_of(at: u64, why: Reason, parting: &Parting) -> Point
+    ensures { result ≡ point_of at why parting.now }
+{
     Point {
         at,
         complete: is_found_complete(why),
@@ -76,7 +80,9 @@ pub(crate) fn point_of(at: u64, why: Reason, parting: &Parting) -> Point {
 }
 
 /// Where a document inside `privateKey` is refused.
-pub(crate) fn point_inside(at: u64, why: Reason) -> Point {
+pub(crate) fn point_inside(at: u64, why: Reason) -> Point
+    ensures { result ≡ point_inside at why }
+{
     Point {
         at,
         complete: is_found_complete(why),
@@ -212,15 +218,35 @@ fn is_member(members_of: Option<u64>, element: &Element) -> bool
     }
 }
 
+/// Whether nothing is told of an element that stands before the end of the telling: of an accepted document where it is
+/// in a private one alone.
+fn is_untold(rule: Rule, point: Point, walk: Walk, element: &Element) -> bool
+    ensures { result ≡ is_untold rule point walk element.now }
+{
+    let deeper = is_deeper(walk.private, element);
+    match rule {
+        Rule::Accepted => deeper,
+        Rule::Refused | Rule::Guarded => {
+            is_behind(point, walk, element) || deeper || is_member(walk.members_of, element)
+        }
+    }
+}
+
+/// Whether the telling has ended behind an element of which nothing is told: where it stands behind the fault.
+fn ends_untold(rule: Rule, point: Point, walk: Walk, element: &Element) -> bool
+    ensures { result ≡ ends_untold rule point walk element.now }
+{
+    match rule {
+        Rule::Accepted => false,
+        Rule::Refused | Rule::Guarded => is_behind(point, walk, element),
+    }
+}
+
 /// What is told of the next element.
 pub(crate) fn told_of(rule: Rule, point: Point, walk: Walk, element: &Element) -> Told
     ensures { result ≡ told_in rule point walk element.now }
 {
-    if walk.ended
-        || is_behind(point, walk, element)
-        || is_deeper(walk.private, element)
-        || is_member(walk.members_of, element)
-    {
+    if walk.ended || is_untold(rule, point, walk, element) {
         return Told::Nothing;
     }
     // What is refused behind a private element may begin with octets of it, if one was put in there.
@@ -257,7 +283,7 @@ pub(crate) fn walk_behind(
     let hides = match told {
         Told::Nothing => {
             return Walk {
-                ended: walk.ended || is_behind(point, walk, element),
+                ended: walk.ended || ends_untold(rule, point, walk, element),
                 ..walk
             };
         }

@@ -1,8 +1,9 @@
 //! Documents that OCTET STRINGs contain, and where their octets stand in the file.
 ghost use Rattle.std.specs.Prelude.{◌<◌, ◌++◌, ◌≡◌, ◌≤◌, IfOk, IfSome, OnOk, length, slice_get};
 ghost use Rattle.std.specs.Option.{option_map};
-ghost use Rattle.pk_explain.specs.Insides.{AreInsides, IsDocumentIn, IsNamed, contained, contents_within, deeper_contents, own_contents};
+ghost use Rattle.pk_explain.specs.Insides.{AddsInside, AreInsides, HasInsides, IsDocumentIn, IsNamed, contained, contents_within, deeper_contents, deeper_pieces, own_contents, own_pieces, pieces_within};
 
+use crate::places::Piece;
 use crate::values::contents_of;
 use asn_names::element::Element;
 use asn_names::naming::{Named, name_elements};
@@ -10,14 +11,6 @@ use asn_outline::outline::outline;
 use asn_shapes::shape::Shape;
 use std::alloc::{AllocError, Global};
 use tlv_core::limits::Limits;
-
-/// Octets that stand in the file one behind another.
-#[derive(Clone, Copy)]
-pub(crate) struct Piece {
-    /// The place of the first one in the file.
-    pub(crate) at: u64,
-    pub(crate) octets: u64,
-}
 
 /// A document inside an OCTET STRING, by its elements.
 #[derive(Drop)]
@@ -56,7 +49,9 @@ pub(crate) fn documents_inside(
     elements: &[Element],
     limits: Limits,
 ) -> Result<Vec<Inside>, AllocError>
-    ensures { IfOk result (λ insides. AreInsides limits file.now elements.now insides.items) }
+    ensures are { IfOk result (λ insides. AreInsides limits file.now elements.now insides.items) }
+    ensures all { IfOk result (λ insides.
+        HasInsides limits file.now elements.now (length elements.now) insides.items) }
 {
     let mut all = Vec::new(alloc);
     for i in 0..elements.len() {
@@ -74,8 +69,10 @@ fn push_inside(
     number: usize,
     limits: Limits,
 ) -> Result<(), AllocError>
-    ensures { OnOk result (AreInsides limits file.now elements.now all.old.items
+    ensures are { OnOk result (AreInsides limits file.now elements.now all.old.items
         → AreInsides limits file.now elements.now all.new.items) }
+    ensures adds { OnOk result
+        (AddsInside limits file.now elements.now number all.old.items all.new.items) }
 {
     let Some(element) = element_at(elements, number) else {
         return Ok(());
@@ -138,8 +135,10 @@ fn push_segments(
     octets: &mut Vec<u8>,
     pieces: &mut Vec<Piece>,
 ) -> Result<(), AllocError>
-    ensures { OnOk result (octets.new.items
+    ensures octets { OnOk result (octets.new.items
         ≡ octets.old.items ++ contents_within file.now elements.now) }
+    ensures pieces { OnOk result (pieces.new.items
+        ≡ pieces.old.items ++ pieces_within file.now elements.now) }
 {
     let [element, behind @ ..] = elements else {
         return Ok(());
@@ -156,8 +155,10 @@ fn push_deeper(
     octets: &mut Vec<u8>,
     pieces: &mut Vec<Piece>,
 ) -> Result<(), AllocError>
-    ensures { OnOk result (octets.new.items
+    ensures octets { OnOk result (octets.new.items
         ≡ octets.old.items ++ deeper_contents file.now depth elements.now) }
+    ensures pieces { OnOk result (pieces.new.items
+        ≡ pieces.old.items ++ deeper_pieces file.now depth elements.now) }
 {
     let mut left = elements;
     while let [element, behind @ ..] = left {
@@ -177,8 +178,10 @@ fn push_contents(
     octets: &mut Vec<u8>,
     pieces: &mut Vec<Piece>,
 ) -> Result<(), AllocError>
-    ensures { OnOk result (octets.new.items
+    ensures octets { OnOk result (octets.new.items
         ≡ octets.old.items ++ own_contents file.now element.now) }
+    ensures pieces { OnOk result (pieces.new.items
+        ≡ pieces.old.items ++ own_pieces file.now element.now) }
 {
     let Some(contents) = contents_of(file, element) else {
         return Ok(());
@@ -207,40 +210,4 @@ pub(crate) fn subtree(elements: &[Element]) -> usize
         }
     }
     elements.len()
-}
-
-/// The place in the file of the octet of this number, counted over the pieces.
-pub(crate) fn place_of(pieces: &[Piece], number: u64) -> Option<u64> {
-    let mut left = number;
-    for piece in pieces {
-        if left < piece.octets {
-            return piece.at.checked_add(left);
-        }
-        left -= piece.octets;
-    }
-    None
-}
-
-/// The place in the file behind so many octets of the pieces.
-pub(crate) fn end_of(pieces: &[Piece], count: u64) -> Option<u64> {
-    if count == 0 {
-        return place_of(pieces, 0);
-    }
-    match place_of(pieces, count - 1) {
-        Some(last) => last.checked_add(1),
-        None => None,
-    }
-}
-
-/// The pieces from that of the octet of this number on, and how many octets those before have.
-pub(crate) fn pieces_from(pieces: &[Piece], number: u64) -> (&[Piece], u64) {
-    let mut left = number;
-    for i in 0..pieces.len() {
-        let octets = pieces[i].octets;
-        if left < octets {
-            return (&pieces[i..], number.saturating_sub(left));
-        }
-        left -= octets;
-    }
-    (&pieces[..0], number.saturating_sub(left))
 }

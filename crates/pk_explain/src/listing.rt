@@ -1,78 +1,24 @@
 //! The lines of a report: an element each.
-ghost use Rattle.std.specs.Prelude.{Bool, ℕ, [], ◌≡◌, ◌⊎◌, ◌++◌, ◌∷◌, IfOk, OnOk, false, true, unwrap_or};
+ghost use Rattle.std.specs.Prelude.{Bool, ℕ, List, [], ◌≡◌, ◌⊎◌, ◌++◌, ◌∷◌, IfOk, OnOk, false, min, slice_get, true, unwrap_or, ◌+◌, ◌-◌, ◌^◌};
 ghost use Rattle.std.specs.Option.{option_map};
-ghost use Rattle.pk_explain.specs.Lines.{IsHeaderLine, IsPlaceLine, IsTold, PushesLine, end_behind, inside_of, is_refused, size_between, told_length};
+ghost use Rattle.pk_explain.specs.Lines.{AddsLine, AddsPlace, IsHeaderLine, IsPlaceLine, IsTold, inside_of, size_between};
+ghost use Rattle.pk_explain.specs.Listings.{AddsDocument, AddsElement, IsListed, Lists, Telling, behind_inside, count_before, count_in_first, count_inside, first_inside, is_around_definite, is_taken, number_around, own_number, point_in, start_of, telling, walk_behind_inside};
+ghost use Rattle.pk_explain.specs.Places.{SkipsIn, page_of};
 ghost use Rattle.pk_explain.specs.Insides.{IsOneOf};
 ghost use Rattle.pk_explain.specs.Tellings.{AreGuarded, KeepsGuarded, KeepsOrEnds, StaysEnded, TellsFile};
 ghost use Rattle.pk_explain.specs.declared.inside.Inside.{Inside};
 ghost use Rattle.pk_explain.specs.Public.{is_guarded, tells_all};
-ghost use Rattle.pk_explain.specs.declared.listing.Placed.{Placed};
 ghost use Rattle.pk_reports.specs.declared.report.Line.{Line};
 
 use crate::causes::{causes_of, first_cause};
 use crate::hidden::{Point, Told, Walk, no_point, point_inside, told_of, walk_behind, walk_start};
-use crate::inside::{Inside, Piece, element_at, end_of, pieces_from, place_of, subtree};
+use crate::inside::{Inside, element_at, subtree};
+use crate::places::{Piece, Placed, Sheet, later_pieces, placed_in, told_length};
 use crate::values::{Rule, contents_of, is_guarded, tells_all, told_value};
 use asn_names::element::{Element, Step};
-use asn_outline::event::Header;
-use pk_reports::report::{Cause, Length, Line, Value};
+use pk_reports::report::{Cause, Line, Value};
 use std::alloc::{AllocError, Global};
 use tlv_core::fault::Fault;
-
-/// A document whose elements are told: the file, or what one OCTET STRING contains.
-#[derive(Clone, Copy)]
-pub(crate) struct Sheet<'a> {
-    pub(crate) octets: &'a [u8],
-    pub(crate) elements: &'a [Element],
-    /// Why they aren't in DER; of a document that is or that is refused there are none.
-    pub(crate) causes: &'a [Option<Cause>],
-    /// Where its octets stand in the file, in order, from the one of the number `before` on.
-    pub(crate) pieces: &'a [Piece],
-    pub(crate) before: u64,
-    pub(crate) is_inside: bool,
-    /// How deep its outermost element is.
-    pub(crate) depth: u64,
-    /// The number of the line around it; of the file its own first one.
-    pub(crate) around: u64,
-}
-
-/// Where an element stands: its place and its end in the file, and the line around it.
-#[derive(Clone, Copy)]
-pub(crate) struct Placed {
-    pub(crate) at: u64,
-    pub(crate) end: Option<u64>,
-    pub(crate) is_inside: bool,
-    /// How deep the outermost element of its document is.
-    pub(crate) depth: u64,
-    pub(crate) around: u64,
-}
-
-/// The length of an element, where it may be told: where it has at most four octets. A damaged one may have taken octets
-/// of a private element for its own, also where what comes of it is accepted.
-pub(crate) fn told_length(header: &Header) -> Option<Length>
-    ensures { result ≡ told_length header.now }
-{
-    let Some(announced) = header.announced else {
-        return None;
-    };
-    let size = announced.contents.saturating_sub(header.at);
-    if size > 6 {
-        return None;
-    }
-    Some(Length {
-        header: size,
-        contents: announced.length,
-    })
-}
-
-fn is_refused(rule: Rule) -> bool
-    ensures { result ≡ is_refused rule }
-{
-    match rule {
-        Rule::Accepted => false,
-        Rule::Refused | Rule::Guarded => true,
-    }
-}
 
 /// The line of an element whose header is told.
 fn header_line(placed: Placed, element: &Element, value: Value, cause: Option<Cause>) -> Line
@@ -186,9 +132,8 @@ fn push_header(
 
 /// Tells an element's place and name, where it has a place in the type.
 fn push_place(lines: &mut Vec<Line>, placed: Placed, element: &Element) -> Result<(), AllocError>
-    ensures { OnOk result ((lines.new.items ≡ lines.old.items)
-        ⊎ ((line : Line) × (lines.new.items ≡ lines.old.items ++ (line ∷ []))
-        × IsPlaceLine placed element.now line)) }
+    ensures { OnOk result
+        (AddsPlace placed element.now element.now.step lines.old.items lines.new.items) }
 {
     match element.step {
         Step::Outside => Ok(()),
@@ -196,81 +141,6 @@ fn push_place(lines: &mut Vec<Line>, placed: Placed, element: &Element) -> Resul
             lines.push(place_line(placed, element))?;
             Ok(())
         }
-    }
-}
-
-/// Where an element stands, by its document and the line around it.
-fn placed_in(rule: Rule, point: Point, sheet: Sheet<'_>, element: &Element, around: u64) -> Placed {
-    Placed {
-        at: place_in_file(sheet, element),
-        end: told_end(rule, point, sheet, element),
-        is_inside: sheet.is_inside,
-        depth: sheet.depth,
-        around,
-    }
-}
-
-/// The place of an element in the file.
-fn place_in_file(sheet: Sheet<'_>, element: &Element) -> u64 {
-    match place_of(sheet.pieces, element.header.at.saturating_sub(sheet.before)) {
-        Some(at) => at,
-        None => element.header.at,
-    }
-}
-
-/// Where an element ends in the file: by its length, else where it ended before the fault. What stands behind a fault
-/// tells nothing, and where a private key may be neither do later segments.
-fn told_end(rule: Rule, point: Point, sheet: Sheet<'_>, element: &Element) -> Option<u64> {
-    if !sheet.is_inside {
-        if let Some(end) = announced_end(element) {
-            return Some(end);
-        }
-    }
-    let Some(end) = element.end else {
-        return None;
-    };
-    let ended = end <= point.at || (point.complete && point.at <= element.header.at);
-    if is_refused(rule) && !ended {
-        return None;
-    }
-    let count = end_behind(element, end).saturating_sub(sheet.before);
-    if is_guarded(rule) && is_past_first(sheet.pieces, count) {
-        return None;
-    }
-    end_of(sheet.pieces, count)
-}
-
-/// Where an element ends whose contents end there: behind its end-of-contents octets, where it has an indefinite length
-/// (X.690 8.1.1.1, 8.1.5).
-fn end_behind(element: &Element, end: u64) -> u64
-    ensures { result ≡ end_behind element.now.header.announced end }
-{
-    match element.header.announced {
-        Some(announced) if announced.length.is_none() => end.saturating_add(2),
-        _ => end,
-    }
-}
-
-/// Where an element of definite length ends by its header.
-fn announced_end(element: &Element) -> Option<u64> {
-    let Some(length) = told_length(&element.header) else {
-        return None;
-    };
-    let Some(contents) = length.contents else {
-        return None;
-    };
-    element
-        .header
-        .at
-        .saturating_add(length.header)
-        .checked_add(contents)
-}
-
-/// Whether the first of the pieces has fewer octets.
-fn is_past_first(pieces: &[Piece], count: u64) -> bool {
-    match pieces.first() {
-        Some(first) => first.octets < count,
-        None => true,
     }
 }
 
@@ -295,8 +165,10 @@ fn line_cause(sheet: Sheet<'_>, number: usize) -> Option<Cause> {
 }
 
 /// Whether the container around an element has a definite length.
-fn is_around_definite(elements: &[Element], element: &Element) -> bool {
-    match elements.get(element.around as usize) {
+fn is_around_definite(elements: &[Element], element: &Element) -> bool
+    ensures { result ≡ is_around_definite elements.now element.now }
+{
+    match element_at(elements, element.around as usize) {
         Some(around) => match around.header.announced {
             Some(announced) => announced.length.is_some(),
             None => false,
@@ -305,13 +177,27 @@ fn is_around_definite(elements: &[Element], element: &Element) -> bool {
     }
 }
 
-fn number_around(numbers: &[u64], sheet: Sheet<'_>, element: &Element) -> u64 {
+/// The number of the line around an element, by those of the elements before; of the outermost one that around its
+/// document.
+fn number_around(numbers: &[u64], outer: u64, element: &Element) -> u64
+    ensures { result ≡ number_around numbers.now outer element.now }
+{
     if element.header.depth == 0 {
-        return sheet.around;
+        return outer;
     }
     match numbers.get(element.around as usize) {
         Some(number) => *number,
-        None => sheet.around,
+        None => outer,
+    }
+}
+
+/// The number that stands for an element: that of its line, or that of the line around it.
+fn own_number(told: Told, line: u64, around: u64) -> u64
+    ensures { result ≡ own_number told line around }
+{
+    match told {
+        Told::Nothing => around,
+        Told::Header | Told::Place => line,
     }
 }
 
@@ -330,17 +216,20 @@ fn push_element(
         number walk.ended lines.old.items behind.ended lines.new.items) }
     ensures stays { IfOk result (λ behind.
         StaysEnded walk.ended lines.old.items behind.ended lines.new.items) }
+    ensures adds { IfOk result (λ behind. SkipsIn sheet.entry
+        → AddsElement rule point (page_of sheet.entry) number
+        (telling walk numbers.old.items lines.old.items)
+        (telling behind numbers.new.items lines.new.items)) }
 {
     let Some(element) = element_at(sheet.elements, number) else {
         return Ok(walk);
     };
-    let around = number_around(numbers.as_slice(), sheet, element);
+    let around = number_around(numbers.as_slice(), sheet.around, element);
     let definite = is_around_definite(sheet.elements, element);
     let placed = placed_in(rule, point, sheet, element, around);
     let told = told_of(rule, point, walk, element);
     let cause = told_cause(sheet, number, told);
-    let line = lines.len() as u64;
-    numbers.push(if told == Told::Nothing { around } else { line })?;
+    numbers.push(own_number(told, lines.len() as u64, around))?;
     let all = push_line(
         alloc,
         lines,
@@ -366,7 +255,7 @@ fn push_line(
     cause: Option<Cause>,
 ) -> Result<bool, AllocError>
     ensures { IfOk result (λ all.
-        PushesLine rule told octets.now placed element.now lines.old.items lines.new.items) }
+        AddsLine rule told octets.now placed element.now lines.old.items lines.new.items all) }
 {
     match told {
         Told::Header => push_header(alloc, lines, rule, octets, placed, element, cause),
@@ -387,24 +276,27 @@ fn push_inside(
     point: Point,
     sheet: Sheet<'_>,
 ) -> Result<bool, AllocError>
-    ensures { IfOk result (λ ended. is_guarded rule ≡ true → (number : ℕ)
+    ensures guarded { IfOk result (λ ended. is_guarded rule ≡ true → (number : ℕ)
         × AreGuarded sheet.entry.octets.now sheet.entry.elements.now lines.old.items number ended
         lines.new.items) }
+    ensures lists { IfOk result (λ ended. (end : Telling)
+        × Lists rule point (page_of sheet.entry)
+        (count_inside rule sheet.entry.pieces.now sheet.entry.elements.now)
+        (start_of lines.old.items) end
+        × (lines.new.items ≡ end.lines) × (ended ≡ end.walk.ended)) }
 {
     let mut numbers = Vec::with_capacity(alloc, sheet.elements.len())?;
     let mut walk = walk_start();
     let mut rest = sheet.pieces;
     let mut before: u64 = 0;
-    for i in 0..sheet.elements.len() {
-        let at = sheet.elements[i].header.at;
-        let (here, octets) = pieces_from(rest, at.saturating_sub(before));
+    let count = count_inside(rule, sheet.pieces, sheet.elements);
+    for i in 0..count {
+        let at = place_at(sheet.elements, i);
+        let (here, octets) = later_pieces(sheet.pieces, rest, before, at);
         rest = here;
-        before = before.saturating_add(octets);
-        if is_guarded(rule) && rest.len() < sheet.pieces.len() {
-            return Ok(walk.ended);
-        }
+        before = octets;
         let part = Sheet {
-            pieces: rest,
+            rest,
             before,
             ..sheet
         };
@@ -414,9 +306,51 @@ fn push_inside(
     Ok(walk.ended)
 }
 
+/// The place of the element of this number, in its document.
+fn place_at(elements: &[Element], number: usize) -> u64 {
+    match elements.get(number) {
+        Some(element) => element.header.at,
+        None => 0,
+    }
+}
+
+/// How many elements are told of a document inside an OCTET STRING.
+fn count_inside(rule: Rule, pieces: &[Piece], elements: &[Element]) -> usize
+    ensures { result ≡ count_inside rule pieces.now elements.now }
+{
+    if is_guarded(rule) {
+        count_in_first(pieces, elements)
+    } else {
+        elements.len()
+    }
+}
+
+fn count_in_first(pieces: &[Piece], elements: &[Element]) -> usize
+    ensures { result ≡ count_in_first pieces.now elements.now }
+{
+    match pieces {
+        [first, ..] => count_before(first.octets, elements),
+        [] => elements.len(),
+    }
+}
+
+/// How many of the first elements begin before a place.
+fn count_before(place: u64, elements: &[Element]) -> usize
+    ensures { result ≡ count_before place elements.now }
+{
+    for i in 0..elements.len() {
+        if place <= elements[i].header.at {
+            return i;
+        }
+    }
+    elements.len()
+}
+
 /// The document inside an element of the file, where it is the first of those that are left; and those behind it.
 fn next_inside<'a>(insides: &'a [Inside], number: usize) -> (Option<&'a Inside>, &'a [Inside])
-    ensures { (inside : Inside)
+    ensures inside { option_map (λ r. r.now) result.0 ≡ first_inside insides.now number }
+    ensures behind { result.1.now ≡ behind_inside insides.now number }
+    ensures member { (inside : Inside)
         → ((option_map (λ r. r.now) result.0 ≡ Some inside) ⊎ IsOneOf inside result.1.now)
         → IsOneOf inside insides.now }
 {
@@ -427,7 +361,9 @@ fn next_inside<'a>(insides: &'a [Inside], number: usize) -> (Option<&'a Inside>,
 }
 
 /// Whether the fault isn't in an element's segments: its contents were taken whole.
-fn is_taken(point: Point, element: &Element) -> bool {
+fn is_taken(point: Point, element: &Element) -> bool
+    ensures { result ≡ is_taken point element.now }
+{
     match element.end {
         Some(end) => point.at <= element.header.at || end <= point.at,
         None => false,
@@ -435,7 +371,9 @@ fn is_taken(point: Point, element: &Element) -> bool {
 }
 
 /// Where the document inside an element of the file is refused.
-fn point_in(fault: Option<Fault>, at: u64) -> Point {
+fn point_in(fault: Option<Fault>, at: u64) -> Point
+    ensures { result ≡ point_in fault at }
+{
     match fault {
         Some(fault) if fault.at == at => match fault.inside {
             Some((place, why)) => point_inside(place, why),
@@ -455,8 +393,10 @@ pub(crate) fn lines_of(
     sheet: Sheet<'_>,
     insides: &[Inside],
 ) -> Result<Vec<Line>, AllocError>
-    ensures { IfOk result (λ lines. is_guarded rule ≡ true → (number : ℕ) × (ended : Bool)
+    ensures guarded { IfOk result (λ lines. is_guarded rule ≡ true → (number : ℕ) × (ended : Bool)
         × TellsFile sheet.entry.octets.now sheet.entry.elements.now insides.now number ended lines.items) }
+    ensures listed { IfOk result (λ lines. SkipsIn sheet.entry
+        → IsListed rule point fault (page_of sheet.entry) insides.now lines.items) }
 {
     let mut lines: Vec<Line> = Vec::new(alloc);
     let mut numbers = Vec::with_capacity(alloc, sheet.elements.len())?;
@@ -467,10 +407,8 @@ pub(crate) fn lines_of(
         let told = push_element(alloc, &mut lines, &mut numbers, rule, point, walk, sheet, i)?;
         let (inside, behind) = next_inside(left, i);
         left = behind;
-        let element = &sheet.elements[i];
-        let is_der = sheet.causes.is_empty();
         let next = push_inside_of(
-            alloc, &mut lines, rule, point, fault, told, element, is_der, inside, number,
+            alloc, &mut lines, rule, point, fault, told, sheet, i, inside, number,
         )?;
         walk = next;
     }
@@ -486,25 +424,28 @@ fn push_inside_of(
     point: Point,
     fault: Option<Fault>,
     walk: Walk,
-    element: &Element,
-    is_der: bool,
+    file: Sheet<'_>,
+    element: usize,
     inside: Option<&Inside>,
     number: usize,
 ) -> Result<Walk, AllocError>
-    ensures { IfOk result (λ behind. KeepsOrEnds rule (option_map (λ r. r.now) inside.entry)
+    ensures ends { IfOk result (λ behind. KeepsOrEnds rule (option_map (λ r. r.now) inside.entry)
         walk.ended lines.old.items behind.ended lines.new.items) }
+    ensures adds { IfOk result (λ behind. (numbers : List ℕ)
+        → AddsDocument rule point fault (slice_get file.entry.elements.now element)
+        (option_map (λ r. r.now) inside.entry) number (telling walk numbers lines.old.items)
+        (telling behind numbers lines.new.items)) }
 {
-    let Some(inside) = inside else {
+    let (Some(element), Some(inside)) = (element_at(file.elements, element), inside) else {
         return Ok(walk);
     };
-    if walk.ended {
+    let Some(depth) = depth_inside(lines.as_slice(), number) else {
+        return Ok(walk);
+    };
+    if walk.ended || !is_taken(point, element) {
         return Ok(walk);
     }
-    if number >= lines.len() || !is_taken(point, element) {
-        return Ok(walk);
-    }
-    let depth = lines[number].depth.saturating_add(1);
-    let causes = inside_causes(alloc, is_der, inside)?;
+    let causes = inside_causes(alloc, file.causes.is_empty(), inside)?;
     let sheet = inside_sheet(inside, causes.as_slice(), depth, number as u64);
     let ended = push_inside(
         alloc,
@@ -514,6 +455,17 @@ fn push_inside_of(
         sheet,
     )?;
     Ok(walk_behind_inside(rule, walk, ended))
+}
+
+/// How deep a document is inside the element of the line of this number.
+fn depth_inside(lines: &[Line], number: usize) -> Option<u64>
+    ensures { result
+        ≡ option_map (λ line. min (line.depth + 1) (2 ^ 64 - 1)) (slice_get lines.now number) }
+{
+    match lines.get(number) {
+        Some(line) => Some(line.depth.saturating_add(1)),
+        None => None,
+    }
 }
 
 /// Why the elements inside aren't in DER, unless none are wanted.
@@ -541,12 +493,21 @@ fn inside_sheet<'a>(
 ) -> Sheet<'a>
     ensures octets { result.octets.now ≡ inside.now.octets.items }
     ensures elements { result.elements.now ≡ inside.now.named.elements.items }
+    ensures page { page_of result ≡ record {
+      octets = inside.now.octets.items;
+      elements = inside.now.named.elements.items;
+      pieces = inside.now.pieces.items;
+      is_inside = true;
+      depth = depth;
+      around = around;
+    } }
 {
     Sheet {
         octets: inside.octets.as_slice(),
         elements: inside.named.elements.as_slice(),
         causes,
         pieces: inside.pieces.as_slice(),
+        rest: inside.pieces.as_slice(),
         before: 0,
         is_inside: true,
         depth,
@@ -556,16 +517,17 @@ fn inside_sheet<'a>(
 
 /// What is known behind a document inside, which has so ended.
 fn walk_behind_inside(rule: Rule, walk: Walk, ended: bool) -> Walk
-    ensures { (is_guarded rule ≡ true) → result.ended ≡ true }
+    ensures { result ≡ walk_behind_inside rule walk ended }
 {
     match rule {
         Rule::Guarded => Walk {
             ended: true,
             ..walk
         },
-        Rule::Accepted | Rule::Refused => Walk {
+        Rule::Refused => Walk {
             ended: walk.ended || ended,
             ..walk
         },
+        Rule::Accepted => walk,
     }
 }

@@ -1,4 +1,7 @@
 //! What other standards forbid in an accepted document, by its lines.
+ghost use Rattle.std.specs.Prelude.{◌≤◌, IfOk, OnOk, length};
+ghost use Rattle.pk_explain.specs.Parts.{most_notes};
+
 use crate::keys::sizes_of;
 use crate::values::is_field;
 use asn_shapes::identifiers::Identifier;
@@ -18,8 +21,13 @@ struct Context {
     is_single: bool,
 }
 
-/// The notes on the lines of an accepted document, in their order.
-pub(crate) fn notes_of(alloc: Global, lines: &[Line]) -> Result<Vec<Note>, AllocError> {
+/// There are at most so many notes: a document may have an extension many thousand times.
+const MOST_NOTES: usize = 100;
+
+/// The notes on the lines of an accepted document, in their order: the first ones, where there are many.
+pub(crate) fn notes_of(alloc: Global, lines: &[Line]) -> Result<Vec<Note>, AllocError>
+    ensures { IfOk result (λ notes. length notes.items ≤ most_notes) }
+{
     let mut notes = Vec::new(alloc);
     let mut context = Context {
         is_ec: false,
@@ -28,21 +36,29 @@ pub(crate) fn notes_of(alloc: Global, lines: &[Line]) -> Result<Vec<Note>, Alloc
         is_single: false,
     };
     for i in 0..lines.len() {
-        if let Some(remark) = remark_on(context, &lines[i..]) {
-            notes.push(Note {
-                line: i as u64,
-                remark,
-            })?;
-        }
-        if let Some(remark) = remark_on_repeat(lines, i) {
-            notes.push(Note {
-                line: i as u64,
-                remark,
-            })?;
-        }
+        push_note(&mut notes, i, remark_on(context, &lines[i..]))?;
+        push_note(&mut notes, i, remark_on_repeat(lines, i))?;
         context = context_behind(context, &lines[i]);
     }
     Ok(notes)
+}
+
+/// A remark on the line of this number, where there is one and room for it.
+fn push_note(notes: &mut Vec<Note>, line: usize, remark: Option<Remark>) -> Result<(), AllocError>
+    ensures { OnOk result (length notes.old.items ≤ most_notes
+        → length notes.new.items ≤ most_notes) }
+{
+    let Some(remark) = remark else {
+        return Ok(());
+    };
+    if notes.as_slice().len() >= MOST_NOTES {
+        return Ok(());
+    }
+    notes.push(Note {
+        line: line as u64,
+        remark,
+    })?;
+    Ok(())
 }
 
 /// id-ecPublicKey, 1.2.840.10045.2.1.

@@ -1,10 +1,14 @@
 use Rattle.std.proofs.Common.{length, ◌++◌, ◌≡◌}
-use Rattle.pk_explain.specs.Insides.{deeper_contents}
+use Rattle.pk_explain.specs.Insides.{deeper_contents, deeper_pieces}
 use Rattle.pk_explain.proofs.inside.push_deeper.Given as goal
 
 abbrev pub invariant-loop-left : goal.invariant-loop-left
-invariant-loop-left l =
-    l.octets.items ++ deeper_contents l.file l.depth l.left ≡ l.fn.octets.items ++ deeper_contents l.file l.depth l.elements
+invariant-loop-left l = record {
+  octets : l.octets.items ++ deeper_contents l.file l.depth l.left
+      ≡ l.fn.octets.items ++ deeper_contents l.file l.depth l.elements;
+  pieces : l.pieces.items ++ deeper_pieces l.file l.depth l.left
+      ≡ l.fn.pieces.items ++ deeper_pieces l.file l.depth l.elements;
+}
 
 abbrev pub decreases-loop-left : goal.decreases-loop-left
 decreases-loop-left l = length l.left

@@ -1,6 +1,6 @@
 use Rattle.std.proofs.Common.{sym, ◌∙◌}
 use Rattle.pk_explain.proofs.Steps.{later_nearest}
-use Rattle.pk_explain.proofs.blame.+definite_around.Goals as goal
+use Rattle.pk_explain.proofs.public_fault.+definite_around.Goals as goal
 
 pub returns : goal.returns
 returns t c =

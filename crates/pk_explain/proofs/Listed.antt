@@ -1,0 +1,63 @@
+-- The walks over the elements of a document and of a file.
+use Rattle.std.proofs.Common.{List, Option, Some, ap, drop, sym, subst, ℕ, [], ◌∙◌, ◌++◌, ◌∷◌, length, slice_get, ◌+◌, ◌≡◌}
+use Rattle.std.proofs.Math.Numerals.{add-one}
+use Rattle.tlv_core.specs.declared.fault.Fault.{Fault}
+use Rattle.std.specs.Borrow.{Bor}
+use Rattle.asn_shapes.specs.declared.shape.Shape.{Shape}
+use Rattle.pk_explain.specs.Hidden.{walk_start}
+use Rattle.pk_explain.specs.Insides.{AddsContained, AddsInside, HasInsides, IsDocumentIn, contained, contained_at}
+use Rattle.pk_explain.specs.declared.hidden.Walk.{Walk}
+use Rattle.pk_reports.specs.declared.report.Line.{Line}
+use Rattle.pk_explain.specs.Listings.{AddsDocument, AddsElement, Lists, ListsFile, Telling, behind_inside, first_inside, start_of, telling}
+use Rattle.pk_explain.specs.Places.{Page}
+use Rattle.pk_explain.specs.declared.hidden.Point.{Point}
+use Rattle.pk_explain.specs.declared.inside.Inside.{Inside}
+use Rattle.pk_explain.specs.declared.values.Rule.{Rule}
+use Rattle.asn_names.specs.declared.element.Element.{Element}
+use Rattle.tlv_core.specs.Limits.{Limits}
+
+pub started : (walk : Walk) (numbers : List ℕ) (lines : List Line) → walk ≡ walk_start → numbers ≡ []
+    → telling walk numbers lines ≡ start_of lines
+started walk numbers lines w n = ap (λ one. telling one numbers lines) w ∙ ap (λ some. telling walk_start some lines) n
+
+pub one_more : (rule : Rule) (point : Point) (page : Page) (number : ℕ) (start before end : Telling)
+    → Lists rule point page number start before → AddsElement rule point page number before end
+    → Lists rule point page (number + 1) start end
+one_more rule point page number start before end lists adds =
+    subst (λ n. Lists rule point page n start end) (sym (add-one number)) (before, lists, adds)
+
+pub file_more : (rule : Rule) (point : Point) (fault : Option Fault) (page : Page) (insides : List Inside) (number : ℕ)
+    (others left : List Inside) (inside : Option Inside) (line : ℕ) (before mid end : Telling)
+    → ListsFile rule point fault page insides number others before
+    → AddsElement rule point page number before mid → inside ≡ first_inside others number
+    → line ≡ length before.lines
+    → AddsDocument rule point fault (slice_get page.elements number) inside line mid end
+    → left ≡ behind_inside others number → ListsFile rule point fault page insides (number + 1) left end
+file_more rule point fault page insides number others left inside line before mid end lists adds e l document b =
+    subst (λ n. ListsFile rule point fault page insides n left end) (sym (add-one number)) (
+      others,
+      before,
+      mid,
+      lists,
+      adds,
+      subst
+          (λ at. AddsDocument rule point fault (slice_get page.elements number) (first_inside others number) at mid end)
+          l
+          (subst (λ one. AddsDocument rule point fault (slice_get page.elements number) one line mid end) e document),
+      b,
+    )
+
+pub inside_more : (limits : Limits) (file : List ℕ) (elements : List Element) (number : ℕ) (before after : List Inside)
+    → HasInsides limits file elements number before → AddsInside limits file elements number before after
+    → HasInsides limits file elements (number + 1) after
+inside_more limits file elements number before after has adds =
+    subst (λ n. HasInsides limits file elements n after) (sym (add-one number)) (before, has, adds)
+
+-- the document inside an element that contains one
+pub adds_inside : (limits : Limits) (file : List ℕ) (elements : List Element) (number : ℕ) (element : Element)
+    (shape : Bor Shape) (old new : List Inside) (inside : Inside) → slice_get elements number ≡ Some element
+    → contained element ≡ Some shape → IsDocumentIn limits file (drop number elements) number shape inside
+    → new ≡ old ++ (inside ∷ []) → AddsInside limits file elements number old new
+adds_inside limits file elements number element shape old new inside listed contains is e =
+    subst (λ found. AddsContained limits file elements number (contained_at found) old new) (sym listed)
+    (subst (λ type. AddsContained limits file elements number type old new) (sym contains) (inside, is, e))

@@ -1,0 +1,40 @@
+-- The law on the lines of an accepted document: no element is left out.
+use Rattle.std.specs.Prelude.{List, Some, nat_lt, slice_get, true, ℕ, ◌++◌, ◌<◌, ◌∷◌, ◌≡◌, ◌⊎◌}
+use Rattle.asn_names.specs.declared.element.Element.{Element}
+use Rattle.pk_explain.specs.Lines.{IsHeaderLine, IsTold}
+use Rattle.pk_explain.specs.Listings.{IsListed}
+use Rattle.pk_explain.specs.Places.{Page}
+use Rattle.pk_explain.specs.declared.hidden.Point.{Point}
+use Rattle.pk_explain.specs.declared.inside.Inside.{Inside}
+use Rattle.pk_explain.specs.declared.places.Placed.{Placed}
+use Rattle.pk_explain.specs.declared.values.Rule.TheVariants.{Accepted}
+use Rattle.pk_reports.specs.declared.report.Line.{Line}
+use Rattle.tlv_core.specs.declared.fault.Fault.{Fault}
+use Rattle.std.specs.Prelude.{Option}
+
+-- One of the lines is of the element: it has the element's header, and says of its contents what the rule has.
+pub record HasLine (octets : List ℕ) (element : Element) (lines : List Line) : Type 0 where
+  pub before : List Line
+  pub line : Line
+  pub behind : List Line
+  pub are : lines ≡ before ++ (line ∷ behind)
+  pub placed : Placed
+  pub header : IsHeaderLine placed element line
+  pub value : IsTold Accepted octets element line.value
+
+-- An element before the one of this number is private, and not so deep.
+pub record HasPrivate (elements : List Element) (number depth : ℕ) : Type 0 where
+  pub other : ℕ
+  pub private : Element
+  pub earlier : other < number
+  pub listed : slice_get elements other ≡ Some private
+  pub is : private.private ≡ true
+  pub deeper : nat_lt private.header.depth depth ≡ true
+
+-- Each element of an accepted file has its line, but those in a private one, of which its line tells the size alone.
+abbrev pub NoneIsLeftOut : Type 0
+NoneIsLeftOut =
+    (point : Point) (fault : Option Fault) (page : Page) (insides : List Inside) (lines : List Line)
+    → IsListed Accepted point fault page insides lines → (number : ℕ) (element : Element)
+    → slice_get page.elements number ≡ Some element
+    → HasLine page.octets element lines ⊎ HasPrivate page.elements number element.header.depth
