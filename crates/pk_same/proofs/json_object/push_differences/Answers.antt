@@ -1,0 +1,20 @@
+use Rattle.std.proofs.Common.{[], ◌++◌, ◌∷◌, codes, flat_map, map}
+use Rattle.json.specs.Token.{begin_array, end_array, key}
+use Rattle.pk_reports.specs.JsonMembers.{number_member}
+use Rattle.pk_reports.proofs.Appends.{further, past}
+use Rattle.pk_same.specs.Json.{difference_members, words_object}
+use Rattle.pk_same.specs.Told.{words_of}
+use Rattle.pk_same.proofs.json_object.push_differences.Goals as goal
+
+pub returns : goal.returns
+unfolding difference_members
+returns c =
+    let old = c.args.json.now in
+    let begin = key (codes "differences") ∷ begin_array ∷ [] in
+    let items = flat_map words_object (map words_of c.args.told.now) in
+    let end = end_array ∷ [] in
+    let two = further c.push_each.new.json c.begin_list_at.new.self old begin items c.in_ok-begin_list_at.ensures
+    c.in_ok-push_each.ensures in
+    let three = further c.end_list.new.self c.push_each.new.json old (begin ++ items) end two c.in_ok-end_list.ensures in
+    past c.number.result c.number.new.self c.end_list.new.self old (begin ++ items ++ end)
+    (number_member (codes "more") c.args.more) three c.number.ensures

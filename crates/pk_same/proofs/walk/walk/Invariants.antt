@@ -1,0 +1,13 @@
+use Rattle.std.proofs.Common.{◌≡◌, ◌+◌, ◌++◌, length}
+use Rattle.pk_same.specs.Walks.{walk}
+use Rattle.pk_same.proofs.walk.walk.Given as goal
+
+abbrev pub invariant-loop-rounds : goal.invariant-loop-rounds
+invariant-loop-rounds l =
+    l.all.items
+    ++ walk l.rounds l.encodings.first.now l.encodings.second.now l.left l.right (length l.first) (length l.second)
+    ≡ walk (length l.first + length l.second) l.encodings.first.now l.encodings.second.now l.first l.second
+    (length l.first) (length l.second)
+
+abbrev pub decreases-loop-rounds : goal.decreases-loop-rounds
+decreases-loop-rounds l = l.rounds

@@ -1,0 +1,9 @@
+pub mod Differences
+pub mod Json
+pub mod Names
+pub mod Said
+pub mod Sameness
+pub mod Texts
+pub mod Told
+pub mod Walks
+pub mod Written

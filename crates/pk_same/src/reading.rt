@@ -1,0 +1,41 @@
+//! A document that is read, and its DER encoding.
+ghost use Rattle.std.specs.Prelude.{◌≡◌, IfOk};
+ghost use Rattle.pk_documents.specs.Kinds.{type_of};
+ghost use Rattle.pk_same.specs.Sameness.{IsReading};
+
+use pk_documents::kind::Kind;
+use pk_documents::normalise::{NormaliseError, normalise_whole_document};
+use std::alloc::{AllocError, Global};
+use tlv_core::fault::{Fault, ReadError};
+use tlv_core::limits::Limits;
+use tlv_core::target::ToWrite;
+
+/// What octets are that have to be one document.
+#[derive(Drop)]
+pub(crate) enum Reading {
+    /// A document, by its DER encoding.
+    Accepted(Vec<u8>),
+    Refused(Fault),
+}
+
+/// Reads octets that have to be one document of the kind, all of them.
+pub(crate) fn read(
+    alloc: Global,
+    octets: &[u8],
+    kind: Kind,
+    limits: Limits,
+) -> Result<Reading, AllocError>
+    ensures { IfOk result (λ reading. IsReading limits (type_of kind) octets.now reading) }
+{
+    // (most documents are as long as their DER encodings)
+    let room = Vec::with_capacity(alloc, octets.len())?;
+    let mut source = octets;
+    let mut target = ToWrite::new(room);
+    match normalise_whole_document(alloc, &mut source, &mut target, kind, limits) {
+        Ok(_) => Ok(Reading::Accepted(target.into_inner())),
+        Err(NormaliseError::Read(ReadError::Fault(fault))) => Ok(Reading::Refused(fault)),
+        Err(NormaliseError::Read(ReadError::Read { at: _ })) => unreachable!(),
+        Err(NormaliseError::Read(ReadError::Memory)) => Err(AllocError),
+        Err(NormaliseError::Write(_)) => Err(AllocError),
+    }
+}

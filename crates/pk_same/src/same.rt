@@ -1,0 +1,186 @@
+//! What two documents are to each other, as it is written.
+ghost use Rattle.std.specs.Prelude.{◌≡◌, IfOk, map, string_bytes};
+ghost use Rattle.pk_explain.specs.Kinds.{word_of};
+ghost use Rattle.pk_same.specs.Told.{words_of};
+ghost use Rattle.pk_same.specs.Written.{AreTold, IsCompared, IsTold, IsWritten, another_written, refused_written, same_written};
+
+use crate::json_object::{Heading, another_json, refused_json, same_json};
+pub use crate::names::Names;
+use crate::names::name_text;
+use crate::reading::{Reading, read};
+pub use crate::sameness::Sameness;
+use crate::text::{Called, another_text, refused_text, same_line};
+use crate::told::{Sides, Told, first_told, untold};
+use crate::walk::{Encodings, differences};
+use pk_documents::kind::Kind;
+use pk_explain::explained::explain;
+use pk_explain::version::VERSION;
+use std::alloc::{AllocError, Global};
+use tlv_core::fault::Fault;
+use tlv_core::limits::Limits;
+
+/// How the answer is written.
+#[derive(Clone, Copy, Debug, PartialEq, Eq)]
+pub enum Form {
+    /// In lines.
+    Text,
+    /// As one object of JSON.
+    Json,
+}
+
+/// What two slices are to each other, of which each has to be one whole document of the kind, and the same as it is
+/// written.
+///
+/// A document that is refused is never the same as another.
+pub fn same_text(
+    alloc: Global,
+    first: &[u8],
+    second: &[u8],
+    kind: Kind,
+    limits: Limits,
+    names: Names<'_>,
+    form: Form,
+) -> Result<(String, Sameness), AllocError>
+    ensures { IfOk result (λ written. IsWritten form limits kind names.entry.first.now
+        names.entry.second.now first.now second.now (string_bytes written.0) written.1) }
+{
+    let name = name_text(alloc, names.first)?;
+    let other_name = name_text(alloc, names.second)?;
+    let heading = Heading {
+        version: VERSION,
+        kind: word_of(kind),
+        called: Called {
+            first: name.as_str(),
+            second: other_name.as_str(),
+        },
+    };
+    let reading = read(alloc, first, kind, limits)?;
+    let other = read(alloc, second, kind, limits)?;
+    match (reading, other) {
+        (Reading::Accepted(one), Reading::Accepted(other)) => {
+            compared(alloc, &one, &other, kind, limits, heading, form)
+        }
+        (Reading::Accepted(_), Reading::Refused(fault)) => {
+            refused(alloc, heading, form, None, Some(fault))
+        }
+        (Reading::Refused(fault), Reading::Accepted(_)) => {
+            refused(alloc, heading, form, Some(fault), None)
+        }
+        (Reading::Refused(fault), Reading::Refused(other)) => {
+            refused(alloc, heading, form, Some(fault), Some(other))
+        }
+    }
+}
+
+/// The kind by the word of the program.
+fn word_of(kind: Kind) -> &'static str
+    ensures { result.now ≡ word_of kind }
+{
+    match kind {
+        Kind::Key => "key",
+        Kind::Ec => "ec",
+        Kind::Request => "request",
+        Kind::Public => "public",
+        Kind::Encrypted => "encrypted",
+        Kind::Package => "package",
+    }
+}
+
+/// The answer where a document is refused, or both.
+fn refused(
+    alloc: Global,
+    heading: Heading<'_>,
+    form: Form,
+    fault: Option<Fault>,
+    other: Option<Fault>,
+) -> Result<(String, Sameness), AllocError>
+    ensures text { IfOk result (λ written. string_bytes written.0
+        ≡ refused_written form heading.entry.version.now heading.entry.kind.now
+        heading.entry.called.first.now heading.entry.called.second.now fault other) }
+    ensures sameness { IfOk result (λ written. written.1 ≡ Sameness.Refused fault other) }
+{
+    let text = match form {
+        Form::Text => refused_text(alloc, heading.called, fault, other)?,
+        Form::Json => refused_json(alloc, heading, fault, other)?,
+    };
+    Ok((text, Sameness::Refused(fault, other)))
+}
+
+/// The answer for two documents by their DER encodings.
+fn compared(
+    alloc: Global,
+    one: &[u8],
+    other: &[u8],
+    kind: Kind,
+    limits: Limits,
+    heading: Heading<'_>,
+    form: Form,
+) -> Result<(String, Sameness), AllocError>
+    ensures { IfOk result (λ written. IsCompared form limits kind
+        heading.entry.version.now heading.entry.kind.now
+        heading.entry.called.first.now heading.entry.called.second.now
+        one.now other.now (string_bytes written.0) written.1) }
+{
+    if one == other {
+        return Ok((same_written(alloc, heading, form)?, Sameness::Same));
+    }
+    let (told, more) = tell(alloc, one, other, kind, limits)?;
+    let text = another_written(alloc, heading, form, &told, more)?;
+    Ok((text, Sameness::Another))
+}
+
+fn same_written(alloc: Global, heading: Heading<'_>, form: Form) -> Result<String, AllocError>
+    ensures { IfOk result (λ text. string_bytes text
+        ≡ same_written form heading.entry.version.now heading.entry.kind.now
+        heading.entry.called.first.now heading.entry.called.second.now) }
+{
+    match form {
+        Form::Text => same_line(alloc),
+        Form::Json => same_json(alloc, heading),
+    }
+}
+
+fn another_written(
+    alloc: Global,
+    heading: Heading<'_>,
+    form: Form,
+    told: &[Told],
+    more: u64,
+) -> Result<String, AllocError>
+    ensures { IfOk result (λ text. string_bytes text
+        ≡ another_written form heading.entry.version.now heading.entry.kind.now
+        heading.entry.called.first.now heading.entry.called.second.now
+        (map words_of told.now) more) }
+{
+    match form {
+        Form::Text => another_text(alloc, heading.called, told, more),
+        Form::Json => another_json(alloc, heading, told, more),
+    }
+}
+
+/// What is told of two documents by their DER encodings, and how many elements differ that aren't told.
+fn tell(
+    alloc: Global,
+    one: &[u8],
+    other: &[u8],
+    kind: Kind,
+    limits: Limits,
+) -> Result<(Vec<Told>, u64), AllocError>
+    ensures { IfOk result (λ it. AreTold limits kind one.now other.now
+        (map words_of it.0.items) it.1) }
+{
+    let report = explain(alloc, one, kind, limits)?;
+    let other_report = explain(alloc, other, kind, limits)?;
+    let encodings = Encodings {
+        first: one,
+        second: other,
+    };
+    let all = differences(alloc, encodings, &report.lines, &other_report.lines)?;
+    let sides = Sides {
+        root: report.kind.type_name,
+        first: &report.lines,
+        second: &other_report.lines,
+    };
+    let told = first_told(alloc, sides, &all)?;
+    Ok((told, untold(all.len())))
+}

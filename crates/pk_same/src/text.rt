@@ -1,0 +1,163 @@
+//! What two documents are to each other, in lines.
+ghost use Rattle.std.specs.Prelude.{◌≡◌, ◌++◌, IfOk, OnOk, flat_map, map, string_bytes};
+ghost use Rattle.pk_reports.specs.Reports.{inside_said, place_said};
+ghost use Rattle.pk_same.specs.Texts.{another_text, difference_lines, fault_line, field_behind, fields_said, more_said, refused_text, same_line, side_line};
+ghost use Rattle.pk_same.specs.Told.{words_of};
+
+use crate::texts::{push_between, push_number};
+use crate::told::Told;
+use std::alloc::{AllocError, Global};
+use tlv_core::fault::Fault;
+use tlv_core::reason::Reason;
+
+/// The names of two documents as they are written.
+#[derive(Clone, Copy)]
+pub struct Called<'a> {
+    pub first: &'a str,
+    pub second: &'a str,
+}
+
+/// The line of two documents that are the same.
+pub(crate) fn same_line(alloc: Global) -> Result<String, AllocError>
+    ensures { IfOk result (λ text. string_bytes text ≡ same_line) }
+{
+    String::from_str(alloc, "the same document\n")
+}
+
+/// The lines of documents of which one is refused, or both: one for each that is.
+#[tactic(auto, unfolding(crate::specs::Texts::refused_text))]
+pub fn refused_text(
+    alloc: Global,
+    called: Called<'_>,
+    fault: Option<Fault>,
+    other: Option<Fault>,
+) -> Result<String, AllocError>
+    ensures { IfOk result (λ text. string_bytes text
+        ≡ refused_text called.entry.first.now called.entry.second.now fault other) }
+{
+    let mut text = String::new(alloc);
+    push_fault_line(&mut text, called.first, fault)?;
+    push_fault_line(&mut text, called.second, other)?;
+    Ok(text)
+}
+
+/// The name of a document that is refused, and its fault, as `check` writes it.
+fn push_fault_line(text: &mut String, name: &str, fault: Option<Fault>) -> Result<(), AllocError>
+    ensures { OnOk result (string_bytes text.new ≡ string_bytes text.old
+        ++ fault_line name.now fault) }
+{
+    let Some(fault) = fault else {
+        return Ok(());
+    };
+    text.push_str(name)?;
+    text.push_str(": fault at ")?;
+    push_place(text, fault.at, fault.why)?;
+    push_inside(text, fault.inside)?;
+    text.push_str("\n")
+}
+
+/// A place and a reason.
+#[tactic(auto, unfolding(pk_reports::specs::Reports::place_said))]
+fn push_place(text: &mut String, at: u64, why: Reason) -> Result<(), AllocError>
+    ensures { OnOk result (string_bytes text.new ≡ string_bytes text.old ++ place_said at why) }
+{
+    push_number(text, at)?;
+    text.push_str(": ")?;
+    text.push_str(why.name())
+}
+
+/// The place and reason of a fault inside, where there is one.
+fn push_inside(text: &mut String, inside: Option<(u64, Reason)>) -> Result<(), AllocError>
+    ensures { OnOk result (string_bytes text.new ≡ string_bytes text.old ++ inside_said inside) }
+{
+    match inside {
+        None => Ok(()),
+        Some((at, why)) => {
+            text.push_str(" inside at ")?;
+            push_place(text, at, why)
+        }
+    }
+}
+
+/// The lines of two documents that aren't the same: the fields that differ, and under them their values.
+#[tactic(auto, unfolding(crate::specs::Texts::another_text))]
+pub(crate) fn another_text(
+    alloc: Global,
+    called: Called<'_>,
+    told: &[Told],
+    more: u64,
+) -> Result<String, AllocError>
+    ensures { IfOk result (λ text. string_bytes text
+        ≡ another_text called.entry.first.now called.entry.second.now (map words_of told.now) more) }
+{
+    let mut text = String::from_str(alloc, "another document: ")?;
+    push_fields(&mut text, told)?;
+    push_more(&mut text, more)?;
+    text.push_str("\n")?;
+    push_values(&mut text, called, told)?;
+    Ok(text)
+}
+
+/// The fields, a comma between each two.
+fn push_fields(text: &mut String, told: &[Told]) -> Result<(), AllocError>
+    ensures { OnOk result (string_bytes text.new ≡ string_bytes text.old
+        ++ fields_said (map words_of told.now)) }
+{
+    let [first, behind @ ..] = told else {
+        return Ok(());
+    };
+    text.push_str(first.field.as_str())?;
+    push_fields_behind(text, behind)
+}
+
+/// Fields behind others.
+fn push_fields_behind(text: &mut String, told: &[Told]) -> Result<(), AllocError>
+    ensures { OnOk result (string_bytes text.new ≡ string_bytes text.old
+        ++ flat_map field_behind (map words_of told.now)) }
+{
+    let mut left = told;
+    while let [next, behind @ ..] = left {
+        text.push_str(", ")?;
+        text.push_str(next.field.as_str())?;
+        left = behind;
+    }
+    Ok(())
+}
+
+/// How many more fields differ, where more do.
+fn push_more(text: &mut String, more: u64) -> Result<(), AllocError>
+    ensures { OnOk result (string_bytes text.new ≡ string_bytes text.old ++ more_said more) }
+{
+    if more == 0 {
+        return Ok(());
+    }
+    push_between(text, " and ", more, " more")
+}
+
+/// The values of each field, a line for each document.
+fn push_values(text: &mut String, called: Called<'_>, told: &[Told]) -> Result<(), AllocError>
+    ensures { OnOk result (string_bytes text.new ≡ string_bytes text.old
+        ++ flat_map (difference_lines called.entry.first.now called.entry.second.now)
+        (map words_of told.now)) }
+{
+    let mut left = told;
+    while let [next, behind @ ..] = left {
+        push_side(text, called.first, next.first.as_str())?;
+        push_side(text, called.second, next.second.as_str())?;
+        left = behind;
+    }
+    Ok(())
+}
+
+/// A value in a document.
+#[tactic(auto, unfolding(crate::specs::Texts::side_line))]
+fn push_side(text: &mut String, name: &str, value: &str) -> Result<(), AllocError>
+    ensures { OnOk result (string_bytes text.new ≡ string_bytes text.old
+        ++ side_line name.now value.now) }
+{
+    text.push_str("  ")?;
+    text.push_str(name)?;
+    text.push_str(": ")?;
+    text.push_str(value)?;
+    text.push_str("\n")
+}

@@ -1,0 +1,117 @@
+//! What is told of the elements that differ.
+ghost use Rattle.std.specs.Prelude.{[], ◌≡◌, ◌++◌, ◌-◌, ◌∷◌, IfOk, OnOk, map, string_bytes};
+ghost use Rattle.pk_reports.specs.JsonLists.{first_ones};
+ghost use Rattle.pk_same.specs.Told.{difference_field, said_of, side_value, words_of};
+
+use crate::said::{field_text, lines_from, push_value};
+use crate::walk::Difference;
+use pk_reports::report::Line;
+use std::alloc::{AllocError, Global};
+
+/// As many elements that differ are told, at most.
+const TOLD: usize = 16;
+
+/// An element that differs: its field, and its value in each document.
+#[derive(Drop)]
+pub(crate) struct Told {
+    pub(crate) field: String,
+    pub(crate) first: String,
+    pub(crate) second: String,
+}
+
+/// The elements of two documents, and the name of the type that both are of.
+#[derive(Clone, Copy)]
+pub(crate) struct Sides<'a> {
+    pub(crate) root: &'a str,
+    pub(crate) first: &'a [Line],
+    pub(crate) second: &'a [Line],
+}
+
+/// What is told of the first elements that differ.
+pub(crate) fn first_told(
+    alloc: Global,
+    sides: Sides<'_>,
+    differences: &[Difference],
+) -> Result<Vec<Told>, AllocError>
+    ensures { IfOk result (λ told. map words_of told.items
+        ≡ map (said_of sides.entry.root.now sides.entry.first.now sides.entry.second.now)
+        (first_ones 16 differences.now)) }
+{
+    let mut all = Vec::new(alloc);
+    push_each(alloc, &mut all, sides, first_ones(differences))?;
+    Ok(all)
+}
+
+fn first_ones(differences: &[Difference]) -> &[Difference]
+    ensures { result.now ≡ first_ones 16 differences.now }
+{
+    if differences.len() > TOLD {
+        &differences[..TOLD]
+    } else {
+        differences
+    }
+}
+
+/// How many there are that aren't told.
+pub(crate) fn untold(count: usize) -> u64
+    ensures { result ≡ count - 16 }
+{
+    count.saturating_sub(TOLD) as u64
+}
+
+fn push_each(
+    alloc: Global,
+    all: &mut Vec<Told>,
+    sides: Sides<'_>,
+    differences: &[Difference],
+) -> Result<(), AllocError>
+    ensures { OnOk result (map words_of all.new.items ≡ map words_of all.old.items
+        ++ map (said_of sides.entry.root.now sides.entry.first.now sides.entry.second.now)
+        differences.now) }
+{
+    let mut left = differences;
+    while let [difference, behind @ ..] = left {
+        all.push(told_of(alloc, sides, *difference)?)?;
+        left = behind;
+    }
+    Ok(())
+}
+
+fn told_of(alloc: Global, sides: Sides<'_>, difference: Difference) -> Result<Told, AllocError>
+    ensures { IfOk result (λ told. words_of told
+        ≡ said_of sides.entry.root.now sides.entry.first.now sides.entry.second.now difference) }
+{
+    Ok(Told {
+        field: difference_field(alloc, sides, difference)?,
+        first: side_value(alloc, sides.first, difference.first)?,
+        second: side_value(alloc, sides.second, difference.second)?,
+    })
+}
+
+/// The field that an element is which differs: by its line in the first document, else in the second one.
+fn difference_field(
+    alloc: Global,
+    sides: Sides<'_>,
+    difference: Difference,
+) -> Result<String, AllocError>
+    ensures { IfOk result (λ text. string_bytes text ≡ difference_field
+        sides.entry.root.now sides.entry.first.now sides.entry.second.now difference) }
+{
+    match (difference.first, difference.second) {
+        (Some(number), _) => field_text(alloc, sides.root, sides.first, number),
+        (None, Some(number)) => field_text(alloc, sides.root, sides.second, number),
+        (None, None) => String::from_str(alloc, sides.root),
+    }
+}
+
+/// The value in a document of the element whose line has this number.
+fn side_value(alloc: Global, lines: &[Line], number: Option<u64>) -> Result<String, AllocError>
+    ensures { IfOk result (λ text. string_bytes text ≡ side_value lines.now number) }
+{
+    let Some(number) = number else {
+        return String::from_str(alloc, "absent");
+    };
+    let mut text = String::new(alloc);
+    push_value(alloc, &mut text, lines_from(lines, number))?;
+    Ok(text)
+}
