@@ -14,7 +14,7 @@ use Rattle.pkder.specs.CommandLines.{Asks, AsksNothing, BadTask, IsFaultOf, IsPl
 use Rattle.pkder.specs.declared.line.BadValue.{BadValue}
 use Rattle.pkder.specs.declared.line.LineFault.{LineFault}
 use Rattle.pkder.specs.declared.line.LineFault.TheVariants as faults
-use Rattle.pkder.specs.declared.line.Task.{Task}
+use Rattle.pk_commands.specs.declared.task.Task.{Task}
 
 -- ---- the line
 

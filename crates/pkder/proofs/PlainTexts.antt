@@ -12,7 +12,7 @@ use Rattle.std.specs.Prelude.{codes, string_bytes, nat_lt, ◌==◌}
 use Rattle.std.specs.Str.{chars}
 use Rattle.clap.specs.Words.{Text}
 use Rattle.pkder.specs.CommandLines.{IsPlain, IsPlainLine, controls_line, has_control, quoted}
-use Rattle.pkder.specs.Outcomes.{line_feed}
+use Rattle.pk_commands.specs.Outcomes.{line_feed}
 
 abbrev Printable : ℕ → Type 0
 Printable c = IsInRange 32 126 c

@@ -18,13 +18,13 @@ use Rattle.pk_documents.specs.declared.kind.Kind.TheVariants as kinds
 use Rattle.pk_documents.specs.declared.request_part.Part.{Part}
 use Rattle.pk_documents.specs.declared.request_part.Part.TheVariants as parts
 use Rattle.pk_explain.specs.declared.written.Form.{Form}
-use Rattle.pkder.specs.Outcomes.{line_feed}
-use Rattle.pkder.specs.declared.line.Action.{Action}
-use Rattle.pkder.specs.declared.line.Action.TheVariants.{Check, Explain, Normalise, Show, Signed}
+use Rattle.pk_commands.specs.Outcomes.{line_feed}
+use Rattle.pk_commands.specs.declared.task.Action.{Action}
+use Rattle.pk_commands.specs.declared.task.Action.TheVariants.{Check, Explain, Normalise, Show, Signed}
 use Rattle.pkder.specs.declared.line.BadValue.{BadValue}
 use Rattle.pkder.specs.declared.line.LineFault.{LineFault}
 use Rattle.pkder.specs.declared.line.LineFault.TheVariants as faults
-use Rattle.pkder.specs.declared.line.Task.{Task}
+use Rattle.pk_commands.specs.declared.task.Task.{Task}
 
 -- ---- the options: their names, and what stands for one that isn't given
 

@@ -9,35 +9,12 @@ ghost use Rattle.pkder.specs.declared.line.LineFault.TheVariants.{Memory};
 use crate::command::command;
 use clap::error::ErrorKind;
 use clap::{ArgMatches, Error};
+use pk_commands::task::{Action, Task};
 use pk_documents::kind::Kind;
 use pk_documents::request_part::Part;
 use pk_explain::written::Form;
 use std::alloc::{AllocError, Global};
 use tlv_core::limits::Limits;
-
-/// What to do with the document.
-#[derive(Clone, Copy, Debug, PartialEq, Eq)]
-pub enum Action {
-    /// Write what it is, in lines.
-    Show,
-    /// Write whether it is in DER.
-    Check,
-    /// Write a report of it, refused or not.
-    Explain(Form),
-    /// Write its DER text.
-    Normalise,
-    /// Write a part of a certification request.
-    Signed(Part),
-}
-
-/// What a line asks for.
-#[derive(Clone, Copy, Debug, PartialEq, Eq)]
-pub struct Task {
-    pub action: Action,
-    /// What the document is: a request under `Signed`.
-    pub kind: Kind,
-    pub limits: Limits,
-}
 
 /// Why a line asks for nothing that can be done.
 #[derive(Debug, Drop)]

@@ -1,32 +1,28 @@
 //! `pkder` reads one document in BER or DER from standard input and writes what its command says to standard output:
 //! what it is, whether it is in DER, its one DER text, a part of it.
 //!
-//! Proved here: what `run` answers and writes for every input, memory apart; which words ask for which task, and that
-//! others are refused; the exit status and the line on standard error of each outcome. Only tested, by the tables of
+//! Proved here: which words ask for which task, and that others are refused; the status that a run ends with. What a
+//! task answers and writes for every input, memory apart, is proved in `pk_commands`. Only tested, by the tables of
 //! `tests/`: the texts of help and of lines that clap refuses, and `main`.
 #![tactic(auto)]
 
 ghost use Rattle.std.specs.Prelude.{◌≡◌};
 ghost use Rattle.std.specs.Process.{exit_status};
-ghost use Rattle.pkder.specs.Endings.{ServedAs};
-ghost use Rattle.pkder.specs.Outcomes.{status_of};
+ghost use Rattle.pk_commands.specs.Endings.{ServedAs};
+ghost use Rattle.pk_commands.specs.Outcomes.{status_of};
 
-mod block_target;
 mod command;
-mod input;
 mod line;
-mod outcome;
-mod run;
-mod streams;
 
 use asn_documents::document::write_octets;
-use line::{LineFault, Task};
-use outcome::Outcome;
+use line::LineFault;
+use pk_commands::outcome::{Outcome, status};
+use pk_commands::streams::{answer, tell, write_line};
+use pk_commands::task::Task;
 use pk_documents::document::{Document, Valued};
 use std::alloc::Global;
 use std::io::{BufReader, ErrorKind};
 use std::process::ExitCode;
-use streams::{answer, tell, write_line};
 use tlv_core::source::FromRead;
 use tlv_core::target::ToWrite;
 
@@ -69,7 +65,7 @@ fn finish(rt: &HostRuntime, outcome: &Outcome) -> ExitCode
 {
     let mut stderr = ToWrite::new(rt.stderr());
     write_line(rt.alloc(), outcome, &mut stderr);
-    ExitCode::from(outcome::status(outcome))
+    ExitCode::from(status(outcome))
 }
 
 /// Prints why the line is refused, and answers the status of such a line.

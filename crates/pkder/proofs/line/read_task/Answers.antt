@@ -1,6 +1,6 @@
 use Rattle.clap.specs.Words.{found_of, rows_of}
 use Rattle.pkder.specs.CommandLines.{Means}
-use Rattle.pkder.specs.declared.line.Task.{Task}
+use Rattle.pk_commands.specs.declared.task.Task.{Task}
 use Rattle.pkder.proofs.CommandLines.{means_none}
 use Rattle.pkder.proofs.line.read_task.Goals as goal
 

@@ -1,5 +1,5 @@
 use Rattle.std.proofs.Common.{◌++◌, ◌∙◌, ap, codes}
-use Rattle.pkder.specs.Outcomes.{line_feed}
+use Rattle.pk_commands.specs.Outcomes.{line_feed}
 use Rattle.pkder.proofs.line.BadValue.text.Goals as goal
 
 pub returns : goal.returns

@@ -1,0 +1,9 @@
+pub mod BlockTargets
+pub mod Endings
+pub mod Entries
+pub mod Escapes
+pub mod Inputs
+pub mod NameLists
+pub mod Replies
+pub mod ToldNames
+pub mod Tokens

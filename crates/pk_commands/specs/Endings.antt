@@ -1,0 +1,91 @@
+-- How a run ends over the streams of the program.
+use Rattle.std.specs.Prelude.{◌≡◌, ◌⊎◌, ℕ, Bool, List, None, Option, Result, false, true}
+use Rattle.std.specs.Io.KnownBytes.{Keeps}
+use Rattle.tlv_core.specs.declared.sink.WriteError.{WriteError}
+use Rattle.x690.specs.Values.{Value}
+use Rattle.asn_documents.specs.WrittenValues.{WritesText}
+use Rattle.pk_documents.specs.declared.document.Document.{Document}
+use Rattle.pk_commands.specs.Files.{FilesTold, has_failed_write}
+use Rattle.pk_commands.specs.Outcomes.{line_of}
+use Rattle.pk_commands.specs.Replies.{Replied}
+use Rattle.pk_commands.specs.declared.files.FilesEnd.{FilesEnd}
+use Rattle.pk_commands.specs.declared.files.FilesEnd.TheVariants as ends
+use Rattle.pk_commands.specs.declared.task.Task.{Task}
+use Rattle.pk_commands.specs.declared.outcome.Outcome.{Outcome}
+use Rattle.pk_commands.specs.declared.outcome.Outcome.TheVariants.{Done, NotDer, Fault, Explained, ReadFailed, WriteFailed, Memory}
+
+-- it says that all that was due is written
+abbrev pub IsWhole : Outcome → Type 0
+IsWhole Done = Unit {0}
+IsWhole (NotDer at) = Unit {0}
+IsWhole (Fault found) = ⊥
+IsWhole (Explained found) = Unit {0}
+IsWhole (ReadFailed at) = ⊥
+IsWhole (WriteFailed count) = ⊥
+IsWhole Memory = ⊥
+
+-- it says that a read failed
+abbrev pub has_failed_read : Outcome → Bool
+has_failed_read Done = false
+has_failed_read (NotDer at) = false
+has_failed_read (Fault found) = false
+has_failed_read (Explained found) = false
+has_failed_read (ReadFailed at) = true
+has_failed_read (WriteFailed count) = false
+has_failed_read Memory = false
+
+-- How a run ends whose writer is flushed behind it: as it ended; or the writer isn't flushed behind what is whole, and
+-- then how many octets are out isn't told.
+abbrev pub EndsAs : Outcome → Outcome → Type 0
+EndsAs outcome end = (end ≡ outcome) ⊎ (IsWhole outcome × (end ≡ WriteFailed 0))
+
+-- A run over no named file replies so, and then the writer is flushed.
+abbrev pub AnsweredAs : (Document → Value) → Task → Outcome → Option (List ℕ) → Option (List ℕ) → Option (List ℕ)
+    → Option (List ℕ) → Type 0
+AnsweredAs value_of task end before after old new =
+    (outcome : Outcome)
+    × (out : Option (List ℕ))
+    × Replied value_of task None outcome before after old out
+    × Keeps out new
+    × EndsAs outcome end
+
+-- What the program answers to a task: it ends as a run of it does, or memory runs out before.
+abbrev pub ServedAs : (Document → Value) → Task → Outcome → Type 0
+ServedAs value_of task end =
+    (end ≡ Memory)
+    ⊎ ((before : Option (List ℕ))
+    × (after : Option (List ℕ))
+    × (old : Option (List ℕ))
+    × (new : Option (List ℕ))
+    × AnsweredAs value_of task end before after old new)
+
+-- How a run over named documents ends whose writer is flushed behind it: as it ended; or the writer isn't flushed, and
+-- then how many octets are out isn't told.
+abbrev pub FilesEndAs : FilesEnd → FilesEnd → Type 0
+FilesEndAs end last = (last ≡ end) ⊎ ((has_failed_write end ≡ false) × (last ≡ ends.WriteFailed 0))
+
+-- What is said of the documents is written, and then the writer is flushed.
+abbrev pub AnsweredFiles : (Document → Value) → (List ℕ → Option (List ℕ)) → Task → Option (List (List ℕ))
+    → Option (List ℕ) → Option (List ℕ) → FilesEnd → Type 0
+AnsweredFiles value_of told task list old new last =
+    (end : FilesEnd)
+    × (out : Option (List ℕ))
+    × FilesTold value_of told task list old out end
+    × Keeps out new
+    × FilesEndAs end last
+
+-- One of two texts is written, or its first octets.
+abbrev pub WritesOneOf : List ℕ → List ℕ → Option (List ℕ) → Option (List ℕ) → Bool → Type 0
+WritesOneOf first second old new failed =
+    (text : List ℕ)
+    × ((text ≡ first) ⊎ (text ≡ second))
+    × (count : Result ℕ WriteError)
+    × WritesText text old new failed count
+
+-- The line of the outcome is written, or that memory ran out, or the first octets of either.
+abbrev pub WritesLine : Outcome → Option (List ℕ) → Option (List ℕ) → Bool → Type 0
+WritesLine outcome old new failed =
+    (line : Outcome)
+    × ((line ≡ outcome) ⊎ (line ≡ Memory))
+    × (count : Result ℕ WriteError)
+    × WritesText (line_of line) old new failed count

@@ -1,0 +1,11 @@
+pub mod BlockTargets
+pub mod Endings
+pub mod Files
+pub mod Inputs
+pub mod KnownOctets
+pub mod NameLists
+pub mod Names
+pub mod Openings
+pub mod Outcomes
+pub mod Replies
+pub mod Reported

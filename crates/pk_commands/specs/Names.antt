@@ -1,0 +1,39 @@
+-- How a name is told: as it is, or in quotes and escaped.
+use Rattle.std.specs.Prelude.{All, Bool, List, codes, cond, false, length, not, ℕ, ◌++◌, ◌==◌, ◌||◌}
+use Rattle.std.specs.Char.{is_control}
+use Rattle.std.specs.Char.Escape.{escape_ascii, escape_default}
+use Rattle.std.specs.Int.{IsInRange}
+use Rattle.std.specs.List.{flat_map, list_any}
+use Rattle.std.specs.Str.{chars, is_utf8}
+
+-- a control character, `"` or `\`
+abbrev pub needs_quotes : ℕ → Bool
+needs_quotes c = is_control c || c == 34 || c == 92
+
+-- there is something, and nothing in it that needs quotes
+abbrev pub is_plain : List ℕ → Bool
+is_plain text = cond (length text == 0) false (not (list_any needs_quotes (chars text)))
+
+-- characters in quotes, those that are quotes or aren't printable ASCII as Rust's `char::escape_default` has them: `\n`,
+-- `\u{1b}`
+abbrev pub quoted : List ℕ → List ℕ
+quoted text = codes "\"" ++ (flat_map escape_default (chars text) ++ codes "\"")
+
+-- octets in quotes, as Rust's `u8::escape_ascii` has them: `\n`, `\xff`
+abbrev pub quoted_octets : List ℕ → List ℕ
+quoted_octets octets = codes "\"" ++ (flat_map escape_ascii octets ++ codes "\"")
+
+-- a name that is UTF-8
+abbrev pub told_text : List ℕ → List ℕ
+told_text name = cond (is_plain name) name (quoted name)
+
+abbrev pub told_name : List ℕ → List ℕ
+told_name name = cond (is_utf8 name) (told_text name) (quoted_octets name)
+
+-- the same in JSON, which escapes by itself
+abbrev pub file_name : List ℕ → List ℕ
+file_name name = cond (is_utf8 name) name (quoted_octets name)
+
+-- printable ASCII
+abbrev pub IsPrintable : List ℕ → Type 0
+IsPrintable text = All (IsInRange 32 126) text

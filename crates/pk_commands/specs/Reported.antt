@@ -1,0 +1,79 @@
+-- What is told of a report, and how a run ends that tells it.
+use Rattle.std.specs.Prelude.{Bool, List, Option, [], codes, cond, false, true, ℕ, ◌++◌, ◌&&◌, ◌≡◌}
+use Rattle.json.specs.Print.{print}
+use Rattle.json.specs.Token.{Token}
+use Rattle.tlv_core.specs.Limits.{Limits}
+use Rattle.tlv_core.specs.declared.fault.ReadError.{ReadError}
+use Rattle.tlv_core.specs.declared.fault.ReadError.TheVariants.{Fault as FaultRead, Read as ReadAt, Memory as MemoryRead}
+use Rattle.pk_documents.specs.Kinds.{type_of}
+use Rattle.pk_documents.specs.declared.kind.Kind.{Kind}
+use Rattle.pk_explain.specs.Answers.{IsRefused}
+use Rattle.pk_explain.specs.Reports.{IsReportOf}
+use Rattle.pk_explain.specs.Rules.{is_refusal}
+use Rattle.pk_explain.specs.Written.{places_told, version}
+use Rattle.pk_reports.specs.Json.{check_object, report_object}
+use Rattle.pk_reports.specs.JsonMembers.{number_member, object, text_member}
+use Rattle.pk_reports.specs.Reports.{report_lines}
+use Rattle.pk_reports.specs.declared.report.Answer.{Answer}
+use Rattle.pk_reports.specs.declared.report.Answer.TheVariants as answers
+use Rattle.pk_reports.specs.declared.report.Report.{Report}
+use Rattle.pk_commands.specs.Outcomes.{line_feed}
+use Rattle.pk_commands.specs.declared.outcome.Outcome.{Outcome}
+use Rattle.pk_commands.specs.declared.outcome.Outcome.TheVariants.{Done, Explained as ExplainedFault, NotDer}
+use Rattle.pk_commands.specs.declared.reported.Telling.{Telling}
+use Rattle.pk_commands.specs.declared.reported.Telling.TheVariants.{Checked, Explained}
+
+abbrev pub is_der : Answer → Bool
+is_der answers.Der = true
+is_der (answers.NotDer at) = false
+is_der (answers.Refused found) = false
+
+-- a report as a line of JSON: with all elements or without, of the file of this name
+abbrev pub report_line : Bool → Option (List ℕ) → Report → List ℕ
+report_line all file report = print (report_object report version file all places_told) ++ line_feed
+
+-- what `check` and `explain` tell of a report
+abbrev pub told_text : Telling → Option (List ℕ) → Report → List ℕ
+told_text (Checked quiet) file report =
+    cond (quiet && is_der report.answer) [] (print (check_object report version file places_told) ++ line_feed)
+told_text (Explained form) file report =
+    cond form.json (report_line form.all file report) (report_lines report form.all)
+
+-- how explaining ends, by what checking answers
+abbrev pub explained_outcome : Answer → Outcome
+explained_outcome answers.Der = Done
+explained_outcome (answers.NotDer at) = NotDer at
+explained_outcome (answers.Refused found) = ExplainedFault found
+
+-- What is told of the report of these octets is due.
+abbrev pub DueOfReport : Telling → Option (List ℕ) → Limits → Kind → List ℕ → Outcome → List ℕ → Type 0
+DueOfReport telling file limits kind octets outcome text =
+    (report : Report)
+    × IsReportOf limits kind octets report
+    × (outcome ≡ explained_outcome report.answer)
+    × (text ≡ told_text telling file report)
+
+-- These octets aren't refused, and their report is due, with all elements.
+abbrev pub DueOfShownReport : Option (List ℕ) → Limits → Kind → List ℕ → Outcome → List ℕ → Type 0
+DueOfShownReport file limits kind octets outcome text =
+    (report : Report)
+    × IsReportOf limits kind octets report
+    × (is_refusal report.answer ≡ false)
+    × (outcome ≡ Done)
+    × (text ≡ report_line true file report)
+
+-- why no report of these octets is due: they are refused, or memory ran out
+abbrev pub Unreported : Limits → Kind → List ℕ → ReadError → Type 0
+Unreported limits kind octets (FaultRead found) = IsRefused limits (type_of kind) octets found
+Unreported limits kind octets (ReadAt at) = ⊥
+Unreported limits kind octets MemoryRead = Unit {0}
+
+-- why no report of a file is told, as JSON
+abbrev pub error_object : List ℕ → ℕ → List ℕ → List Token
+error_object file status error =
+    object (number_member (codes "form") 1 ++ text_member (codes "version") version
+    ++ text_member (codes "file") file ++ number_member (codes "status") status
+    ++ text_member (codes "error") error)
+
+abbrev pub error_line : List ℕ → ℕ → List ℕ → List ℕ
+error_line file status error = print (error_object file status error) ++ line_feed
