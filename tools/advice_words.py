@@ -1,9 +1,10 @@
 #!/usr/bin/env python3
-"""advice_words.py: the words on reasons in crates/pk_reports, beside the manual's table of the 27 reasons.
+"""advice_words.py: the words on reasons in crates/pk_reports, beside the manual's table of the 27 reasons; and those of
+`pkder help reasons`, beside the man page.
 
 No proof sees that the words of a report are those of the manual. This compares each of the three texts of each reason
-with its cell of the table, and the reasons with those of the crate tlv_core, in their order. Then it plants another
-word in each text, and sees that this is told.
+with its cell of the table, and the reasons with those of the crate tlv_core, in their order; and each line of help with
+the man page's. Then it plants another word in each text, and sees that this is told.
 
 Each difference has a line; the last line is 'words: N passed, M failed', a text and a planted word counting once."""
 import os
@@ -15,6 +16,9 @@ WORDS, PAGE, REASONS = "crates/pk_reports/src/advice.rt", "docs/manual.md", "cra
 ARM = re.compile(r"Reason::(\w+) => Advice \{(.*?)\n        \}", re.S)
 FIELD = re.compile(r'(means|likely|act):\s*"((?:[^"\\]|\\.)*)"', re.S)
 PARTS = ("means", "likely", "act")
+HELP, MAN_PAGE = "crates/pkder/src/help.rt", "docs/pkder.1"
+LINE = re.compile(r"^  ([A-Z]\w+) +(\S.*)$", re.M)
+ITEM = re.compile(r"^\.It ([A-Z][A-Za-z]+)\n((?:[^.].*\n)+)", re.M)
 
 
 def text_of(file):
@@ -51,6 +55,33 @@ def differences(code, page):
     return [it for it in sorted({*code, *page}) if code.get(it) != page.get(it)]
 
 
+def of_help(text):
+    """The line of each reason in `help reasons`."""
+    return dict(LINE.findall(text.split("const REASONS", 1)[1]))
+
+
+def of_man_page(text):
+    """The words of each reason in the man page."""
+    listed = text.split("The reasons are:", 1)[1]
+    return {reason: " ".join(words.split()) for reason, words in ITEM.findall(listed)}
+
+
+def short_words():
+    """Compares the lines of help with the man page, and answers how many are right and how many aren't."""
+    text, page = text_of(HELP), of_man_page(text_of(MAN_PAGE))
+    lines, passed = of_help(text), 0
+    for reason in sorted({*lines, *page, *reasons()}):
+        planted = of_help(text.replace(f"  {lines.get(reason)}\n", "  planted\n")) if reason in lines else lines
+        if reason in reasons() and lines.get(reason) == page.get(reason) and planted.get(reason) != page.get(reason):
+            passed += 1
+        else:
+            print(f"{reason}\n  {HELP}: {lines.get(reason)}\n  {MAN_PAGE}: {page.get(reason)}")
+    if list(lines) != sorted(lines):
+        print("the reasons of help aren't in alphabetical order")
+        return passed, 1
+    return passed, len({*lines, *page, *reasons()}) - passed
+
+
 def main():
     names = reasons()
     code, page = of_code(text_of(WORDS)), of_page(text_of(PAGE))
@@ -67,8 +98,9 @@ def main():
     for it in missed:
         print(f"NOT TOLD: {it}")
     failed = len(wrong) + len(missed)
-    print(f"words: {2 * len(due) - failed} passed, {failed} failed")
-    return 1 if failed else 0
+    right, others = short_words()
+    print(f"words: {2 * len(due) - failed + right} passed, {failed + others} failed")
+    return 1 if failed + others else 0
 
 
 if __name__ == "__main__":

@@ -18,7 +18,8 @@ import tempfile
 import textwrap
 import threading
 
-FOLDER = os.path.join(os.path.dirname(os.path.dirname(os.path.realpath(__file__))), "docs/completions")
+TOP = os.path.dirname(os.path.dirname(os.path.realpath(__file__)))
+FOLDER = f"{TOP}/docs/completions"
 # where the files stand, and where Debian's package puts them
 PLACES = [f"{FOLDER}/{it}" for it in ("pkder.bash", "_pkder", "pkder.fish")]
 INSTALLED = ["/usr/share/bash-completion/completions/pkder", "/usr/share/zsh/vendor-completions/_pkder",
@@ -44,21 +45,28 @@ bindkey '^I' offer
 """
 SECONDS = 20
 MADE_BY = "by tools/completions.py, from the program's help"
-OPTION = re.compile(r"  (?:-(\w), |    )--([a-z-]+)(?: <(\w+)>)?  +(.*)")
+OPTION = re.compile(r"  (?:-(\w), |    )--([a-z0-9-]+)(?: <(\w+)>)?  +(.*)")
 COMMAND = re.compile(r"  ([a-z]+)  +(.*)")
+# what `help` takes beside the commands
+TOPICS = ["reasons"]
 # what is typed so far, and the words that may come, of the manual's tables
 TYPED = [
     ("pkder norm", {"normalise"}),
     ("pkder sig", {"signed"}),
     ("pkder --v", {"--version"}),
     ("pkder check --k", {"--kind"}),
-    ("pkder signed --", {"--part", "--depth", "--octets", "--help"}),
+    ("pkder signed --", {"--part", "--kind", "--depth", "--octets", "--to", "--help"}),
+    ("pkder help s", {"show", "signed"}),
+    ("pkder help rea", {"reasons"}),
+    ("pkder show -k p", {"public", "package"}),
+    ("pkder check docs/completions/_p", {"docs/completions/_pkder"}),
+    ("pkder check --files0-from docs/completions/_p", {"docs/completions/_pkder"}),
     ("pkder check --kind ", {"key", "ec", "request", "public", "encrypted", "package"}),
     ("pkder show --depth 3 --kind p", {"public", "package"}),
     ("pkder normalise --kind=e", {"ec", "encrypted"}),
     ("pkder signed --part ", {"info", "algorithm", "key", "signature"}),
     ("pkder check --depth ", set()),
-    ("pkder signed --k", set()),
+    ("pkder signed --q", set()),
 ]
 
 
@@ -69,6 +77,16 @@ class Option:
         self.letter, self.name, self.value, self.about = letter, name, value, short(about)
         listed = re.search(r": (\w+(?:, \w+)* or \w+)", about)
         self.words = re.split(", | or ", listed[1]) if value and listed else []
+        self.is_file = value == "FILE"
+
+
+class Command:
+    """A command: what it is, its options, and whether it takes files."""
+
+    def __init__(self, about, found):
+        self.about = short(about)
+        self.options = [Option(*OPTION.fullmatch(it).groups()) for it in found["Options:"]]
+        self.takes_files = "Arguments:" in found
 
 
 def short(about):
@@ -76,73 +94,95 @@ def short(about):
     return re.split(r": | \[default", about)[0]
 
 
+def joined(lines):
+    """The lines of a section, each with those that go on with it."""
+    found = []
+    for line in lines:
+        if found and line.startswith(" " * 10):
+            found[-1] += f" {line.strip()}"
+        else:
+            found.append(line)
+    return found
+
+
 def help_of(program, *words):
     """The lines of help, by the titles of their sections."""
     ran = subprocess.run([program, *words, "--help"], capture_output=True, text=True, check=True)
     blocks = (block.split("\n") for block in ran.stdout.split("\n\n"))
-    return {block[0]: block[1:] for block in blocks}
+    return {block[0]: joined(block[1:]) for block in blocks}
 
 
 def command_line(program):
-    """The options of the program; and of each command, by its name, what it is and its options."""
-    options = lambda found: [Option(*OPTION.fullmatch(it).groups()) for it in found["Options:"]]
+    """The options of the program; and its commands by their names, but for `help`."""
     top = help_of(program)
-    commands = dict(COMMAND.fullmatch(it).groups() for it in top["Commands:"])
-    return options(top), {it: (short(about), options(help_of(program, it))) for it, about in commands.items()}
+    listed = dict(COMMAND.fullmatch(it).groups() for it in top["Commands:"])
+    commands = {it: Command(about, help_of(program, it)) for it, about in listed.items() if it != "help"}
+    return [Option(*OPTION.fullmatch(it).groups()) for it in top["Options:"]], commands, short(listed["help"])
 
 
 def indented(lines, by):
     return textwrap.indent("\n".join(lines), " " * by)
 
 
-def bash(top, commands):
+def bash_cases(commands):
+    """What is offered behind each option, and behind other words."""
+    for name, command in commands.items():
+        for it in command.options:
+            names = " | ".join(f"{name}:{dash}" for dash in ([f"-{it.letter}"] if it.letter else []) + [f"--{it.name}"])
+            if it.value:
+                yield f"{names}) files=yes ;;" if it.is_file else f"{names}) words=\"{' '.join(it.words)}\" ;;"
+        files = " files=yes" if command.takes_files else ""
+        yield f"{name}:*) words=\"{' '.join(f'--{it.name}' for it in command.options)}\"{files} ;;"
+    yield f"help:*) words=\"{' '.join([*commands, *TOPICS])}\" ;;"
+
+
+def bash(top, commands, _about):
     """The file for bash."""
-    cases = []
-    for name, (_, options) in commands.items():
-        for it in options:
-            cases += [f"{name}:--{it.name}) words=\"{' '.join(it.words)}\" ;;"] if it.value else []
-        cases.append(f"{name}:*) words=\"{' '.join(f'--{it.name}' for it in options)}\" ;;")
-    first = " ".join([*commands, *(f"--{it.name}" for it in top)])
+    first = " ".join([*commands, "help", *(f"--{it.name}" for it in top)])
     return f"""# Completions of pkder for bash, {MADE_BY}.
 _pkder() {{
-    local word=${{COMP_WORDS[COMP_CWORD]}} before=${{COMP_WORDS[COMP_CWORD - 1]}} words=
+    local word=${{COMP_WORDS[COMP_CWORD]}} before=${{COMP_WORDS[COMP_CWORD - 1]}} words='' files=''
     # (bash takes --kind=key for three words)
     if [ "$before" = "=" ]; then before=${{COMP_WORDS[COMP_CWORD - 2]}}; fi
-    if [ "$word" = "=" ]; then word=; fi
+    if [ "$word" = "=" ]; then word=''; fi
     if [ "$COMP_CWORD" = 1 ]; then
         words="{first}"
     else
         case ${{COMP_WORDS[1]}}:$before in
-{indented(cases, 12)}
+{indented(bash_cases(commands), 12)}
         esac
     fi
-    mapfile -t COMPREPLY < <(compgen -W "$words" -- "$word")
+    mapfile -t COMPREPLY < <(compgen -W "$words" -- "$word"; [ -z "$files" ] || compgen -f -- "$word")
 }}
-complete -F _pkder pkder
+complete -o filenames -F _pkder pkder
 """
 
 
 def zsh_option(option):
     """An option as _arguments takes it."""
     about = f"[{option.about}]"
-    if option.value:
-        return shlex.quote(f"--{option.name}={about}:{option.value}:({' '.join(option.words)})")
-    letter = f"-{option.letter}," if option.letter else ""
+    values = "_files" if option.is_file else f"({' '.join(option.words)})"
+    value = f":{option.value}:{values}" if option.value else ""
+    sign = "=" if option.value else ""
+    if not option.letter:
+        return shlex.quote(f"--{option.name}{sign}{about}{value}")
     # (a brace expansion, which repeats what is behind it)
-    names = f"{{{letter}--{option.name}}}" if letter else f"--{option.name}"
-    return f"{names}{shlex.quote(about)}"
+    letter = f"-{option.letter}{'+' if option.value else ''}"
+    return f"{{{letter},--{option.name}{sign}}}{shlex.quote(about + value)}"
 
 
-def zsh_case(name, options):
+def zsh_case(name, command):
     """What a command takes, in a case of its name."""
-    arguments = " \\\n".join(["    _arguments", *(f"        {zsh_option(it)}" for it in options)])
+    taken = [*map(zsh_option, command.options), *(["'*:file:_files'"] if command.takes_files else [])]
+    arguments = " \\\n".join(["    _arguments", *(f"        {it}" for it in taken)])
     return f"{name})\n{arguments}\n    ;;"
 
 
-def zsh(top, commands):
+def zsh(top, commands, about):
     """The file for zsh."""
-    listed = [shlex.quote(f"{name}:{about}") for name, (about, _) in commands.items()]
-    cases = [zsh_case(name, options) for name, (_, options) in commands.items()]
+    listed = [shlex.quote(f"{name}:{it.about}") for name, it in commands.items()] + [shlex.quote(f"help:{about}")]
+    cases = [zsh_case(name, command) for name, command in commands.items()]
+    cases.append(f"help)\n    _arguments '1:topic:({' '.join([*commands, *TOPICS])})'\n    ;;")
     first = [f"{zsh_option(it)} \\" for it in top]
     return f"""#compdef pkder
 # Completions of pkder for zsh, {MADE_BY}.
@@ -177,17 +217,22 @@ def fish_option(when, option):
     """The line for an option."""
     letter = f" -s {option.letter}" if option.letter else ""
     words = f" -a {fish_quote(' '.join(option.words))}" if option.words else ""
-    takes = f" -x{words}" if option.value else ""
+    takes = " -r -F" if option.is_file else f" -x{words}" if option.value else ""
     return f"complete -c pkder -n {when}{letter} -l {option.name}{takes} -d {fish_quote(option.about)}"
 
 
-def fish(top, commands):
+def fish(top, commands, about):
     """The file for fish."""
     lines = [f"# Completions of pkder for fish, {MADE_BY}.", "complete -c pkder -f"]
     lines += [fish_option("__fish_use_subcommand", it) for it in top]
-    for name, (about, options) in commands.items():
-        lines.append(f"complete -c pkder -n __fish_use_subcommand -a {name} -d {fish_quote(about)}")
-        lines += [fish_option(f"'__fish_seen_subcommand_from {name}'", it) for it in options]
+    for name, command in commands.items():
+        lines.append(f"complete -c pkder -n __fish_use_subcommand -a {name} -d {fish_quote(command.about)}")
+        met = f"'__fish_seen_subcommand_from {name}'"
+        lines += [fish_option(met, it) for it in command.options]
+        lines += [f"complete -c pkder -n {met} -F"] if command.takes_files else []
+    lines.append(f"complete -c pkder -n __fish_use_subcommand -a help -d {fish_quote(about)}")
+    topics = fish_quote(" ".join([*commands, *TOPICS]))
+    lines.append(f"complete -c pkder -n '__fish_seen_subcommand_from help' -a {topics}")
     return "\n".join(lines) + "\n"
 
 
@@ -197,7 +242,7 @@ def in_bash(file, typed):
     script = f"""source {file}
 COMP_WORDS=({shlex.join(words)}) COMP_CWORD={len(words) - 1}
 _pkder && printf '%s\\n' "${{COMPREPLY[@]}}" """
-    return {*subprocess.run(["bash", "-c", script], capture_output=True, text=True).stdout.split()}
+    return {*subprocess.run(["bash", "-c", script], capture_output=True, text=True, cwd=TOP).stdout.split()}
 
 
 def in_zsh(file, typed):
@@ -208,7 +253,8 @@ def in_zsh(file, typed):
             with open(name, "w", encoding="utf-8") as it:
                 it.write(text)
         ours, its = pty.openpty()
-        how = {"stdin": its, "stdout": its, "stderr": its, "env": {**os.environ, "ZDOTDIR": work, "TERM": "dumb"}}
+        how = {"stdin": its, "stdout": its, "stderr": its, "cwd": TOP,
+               "env": {**os.environ, "ZDOTDIR": work, "TERM": "dumb"}}
         with subprocess.Popen(["zsh", "-i", "--no-globalrcs"], start_new_session=True, **how) as ran:
             os.close(its)
             late = threading.Timer(SECONDS, ran.kill)
@@ -227,7 +273,7 @@ def in_zsh(file, typed):
 def in_fish(file, typed):
     """The words that fish offers."""
     script = f"source {file}; complete -C {fish_quote(typed)}"
-    ran = subprocess.run(["fish", "--no-config", "-c", script], capture_output=True, text=True)
+    ran = subprocess.run(["fish", "--no-config", "-c", script], capture_output=True, text=True, cwd=TOP)
     found = {line.split("\t")[0] for line in ran.stdout.splitlines()}
     return {it.split("=")[-1] for it in found}
 
@@ -253,8 +299,8 @@ def main(words):
     programs = [it for it in words if not it.startswith("-")]
     if len(programs) != 1 or len(words) > 2 or {*words} - {"--write", "--installed", *programs}:
         sys.exit(__doc__)
-    top, commands = command_line(os.path.abspath(programs[0]))
-    made = bash(top, commands), zsh(top, commands), fish(top, commands)
+    line = command_line(os.path.abspath(programs[0]))
+    made = bash(*line), zsh(*line), fish(*line)
     if "--write" in words:
         os.makedirs(FOLDER, exist_ok=True)
         for name, text in zip(PLACES, made):

@@ -89,6 +89,7 @@ def parts(program=build.PROGRAM):
         "spellings": lambda: [["python3", "tools/spellings.py", "tests/manual/spellings.tsv"],
                               ["python3", "examples/test_intake.py", program]],
         "completions": lambda: [["python3", "tools/completions.py", program]],
+        "files": lambda: [["python3", "tools/files.py", *builds(program)]],
         "allocations": lambda: [[*ALLOCATIONS, program, *words] for words in allocating()],
         "reader": lambda: [
             ["python3", "tools/try_reader.py", *tables("pkder"), "examples/answers.tsv"],

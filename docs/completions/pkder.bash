@@ -1,35 +1,42 @@
 # Completions of pkder for bash, by tools/completions.py, from the program's help.
 _pkder() {
-    local word=${COMP_WORDS[COMP_CWORD]} before=${COMP_WORDS[COMP_CWORD - 1]} words=
+    local word=${COMP_WORDS[COMP_CWORD]} before=${COMP_WORDS[COMP_CWORD - 1]} words='' files=''
     # (bash takes --kind=key for three words)
     if [ "$before" = "=" ]; then before=${COMP_WORDS[COMP_CWORD - 2]}; fi
-    if [ "$word" = "=" ]; then word=; fi
+    if [ "$word" = "=" ]; then word=''; fi
     if [ "$COMP_CWORD" = 1 ]; then
-        words="show check explain normalise signed --help --version"
+        words="check explain show normalise signed help --help --version"
     else
         case ${COMP_WORDS[1]}:$before in
-            show:--kind) words="key ec request public encrypted package" ;;
-            show:--depth) words="" ;;
-            show:--octets) words="" ;;
-            show:*) words="--kind --depth --octets --help" ;;
-            check:--kind) words="key ec request public encrypted package" ;;
+            check:-k | check:--kind) words="key ec request public encrypted package" ;;
             check:--depth) words="" ;;
             check:--octets) words="" ;;
-            check:*) words="--kind --depth --octets --help" ;;
-            explain:--kind) words="key ec request public encrypted package" ;;
+            check:--files0-from) files=yes ;;
+            check:*) words="--kind --depth --octets --quiet --json --files0-from --help" files=yes ;;
+            explain:-k | explain:--kind) words="key ec request public encrypted package" ;;
             explain:--depth) words="" ;;
             explain:--octets) words="" ;;
-            explain:*) words="--kind --depth --octets --all --json --help" ;;
-            normalise:--kind) words="key ec request public encrypted package" ;;
+            explain:--files0-from) files=yes ;;
+            explain:*) words="--kind --depth --octets --all --json --files0-from --help" files=yes ;;
+            show:-k | show:--kind) words="key ec request public encrypted package" ;;
+            show:--depth) words="" ;;
+            show:--octets) words="" ;;
+            show:--files0-from) files=yes ;;
+            show:*) words="--kind --depth --octets --json --files0-from --help" files=yes ;;
+            normalise:-k | normalise:--kind) words="key ec request public encrypted package" ;;
             normalise:--depth) words="" ;;
             normalise:--octets) words="" ;;
-            normalise:*) words="--kind --depth --octets --help" ;;
+            normalise:--to) files=yes ;;
+            normalise:*) words="--kind --depth --octets --to --help" files=yes ;;
             signed:--part) words="info algorithm key signature" ;;
+            signed:-k | signed:--kind) words="" ;;
             signed:--depth) words="" ;;
             signed:--octets) words="" ;;
-            signed:*) words="--part --depth --octets --help" ;;
+            signed:--to) files=yes ;;
+            signed:*) words="--part --kind --depth --octets --to --help" files=yes ;;
+            help:*) words="check explain show normalise signed reasons" ;;
         esac
     fi
-    mapfile -t COMPREPLY < <(compgen -W "$words" -- "$word")
+    mapfile -t COMPREPLY < <(compgen -W "$words" -- "$word"; [ -z "$files" ] || compgen -f -- "$word")
 }
-complete -F _pkder pkder
+complete -o filenames -F _pkder pkder

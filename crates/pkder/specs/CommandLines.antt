@@ -1,15 +1,16 @@
 -- The commands and options of the program, and what a command line asks for. What clap makes of the words of a
 -- command is `subcommand_of`.
-use Rattle.std.specs.Prelude.{All, ◌≡◌, ◌≤◌, ◌⊎◌, ◌++◌, ℕ, Bool, List, [], ◌∷◌, None, Option, Some, codes, false, string_bytes, true, unwrap_or}
+use Rattle.std.specs.Prelude.{All, ◌≡◌, ◌≤◌, ◌⊎◌, ◌&&◌, ◌||◌, ◌++◌, ℕ, Bool, IfSome, List, [], ◌∷◌, None, Option, Some, codes, false, if◌then◌else◌, map, option_map, string_bytes, true, unwrap_or}
 use Rattle.std.specs.Char.{is_control}
 use Rattle.std.specs.Char.Escape.{escape_default}
 use Rattle.std.specs.Int.{IsInRange}
 use Rattle.std.specs.List.{filter, flat_map, list_any}
+use Rattle.std.specs.Option.{option_or}
 use Rattle.std.specs.Str.{bytes_eq, chars}
 use Rattle.std.specs.Str.Parse.{IsNumeral, digits_value, without_leading_plus}
-use Rattle.clap.specs.Words.{App, IsAmong, Row, Rule, Shape, Text, fault_of, first_of, new_app, new_rule, subcommand_of, with_rule, with_subcommand}
+use Rattle.clap.specs.Words.{App, IsAmong, Row, Rule, Shape, Text, all_of, fault_of, first_of, new_app, new_rule, subcommand_of, with_rule, with_subcommand}
 use Rattle.clap.specs.Simple.{on_top}
-use Rattle.clap.specs.declared.builder.action.ArgAction.TheVariants.{SetTrue}
+use Rattle.clap.specs.declared.builder.action.ArgAction.TheVariants.{Append, SetTrue}
 use Rattle.clap.specs.declared.error.kind.ErrorKind.{ErrorKind}
 use Rattle.clap.specs.declared.error.kind.ErrorKind.TheVariants as errors
 use Rattle.tlv_core.specs.Limits.{IsLimits, Limits}
@@ -21,15 +22,21 @@ use Rattle.pk_explain.specs.declared.written.Form.{Form}
 use Rattle.pk_commands.specs.Outcomes.{line_feed}
 use Rattle.pk_commands.specs.declared.task.Action.{Action}
 use Rattle.pk_commands.specs.declared.task.Action.TheVariants.{Check, Explain, Normalise, Show, Signed}
-use Rattle.pkder.specs.declared.line.BadValue.{BadValue}
+use Rattle.pkder.specs.declared.refusal.BadValue.{BadValue}
 use Rattle.pkder.specs.declared.line.LineFault.{LineFault}
 use Rattle.pkder.specs.declared.line.LineFault.TheVariants as faults
+use Rattle.pkder.specs.declared.line.Order.{Order}
 use Rattle.pk_commands.specs.declared.task.Task.{Task}
 
 -- ---- the options: their names, and what stands for one that isn't given
 
 abbrev pub kind_rule : Rule
-kind_rule = record (new_rule (codes "kind")) { long = Some (codes "kind"); value_names = 1; required = true }
+kind_rule =
+    record (new_rule (codes "kind")) { long = Some (codes "kind"); short = Some 107; value_names = 1; required = true }
+
+-- the kind that `signed` may be told
+abbrev pub request_rule : Rule
+request_rule = record kind_rule { required = false; defaults = codes "request" ∷ [] }
 
 abbrev pub part_rule : Rule
 part_rule =
@@ -46,50 +53,80 @@ octets_rule = record
 abbrev pub flag_rule : Text → Rule
 flag_rule name = record (new_rule name) { long = Some name; action = Some SetTrue }
 
+-- an option whose value names a file
+abbrev pub file_rule : Text → Rule
+file_rule name = record (new_rule name) { long = Some name; value_names = 1 }
+
+-- the name of a file, and the names of any number of them
+abbrev pub name_rule : Rule
+name_rule = record (new_rule (codes "file")) { value_names = 1 }
+
+abbrev pub names_rule : Rule
+names_rule = record name_rule { action = Some Append }
+
 -- ---- the commands
 
 abbrev pub with_limit_rules : App → App
 with_limit_rules app = with_rule (with_rule app depth_rule) octets_rule
 
-abbrev pub kind_shape : Text → Shape
-kind_shape name = (with_limit_rules (with_rule (new_app name) kind_rule)).top
+abbrev pub on_kind : Text → App
+on_kind name = with_limit_rules (with_rule (new_app name) kind_rule)
+
+abbrev pub with_flag : App → Text → App
+with_flag app name = with_rule app (flag_rule name)
+
+-- of any number of files
+abbrev pub with_names : App → App
+with_names app = with_rule (with_rule app (file_rule (codes "files0-from"))) names_rule
+
+-- of one file, and into another
+abbrev pub with_name : App → App
+with_name app = with_rule (with_rule app (file_rule (codes "to"))) name_rule
+
+abbrev pub check_shape : Shape
+check_shape = (with_names (with_flag (with_flag (on_kind (codes "check")) (codes "quiet")) (codes "json"))).top
 
 abbrev pub explain_shape : Shape
-explain_shape =
-    (with_rule (with_rule (with_limit_rules (with_rule (new_app (codes "explain")) kind_rule)) (flag_rule (codes "all")))
-    (flag_rule (codes "json"))).top
+explain_shape = (with_names (with_flag (with_flag (on_kind (codes "explain")) (codes "all")) (codes "json"))).top
+
+abbrev pub show_shape : Shape
+show_shape = (with_names (with_flag (on_kind (codes "show")) (codes "json"))).top
+
+abbrev pub normalise_shape : Shape
+normalise_shape = (with_name (on_kind (codes "normalise"))).top
 
 abbrev pub signed_shape : Shape
-signed_shape = (with_limit_rules (with_rule (new_app (codes "signed")) part_rule)).top
+signed_shape = (with_name (with_limit_rules (with_rule (with_rule (new_app (codes "signed")) part_rule) request_rule))).top
 
 abbrev pub top : App
-top =
-    on_top (λ s. record s { has_version = true; subcommand_required = true; disable_help_subcommand = true })
-    (new_app (codes "pkder"))
+top = on_top (λ s. record s { has_version = true; subcommand_required = true }) (new_app (codes "pkder"))
 
 abbrev pub program : App
 program =
     with_subcommand
     (with_subcommand
-    (with_subcommand (with_subcommand (with_subcommand top (kind_shape (codes "show"))) (kind_shape (codes "check")))
-    explain_shape) (kind_shape (codes "normalise"))) signed_shape
+    (with_subcommand (with_subcommand (with_subcommand top check_shape) explain_shape) show_shape) normalise_shape)
+    signed_shape
 
 -- ---- the words that are read
 
 abbrev pub command_name : Action → Text
-command_name Show = codes "show"
-command_name Check = codes "check"
+command_name (Show json) = codes "show"
+command_name (Check json quiet) = codes "check"
 command_name (Explain form) = codes "explain"
 command_name Normalise = codes "normalise"
 command_name (Signed part) = codes "signed"
 
-abbrev pub kind_name : Kind → Text
-kind_name kinds.Key = codes "key"
-kind_name kinds.Ec = codes "ec"
-kind_name kinds.Request = codes "request"
-kind_name kinds.Public = codes "public"
-kind_name kinds.Encrypted = codes "encrypted"
-kind_name kinds.Package = codes "package"
+-- Each kind has one name or two, and a request three.
+abbrev pub kind_named : Text → Option Kind
+kind_named text =
+    if bytes_eq text (codes "key") || bytes_eq text (codes "pkcs8") then Some kinds.Key
+    else (if bytes_eq text (codes "ec") || bytes_eq text (codes "sec1") then Some kinds.Ec
+    else (if bytes_eq text (codes "request") || (bytes_eq text (codes "csr") || bytes_eq text (codes "pkcs10"))
+    then Some kinds.Request
+    else (if bytes_eq text (codes "public") || bytes_eq text (codes "spki") then Some kinds.Public
+    else (if bytes_eq text (codes "encrypted") then Some kinds.Encrypted
+    else (if bytes_eq text (codes "package") then Some kinds.Package else None)))))
 
 abbrev pub part_name : Part → Text
 part_name parts.Info = codes "info"
@@ -112,13 +149,18 @@ is_given id rows = bytes_eq (value_of id rows) (codes "true")
 abbrev pub form_of : List Row → Form
 form_of rows = record { json = is_given (codes "json") rows; all = is_given (codes "all") rows }
 
--- Only `signed` has no kind: it reads a request.
-abbrev pub ReadsKind : Action → Kind → List Row → Type 0
-ReadsKind Show kind rows = value_of (codes "kind") rows ≡ kind_name kind
-ReadsKind Check kind rows = value_of (codes "kind") rows ≡ kind_name kind
-ReadsKind (Explain form) kind rows = (value_of (codes "kind") rows ≡ kind_name kind) × (form ≡ form_of rows)
-ReadsKind Normalise kind rows = value_of (codes "kind") rows ≡ kind_name kind
-ReadsKind (Signed part) kind rows = (value_of (codes "part") rows ≡ part_name part) × (kind ≡ kinds.Request)
+abbrev pub ReadsAction : Action → List Row → Type 0
+ReadsAction (Show json) rows = json ≡ is_given (codes "json") rows
+ReadsAction (Check json quiet) rows =
+    (json ≡ is_given (codes "json") rows) × (quiet ≡ is_given (codes "quiet") rows)
+ReadsAction (Explain form) rows = form ≡ form_of rows
+ReadsAction Normalise rows = Unit {0}
+ReadsAction (Signed part) rows = value_of (codes "part") rows ≡ part_name part
+
+-- `signed` reads requests alone.
+abbrev pub TakesKind : Action → Kind → Type 0
+TakesKind (Signed part) kind = kind ≡ kinds.Request
+TakesKind _ kind = Unit {0}
 
 abbrev pub ReadsLimits : List Row → Limits → Type 0
 ReadsLimits rows limits =
@@ -126,15 +168,140 @@ ReadsLimits rows limits =
     × IsNumber (value_of (codes "octets") rows) limits.octets
     × IsLimits limits
 
--- The command of this name with these values of its options is the task.
-abbrev pub Means : Text → List Row → Task → Type 0
-Means name rows task =
-    (name ≡ command_name task.action) × ReadsKind task.action task.kind rows × ReadsLimits rows task.limits
+abbrev pub ReadsKind : Action → List Row → Kind → Type 0
+ReadsKind action rows kind = (kind_named (value_of (codes "kind") rows) ≡ Some kind) × TakesKind action kind
+
+-- the command of this name with these values of its options does the task
+abbrev pub MeansTask : Text → List Row → Task → Type 0
+MeansTask name rows task =
+    (name ≡ command_name task.action) × ReadsAction task.action rows × ReadsKind task.action rows task.kind
+    × ReadsLimits rows task.limits
+
+-- the names of files, in their order
+abbrev pub names_of : List Row → List Text
+names_of rows = unwrap_or (all_of (codes "file") rows) []
+
+abbrev pub ReadsNames : List Row → Order → Type 0
+ReadsNames rows order =
+    (map (λ name. name.now) order.names.items ≡ names_of rows)
+    × (option_map (λ name. name.now) order.list ≡ first_of (codes "files0-from") rows)
+    × (option_map (λ name. name.now) order.to ≡ first_of (codes "to") rows)
+
+abbrev pub is_dash : Text → Bool
+is_dash name = bytes_eq name (codes "-")
+
+-- one of the names is a dash, and before it another one, or there was one `already`
+abbrev pub has_second_dash : Bool → List Text → Bool
+has_second_dash already [] = false
+has_second_dash already (name ∷ names) =
+    if is_dash name then already || has_second_dash true names else has_second_dash already names
+
+-- standard input is to be read twice
+abbrev pub is_input_twice : List Row → Bool
+is_input_twice rows = has_second_dash (is_dash (value_of (codes "files0-from") rows)) (names_of rows)
+
+abbrev pub Means : Text → List Row → Order → Type 0
+Means name rows order = MeansTask name rows order.task × ReadsNames rows order × (is_input_twice rows ≡ false)
 
 -- So is the subcommand that was met.
-abbrev pub MeansBy : Option (Text × List Row) → Task → Type 0
-MeansBy None task = ⊥
-MeansBy (Some met) task = Means met.0 met.1 task
+abbrev pub MeansBy : Option (Text × List Row) → Order → Type 0
+MeansBy None order = ⊥
+MeansBy (Some met) order = Means met.0 met.1 order
+
+-- ---- control characters, which are told as escapes
+
+abbrev pub has_control : Text → Bool
+has_control word = list_any is_control (chars word)
+
+-- printable ASCII
+abbrev pub IsPlain : Text → Type 0
+IsPlain text = All (IsInRange 32 126) text
+
+-- one line of it
+abbrev pub IsPlainLine : Text → Type 0
+IsPlainLine text = (line : Text) × (text ≡ line ++ line_feed) × IsPlain line
+
+-- A character that is a quote or isn't printable ASCII stands as its escape, as Rust's `char::escape_default` has it:
+-- `\n`, `\u{1b}`.
+abbrev pub escaped : Text → Text
+escaped word = flat_map escape_default (chars word)
+
+abbrev pub quoted : Text → Text
+quoted word = codes " \"" ++ (escaped word ++ codes "\"")
+
+-- what is told of words of which some have control characters: those that do
+abbrev pub controls_line : List Text → Text
+controls_line words =
+    codes "error: a word has control characters:" ++ (flat_map quoted (filter has_control words) ++ line_feed)
+
+-- a value as it is told
+abbrev pub shown : Text → Text
+shown value = if has_control value then escaped value else value
+
+-- ---- what to type in the place of a word
+
+abbrev pub advice_for_command : Text → Option Text
+advice_for_command word =
+    if bytes_eq word (codes "verify") then
+    Some (codes "no signature is verified; 'signed' writes what it covers")
+    else (if bytes_eq word (codes "diff") || bytes_eq word (codes "compare") then
+    Some (codes "two documents say the same where 'normalise' writes the same octets of both")
+    else (if bytes_eq word (codes "version") then Some (codes "pkder --version") else None))
+
+abbrev pub advice_for_option : Text → Option Text
+advice_for_option word =
+    if bytes_eq word (codes "-in") || (bytes_eq word (codes "--in") || bytes_eq word (codes "--infile")) then
+    Some (codes "files are named without an option: pkder check --kind key FILE")
+    else (if bytes_eq word (codes "-inform") || (bytes_eq word (codes "-outform") || bytes_eq word (codes "--inform"))
+    then Some (codes "BER and DER are read alike, and DER is written, with no option")
+    else (if bytes_eq word (codes "-out") || (bytes_eq word (codes "-o") || bytes_eq word (codes "--output")) then
+    Some (codes "normalise and signed have --to NEW-FILE")
+    else (if bytes_eq word (codes "-v") then Some (codes "pkder --version") else None)))
+
+abbrev pub advice_for_kind : Text → Text
+advice_for_kind value =
+    if bytes_eq value (codes "pem") || bytes_eq value (codes "PEM") then
+    codes "PEM is not read: decode its base64; the kind is what its BEGIN line says"
+    else (if bytes_eq value (codes "private") then codes "key, or ec for BEGIN EC PRIVATE KEY" else [])
+
+abbrev pub tip : Text → Text
+tip [] = []
+tip (x ∷ xs) = codes "  tip: " ++ (x ∷ xs) ++ line_feed ++ line_feed
+
+abbrev pub more : Text
+more = codes "For more information, try '--help'." ++ line_feed
+
+abbrev pub advised_line : Text → Text → Text
+advised_line word advice =
+    codes "error: '" ++ word ++ (codes "' is not taken" ++ line_feed ++ line_feed) ++ tip advice ++ more
+
+-- of the word where a command should stand
+abbrev pub command_advised : List Text → Option Text
+command_advised (name ∷ word ∷ words) = option_map (advised_line word) (advice_for_command word)
+command_advised _ = None
+
+-- of the first word that is an option of another program
+abbrev pub option_advised : List Text → Option Text
+option_advised [] = None
+option_advised (word ∷ words) = option_or (option_map (advised_line word) (advice_for_option word)) (option_advised words)
+
+abbrev pub no_kind_line : Text
+no_kind_line =
+    codes "error: no kind is named: --kind is key, ec, request, public, encrypted or package" ++ line_feed ++ line_feed
+    ++ tip (codes "pkder check --kind key FILE") ++ more
+
+abbrev pub missing_line : ErrorKind → Option Text
+missing_line errors.MissingRequiredArgument = Some no_kind_line
+missing_line _ = None
+
+-- what is told of words that clap refuses by an error of this kind, where it isn't clap's own text
+abbrev pub refusal_line : ErrorKind → List Text → Option Text
+refusal_line kind words =
+    if list_any has_control words then Some (controls_line words)
+    else option_or (command_advised words) (option_or (option_advised words) (missing_line kind))
+
+abbrev pub TellsOwn : ErrorKind → List Text → Text → Type 0
+TellsOwn kind words line = IfSome (refusal_line kind words) (λ due. line ≡ due)
 
 -- ---- what is told of a value that its option doesn't have
 
@@ -151,11 +318,13 @@ abbrev pub BadDepth : List Row → BadValue → Type 0
 BadDepth rows bad =
     Names bad (codes "--depth <N>") (value_of (codes "depth") rows) (codes "a number from 1 to 64")
     × IsNoNumber (value_of (codes "depth") rows) 64
+    × (bad.advice.now ≡ [])
 
 abbrev pub BadOctets : List Row → BadValue → Type 0
 BadOctets rows bad =
     Names bad (codes "--octets <N>") (value_of (codes "octets") rows) (codes "a number from 1 to 2147483647")
     × IsNoNumber (value_of (codes "octets") rows) 2147483647
+    × (bad.advice.now ≡ [])
 
 -- Of two bad limits the depth is told.
 abbrev pub BadLimit : List Row → BadValue → Type 0
@@ -165,101 +334,117 @@ abbrev pub BadKind : List Row → BadValue → Type 0
 BadKind rows bad =
     Names bad (codes "--kind <KIND>") (value_of (codes "kind") rows)
     (codes "key, ec, request, public, encrypted or package")
-    × ((kind : Kind) → value_of (codes "kind") rows ≡ kind_name kind → ⊥)
+    × (kind_named (value_of (codes "kind") rows) ≡ None)
+    × (bad.advice.now ≡ advice_for_kind (value_of (codes "kind") rows))
+
+-- a kind that isn't `request`, of a command that reads requests alone
+abbrev pub BadRequest : List Row → BadValue → Type 0
+BadRequest rows bad =
+    Names bad (codes "--kind <KIND>") (value_of (codes "kind") rows) (codes "request")
+    × (kind_named (value_of (codes "kind") rows) ≡ Some kinds.Request → ⊥)
+    × (bad.advice.now ≡ [])
 
 abbrev pub BadPart : List Row → BadValue → Type 0
 BadPart rows bad =
     Names bad (codes "--part <PART>") (value_of (codes "part") rows) (codes "info, algorithm, key or signature")
     × ((part : Part) → value_of (codes "part") rows ≡ part_name part → ⊥)
+    × (bad.advice.now ≡ [])
 
 abbrev pub BadCommand : Text → BadValue → Type 0
 BadCommand name bad =
-    Names bad (codes "COMMAND") name (codes "show, check, explain, normalise or signed")
+    Names bad (codes "COMMAND") name (codes "check, explain, show, normalise or signed")
     × ((action : Action) → name ≡ command_name action → ⊥)
+    × (bad.advice.now ≡ [])
 
--- What the command of this name doesn't have. Only `signed` has a part, and no kind.
-abbrev pub BadChoice : Text → List Row → BadValue → Type 0
-BadChoice name rows bad =
-    ((name ≡ codes "signed") × BadPart rows bad)
-    ⊎ ((name ≡ codes "signed" → ⊥) × (BadKind rows bad ⊎ BadCommand name bad))
+-- what is wrong with the command of this name, or with the part that `signed` is to write
+abbrev pub BadAction : Text → List Row → BadValue → Type 0
+BadAction name rows bad = ((name ≡ codes "signed") × BadPart rows bad) ⊎ BadCommand name bad
 
--- Why the command of this name has no task with these values of its options: a limit that is bad is told before others.
+-- a kind that the action doesn't take
+abbrev pub BadKindOf : Action → List Row → BadValue → Type 0
+BadKindOf (Signed part) rows bad = BadRequest rows bad
+BadKindOf _ rows bad = BadKind rows bad
+
+abbrev pub DoesAction : Text → List Row → Action → Type 0
+DoesAction name rows action = (name ≡ command_name action) × ReadsAction action rows
+
+-- Why the command of this name has no task with these values of its options: a limit that is bad is told before others,
+-- and the kind behind them.
 abbrev pub BadTask : Text → List Row → BadValue → Type 0
 BadTask name rows bad =
-    BadLimit rows bad ⊎ (((limits : Limits) × ReadsLimits rows limits) × BadChoice name rows bad)
+    BadLimit rows bad
+    ⊎ (((limits : Limits) × ReadsLimits rows limits)
+    × (BadAction name rows bad ⊎ ((action : Action) × DoesAction name rows action × BadKindOf action rows bad)))
+
+abbrev pub BadInput : List Row → BadValue → Type 0
+BadInput rows bad =
+    Names bad (codes "FILE") (codes "-") (codes "standard input at most once")
+    × (is_input_twice rows ≡ true)
+    × (bad.advice.now ≡ [])
+
+-- Why that command orders nothing: it has no task, or is to read standard input twice.
+abbrev pub BadOrder : Text → List Row → BadValue → Type 0
+BadOrder name rows bad = BadTask name rows bad ⊎ (((task : Task) × MeansTask name rows task) × BadInput rows bad)
 
 abbrev pub bad_value_line : BadValue → Text
 bad_value_line bad =
-    codes "error: invalid value '" ++ bad.value.now ++ codes "' for '" ++ bad.option.now ++ codes "': "
+    codes "error: invalid value '" ++ shown bad.value.now ++ codes "' for '" ++ bad.option.now ++ codes "': "
     ++ bad.wanted.now
-    ++ (codes " is wanted" ++ line_feed ++ line_feed ++ codes "For more information, try '--help'." ++ line_feed)
+    ++ (codes " is wanted" ++ line_feed ++ line_feed) ++ tip bad.advice.now ++ more
 
 -- why the subcommand that was met means no task
 abbrev pub TellsWhy : Option (Text × List Row) → Text → Type 0
 TellsWhy None line = line ≡ codes "error: a command is wanted" ++ line_feed
-TellsWhy (Some met) line = (bad : BadValue) × BadTask met.0 met.1 bad × (line ≡ bad_value_line bad)
+TellsWhy (Some met) line = (bad : BadValue) × BadOrder met.0 met.1 bad × (line ≡ bad_value_line bad)
 
 -- ---- what a line asks for
 
 -- No task is meant, and the text tells why; or memory ran out.
 abbrev pub MeansNothing : Option (Text × List Row) → LineFault → Type 0
-MeansNothing met (faults.Line text) = ((task : Task) → MeansBy met task → ⊥) × TellsWhy met (string_bytes text)
+MeansNothing met (faults.Line text) = ((order : Order) → MeansBy met order → ⊥) × TellsWhy met (string_bytes text)
 MeansNothing met (faults.Help text) = ⊥
 MeansNothing met faults.Memory = Unit {0}
 
-abbrev pub has_control : Text → Bool
-has_control word = list_any is_control (chars word)
+-- `help reasons`, which clap knows nothing of
+abbrev pub asks_reasons : List Text → Bool
+asks_reasons (name ∷ help ∷ topic ∷ []) = bytes_eq help (codes "help") && bytes_eq topic (codes "reasons")
+asks_reasons _ = false
 
--- printable ASCII
-abbrev pub IsPlain : Text → Type 0
-IsPlain text = All (IsInRange 32 126) text
-
--- one line of it
-abbrev pub IsPlainLine : Text → Type 0
-IsPlainLine text = (line : Text) × (text ≡ line ++ line_feed) × IsPlain line
-
--- A word in quotes. A character that is a quote or isn't printable ASCII stands as its escape, as Rust's
--- `char::escape_default` has it: `\n`, `\u{1b}`.
-abbrev pub quoted : Text → Text
-quoted word = codes " \"" ++ (flat_map escape_default (chars word) ++ codes "\"")
-
--- what is told of words of which some have control characters: those that do
-abbrev pub controls_line : List Text → Text
-controls_line words =
-    codes "error: a word has control characters:" ++ (flat_map quoted (filter has_control words) ++ line_feed)
-
--- The words ask for the task: none has a control character, clap takes them, and the subcommand
--- that they name means it.
-abbrev pub Asks : List Text → Task → Type 0
-Asks words task =
-    (list_any has_control words ≡ false) × (fault_of program words ≡ []) × MeansBy (subcommand_of program words) task
+-- The words ask for it: clap takes them, and the subcommand that they name means it.
+abbrev pub Asks : List Text → Order → Type 0
+Asks words order =
+    (asks_reasons words ≡ false) × (fault_of program words ≡ []) × MeansBy (subcommand_of program words) order
 
 -- an error of clap's that is neither help nor the version nor refused memory
 abbrev pub IsRefusal : ErrorKind → Type 0
 IsRefusal kind = (kind ≡ errors.OutOfMemory → ⊥) × (kind ≡ errors.DisplayHelp → ⊥) × (kind ≡ errors.DisplayVersion → ⊥)
 
--- Clap refuses the words.
-abbrev pub IsRefused : List Text → Type 0
-IsRefused words = (kind : ErrorKind) × IsAmong kind (fault_of program words) × IsRefusal kind
+-- Clap refuses the words, and the line tells it, without a control character of theirs.
+abbrev pub TellsRefusal : List Text → Text → Type 0
+TellsRefusal words line =
+    (kind : ErrorKind) × IsAmong kind (fault_of program words) × IsRefusal kind
+    × TellsOwn kind words line
+    × (list_any has_control words ≡ true → IsPlainLine line)
 
--- Why words are refused: some have control characters, none of which is told as it is; or clap refuses them; or it
--- takes them, and a value isn't one of its option.
+-- Why words are refused: clap refuses them; or it takes them, and a value isn't one of its option.
 abbrev pub TellsFault : List Text → Text → Type 0
 TellsFault words line =
-    ((list_any has_control words ≡ true) × (line ≡ controls_line words) × IsPlainLine line)
-    ⊎ (IsRefused words ⊎ ((fault_of program words ≡ []) × TellsWhy (subcommand_of program words) line))
+    TellsRefusal words line ⊎ ((fault_of program words ≡ []) × TellsWhy (subcommand_of program words) line)
 
 -- Why words ask for nothing that can be done: they ask for no task and are refused, or they ask
 -- for help or the version.
 abbrev pub AsksNothing : List Text → LineFault → Type 0
-AsksNothing words (faults.Line text) = ((task : Task) → Asks words task → ⊥) × TellsFault words (string_bytes text)
+AsksNothing words (faults.Line text) =
+    (asks_reasons words ≡ false)
+    × ((order : Order) → Asks words order → ⊥)
+    × TellsFault words (string_bytes text)
 AsksNothing words (faults.Help text) =
-    (list_any has_control words ≡ false)
-    × (IsAmong errors.DisplayHelp (fault_of program words) ⊎ IsAmong errors.DisplayVersion (fault_of program words))
+    (asks_reasons words ≡ true)
+    ⊎ (IsAmong errors.DisplayHelp (fault_of program words) ⊎ IsAmong errors.DisplayVersion (fault_of program words))
 AsksNothing words faults.Memory = Unit {0}
 
 -- what is answered by the kind of clap's error
-abbrev pub IsFaultOf : ErrorKind → LineFault → Type 0
-IsFaultOf kind (faults.Line text) = IsRefusal kind
-IsFaultOf kind (faults.Help text) = (kind ≡ errors.DisplayHelp) ⊎ (kind ≡ errors.DisplayVersion)
-IsFaultOf kind faults.Memory = kind ≡ errors.OutOfMemory
+abbrev pub IsFaultOf : ErrorKind → List Text → LineFault → Type 0
+IsFaultOf kind words (faults.Line text) = IsRefusal kind × TellsOwn kind words (string_bytes text)
+IsFaultOf kind words (faults.Help text) = (kind ≡ errors.DisplayHelp) ⊎ (kind ≡ errors.DisplayVersion)
+IsFaultOf kind words faults.Memory = kind ≡ errors.OutOfMemory

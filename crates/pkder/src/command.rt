@@ -1,76 +1,26 @@
 //! The commands and options of the program, and their help.
 ghost use Rattle.std.specs.Prelude.{◌≡◌, IfOk, false};
-ghost use Rattle.clap.specs.Words.{app_of, rule_of, shape_of};
+ghost use Rattle.clap.specs.Words.{app_of, rule_of, shape_of, with_rule};
 ghost use Rattle.clap.specs.declared.builder.command.Command.TheViews.{out-Command as fields_of};
-ghost use Rattle.pkder.specs.CommandLines.{depth_rule, explain_shape, flag_rule, kind_rule, kind_shape, octets_rule, part_rule, program, signed_shape, top, with_limit_rules};
+ghost use Rattle.pkder.specs.CommandLines.{check_shape, depth_rule, explain_shape, file_rule, flag_rule, kind_rule, name_rule, names_rule, normalise_shape, octets_rule, part_rule, program, request_rule, show_shape, signed_shape, top, with_limit_rules, with_name as app_with_name, with_names as app_with_names};
 
+use crate::help::{CHECK, EXPLAIN, NORMALISE, PROGRAM, SHOW, SIGNED};
 use clap::{Arg, ArgAction, Command};
 use pk_explain::version::VERSION;
 use std::alloc::{AllocError, Global};
-
-const KINDS_HELP: &str = "\
-Kinds, by the line that their PEM files begin with:
-  key        BEGIN PRIVATE KEY: PKCS #8, OneAsymmetricKey of RFC 5958
-  ec         BEGIN EC PRIVATE KEY: ECPrivateKey of RFC 5915
-  request    BEGIN CERTIFICATE REQUEST, BEGIN NEW CERTIFICATE REQUEST: PKCS #10, RFC 2986
-  public     BEGIN PUBLIC KEY: SubjectPublicKeyInfo of RFC 5280
-  encrypted  BEGIN ENCRYPTED PRIVATE KEY: EncryptedPrivateKeyInfo of RFC 5958
-  package    none: AsymmetricKeyPackage of RFC 5958, private keys one behind another
-PEM itself is not read: decode what stands between its two lines from base64 first.
-
-The document is read from standard input, and has to be all of it:
-  pkder show --kind key < FILE
-  pkder check --kind key < FILE
-  pkder explain --kind key < FILE
-  pkder normalise --kind key < FILE > NEW-FILE
-What normalise and signed write is binary, and private where the document is: send it into a file of your own, not to a
-terminal, and never into the file that is read. What show writes has no private octets, but all else that is in the
-document, as the challengePassword of a request; what explain writes has neither.
-
-Exit statuses:
-  0  done; by check and explain: the document is in DER
-  1  by check and explain: the document is not in DER
-  2  the document is refused: 'fault at PLACE: REASON', places being octets counted from 0
-  3  reading or writing failed, or memory ran out
-  4  the command line is refused";
-
-const SIGNED_HELP: &str = "\
-Parts of a certification request (RFC 2986 section 4):
-  info       what the signature covers: the DER text of certificationRequestInfo
-  algorithm  the DER text of signatureAlgorithm
-  key        the DER text of subjectPKInfo, the public key
-  signature  the octets of the signature, without the number of its unused bits
-No signature is verified.
-
-The request is read from standard input, and has to be all of it; what is written is binary:
-  pkder signed --part signature < FILE > SIGNATURE-FILE
-
-Exit statuses:
-  0  done
-  2  the request is refused: 'fault at PLACE: REASON', places being octets counted from 0
-  3  reading or writing failed, or memory ran out
-  4  the command line is refused";
 
 /// The program: its commands with their options.
 pub fn command<'a>(alloc: Global) -> Result<Command<'a>, AllocError>
     ensures { IfOk result (λ command. app_of command ≡ program) }
 {
-    let show = on_kind(
-        alloc,
-        "show",
-        "write what the document is, in lines of text; of private octets their number alone",
-    )?;
-    let with_show = pkder(alloc).subcommand(show)?;
-    let check = on_kind(
-        alloc,
-        "check",
-        "write whether the document is in DER, or the first place where it is not",
-    )?;
-    let with_check = with_show.subcommand(check)?;
+    let check = check(alloc)?;
+    let with_check = pkder(alloc).subcommand(check)?;
     let explain = explain(alloc)?;
     let with_explain = with_check.subcommand(explain)?;
-    let normalise = on_kind(alloc, "normalise", "write the document's DER text")?;
-    let with_normalise = with_explain.subcommand(normalise)?;
+    let show = show(alloc)?;
+    let with_show = with_explain.subcommand(show)?;
+    let normalise = normalise(alloc)?;
+    let with_normalise = with_show.subcommand(normalise)?;
     let signed = signed(alloc)?;
     with_normalise.subcommand(signed)
 }
@@ -80,25 +30,28 @@ fn pkder<'a>(alloc: Global) -> Command<'a>
     ensures { app_of result ≡ top }
 {
     Command::new(alloc, "pkder")
-        .about(
-            "reads, checks and normalises one private key, public key or certification request in BER or DER",
-        )
+        .about("reads, checks and normalises keys and certification requests in BER or DER")
         .version(VERSION)
-        .after_help(KINDS_HELP)
+        .after_help(PROGRAM)
         .subcommand_required(true)
-        .disable_help_subcommand(true)
 }
 
-/// A command that reads a document of a kind.
-fn on_kind<'a>(alloc: Global, name: &'a str, about: &'a str) -> Result<Command<'a>, AllocError>
-    ensures shape { IfOk result (λ command. shape_of command ≡ kind_shape name.entry.now) }
+/// The command that says whether a document is in DER.
+fn check<'a>(alloc: Global) -> Result<Command<'a>, AllocError>
+    ensures shape { IfOk result (λ command. shape_of command ≡ check_shape) }
     ensures local { IfOk result (λ command. (fields_of command).has_globals ≡ false) }
 {
-    let command = Command::new(alloc, name)
-        .about(about)
-        .after_help(KINDS_HELP);
-    let with_kind = command.arg(kind(alloc))?;
-    with_limits(alloc, with_kind)
+    let command = Command::new(alloc, "check")
+        .about("say whether it is in DER, or the first place where it is not")
+        .after_help(CHECK);
+    let on_kind = on_kind(alloc, command)?;
+    let with_quiet = on_kind.arg(flag(alloc, "quiet", "write only what is not in DER"))?;
+    let with_json = with_quiet.arg(flag(
+        alloc,
+        "json",
+        "write an object of JSON for each document",
+    ))?;
+    with_names(alloc, with_json)
 }
 
 /// The command that writes a report of a document.
@@ -107,12 +60,37 @@ fn explain<'a>(alloc: Global) -> Result<Command<'a>, AllocError>
     ensures local { IfOk result (λ command. (fields_of command).has_globals ≡ false) }
 {
     let command = Command::new(alloc, "explain")
-        .about("write where and why the document is refused or is not in DER, and its elements")
-        .after_help(KINDS_HELP);
-    let with_kind = command.arg(kind(alloc))?;
-    let limited = with_limits(alloc, with_kind)?;
-    let with_all = limited.arg(flag(alloc, "all", "list all elements, however many there are"))?;
-    with_all.arg(flag(alloc, "json", "write one object of JSON, on one line"))
+        .about("say where and why it is refused or not in DER, with its elements")
+        .after_help(EXPLAIN);
+    let on_kind = on_kind(alloc, command)?;
+    let with_all = on_kind.arg(flag(alloc, "all", "list all elements, however many there are"))?;
+    let with_json = with_all.arg(flag(alloc, "json", "write an object of JSON for each document"))?;
+    with_names(alloc, with_json)
+}
+
+/// The command that says what a document is.
+fn show<'a>(alloc: Global) -> Result<Command<'a>, AllocError>
+    ensures shape { IfOk result (λ command. shape_of command ≡ show_shape) }
+    ensures local { IfOk result (λ command. (fields_of command).has_globals ≡ false) }
+{
+    let command = Command::new(alloc, "show")
+        .about("say what it is, in lines; of private octets the number alone")
+        .after_help(SHOW);
+    let on_kind = on_kind(alloc, command)?;
+    let with_json = on_kind.arg(flag(alloc, "json", "write an object of JSON for each document"))?;
+    with_names(alloc, with_json)
+}
+
+/// The command that writes the DER text of a document.
+fn normalise<'a>(alloc: Global) -> Result<Command<'a>, AllocError>
+    ensures shape { IfOk result (λ command. shape_of command ≡ normalise_shape) }
+    ensures local { IfOk result (λ command. (fields_of command).has_globals ≡ false) }
+{
+    let command = Command::new(alloc, "normalise")
+        .about("write its DER text, which is its one DER encoding")
+        .after_help(NORMALISE);
+    let on_kind = on_kind(alloc, command)?;
+    with_name(alloc, on_kind)
 }
 
 /// The command that reads a request and writes a part of it.
@@ -121,10 +99,23 @@ fn signed<'a>(alloc: Global) -> Result<Command<'a>, AllocError>
     ensures local { IfOk result (λ command. (fields_of command).has_globals ≡ false) }
 {
     let command = Command::new(alloc, "signed")
-        .about("write a part of a certification request: what its signature covers, or another one")
-        .after_help(SIGNED_HELP);
+        .about("write a part of a request: what its signature covers, or another")
+        .after_help(SIGNED);
     let with_part = command.arg(part(alloc))?;
-    with_limits(alloc, with_part)
+    let with_kind = with_part.arg(request(alloc))?;
+    let limited = with_limits(alloc, with_kind)?;
+    with_name(alloc, limited)
+}
+
+/// The command with a kind, and with limits.
+fn on_kind<'a>(alloc: Global, command: Command<'a>) -> Result<Command<'a>, AllocError>
+    requires { (fields_of command).has_globals ≡ false }
+    ensures shape { IfOk result (λ new. app_of new
+        ≡ with_limit_rules (with_rule (app_of command.entry) kind_rule)) }
+    ensures local { IfOk result (λ new. (fields_of new).has_globals ≡ false) }
+{
+    let with_kind = command.arg(kind(alloc))?;
+    with_limits(alloc, with_kind)
 }
 
 /// The command with the options that set limits.
@@ -137,15 +128,51 @@ fn with_limits<'a>(alloc: Global, command: Command<'a>) -> Result<Command<'a>, A
     with_depth.arg(octets(alloc))
 }
 
+/// The command on any number of files.
+fn with_names<'a>(alloc: Global, command: Command<'a>) -> Result<Command<'a>, AllocError>
+    requires { (fields_of command).has_globals ≡ false }
+    ensures shape { IfOk result (λ new. app_of new ≡ app_with_names (app_of command.entry)) }
+    ensures local { IfOk result (λ new. (fields_of new).has_globals ≡ false) }
+{
+    let with_list = command.arg(file(
+        alloc,
+        "files0-from",
+        "read names from it, each ended by an octet 0",
+    ))?;
+    with_list.arg(names(alloc))
+}
+
+/// The command on one file, and into another.
+fn with_name<'a>(alloc: Global, command: Command<'a>) -> Result<Command<'a>, AllocError>
+    requires { (fields_of command).has_globals ≡ false }
+    ensures shape { IfOk result (λ new. app_of new ≡ app_with_name (app_of command.entry)) }
+    ensures local { IfOk result (λ new. (fields_of new).has_globals ≡ false) }
+{
+    let with_target = command.arg(file(alloc, "to", "write into it, whole or not at all"))?;
+    with_target.arg(name(alloc))
+}
+
 fn kind<'a>(alloc: Global) -> Arg<'a>
     ensures rule { rule_of result ≡ kind_rule }
     ensures local { result.global ≡ false }
 {
     Arg::new(alloc, "kind")
+        .short('k')
         .long("kind")
         .value_name("KIND")
-        .help("what the document is: key, ec, request, public, encrypted or package")
+        .help("what it is: key, ec, request, public, encrypted\nor package")
         .required(true)
+}
+
+/// The kind of a command that reads requests alone.
+fn request<'a>(alloc: Global) -> Arg<'a>
+    ensures rule { rule_of result ≡ request_rule }
+    ensures local { result.global ≡ false }
+{
+    kind(alloc)
+        .required(false)
+        .help("what it is: a request")
+        .default_value("request")
 }
 
 fn part<'a>(alloc: Global) -> Arg<'a>
@@ -155,7 +182,7 @@ fn part<'a>(alloc: Global) -> Arg<'a>
     Arg::new(alloc, "part")
         .long("part")
         .value_name("PART")
-        .help("which part is written: info, algorithm, key or signature")
+        .help("the part: info, algorithm, key or signature")
         .default_value("info")
 }
 
@@ -167,6 +194,38 @@ fn flag<'a>(alloc: Global, name: &'a str, help: &'a str) -> Arg<'a>
         .long(name)
         .help(help)
         .action(ArgAction::SetTrue)
+}
+
+/// An option whose value names a file.
+fn file<'a>(alloc: Global, name: &'a str, help: &'a str) -> Arg<'a>
+    ensures rule { rule_of result ≡ file_rule name.entry.now }
+    ensures local { result.global ≡ false }
+{
+    Arg::new(alloc, name)
+        .long(name)
+        .value_name("FILE")
+        .help(help)
+}
+
+/// The names of any number of files.
+fn names<'a>(alloc: Global) -> Arg<'a>
+    ensures rule { rule_of result ≡ names_rule }
+    ensures local { result.global ≡ false }
+{
+    Arg::new(alloc, "file")
+        .value_name("FILE")
+        .help("what is read; -, or no FILE, is standard input")
+        .action(ArgAction::Append)
+}
+
+/// The name of one file.
+fn name<'a>(alloc: Global) -> Arg<'a>
+    ensures rule { rule_of result ≡ name_rule }
+    ensures local { result.global ≡ false }
+{
+    Arg::new(alloc, "file")
+        .value_name("FILE")
+        .help("what is read; -, or no FILE, is standard input")
 }
 
 fn depth<'a>(alloc: Global) -> Arg<'a>
@@ -187,6 +246,6 @@ fn octets<'a>(alloc: Global) -> Arg<'a>
     Arg::new(alloc, "octets")
         .long("octets")
         .value_name("N")
-        .help("the greatest number of octets of the document and of its DER text, 1 to 2147483647")
+        .help("the greatest number of octets of the document and\nof its DER text, 1 to 2147483647")
         .default_value("1048576")
 }

@@ -1,12 +1,13 @@
 //! What a command line asks for.
-ghost use Rattle.std.specs.Prelude.{◌≡◌, ◌++◌, ◌≤◌, ℕ, IfErr, IfOk, MatchOption, MatchResult, OnOk, codes, map, string_bytes};
-ghost use Rattle.std.specs.Char.Escape.{escape_default};
-ghost use Rattle.std.specs.List.{list_any};
+ghost use Rattle.std.specs.Prelude.{◌≡◌, ◌≤◌, ℕ, IfErr, IfOk, MatchOption, MatchResult, Some, codes, map, string_bytes};
 ghost use Rattle.clap.specs.Words.{found_of, kind_of, rows_of, subcommand_rows_of};
-ghost use Rattle.pkder.specs.CommandLines.{Asks, AsksNothing, BadKind, BadLimit, BadPart, BadTask, IsFaultOf, IsNumber, Means, MeansBy, MeansNothing, ReadsLimits, bad_value_line, controls_line, form_of, has_control, is_given, kind_name, part_name, quoted, value_of};
+ghost use Rattle.pkder.specs.CommandLines.{Asks, AsksNothing, BadAction, BadOrder, BadKind, BadKindOf, BadLimit, BadPart, BadRequest, BadTask, DoesAction, IsFaultOf, IsNumber, Means, MeansBy, MeansNothing, MeansTask, ReadsKind, ReadsLimits, asks_reasons, form_of, has_second_dash as has_dash_again, is_given, kind_named as named_kind, names_of, part_name, value_of};
 ghost use Rattle.pkder.specs.declared.line.LineFault.TheVariants.{Memory};
+ghost use Rattle.pk_documents.specs.declared.kind.Kind.TheVariants as kinds;
 
 use crate::command::command;
+use crate::help::REASONS;
+use crate::refusal::{BadValue, advice_for_kind, refusal_text};
 use clap::error::ErrorKind;
 use clap::{ArgMatches, Error};
 use pk_commands::task::{Action, Task};
@@ -16,12 +17,25 @@ use pk_explain::written::Form;
 use std::alloc::{AllocError, Global};
 use tlv_core::limits::Limits;
 
+/// What a line asks for.
+#[derive(Debug, Drop)]
+pub struct Order<'a> {
+    /// What is done with each document.
+    pub task: Task,
+    /// The names of the documents' files, in order.
+    pub names: Vec<&'a str>,
+    /// The file that has more names.
+    pub list: Option<&'a str>,
+    /// The file that what is written goes into.
+    pub to: Option<&'a str>,
+}
+
 /// Why a line asks for nothing that can be done.
 #[derive(Debug, Drop)]
 pub enum LineFault {
     /// The line is refused, with a text that says why.
     Line(String),
-    /// Help or the version was asked for: clap's text.
+    /// Help or the version was asked for: a text.
     Help(String),
     /// A growth of memory was refused.
     Memory,
@@ -35,169 +49,128 @@ impl From<AllocError> for LineFault {
     }
 }
 
-/// A value that its option doesn't have.
-#[derive(Clone, Copy)]
-struct BadValue<'a> {
-    option: &'a str,
-    value: &'a str,
-    /// What the option has for values.
-    wanted: &'a str,
-}
-
-impl BadValue<'_> {
-    fn text(self, alloc: Global) -> Result<String, AllocError>
-        ensures { IfOk result (λ text. string_bytes text ≡ bad_value_line self.entry) }
-    {
-        let mut text = String::from_str(alloc, "error: invalid value '")?;
-        text.push_str(self.value)?;
-        text.push_str("' for '")?;
-        text.push_str(self.option)?;
-        text.push_str("': ")?;
-        text.push_str(self.wanted)?;
-        text.push_str(" is wanted\n\nFor more information, try '--help'.\n")?;
-        Ok(text)
-    }
-}
-
 /// What the line means, the program's name being the first word.
-pub fn task_of(alloc: Global, words: &[String]) -> Result<Task, LineFault>
-    ensures { MatchResult result (Asks (map string_bytes words.now))
-        (AsksNothing (map string_bytes words.now)) }
+pub fn order_of<'a>(alloc: Global, words: &'a [String]) -> Result<Order<'a>, LineFault>
+    ensures { MatchResult result (Asks (map string_bytes words.entry.now))
+        (AsksNothing (map string_bytes words.entry.now)) }
 {
-    if have_controls(words) {
-        return Err(LineFault::Line(controls_text(alloc, words)?));
+    if are_for_reasons(words) {
+        return Err(LineFault::Help(REASONS.to_string(alloc)?));
     }
     let command = command(alloc)?;
     match command.try_get_matches_from(words) {
-        Ok(matches) => matched_task(alloc, &matches),
-        Err(error) => Err(fault_of(alloc, &error)?),
+        Ok(matches) => matched_order(alloc, &matches),
+        Err(error) => Err(fault_of(alloc, words, &error)?),
     }
 }
 
-/// Whether one of the words has a control character.
-fn have_controls(words: &[String]) -> bool
-    ensures { result ≡ list_any (λ word. has_control (string_bytes word)) words.now }
+/// Whether the words are `help reasons`, behind the program's name.
+fn are_for_reasons(words: &[String]) -> bool
+    ensures { result ≡ asks_reasons (map string_bytes words.now) }
 {
-    words.iter().any(|word| is_controlling(word.as_str()))
-}
-
-/// Whether a word has a control character.
-fn is_controlling(word: &str) -> bool
-    ensures { result ≡ has_control word.now }
-{
-    word.chars().any(|c| c.is_control())
-}
-
-/// Says which words have control characters, without writing them as they are.
-fn controls_text(alloc: Global, words: &[String]) -> Result<String, AllocError>
-    ensures { IfOk result (λ text. string_bytes text ≡ controls_line (map string_bytes words.now)) }
-{
-    let mut text = String::from_str(alloc, "error: a word has control characters:")?;
-    for word in words {
-        if is_controlling(word.as_str()) {
-            push_quoted(&mut text, word.as_str())?;
-        }
+    match words {
+        [_, help, topic] => help.as_str() == "help" && topic.as_str() == "reasons",
+        _ => false,
     }
-    text.push_str("\n")?;
-    Ok(text)
-}
-
-/// Appends a word in quotes, with what isn't printable ASCII escaped.
-fn push_quoted(text: &mut String, word: &str) -> Result<(), AllocError>
-    ensures { OnOk result (string_bytes text.new ≡ string_bytes text.old ++ quoted word.now) }
-{
-    text.push_str(" \"")?;
-    for c in word.chars() {
-        push_escaped(text, c)?;
-    }
-    text.push_str("\"")
-}
-
-/// Appends a character, or its escape where it isn't printable ASCII.
-fn push_escaped(text: &mut String, c: char) -> Result<(), AllocError>
-    ensures { OnOk result (string_bytes text.new ≡ string_bytes text.old ++ escape_default c) }
-{
-    for shown in c.escape_default() {
-        text.push(shown)?;
-    }
-    Ok(())
 }
 
 /// What a line that clap doesn't take asks for.
-fn fault_of(alloc: Global, error: &Error) -> Result<LineFault, AllocError>
-    ensures { IfOk result (IsFaultOf (kind_of error.now)) }
+fn fault_of(alloc: Global, words: &[String], error: &Error) -> Result<LineFault, AllocError>
+    ensures { IfOk result (IsFaultOf (kind_of error.now) (map string_bytes words.now)) }
 {
     match error.kind() {
         ErrorKind::OutOfMemory => Ok(LineFault::Memory),
         ErrorKind::DisplayHelp | ErrorKind::DisplayVersion => {
             Ok(LineFault::Help(error.to_string(alloc)?))
         }
-        _ => Ok(LineFault::Line(error.to_string(alloc)?)),
+        _ => Ok(LineFault::Line(refusal_text(alloc, words, error)?)),
     }
 }
 
 /// What a line that clap takes asks for.
-fn matched_task(alloc: Global, matches: &ArgMatches<'_>) -> Result<Task, LineFault>
+fn matched_order<'a>(alloc: Global, matches: &ArgMatches<'a>) -> Result<Order<'a>, LineFault>
     ensures { MatchResult result (MeansBy (subcommand_rows_of matches.now))
         (MeansNothing (subcommand_rows_of matches.now)) }
 {
     let Some((name, options)) = matches.subcommand() else {
         return Err(LineFault::Line("error: a command is wanted\n".to_string(alloc)?));
     };
-    match read_task(name, options) {
-        Ok(task) => Ok(task),
+    let names = read_names(alloc, options)?;
+    match read_order(name, options, names) {
+        Ok(order) => Ok(order),
         Err(bad) => Err(LineFault::Line(bad.text(alloc)?)),
     }
 }
 
+/// The names of files, in their order.
+fn read_names<'a>(alloc: Global, options: &ArgMatches<'a>) -> Result<Vec<&'a str>, AllocError>
+    ensures { IfOk result (λ names. map (λ name. name.now) names.items
+        ≡ names_of (rows_of (found_of options.now))) }
+{
+    let mut names = Vec::new(alloc);
+    if let Some(given) = options.get_strs("file") {
+        names.extend_from_slice(given)?;
+    }
+    Ok(names)
+}
+
+/// What a command is to do with files of these names, by the values of its options.
+fn read_order<'a>(
+    name: &'a str,
+    options: &ArgMatches<'a>,
+    names: Vec<&'a str>,
+) -> Result<Order<'a>, BadValue<'a>>
+    requires { map (λ name. name.now) names.items ≡ names_of (rows_of (found_of options.now)) }
+    ensures means { MatchResult result (Means name.entry.now (rows_of (found_of options.now)))
+        (λ _. (order : _) → Means name.entry.now (rows_of (found_of options.now)) order → ⊥) }
+    ensures refused { IfErr result (BadOrder name.entry.now (rows_of (found_of options.now))) }
+{
+    let task = read_task(name, options)?;
+    if has_second_dash(names.as_slice(), value(options, "files0-from") == "-") {
+        return Err(BadValue {
+            option: "FILE",
+            value: "-",
+            wanted: "standard input at most once",
+            advice: "",
+        });
+    }
+    Ok(Order {
+        task,
+        names,
+        list: options.get_str("files0-from"),
+        to: options.get_str("to"),
+    })
+}
+
+/// Whether one of the names is a dash, and before it another one, or there was one already.
+fn has_second_dash(names: &[&str], already: bool) -> bool
+    ensures { result ≡ has_dash_again already (map (λ name. name.now) names.now) }
+{
+    let mut has_dash = already;
+    for name in names {
+        if *name == "-" {
+            if has_dash {
+                return true;
+            }
+            has_dash = true;
+        }
+    }
+    false
+}
+
 /// The task of a command by the values of its options.
 fn read_task<'a>(name: &'a str, options: &ArgMatches<'a>) -> Result<Task, BadValue<'a>>
-    ensures means { MatchResult result (Means name.entry.now (rows_of (found_of options.now)))
-        (λ _. (task : _) → Means name.entry.now (rows_of (found_of options.now)) task → ⊥) }
+    ensures means { MatchResult result (MeansTask name.entry.now (rows_of (found_of options.now)))
+        (λ _. (task : _) → MeansTask name.entry.now (rows_of (found_of options.now)) task → ⊥) }
     ensures refused { IfErr result (BadTask name.entry.now (rows_of (found_of options.now))) }
 {
     let limits = read_limits(options)?;
-    if name == "signed" {
-        let part = read_part(options)?;
-        return Ok(Task {
-            action: Action::Signed(part),
-            kind: Kind::Request,
-            limits,
-        });
-    }
-    let kind = read_kind(options)?;
-    if name == "show" {
-        return Ok(Task {
-            action: Action::Show,
-            kind,
-            limits,
-        });
-    }
-    if name == "check" {
-        return Ok(Task {
-            action: Action::Check,
-            kind,
-            limits,
-        });
-    }
-    if name == "explain" {
-        return Ok(Task {
-            action: Action::Explain(read_form(options)),
-            kind,
-            limits,
-        });
-    }
-    if name == "normalise" {
-        return Ok(Task {
-            action: Action::Normalise,
-            kind,
-            limits,
-        });
-    }
-    Err(BadValue {
-        option: "COMMAND",
-        value: name,
-        wanted: "show, check, explain, normalise or signed",
+    let action = read_action(name, options)?;
+    let kind = read_kind(action, options)?;
+    Ok(Task {
+        action,
+        kind,
+        limits,
     })
 }
 
@@ -213,6 +186,7 @@ fn read_limits<'a>(options: &ArgMatches<'a>) -> Result<Limits, BadValue<'a>>
             option: "--depth <N>",
             value: depth_text,
             wanted: "a number from 1 to 64",
+            advice: "",
         });
     };
     let octets_text = value(options, "octets");
@@ -221,6 +195,7 @@ fn read_limits<'a>(options: &ArgMatches<'a>) -> Result<Limits, BadValue<'a>>
             option: "--octets <N>",
             value: octets_text,
             wanted: "a number from 1 to 2147483647",
+            advice: "",
         });
     };
     match Limits::new(depth as u8, octets) {
@@ -229,10 +204,54 @@ fn read_limits<'a>(options: &ArgMatches<'a>) -> Result<Limits, BadValue<'a>>
     }
 }
 
+/// What the command of this name does.
+fn read_action<'a>(name: &'a str, options: &ArgMatches<'a>) -> Result<Action, BadValue<'a>>
+    ensures { MatchResult result (DoesAction name.entry.now (rows_of (found_of options.now)))
+        (BadAction name.entry.now (rows_of (found_of options.now))) }
+{
+    if name == "check" {
+        return Ok(Action::Check {
+            json: is_flagged(options, "json"),
+            quiet: is_flagged(options, "quiet"),
+        });
+    }
+    if name == "explain" {
+        return Ok(Action::Explain(read_form(options)));
+    }
+    if name == "show" {
+        return Ok(Action::Show {
+            json: is_flagged(options, "json"),
+        });
+    }
+    if name == "normalise" {
+        return Ok(Action::Normalise);
+    }
+    if name == "signed" {
+        return Ok(Action::Signed(read_part(options)?));
+    }
+    Err(BadValue {
+        option: "COMMAND",
+        value: name,
+        wanted: "check, explain, show, normalise or signed",
+        advice: "",
+    })
+}
+
+/// The kind that is named, where the action takes it.
+fn read_kind<'a>(action: Action, options: &ArgMatches<'a>) -> Result<Kind, BadValue<'a>>
+    ensures { MatchResult result (ReadsKind action (rows_of (found_of options.now)))
+        (BadKindOf action (rows_of (found_of options.now))) }
+{
+    match action {
+        Action::Signed(_) => read_request(options),
+        _ => read_any_kind(options),
+    }
+}
+
 /// The kind that is named.
-fn read_kind<'a>(options: &ArgMatches<'a>) -> Result<Kind, BadValue<'a>>
+fn read_any_kind<'a>(options: &ArgMatches<'a>) -> Result<Kind, BadValue<'a>>
     ensures { MatchResult result
-        (λ kind. value_of (codes "kind") (rows_of (found_of options.now)) ≡ kind_name kind)
+        (λ kind. named_kind (value_of (codes "kind") (rows_of (found_of options.now))) ≡ Some kind)
         (BadKind (rows_of (found_of options.now))) }
 {
     let text = value(options, "kind");
@@ -240,7 +259,27 @@ fn read_kind<'a>(options: &ArgMatches<'a>) -> Result<Kind, BadValue<'a>>
         option: "--kind <KIND>",
         value: text,
         wanted: "key, ec, request, public, encrypted or package",
+        advice: advice_for_kind(text),
     })
+}
+
+/// The kind that is named, where it is that of requests.
+fn read_request<'a>(options: &ArgMatches<'a>) -> Result<Kind, BadValue<'a>>
+    ensures { MatchResult result
+        (λ kind. (named_kind (value_of (codes "kind") (rows_of (found_of options.now))) ≡ Some kind)
+        × (kind ≡ kinds.Request))
+        (BadRequest (rows_of (found_of options.now))) }
+{
+    let text = value(options, "kind");
+    match kind_named(text) {
+        Some(Kind::Request) => Ok(Kind::Request),
+        _ => Err(BadValue {
+            option: "--kind <KIND>",
+            value: text,
+            wanted: "request",
+            advice: "",
+        }),
+    }
 }
 
 /// The part that is named.
@@ -254,6 +293,7 @@ fn read_part<'a>(options: &ArgMatches<'a>) -> Result<Part, BadValue<'a>>
         option: "--part <PART>",
         value: text,
         wanted: "info, algorithm, key or signature",
+        advice: "",
     })
 }
 
@@ -283,16 +323,15 @@ fn value<'a>(options: &ArgMatches<'a>, id: &str) -> &'a str
 
 /// The kind of this name.
 fn kind_named(name: &str) -> Option<Kind>
-    ensures { MatchOption result ((kind : _) → name.now ≡ kind_name kind → ⊥)
-        (λ kind. name.now ≡ kind_name kind) }
+    ensures { result ≡ named_kind name.now }
 {
-    if name == "key" {
+    if name == "key" || name == "pkcs8" {
         Some(Kind::Key)
-    } else if name == "ec" {
+    } else if name == "ec" || name == "sec1" {
         Some(Kind::Ec)
-    } else if name == "request" {
+    } else if name == "request" || (name == "csr" || name == "pkcs10") {
         Some(Kind::Request)
-    } else if name == "public" {
+    } else if name == "public" || name == "spki" {
         Some(Kind::Public)
     } else if name == "encrypted" {
         Some(Kind::Encrypted)

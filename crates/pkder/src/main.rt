@@ -1,9 +1,9 @@
-//! `pkder` reads one document in BER or DER from standard input and writes what its command says to standard output:
-//! what it is, whether it is in DER, its one DER text, a part of it.
+//! `pkder` reads documents in BER or DER, from files or from standard input, and writes what its command says: what they
+//! are, whether they are in DER, their one DER text, a part of them.
 //!
-//! Proved here: which words ask for which task, and that others are refused; the status that a run ends with. What a
-//! task answers and writes for every input, memory apart, is proved in `pk_commands`. Only tested, by the tables of
-//! `tests/`: the texts of help and of lines that clap refuses, and `main`.
+//! Proved here: which words ask for what, and that others are refused; the status that a run ends with. What a task
+//! answers and writes for every input, memory apart, is proved in `pk_commands`. Only tested, by the tables of `tests/`
+//! and tools/files.py: the texts of help and of lines that clap refuses, which file a name opens, and `main`.
 #![tactic(auto)]
 
 ghost use Rattle.std.specs.Prelude.{◌≡◌};
@@ -12,19 +12,44 @@ ghost use Rattle.pk_commands.specs.Endings.{ServedAs};
 ghost use Rattle.pk_commands.specs.Outcomes.{status_of};
 
 mod command;
+mod convert;
+mod documents;
+mod help;
 mod line;
+mod new_file;
+mod refusal;
+mod terminal;
 
 use asn_documents::document::write_octets;
-use line::LineFault;
+use convert::convert;
+use documents::judge;
+use line::{LineFault, Order, order_of};
 use pk_commands::outcome::{Outcome, status};
 use pk_commands::streams::{answer, tell, write_line};
-use pk_commands::task::Task;
+use pk_commands::task::{Action, Task};
 use pk_documents::document::{Document, Valued};
 use std::alloc::Global;
 use std::io::{BufReader, ErrorKind};
 use std::process::ExitCode;
+use terminal::is_terminal;
 use tlv_core::source::FromRead;
 use tlv_core::target::ToWrite;
+
+const NO_TEXT: &str = "\
+error: the line is not UTF-8
+
+  tip: --files0-from takes names one by one, and reads all other files
+
+For more information, try '--help'.
+";
+
+const BINARY: &str = "\
+error: what is written is binary, and standard output is a terminal
+
+  tip: --to NEW-FILE; with --to - it is written all the same
+
+For more information, try '--help'.
+";
 
 fn main(rt: HostRuntime) -> ExitCode {
     let alloc = rt.alloc();
@@ -33,17 +58,33 @@ fn main(rt: HostRuntime) -> ExitCode {
         Err(error) if error.kind() == ErrorKind::OutOfMemory => {
             return finish(&rt, &Outcome::Memory);
         }
-        Err(_) => return complain(&rt, "error: the line is not UTF-8\n"),
+        Err(_) => return complain(&rt, NO_TEXT),
     };
     let words: Vec<String> = match arguments.collect(alloc) {
         Ok(words) => words,
         Err(_) => return finish(&rt, &Outcome::Memory),
     };
-    match line::task_of(alloc, words.as_slice()) {
-        Ok(task) => finish(&rt, &serve(&rt, alloc, &task)),
+    match order_of(alloc, words.as_slice()) {
+        Ok(order) => perform(&rt, alloc, &order),
         Err(LineFault::Line(text)) => complain(&rt, text.as_str()),
         Err(LineFault::Help(text)) => finish(&rt, &tell(text.as_str(), rt.stdout()).0),
         Err(LineFault::Memory) => finish(&rt, &Outcome::Memory),
+    }
+}
+
+/// Does what the line asks for.
+fn perform(rt: &HostRuntime, alloc: Global, order: &Order<'_>) -> ExitCode {
+    let is_binary = matches!(order.task.action, Action::Normalise | Action::Signed(_));
+    if is_binary && order.to.is_none() && is_terminal(rt) {
+        return complain(rt, BINARY);
+    }
+    if order.names.is_empty() && order.list.is_none() && order.to.is_none() {
+        return finish(rt, &serve(rt, alloc, &order.task));
+    }
+    if is_binary {
+        convert(rt, alloc, order)
+    } else {
+        ExitCode::from(judge(rt, alloc, order))
     }
 }
 

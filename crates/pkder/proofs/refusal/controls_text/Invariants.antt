@@ -1,6 +1,6 @@
 use Rattle.std.proofs.Common.{◌≡◌, ◌++◌, drop, string_bytes}
 use Rattle.pkder.proofs.PlainTexts.{told}
-use Rattle.pkder.proofs.line.controls_text.Given as goal
+use Rattle.pkder.proofs.refusal.controls_text.Given as goal
 
 abbrev pub invariant-loop-word : goal.invariant-loop-word
 invariant-loop-word l =

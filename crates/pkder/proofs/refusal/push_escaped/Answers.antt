@@ -3,7 +3,7 @@ use Rattle.std.specs.Char.Iter.{escape_end, escape_rest}
 use Rattle.std.specs.Prelude.{string_bytes}
 use Rattle.pkder.specs.CommandLines.{IsPlain}
 use Rattle.pkder.proofs.PlainTexts.{escape_plain, goes_on, plain_first, plain_others}
-use Rattle.pkder.proofs.line.push_escaped.Goals as goal
+use Rattle.pkder.proofs.refusal.push_escaped.Goals as goal
 
 pub loop-shown-init : goal.loop-shown-init
 loop-shown-init c =

@@ -2,7 +2,7 @@ use Rattle.std.proofs.Common.{◌≡◌, ◌++◌, ◌≤◌, string_bytes}
 use Rattle.std.specs.Char.Escape.{escape_default}
 use Rattle.std.specs.Char.Iter.{escape_end, escape_rest}
 use Rattle.pkder.specs.CommandLines.{IsPlain}
-use Rattle.pkder.proofs.line.push_escaped.Given as goal
+use Rattle.pkder.proofs.refusal.push_escaped.Given as goal
 
 abbrev pub invariant-loop-shown : goal.invariant-loop-shown
 invariant-loop-shown l = record {

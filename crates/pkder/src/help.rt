@@ -1,0 +1,94 @@
+//! What help says behind the options.
+
+pub const PROGRAM: &str = "\
+Kinds, by the line that their PEM files begin with:
+  key        BEGIN PRIVATE KEY: PKCS #8, RFC 5958 (or pkcs8)
+  ec         BEGIN EC PRIVATE KEY: RFC 5915 (or sec1)
+  request    BEGIN CERTIFICATE REQUEST, BEGIN NEW CERTIFICATE REQUEST:
+             PKCS #10, RFC 2986 (or csr, pkcs10)
+  public     BEGIN PUBLIC KEY: SubjectPublicKeyInfo, RFC 5280 (or spki)
+  encrypted  BEGIN ENCRYPTED PRIVATE KEY: RFC 5958, and not decrypted
+  package    none: AsymmetricKeyPackage, RFC 5958, private keys in a row
+PEM itself is not read: decode what stands between its two lines from base64.
+
+Exit statuses, of several files the greatest:
+  0  done; of check and explain: in DER
+  1  of check and explain: not in DER
+  2  refused: 'fault at PLACE: REASON', the place an octet counted from 0
+  3  reading or writing failed, or memory ran out
+  4  the command line is refused
+
+Say what a request is, and what a reason means:
+  pkder show --kind request request.der
+  pkder help reasons";
+
+pub const CHECK: &str = "\
+It says 'DER', 'not DER at PLACE' (status 1) or 'fault at PLACE: REASON'
+(status 2), of a file behind its name. Kinds and statuses: pkder help.
+
+  pkder check --kind request request.der";
+
+pub const EXPLAIN: &str = "\
+The report has no octets of private keys and no values of attributes. It is
+written of a document that is refused, too. Kinds and statuses: pkder help.
+
+  pkder explain --kind request request.der";
+
+pub const SHOW: &str = "\
+It shows all that is in the document but private octets, as the
+challengePassword of a request. Kinds and statuses: pkder help.
+
+  pkder show --kind request request.der";
+
+pub const NORMALISE: &str = "\
+It is binary, and private where the document is: send it to a file, and never
+by > into the one that is read. Kinds and statuses: pkder help.
+
+  pkder normalise --kind key key.der > new.der";
+
+pub const SIGNED: &str = "\
+Parts of a request (RFC 2986 section 4), all of them binary:
+  info       what the signature covers: certificationRequestInfo in DER
+  algorithm  signatureAlgorithm in DER
+  key        subjectPKInfo in DER, the public key
+  signature  the octets of the signature, without the number of unused bits
+No signature is verified. Statuses: pkder help.
+
+  pkder signed --part signature request.der > signature";
+
+/// What `help reasons` says. Its lines are those of the man page, which tools/advice_words.py sees.
+pub const REASONS: &str = "\
+What the reason means in 'fault at PLACE: REASON'. PLACE is an octet counted
+from 0: where the element begins that is refused, or where the field should
+begin (Missing), or where the octets or the document end (Truncated, Trailing).
+
+  BadBits      a BIT STRING without its first octet, or with wrong unused bits
+  BadBoolean   a BOOLEAN that hasn't just one octet
+  BadEnd       an octet 00 where an element should begin
+  BadInteger   a number of no octets, or with a needless octet at its front
+  BadLength    a length FF, or an indefinite one of something primitive
+  BadNull      a NULL that has octets
+  BadOid       an invalid object identifier
+  BadTag       an identifier that no element has
+  BadText      a UTF8String that isn't UTF-8
+  Curve        two curves that differ are named
+  EmptySet     a SET of no members that has to have one
+  Extra        an element behind the last field
+  Inner        what is inside privateKey isn't the key of the algorithm
+  KeyLength    a key that hasn't the length of its curve
+  LeftOut      a type that isn't read where any type may stand
+  Missing      the end of an element where a field is due
+  Parameters   parameters that the algorithm may not have, or no named curve
+  PastEnd      an element that ends behind the one that it is in
+  TextTooLong  a DER text of more octets than --octets
+  TooDeep      more nesting than --depth
+  TooLong      more octets than --octets
+  Trailing     octets behind the document
+  Truncated    the end of the input within the document
+  Version      a version that the kind doesn't have
+  VersionRule  a version that doesn't go with the fields
+  WrongForm    primitive in place of constructed, or the other way round
+  WrongTag     another type than is due; at 0 often PEM, or another kind
+
+What causes each, and what to do about it: pkder explain --kind KIND FILE
+";

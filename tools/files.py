@@ -1,0 +1,256 @@
+#!/usr/bin/env python3
+"""files.py PROGRAM..: documents that are named on the line or by a list, and new files, by each program.
+
+Each run is in a folder of its own, which has files with names that hold spaces, quotes, line feeds and octets that
+aren't UTF-8, a folder, a dangling link, a file that nobody may read, and devices. What is due is written here by hand:
+an Ed25519 key in DER (RFC 8410), the same with its outer length in two octets where one will do, and the first 20
+octets of it. Nobody runs it, or whoever runs this. The last line is 'files: N passed, M failed'."""
+import json
+import os
+import pty
+import shutil
+import stat
+import subprocess
+import sys
+import tempfile
+
+SECONDS = 60
+DER = bytes.fromhex("302e020100300506032b657004220420") + bytes(range(32))
+BER = b"\x30\x81" + DER[1:]
+CUT = DER[:20]
+ROOT, NOBODY = 0, 65534
+FILES = {b"der": DER, b"ber": BER, b"cut": CUT, b"a name": DER, b"qu\"o'te": CUT, b"line\nfeed": CUT, b"-dash": DER,
+         b"latin\xff1": DER, "é".encode(): DER, b"back\\slash": BER, b"\x1b[31m": DER}
+TOLD = {b"qu\"o'te": '"qu\\"o\\\'te"', b"line\nfeed": '"line\\nfeed"', b"latin\xff1": '"latin\\xff1"',
+        b"back\\slash": '"back\\\\slash"', b"\x1b[31m": '"\\u{1b}[31m"'}
+SAID = {DER: "DER", BER: "not DER at 1", CUT: "fault at 20: Truncated"}
+SHOWN = ("kind: key\nversion: 0\nalgorithm: 1.3.101.112\nparameters: none\nprivate key: curve, 32 octets\n"
+         "attributes: absent\npublic key: absent\n")
+BINARY = ("error: what is written is binary, and standard output is a terminal\n\n"
+          "  tip: --to NEW-FILE; with --to - it is written all the same\n\nFor more information, try '--help'.\n")
+
+
+def line_of(name):
+    """What `check` says of a file of the folder."""
+    told = TOLD.get(name) or os.fsdecode(name)
+    return f"{told}: " + ("the name is not UTF-8" if b"\xff" in name else SAID[FILES[name]])
+
+
+def is_not_regular(name):
+    return f"error: not a regular file: {name}\n\n  tip: '--to -' writes to standard output\n"
+
+
+class Folder:
+    """The folder of a run."""
+
+    def __init__(self, program):
+        self.program, self.path = os.path.abspath(program), tempfile.mkdtemp()
+        os.chmod(self.path, 0o777)
+        for name, octets in FILES.items():
+            self.write(name, octets)
+        os.mkdir(f"{self.path}/folder")
+        os.symlink("nothing", f"{self.path}/dangling")
+        os.symlink("der", f"{self.path}/link")
+        self.write(b"secret", DER)
+        os.chmod(f"{self.path}/secret", 0)
+        os.mkfifo(f"{self.path}/pipe")
+
+    def write(self, name, octets):
+        with open(os.path.join(os.fsencode(self.path), name), "wb") as file:
+            file.write(octets)
+
+    def read(self, name):
+        with open(f"{self.path}/{name}", "rb") as file:
+            return file.read()
+
+    def mode(self, name):
+        return stat.S_IMODE(os.lstat(f"{self.path}/{name}").st_mode)
+
+    def run(self, *words, given=b"", user=None, **how):
+        """The status, standard output and standard error of a run."""
+        how = {"stdout": subprocess.PIPE, "stderr": subprocess.PIPE} | how
+        ran = subprocess.run([self.program, *words], input=given, cwd=self.path, user=user, timeout=SECONDS,
+                             umask=0o022, **how)
+        text = lambda octets: octets if octets is None else octets.decode("utf-8", "surrogateescape")
+        return ran.returncode, text(ran.stdout), text(ran.stderr)
+
+
+def compared(due, found):
+    return None if due == found else f"due {due!r}\n  found {found!r}"
+
+
+def judged(at):
+    """Runs of check, show and explain: what is wrong with each, if anything is."""
+    names = list(FILES)
+    plain = [it for it in names if b"\xff" not in it]
+    lines = "".join(f"{line_of(it)}\n" for it in plain)
+    yield "check, all names of text", (2, lines, ""), at.run("check", "-k", "key", "--", *map(os.fsdecode, plain))
+    yield "check, a file in DER", (0, "der: DER\n", ""), at.run("check", "-k", "key", "der")
+    yield "check, a name before the kind", (1, "ber: not DER at 1\n", ""), at.run("check", "ber", "-k", "key")
+    yield "check, through a link", (0, "link: DER\n", ""), at.run("check", "-k", "key", "link")
+    unread = ("folder: is a directory\nmissing: no such file\ndangling: no such file\nder/x: not in a directory\n"
+              "der: DER\n")
+    yield ("check, what can't be read", (3, unread, ""),
+           at.run("check", "-k", "key", "folder", "missing", "dangling", "der/x", "der"))
+    user = NOBODY if os.geteuid() == ROOT else None
+    yield ("check, a file that nobody may read", (3, "secret: permission denied\nder: DER\n", ""),
+           at.run("check", "-k", "key", "secret", "der", user=user))
+    yield ("check, standard input between files", (2, "der: DER\nnot DER at 1\ncut: fault at 20: Truncated\n", ""),
+           at.run("check", "-k", "key", "der", "-", "cut", given=BER))
+    yield ("check, standard input that is refused", (2, "der: DER\n", "fault at 20: Truncated\n"),
+           at.run("check", "-k", "key", "der", "-", given=CUT))
+    yield "check, standard input by a dash", (0, "DER\n", ""), at.run("check", "-k", "key", "-", given=DER)
+    yield ("check, only what isn't in DER", (2, "ber: not DER at 1\ncut: fault at 20: Truncated\n", ""),
+           at.run("check", "-k", "key", "--quiet", "der", "ber", "link", "cut"))
+    yield "check, nothing to say", (0, "", ""), at.run("check", "-k", "key", "--quiet", "der")
+    yield "check, nothing to say of standard input", (0, "", ""), at.run("check", "-k", "key", "--quiet", given=DER)
+    yield ("show, two files", (0, f"der:\n{SHOWN}link:\n{SHOWN}", ""), at.run("show", "-k", "key", "der", "link"))
+    yield ("show, a file that is refused", (2, f"cut: fault at 20: Truncated\nder:\n{SHOWN}", ""),
+           at.run("show", "-k", "pkcs8", "cut", "der"))
+    alone = at.run("explain", "-k", "key", given=CUT)
+    yield ("explain, a file", (2, f"cut:\n{alone[1]}", ""), at.run("explain", "-k", "key", "cut"))
+
+
+def listed(at):
+    """Runs whose names a list has."""
+    names = list(FILES)
+    lines = "".join(f"{line_of(it)}\n" for it in names)
+    at.write(b"names", b"".join(it + b"\0" for it in names))
+    check = ("check", "-k", "key", "--files0-from")
+    yield "a list of all names", (3, lines, ""), at.run(*check, "names")
+    yield ("a list on standard input", (1, "der: DER\nber: not DER at 1\n", ""),
+           at.run(*check, "-", given=b"der\0ber\0"))
+    yield ("a list whose last name isn't ended", (1, "der: DER\nber: not DER at 1\n", ""),
+           at.run(*check, "-", given=b"der\0ber"))
+    yield "an empty list", (0, "", ""), at.run(*check, "-")
+    yield "a dash in a list is a file", (3, "-: no such file\n", ""), at.run(*check, "-", given=b"-\0")
+    yield "an empty name", (3, '"": no such file\nder: DER\n', ""), at.run(*check, "-", given=b"\0der\0")
+    yield ("names of the line before those of a list", (2, "cut: fault at 20: Truncated\nder: DER\n", ""),
+           at.run(*check, "-", "cut", given=b"der\0"))
+    yield "no such list", (3, "", "missing: no such file\n"), at.run(*check, "missing")
+    yield ("a name that is too long", (3, "der: DER\n", "-: a name is longer than 65536 octets\n"),
+           at.run(*check, "-", given=b"der\0" + b"x" * 65537 + b"\0"))
+    os.mkdir(f"{at.path}/many")
+    for number in range(1000):
+        name = os.path.join(os.fsencode(at.path), b"many", b"%d \n'\"\xff"[: 3 + number % 5] % number)
+        with open(name, "wb") as file:
+            file.write(DER)
+    found = subprocess.run(["find", "many", "-type", "f", "-print0"], cwd=at.path, capture_output=True, check=True)
+    ran = at.run(*check, "-", given=found.stdout)
+    yield "a thousand files, of which 200 have names that aren't UTF-8", (3, 800, 200, ""), (
+        ran[0], ran[1].count(": DER\n"), ran[1].count("\": the name is not UTF-8\n"), ran[2])
+    shutil.rmtree(f"{at.path}/many")
+
+
+def members(text, *names):
+    """These members of the objects of JSON, each on a line."""
+    return [{it: found[it] for it in names if it in found} for found in map(json.loads, text.splitlines())]
+
+
+def told_in_json(at):
+    """Runs of check and show that write objects of JSON."""
+    at.write(b"names", b"der\0ber\0cut\0line\nfeed\0missing\0latin\xff1\0")
+    status, text, error = at.run("check", "-k", "key", "--json", "--files0-from", "names")
+    due = [{"file": "der", "status": 0, "verdict": "der"}, {"file": "ber", "status": 1, "verdict": "not_der", "at": 1},
+           {"file": "cut", "status": 2, "verdict": "refused", "at": 20, "reason": "Truncated"},
+           {"file": "line\nfeed", "status": 2, "verdict": "refused", "at": 20, "reason": "Truncated"},
+           {"file": "missing", "status": 3, "error": "no such file"},
+           {"file": '"latin\\xff1"', "status": 3, "error": "the name is not UTF-8"}]
+    yield ("check, objects of JSON", (3, due, ""),
+           (status, members(text, "file", "status", "verdict", "at", "reason", "error"), error))
+    status, text, error = at.run("check", "-k", "key", "--json", "--quiet", "der", "ber")
+    yield ("check, objects of what isn't in DER", (1, [{"file": "ber", "verdict": "not_der"}], ""),
+           (status, members(text, "file", "verdict"), error))
+    status, text, error = at.run("check", "-k", "key", "--json", given=BER)
+    yield ("check, an object of standard input", (1, [{"kind": "key", "status": 1, "verdict": "not_der"}], ""),
+           (status, members(text, "file", "kind", "status", "verdict"), error))
+    status, text, error = at.run("show", "-k", "key", "--json", "der", "missing")
+    due = [{"file": "der", "octets": 48}, {"file": "missing", "error": "no such file"}]
+    yield ("show, objects of JSON", (3, due, ""), (status, members(text, "file", "octets", "error"), error))
+
+
+def made(at):
+    """Runs of normalise and signed, and the files that they leave."""
+    to = ("normalise", "-k", "key", "--to")
+    before = set(os.listdir(at.path))
+    yield "a new file", (0, "", ""), at.run(*to, "new", "ber")
+    yield "what is in it, and who may read it", (DER, 0o600), (at.read("new"), at.mode("new"))
+    yield "a file into itself", (0, "", ""), at.run(*to, "new", "new")
+    os.chmod(f"{at.path}/new", 0o640)
+    at.write(b"new", BER)
+    yield "a file with a mode into itself", (0, "", ""), at.run(*to, "new", "new")
+    yield "that is kept", (DER, 0o640), (at.read("new"), at.mode("new"))
+    yield "a refused file", (2, "", "cut: fault at 20: Truncated\n"), at.run(*to, "new", "cut")
+    yield "of which nothing is left", DER, at.read("new")
+    yield "a refused file, to one that isn't there", (2, "", "fault at 20: Truncated\n"), at.run(*to, "none", given=CUT)
+    os.symlink("folder/led", f"{at.path}/to")
+    yield "through a link to nothing", (0, "", ""), at.run(*to, "to", given=BER)
+    yield "the link stands", ("folder/led", DER), (os.readlink(f"{at.path}/to"), at.read("folder/led"))
+    for name, what in (("pipe", "a pipe"), ("folder", "a folder"), ("/dev/null", "a device")):
+        yield f"to {what}", (4, "", is_not_regular(name)), at.run(*to, name, "ber")
+    yield "to a folder that isn't there", (3, "", "none/new: no such folder\n"), at.run(*to, "none/new", "ber")
+    yield "to what isn't a folder", (3, "", "der/new: not in a folder\n"), at.run(*to, "der/new", "ber")
+    user = NOBODY if os.geteuid() == ROOT else None
+    os.chmod(f"{at.path}/folder", 0o555)
+    yield ("to a folder where nothing may be made", (3, "", "folder/new: permission denied\n"),
+           at.run(*to, "folder/new", "ber", user=user))
+    os.chmod(f"{at.path}/folder", 0o755)
+    public = bytes.fromhex("302a300506032b6570032100" + "aa" * 32)
+    yield "a public key", (0, "", ""), at.run("normalise", "-k", "public", "--to", "public", given=public)
+    yield "which anybody may read", (public, 0o644), (at.read("public"), at.mode("public"))
+    yield "to standard output", (0, DER.decode("latin-1"), ""), at.run(*to, "-", "ber")
+    yield "no such file", (3, "", "missing: no such file\n"), at.run(*to, "new", "missing")
+    yield "no other file is left", {"new", "to", "public"}, set(os.listdir(at.path)) - before
+
+
+def closed(at):
+    """Runs whose output fails."""
+    with open("/dev/full", "wb") as full:
+        check = at.run("check", "-k", "key", "der", "ber", stdout=full)
+        normalise = at.run("normalise", "-k", "key", "ber", stdout=full)
+    yield "check, a full disk", (3, None, "write failed after 0\n"), check
+    yield "normalise, a full disk", (3, None, "ber: write failed after 0\n"), normalise
+    for words in (("check", "-k", "key", "der"), ("show", "-k", "key", "der")):
+        reader, writer = os.pipe()
+        os.close(reader)
+        ran = at.run(*words, stdout=writer, preexec_fn=lambda: None)
+        os.close(writer)
+        yield f"{words[0]}, a pipe that nobody reads", (True, None), (ran[0] != 0, ran[1])
+    leader, terminal = pty.openpty()
+    yield ("normalise, to a terminal", (4, None, BINARY), at.run("normalise", "-k", "key", "ber", stdout=terminal))
+    yield ("signed, to a terminal", (4, None, BINARY), at.run("signed", "ber", stdout=terminal))
+    yield ("check, to a terminal", (0, None, ""), at.run("check", "-k", "key", "der", stdout=terminal))
+    yield "what the terminal got", b"der: DER\r\n", os.read(leader, 100)
+    yield ("normalise, to a terminal that is asked for", (0, None, ""),
+           at.run("normalise", "-k", "key", "--to", "-", "ber", stdout=terminal))
+    yield "what the terminal got then", DER[:2], os.read(leader, 100)[:2]
+    yield ("normalise, to a terminal and a file", (0, None, ""),
+           at.run("normalise", "-k", "key", "--to", "new", "ber", stdout=terminal))
+
+
+def tried(program):
+    """Returns how many runs of the program are right, and how many aren't."""
+    count = {True: 0, False: 0}
+    for runs in (judged, listed, told_in_json, made, closed):
+        at = Folder(program)
+        try:
+            for what, due, found in runs(at):
+                wrong = compared(due, found)
+                if wrong:
+                    print(f"{program}: {what}: {wrong}")
+                count[not wrong] += 1
+        finally:
+            shutil.rmtree(at.path)
+    return count[True], count[False]
+
+
+def main(words):
+    if not words:
+        sys.exit(__doc__)
+    passed, failed = (sum(it) for it in zip(*map(tried, words)))
+    print(f"files: {passed} passed, {failed} failed", flush=True)
+    return 1 if failed else 0
+
+
+if __name__ == "__main__":
+    sys.exit(main(sys.argv[1:]))
