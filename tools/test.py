@@ -74,7 +74,7 @@ def parts(program=build.PROGRAM):
     """The parts by their names and in their order, each with what says its commands once it is its turn."""
     return {
         "logic": lambda: [["python3", "tools/logic.py"]],
-        "records": lambda: [["python3", "tools/edits.py", "--check"], ["python3", "tools/try_edits.py"],
+        "records": lambda: [["python3", "tools/records.py"], ["python3", "tools/try_edits.py"],
                             ["python3", "tools/what_to_read.py", "--check"],
                             ["python3", "tools/shape_names.py"], ["python3", "tools/identifier_names.py"],
                             ["python3", "tools/advice_words.py"], ["python3", "tools/report_schema.py"],
