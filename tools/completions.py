@@ -266,8 +266,10 @@ def in_zsh(file, typed):
                     pass
             late.cancel()
         os.close(ours)
+        # (of a path it says what stands behind the last slash)
+        above = "".join(re.findall(r"\S*/", typed.split(" ")[-1]))
         with open(said, encoding="utf-8") as it:
-            return {*it.read().split()}
+            return {above + word for word in it.read().split()}
 
 
 def in_fish(file, typed):
