@@ -1,0 +1,3 @@
+pub mod KeySameness
+pub mod Parts
+pub mod Verdicts

@@ -1,0 +1,105 @@
+//! What makes a private key, by its algorithm.
+ghost use Rattle.std.specs.Prelude.{[], ◌≡◌, ◌∷◌};
+ghost use Rattle.std.specs.Option.{option_map};
+ghost use Rattle.asn_elements.specs.Leaves.{integer_of};
+ghost use Rattle.pkix_types.specs.Identifiers.{ec_public_key};
+ghost use Rattle.pkix_values.specs.Algorithms.{parameters_of};
+ghost use Rattle.pk_containers.specs.Keys.{curve_octets, identifier_of};
+ghost use Rattle.pk_same_key.specs.Parts.{asymmetric_parts, document_parts, ec_parts, number_octets, parts_seen, rsa_parts};
+
+use asn_values::integer::Int;
+use pk_containers::one_asymmetric_key::OneAsymmetricKey;
+use pk_containers::private_key::PrivateKey;
+use pk_documents::document::Document;
+use pk_keys::ec_private_key::EcPrivateKey;
+use pk_keys::rsa_private_key::RsaPrivateKey;
+use pkix_values::algorithm::AlgorithmIdentifier;
+use tlv_core::oid::Oid;
+
+/// What makes a private key.
+#[derive(Clone, Copy)]
+pub(crate) enum KeyParts<'a> {
+    /// EC and RFC 8410: the algorithm, the curve (no octets where none is named) and the private octets.
+    Scalar(&'a [u8], &'a [u8], &'a [u8]),
+    /// RSA: modulus and publicExponent.
+    Rsa(&'a [u8], &'a [u8]),
+    /// Another algorithm, whose octets are carried: it isn't known.
+    Carried(&'a [u8]),
+}
+
+/// What makes the private key that a document is.
+pub(crate) fn document_parts(document: &Document) -> Option<KeyParts<'_>>
+    ensures { option_map parts_seen result ≡ document_parts document.now }
+{
+    match document {
+        Document::Key(key) => Some(asymmetric_parts(key)),
+        Document::Ec(key) => Some(ec_parts(key)),
+        _ => None,
+    }
+}
+
+fn asymmetric_parts(key: &OneAsymmetricKey) -> KeyParts<'_>
+    ensures { parts_seen result ≡ asymmetric_parts key.now }
+{
+    let algorithm = key.algorithm();
+    let own = algorithm.algorithm().content();
+    match key.private_key() {
+        PrivateKey::Ec(ec) => KeyParts::Scalar(own, curve_of(algorithm), ec.key().octets()),
+        PrivateKey::Curve(curve) => KeyParts::Scalar(own, &[], curve.key().octets()),
+        PrivateKey::Rsa(rsa) => rsa_parts(rsa),
+        PrivateKey::Carried(_) => KeyParts::Carried(own),
+    }
+}
+
+/// The curve that the parameters of an algorithm name.
+fn curve_of(algorithm: &AlgorithmIdentifier) -> &[u8]
+    ensures { result.now ≡ curve_octets (identifier_of (parameters_of algorithm.now)) }
+{
+    match algorithm.parameters() {
+        Some(parameters) => contents_of(parameters.oid()),
+        None => &[],
+    }
+}
+
+/// The contents of the identifier of a curve, none where no curve is named.
+fn contents_of<'a>(curve: Option<&'a Oid>) -> &'a [u8]
+    ensures { result.now ≡ curve_octets (option_map (λ r. r.now) curve.entry) }
+{
+    match curve {
+        Some(curve) => curve.content(),
+        None => &[],
+    }
+}
+
+fn ec_parts(key: &EcPrivateKey) -> KeyParts<'_>
+    ensures { parts_seen result ≡ ec_parts key.now }
+{
+    KeyParts::Scalar(
+        id_ec_public_key(),
+        contents_of(key.curve()),
+        key.key().octets(),
+    )
+}
+
+/// id-ecPublicKey (RFC 5480 section 2.1.1).
+pub(crate) fn id_ec_public_key() -> &'static [u8]
+    ensures { result.now ≡ ec_public_key }
+{
+    &[0x2A, 0x86, 0x48, 0xCE, 0x3D, 0x02, 0x01]
+}
+
+fn rsa_parts(key: &RsaPrivateKey) -> KeyParts<'_>
+    ensures { parts_seen result ≡ rsa_parts key.now }
+{
+    KeyParts::Rsa(number_octets(key.number(0)), number_octets(key.number(1)))
+}
+
+/// The contents octets of a number, where it is there.
+fn number_octets<'a>(number: Option<&'a Int>) -> &'a [u8]
+    ensures { result.now ≡ number_octets (option_map (λ r. r.now) number.entry) }
+{
+    match number {
+        Some(number) => number.content(),
+        None => &[],
+    }
+}
