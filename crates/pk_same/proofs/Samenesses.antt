@@ -1,5 +1,5 @@
 -- What two documents are to each other, by how each was read.
-use Rattle.std.proofs.Common.{Err, IfOk, List, Ok, Option, Result, ap, subst, sym, ℕ, ◌∙◌, ◌≡◌}
+use Rattle.std.proofs.Common.{Bool, Err, IfOk, List, Ok, Option, Result, ap, false, is_some, refl, subst, sym, true, ℕ, ◌||◌, ◌∙◌, ◌≡◌}
 use Rattle.tlv_core.specs.Limits.{Limits}
 use Rattle.tlv_core.specs.declared.fault.Fault.{Fault}
 use Rattle.x690.specs.DerTexts.{der}
@@ -8,9 +8,10 @@ use Rattle.pk_documents.specs.Kinds.{type_of}
 use Rattle.pk_documents.specs.declared.kind.Kind.{Kind}
 use Rattle.pk_explain.specs.Kinds.{word_of}
 use Rattle.pk_explain.specs.Written.{version}
-use Rattle.pk_same.specs.Names.{name_said}
-use Rattle.pk_same.specs.Sameness.{AreApart, AreRefused, AreSame, IsAccepted}
+use Rattle.pk_same.specs.Sameness.{AreApart, AreRefused, AreSame, IsAccepted, IsJudged, IsReading, encoding_of, fault_of}
 use Rattle.pk_same.specs.Written.{IsCompared, IsWritten, refused_written}
+use Rattle.pk_same.specs.declared.reading.Reading.{Reading}
+use Rattle.pk_same.specs.declared.reading.Reading.TheVariants.{Accepted, Refused as RefusedReading}
 use Rattle.pk_same.specs.declared.same.Form.{Form}
 use Rattle.pk_same.specs.declared.sameness.Sameness.{Sameness}
 use Rattle.pk_same.specs.declared.sameness.Sameness.TheVariants.{Another, Refused, Same}
@@ -40,10 +41,25 @@ are_apart l T first second one other a b ne =
       encodings = λ d. ne (a.encoded ∙ d ∙ sym b.encoded);
     }
 
+pub neither : (a b : Bool) → (a || b) ≡ false → (a ≡ false) × (b ≡ false)
+neither true b e = absurd cc
+neither false b e = (refl, e)
+
+-- what was read, by its fault
+pub judged : (l : Limits) (T : TypeTerm) (octets : List ℕ) (reading : Reading) → IsReading l T octets reading
+    → IsJudged l T octets (fault_of reading)
+judged l T octets (Accepted encoding) a = (a.value, a.spells)
+judged l T octets (RefusedReading fault) r = r
+
+pub accepted : (l : Limits) (T : TypeTerm) (octets : List ℕ) (reading : Reading) → IsReading l T octets reading
+    → is_some (fault_of reading) ≡ false → IsAccepted l T octets (encoding_of reading)
+accepted l T octets (Accepted encoding) a none = a
+accepted l T octets (RefusedReading fault) r none = absurd cc
+
 -- of two documents that are accepted
 pub compared_written : (form : Form) (l : Limits) (kind : Kind) (name other_name first second one other text : List ℕ)
     (sameness : Sameness) → IsAccepted l (type_of kind) first one → IsAccepted l (type_of kind) second other
-    → IsCompared form l kind version (word_of kind) (name_said name) (name_said other_name) one other text sameness
+    → IsCompared form l kind version (word_of kind) name other_name one other text sameness
     → IsWritten form l kind name other_name first second text sameness
 compared_written form l kind name other_name first second one other text Same a b c =
     (are_same l (type_of kind) first second one other a b c.0, c.1)
@@ -53,7 +69,7 @@ compared_written form l kind name other_name first second one other text (Refuse
 
 written_as : (form : Form) (l : Limits) (kind : Kind) (name other_name first second text : List ℕ)
     (fault other : Option Fault) → AreRefused l (type_of kind) first second fault other
-    → text ≡ refused_written form version (word_of kind) (name_said name) (name_said other_name) fault other
+    → text ≡ refused_written form version (word_of kind) name other_name fault other
     → IsWritten form l kind name other_name first second text (Refused fault other)
 written_as form l kind name other_name first second text fault other r e = (r, e)
 
@@ -61,7 +77,7 @@ written_as form l kind name other_name first second text fault other r e = (r, e
 pub refused_both_written : (form : Form) (l : Limits) (kind : Kind)
     (name other_name first second text : List ℕ) (fault other : Option Fault) (sameness : Sameness)
     → AreRefused l (type_of kind) first second fault other
-    → text ≡ refused_written form version (word_of kind) (name_said name) (name_said other_name) fault other
+    → text ≡ refused_written form version (word_of kind) name other_name fault other
     → sameness ≡ Refused fault other → IsWritten form l kind name other_name first second text sameness
 refused_both_written form l kind name other_name first second text fault other sameness r e is =
     subst (IsWritten form l kind name other_name first second text) (sym is)
@@ -69,62 +85,49 @@ refused_both_written form l kind name other_name first second text fault other s
 
 -- the same by what was handed on
 pub compared_said : (form : Form) (l : Limits) (kind : Kind)
-    (name other_name first second one other program word said other_said text : List ℕ) (sameness : Sameness)
-    → program ≡ version → word ≡ word_of kind → said ≡ name_said name → other_said ≡ name_said other_name
+    (name other_name first second one other program word text : List ℕ) (sameness : Sameness)
+    → program ≡ version → word ≡ word_of kind
     → IsAccepted l (type_of kind) first one → IsAccepted l (type_of kind) second other
-    → IsCompared form l kind program word said other_said one other text sameness
+    → IsCompared form l kind program word name other_name one other text sameness
     → IsWritten form l kind name other_name first second text sameness
-compared_said form l kind name other_name first second one other program word said other_said text sameness p w n o a b c =
+compared_said form l kind name other_name first second one other program word text sameness p w a b c =
     compared_written form l kind name other_name first second one other text sameness a b
-    (subst
-    (λ z. IsCompared form l kind version (word_of kind) (name_said name) z one other text sameness) o
-    (subst (λ z. IsCompared form l kind version (word_of kind) z other_said one other text sameness) n
-    (subst (λ z. IsCompared form l kind version z said other_said one other text sameness) w
-    (subst (λ z. IsCompared form l kind z word said other_said one other text sameness) p c))))
+    (subst (λ z. IsCompared form l kind version z name other_name one other text sameness) w
+    (subst (λ z. IsCompared form l kind z word name other_name one other text sameness) p c))
 
 pub refused_said : (form : Form) (l : Limits) (kind : Kind)
-    (name other_name first second program word said other_said text : List ℕ) (fault other : Option Fault)
-    (sameness : Sameness)
-    → program ≡ version → word ≡ word_of kind → said ≡ name_said name → other_said ≡ name_said other_name
-    → AreRefused l (type_of kind) first second fault other
-    → text ≡ refused_written form program word said other_said fault other
+    (name other_name first second program word text : List ℕ) (fault other : Option Fault) (sameness : Sameness)
+    → program ≡ version → word ≡ word_of kind → AreRefused l (type_of kind) first second fault other
+    → text ≡ refused_written form program word name other_name fault other
     → sameness ≡ Refused fault other → IsWritten form l kind name other_name first second text sameness
-refused_said form l kind name other_name first second program word said other_said text fault other sameness p w n o r e is =
+refused_said form l kind name other_name first second program word text fault other sameness p w r e is =
     refused_both_written form l kind name other_name first second text fault other sameness r
     (e
-    ∙ ap (λ z. refused_written form z word said other_said fault other) p
-    ∙ ap (λ z. refused_written form version z said other_said fault other) w
-    ∙ ap (λ z. refused_written form version (word_of kind) z other_said fault other) n
-    ∙ ap (λ z. refused_written form version (word_of kind) (name_said name) z fault other) o) is
+    ∙ ap (λ z. refused_written form z word name other_name fault other) p
+    ∙ ap (λ z. refused_written form version z name other_name fault other) w) is
 
 -- ---- the same of what a call answers
 
 pub compared_result : {W E : Type 0} (text_of : W → List ℕ) (answer_of : W → Sameness) (result : Result W E)
-    (form : Form) (l : Limits) (kind : Kind)
-    (name other_name first second one other program word said other_said : List ℕ)
-    → program ≡ version → word ≡ word_of kind → said ≡ name_said name → other_said ≡ name_said other_name
+    (form : Form) (l : Limits) (kind : Kind) (name other_name first second one other program word : List ℕ)
+    → program ≡ version → word ≡ word_of kind
     → IsAccepted l (type_of kind) first one → IsAccepted l (type_of kind) second other
     → IfOk result
-    (λ it. IsCompared form l kind program word said other_said one other (text_of it) (answer_of it))
+    (λ it. IsCompared form l kind program word name other_name one other (text_of it) (answer_of it))
     → IfOk result (λ it. IsWritten form l kind name other_name first second (text_of it) (answer_of it))
-compared_result text_of answer_of (Ok it) form l kind name other_name first second one other program word said other_said
-    p w n o a b c =
-    compared_said form l kind name other_name first second one other program word said other_said (text_of it)
-    (answer_of it) p w n o a b c
-compared_result text_of answer_of (Err error) form l kind name other_name first second one other program word said
-    other_said p w n o a b c = tt
+compared_result text_of answer_of (Ok it) form l kind name other_name first second one other program word p w a b c =
+    compared_said form l kind name other_name first second one other program word (text_of it) (answer_of it) p w a b c
+compared_result text_of answer_of (Err error) form l kind name other_name first second one other program word p w a b c =
+    tt
 
 pub refused_result : {W E : Type 0} (text_of : W → List ℕ) (answer_of : W → Sameness) (result : Result W E)
-    (form : Form) (l : Limits) (kind : Kind) (name other_name first second program word said other_said : List ℕ)
+    (form : Form) (l : Limits) (kind : Kind) (name other_name first second program word : List ℕ)
     (fault other : Option Fault)
-    → program ≡ version → word ≡ word_of kind → said ≡ name_said name → other_said ≡ name_said other_name
-    → AreRefused l (type_of kind) first second fault other
-    → IfOk result (λ it. text_of it ≡ refused_written form program word said other_said fault other)
+    → program ≡ version → word ≡ word_of kind → AreRefused l (type_of kind) first second fault other
+    → IfOk result (λ it. text_of it ≡ refused_written form program word name other_name fault other)
     → IfOk result (λ it. answer_of it ≡ Refused fault other)
     → IfOk result (λ it. IsWritten form l kind name other_name first second (text_of it) (answer_of it))
-refused_result text_of answer_of (Ok it) form l kind name other_name first second program word said other_said fault
-    other p w n o r e is =
-    refused_said form l kind name other_name first second program word said other_said (text_of it) fault other
-    (answer_of it) p w n o r e is
-refused_result text_of answer_of (Err error) form l kind name other_name first second program word said other_said fault
-    other p w n o r e is = tt
+refused_result text_of answer_of (Ok it) form l kind name other_name first second program word fault other p w r e is =
+    refused_said form l kind name other_name first second program word (text_of it) fault other (answer_of it) p w r e is
+refused_result text_of answer_of (Err error) form l kind name other_name first second program word fault other p w r e is =
+    tt

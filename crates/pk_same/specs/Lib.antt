@@ -1,6 +1,5 @@
 pub mod Differences
 pub mod Json
-pub mod Names
 pub mod Said
 pub mod Sameness
 pub mod Texts

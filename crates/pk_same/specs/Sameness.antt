@@ -1,5 +1,5 @@
 -- What two documents are to each other.
-use Rattle.std.specs.Prelude.{List, None, Option, Some, is_some, true, ℕ, ◌||◌, ◌↔◌, ◌≡◌}
+use Rattle.std.specs.Prelude.{List, None, Option, Some, [], is_some, true, ℕ, ◌||◌, ◌↔◌, ◌≡◌}
 use Rattle.tlv_core.specs.Limits.{Limits}
 use Rattle.tlv_core.specs.declared.fault.Fault.{Fault}
 use Rattle.x690.specs.DerTexts.{der}
@@ -24,6 +24,15 @@ pub record IsAccepted (limits : Limits) (type : TypeTerm) (octets encoding : Lis
 abbrev pub IsReading : Limits → TypeTerm → List ℕ → Reading → Type 0
 IsReading limits type octets (Accepted encoding) = IsAccepted limits type octets encoding.items
 IsReading limits type octets (RefusedReading fault) = IsRefused limits type octets fault
+
+-- why octets that were read are refused, if they are, and the DER encoding of those that are a document
+abbrev pub fault_of : Reading → Option Fault
+fault_of (Accepted encoding) = None
+fault_of (RefusedReading fault) = Some fault
+
+abbrev pub encoding_of : Reading → List ℕ
+encoding_of (Accepted encoding) = encoding.items
+encoding_of (RefusedReading fault) = []
 
 -- The octets are one document; or they are none, and have this fault.
 abbrev pub IsJudged : Limits → TypeTerm → List ℕ → Option Fault → Type 0

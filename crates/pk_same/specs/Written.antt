@@ -13,7 +13,6 @@ use Rattle.pk_reports.specs.Texts.{line_feed}
 use Rattle.pk_reports.specs.declared.report.Line.{Line}
 use Rattle.pk_reports.specs.declared.report.Report.{Report}
 use Rattle.pk_same.specs.Json.{another_object, refused_object, same_object}
-use Rattle.pk_same.specs.Names.{name_said}
 use Rattle.pk_same.specs.Sameness.{IsAccepted, IsSameness}
 use Rattle.pk_same.specs.Texts.{another_text, refused_text, same_line}
 use Rattle.pk_same.specs.Told.{Words, said_of}
@@ -84,4 +83,4 @@ IsText form limits kind name other_name first second text (Refused fault other) 
 abbrev pub IsWritten : Form → Limits → Kind → List ℕ → List ℕ → List ℕ → List ℕ → List ℕ → Sameness → Type 0
 IsWritten form limits kind name other_name first second text sameness =
     IsSameness limits (type_of kind) first second sameness
-    × IsText form limits kind (name_said name) (name_said other_name) first second text sameness
+    × IsText form limits kind name other_name first second text sameness

@@ -7,7 +7,7 @@ ghost use Rattle.pk_same.specs.Json.{another_object, called_member, difference_m
 ghost use Rattle.pk_same.specs.Told.{words_of};
 
 use crate::json_text::JsonText;
-use crate::text::Called;
+use crate::text::Names;
 use crate::told::Told;
 use std::alloc::{AllocError, Global};
 use tlv_core::fault::Fault;
@@ -18,7 +18,7 @@ use tlv_core::reason::Reason;
 pub(crate) struct Heading<'a> {
     pub(crate) version: &'a str,
     pub(crate) kind: &'a str,
-    pub(crate) called: Called<'a>,
+    pub(crate) names: Names<'a>,
 }
 
 /// Two documents that are the same.
@@ -26,13 +26,13 @@ pub(crate) struct Heading<'a> {
 pub(crate) fn same_json(alloc: Global, heading: Heading<'_>) -> Result<String, AllocError>
     ensures { IfOk result (λ text. string_bytes text
         ≡ print (same_object heading.entry.version.now heading.entry.kind.now
-        heading.entry.called.first.now heading.entry.called.second.now) ++ line_feed) }
+        heading.entry.names.first.now heading.entry.names.second.now) ++ line_feed) }
 {
     let mut json = JsonText::new(alloc);
     json.begin_object()?;
     push_head(&mut json, heading, 0, "same")?;
-    push_called(&mut json, "first", heading.called.first, None)?;
-    push_called(&mut json, "second", heading.called.second, None)?;
+    push_called(&mut json, "first", heading.names.first, None)?;
+    push_called(&mut json, "second", heading.names.second, None)?;
     json.end_object()?;
     json.into_line()
 }
@@ -47,13 +47,13 @@ pub(crate) fn refused_json(
 ) -> Result<String, AllocError>
     ensures { IfOk result (λ text. string_bytes text
         ≡ print (refused_object heading.entry.version.now heading.entry.kind.now
-        heading.entry.called.first.now heading.entry.called.second.now fault other) ++ line_feed) }
+        heading.entry.names.first.now heading.entry.names.second.now fault other) ++ line_feed) }
 {
     let mut json = JsonText::new(alloc);
     json.begin_object()?;
     push_head(&mut json, heading, 2, "refused")?;
-    push_called(&mut json, "first", heading.called.first, fault)?;
-    push_called(&mut json, "second", heading.called.second, other)?;
+    push_called(&mut json, "first", heading.names.first, fault)?;
+    push_called(&mut json, "second", heading.names.second, other)?;
     json.end_object()?;
     json.into_line()
 }
@@ -68,14 +68,14 @@ pub(crate) fn another_json(
 ) -> Result<String, AllocError>
     ensures { IfOk result (λ text. string_bytes text
         ≡ print (another_object heading.entry.version.now heading.entry.kind.now
-        heading.entry.called.first.now heading.entry.called.second.now
+        heading.entry.names.first.now heading.entry.names.second.now
         (map words_of told.now) more) ++ line_feed) }
 {
     let mut json = JsonText::new(alloc);
     json.begin_object()?;
     push_head(&mut json, heading, 1, "another")?;
-    push_called(&mut json, "first", heading.called.first, None)?;
-    push_called(&mut json, "second", heading.called.second, None)?;
+    push_called(&mut json, "first", heading.names.first, None)?;
+    push_called(&mut json, "second", heading.names.second, None)?;
     push_differences(&mut json, told, more)?;
     json.end_object()?;
     json.into_line()

@@ -1,7 +1,7 @@
 //! A document that is read, and its DER encoding.
-ghost use Rattle.std.specs.Prelude.{◌≡◌, IfOk};
+ghost use Rattle.std.specs.Prelude.{◌≡◌, ◌||◌, IfOk, is_some};
 ghost use Rattle.pk_documents.specs.Kinds.{type_of};
-ghost use Rattle.pk_same.specs.Sameness.{IsReading};
+ghost use Rattle.pk_same.specs.Sameness.{IsReading, encoding_of, fault_of};
 
 use pk_documents::kind::Kind;
 use pk_documents::normalise::{NormaliseError, normalise_whole_document};
@@ -16,6 +16,35 @@ pub(crate) enum Reading {
     /// A document, by its DER encoding.
     Accepted(Vec<u8>),
     Refused(Fault),
+}
+
+impl Reading {
+    /// Why it is refused, if it is.
+    pub(crate) fn fault(&self) -> Option<Fault>
+        ensures { result ≡ fault_of self.now }
+    {
+        match self {
+            Reading::Accepted(_) => None,
+            Reading::Refused(fault) => Some(*fault),
+        }
+    }
+
+    /// The DER encoding of a document, and no octets of what is refused.
+    pub(crate) fn encoding(&self) -> &[u8]
+        ensures { result.now ≡ encoding_of self.now }
+    {
+        match self {
+            Reading::Accepted(encoding) => encoding.as_slice(),
+            Reading::Refused(_) => &[],
+        }
+    }
+}
+
+/// Whether there is a fault.
+pub fn is_any(fault: Option<Fault>, other: Option<Fault>) -> bool
+    ensures { result ≡ (is_some fault || is_some other) }
+{
+    fault.is_some() || other.is_some()
 }
 
 /// Reads octets that have to be one document of the kind, all of them.

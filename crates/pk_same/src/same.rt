@@ -5,11 +5,9 @@ ghost use Rattle.pk_same.specs.Told.{words_of};
 ghost use Rattle.pk_same.specs.Written.{AreTold, IsCompared, IsTold, IsWritten, another_written, refused_written, same_written};
 
 use crate::json_object::{Heading, another_json, refused_json, same_json};
-pub use crate::names::Names;
-use crate::names::name_text;
-use crate::reading::{Reading, read};
+use crate::reading::{is_any, read};
 pub use crate::sameness::Sameness;
-use crate::text::{Called, another_text, refused_text, same_line};
+use crate::text::{Names, another_text, refused_text, same_line};
 use crate::told::{Sides, Told, first_told, untold};
 use crate::walk::{Encodings, differences};
 use pk_documents::kind::Kind;
@@ -31,7 +29,7 @@ pub enum Form {
 /// What two slices are to each other, of which each has to be one whole document of the kind, and the same as it is
 /// written.
 ///
-/// A document that is refused is never the same as another.
+/// A document that is refused is never the same as another. Names stand as they are given.
 pub fn same_text(
     alloc: Global,
     first: &[u8],
@@ -44,32 +42,20 @@ pub fn same_text(
     ensures { IfOk result (λ written. IsWritten form limits kind names.entry.first.now
         names.entry.second.now first.now second.now (string_bytes written.0) written.1) }
 {
-    let name = name_text(alloc, names.first)?;
-    let other_name = name_text(alloc, names.second)?;
     let heading = Heading {
         version: VERSION,
         kind: word_of(kind),
-        called: Called {
-            first: name.as_str(),
-            second: other_name.as_str(),
-        },
+        names,
     };
     let reading = read(alloc, first, kind, limits)?;
     let other = read(alloc, second, kind, limits)?;
-    match (reading, other) {
-        (Reading::Accepted(one), Reading::Accepted(other)) => {
-            compared(alloc, &one, &other, kind, limits, heading, form)
-        }
-        (Reading::Accepted(_), Reading::Refused(fault)) => {
-            refused(alloc, heading, form, None, Some(fault))
-        }
-        (Reading::Refused(fault), Reading::Accepted(_)) => {
-            refused(alloc, heading, form, Some(fault), None)
-        }
-        (Reading::Refused(fault), Reading::Refused(other)) => {
-            refused(alloc, heading, form, Some(fault), Some(other))
-        }
+    let fault = reading.fault();
+    let other_fault = other.fault();
+    if is_any(fault, other_fault) {
+        return refused(alloc, heading, form, fault, other_fault);
     }
+    let one = reading.encoding();
+    compared(alloc, one, other.encoding(), kind, limits, heading, form)
 }
 
 /// The kind by the word of the program.
@@ -96,11 +82,11 @@ fn refused(
 ) -> Result<(String, Sameness), AllocError>
     ensures text { IfOk result (λ written. string_bytes written.0
         ≡ refused_written form heading.entry.version.now heading.entry.kind.now
-        heading.entry.called.first.now heading.entry.called.second.now fault other) }
+        heading.entry.names.first.now heading.entry.names.second.now fault other) }
     ensures sameness { IfOk result (λ written. written.1 ≡ Sameness.Refused fault other) }
 {
     let text = match form {
-        Form::Text => refused_text(alloc, heading.called, fault, other)?,
+        Form::Text => refused_text(alloc, heading.names, fault, other)?,
         Form::Json => refused_json(alloc, heading, fault, other)?,
     };
     Ok((text, Sameness::Refused(fault, other)))
@@ -118,7 +104,7 @@ fn compared(
 ) -> Result<(String, Sameness), AllocError>
     ensures { IfOk result (λ written. IsCompared form limits kind
         heading.entry.version.now heading.entry.kind.now
-        heading.entry.called.first.now heading.entry.called.second.now
+        heading.entry.names.first.now heading.entry.names.second.now
         one.now other.now (string_bytes written.0) written.1) }
 {
     if one == other {
@@ -132,7 +118,7 @@ fn compared(
 fn same_written(alloc: Global, heading: Heading<'_>, form: Form) -> Result<String, AllocError>
     ensures { IfOk result (λ text. string_bytes text
         ≡ same_written form heading.entry.version.now heading.entry.kind.now
-        heading.entry.called.first.now heading.entry.called.second.now) }
+        heading.entry.names.first.now heading.entry.names.second.now) }
 {
     match form {
         Form::Text => same_line(alloc),
@@ -149,11 +135,11 @@ fn another_written(
 ) -> Result<String, AllocError>
     ensures { IfOk result (λ text. string_bytes text
         ≡ another_written form heading.entry.version.now heading.entry.kind.now
-        heading.entry.called.first.now heading.entry.called.second.now
+        heading.entry.names.first.now heading.entry.names.second.now
         (map words_of told.now) more) }
 {
     match form {
-        Form::Text => another_text(alloc, heading.called, told, more),
+        Form::Text => another_text(alloc, heading.names, told, more),
         Form::Json => another_json(alloc, heading, told, more),
     }
 }

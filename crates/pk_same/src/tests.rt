@@ -1,6 +1,7 @@
 //! Pairs of documents by OpenSSL 3.0 (`genpkey`, `ec`, `pkcs8`, `req`) and of `examples/`, and what they are to each
 //! other. The fields and the values were worked out by hand from what `openssl asn1parse` says of each.
-use crate::same::{Form, Names, Sameness, same_text};
+use crate::same::{Form, Sameness, same_text};
+use crate::text::Names;
 use pk_documents::kind::Kind;
 use std::test::Fail;
 use tlv_core::limits::Limits;
@@ -187,8 +188,8 @@ static ROWS: [(Kind, &str, &str, &str); 11] = [
 fn pairs(rt: HostRuntime) -> Result<(), Fail> {
     let limits = Limits::new(32, 1048576).ok_or("limits")?;
     let names = Names {
-        first: b"a.der",
-        second: b"b.der",
+        first: "a.der",
+        second: "b.der",
     };
     for (kind, first, second, lines) in ROWS.iter() {
         let first = hex::decode(rt.alloc(), *first)?;
@@ -215,36 +216,4 @@ fn word(sameness: Sameness) -> &'static str {
         Sameness::Refused(Some(_), _) => "a.der:",
         Sameness::Refused(None, _) => "b.der:",
     }
-}
-
-/// Names in octets, and as they are written.
-static NAMES: [(&[u8], &str); 4] = [
-    (b"a b.der", "a b.der: fault at 20: Truncated\n"),
-    (b"\xC3\xA9.der", "\u{e9}.der: fault at 20: Truncated\n"),
-    (b"a\nb.der", "\"a\\nb.der\": fault at 20: Truncated\n"),
-    (b"\xE9.der", "\"\\xe9.der\": fault at 20: Truncated\n"),
-];
-
-#[test]
-fn names(rt: HostRuntime) -> Result<(), Fail> {
-    let limits = Limits::new(32, 1048576).ok_or("limits")?;
-    let first = hex::decode(rt.alloc(), CUT_SHORT)?;
-    let second = hex::decode(rt.alloc(), SMALLEST)?;
-    for (name, lines) in NAMES.iter() {
-        let names = Names {
-            first: *name,
-            second: b"b.der",
-        };
-        let (text, _) = same_text(
-            rt.alloc(),
-            &first,
-            &second,
-            Kind::Key,
-            limits,
-            names,
-            Form::Text,
-        )?;
-        assert_eq!(rt; text.as_str(), *lines);
-    }
-    Ok(())
 }

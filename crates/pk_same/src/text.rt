@@ -12,7 +12,7 @@ use tlv_core::reason::Reason;
 
 /// The names of two documents as they are written.
 #[derive(Clone, Copy)]
-pub struct Called<'a> {
+pub struct Names<'a> {
     pub first: &'a str,
     pub second: &'a str,
 }
@@ -28,16 +28,16 @@ pub(crate) fn same_line(alloc: Global) -> Result<String, AllocError>
 #[tactic(auto, unfolding(crate::specs::Texts::refused_text))]
 pub fn refused_text(
     alloc: Global,
-    called: Called<'_>,
+    names: Names<'_>,
     fault: Option<Fault>,
     other: Option<Fault>,
 ) -> Result<String, AllocError>
     ensures { IfOk result (λ text. string_bytes text
-        ≡ refused_text called.entry.first.now called.entry.second.now fault other) }
+        ≡ refused_text names.entry.first.now names.entry.second.now fault other) }
 {
     let mut text = String::new(alloc);
-    push_fault_line(&mut text, called.first, fault)?;
-    push_fault_line(&mut text, called.second, other)?;
+    push_fault_line(&mut text, names.first, fault)?;
+    push_fault_line(&mut text, names.second, other)?;
     Ok(text)
 }
 
@@ -83,18 +83,18 @@ fn push_inside(text: &mut String, inside: Option<(u64, Reason)>) -> Result<(), A
 #[tactic(auto, unfolding(crate::specs::Texts::another_text))]
 pub(crate) fn another_text(
     alloc: Global,
-    called: Called<'_>,
+    names: Names<'_>,
     told: &[Told],
     more: u64,
 ) -> Result<String, AllocError>
     ensures { IfOk result (λ text. string_bytes text
-        ≡ another_text called.entry.first.now called.entry.second.now (map words_of told.now) more) }
+        ≡ another_text names.entry.first.now names.entry.second.now (map words_of told.now) more) }
 {
     let mut text = String::from_str(alloc, "another document: ")?;
     push_fields(&mut text, told)?;
     push_more(&mut text, more)?;
     text.push_str("\n")?;
-    push_values(&mut text, called, told)?;
+    push_values(&mut text, names, told)?;
     Ok(text)
 }
 
@@ -135,15 +135,15 @@ fn push_more(text: &mut String, more: u64) -> Result<(), AllocError>
 }
 
 /// The values of each field, a line for each document.
-fn push_values(text: &mut String, called: Called<'_>, told: &[Told]) -> Result<(), AllocError>
+fn push_values(text: &mut String, names: Names<'_>, told: &[Told]) -> Result<(), AllocError>
     ensures { OnOk result (string_bytes text.new ≡ string_bytes text.old
-        ++ flat_map (difference_lines called.entry.first.now called.entry.second.now)
+        ++ flat_map (difference_lines names.entry.first.now names.entry.second.now)
         (map words_of told.now)) }
 {
     let mut left = told;
     while let [next, behind @ ..] = left {
-        push_side(text, called.first, next.first.as_str())?;
-        push_side(text, called.second, next.second.as_str())?;
+        push_side(text, names.first, next.first.as_str())?;
+        push_side(text, names.second, next.second.as_str())?;
         left = behind;
     }
     Ok(())

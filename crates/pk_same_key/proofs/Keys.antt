@@ -1,17 +1,24 @@
 -- What the private keys of two documents are to each other, by how each was read.
-use Rattle.std.proofs.Common.{Err, IfOk, List, Ok, Option, Result, ap, inl, inr, is_some, true, ℕ, ◌||◌, ◌∙◌, ◌≡◌, ◌⊎◌}
+use Rattle.std.proofs.Common.{Err, IfOk, List, Ok, Option, Result, inl, inr, is_some, true, ℕ, ◌||◌, ◌≡◌, ◌⊎◌}
 use Rattle.tlv_core.specs.Limits.{Limits}
 use Rattle.tlv_core.specs.declared.fault.Fault.{Fault}
 use Rattle.x690.specs.Values.{Value}
 use Rattle.pk_documents.specs.declared.document.Document.{Document}
 use Rattle.pk_documents.specs.declared.kind.Kind.{Kind}
-use Rattle.pk_same.specs.Names.{name_said}
 use Rattle.pk_same.specs.Texts.{refused_text}
-use Rattle.pk_same_key.specs.KeySameness.{AreCompared, AreRefusedKeys, IsJudgedKey, IsKey, key_line}
+use Rattle.pk_same_key.specs.KeySameness.{AreCompared, AreRefusedKeys, IsJudgedKey, IsKey, IsKeyReading, fault_of, key_line}
 use Rattle.pk_same_key.specs.Parts.{document_parts}
 use Rattle.pk_same_key.specs.Verdicts.{verdict_of}
+use Rattle.pk_same_key.specs.declared.same_key.KeyReading.{KeyReading}
+use Rattle.pk_same_key.specs.declared.same_key.KeyReading.TheVariants.{Accepted, Refused as RefusedReading}
 use Rattle.pk_same_key.specs.declared.verdict.KeySameness.{KeySameness}
 use Rattle.pk_same_key.specs.declared.verdict.KeySameness.TheVariants.{Refused}
+
+-- what was read, by its fault
+pub judged : (value_of : Document → Value) (l : Limits) (kind : Kind) (octets : List ℕ) (reading : KeyReading)
+    → IsKeyReading value_of l kind octets reading → IsJudgedKey value_of l kind octets (fault_of reading)
+judged value_of l kind octets (Accepted document) k = (document, k)
+judged value_of l kind octets (RefusedReading fault) r = r
 
 -- of two documents that are accepted
 pub compared_result : {W E : Type 0} (text_of : W → List ℕ) (answer_of : W → KeySameness) (result : Result W E)
@@ -32,17 +39,16 @@ compared_result text_of answer_of (Err error) value_of l kind other_kind name ot
 -- of two of which one is refused
 pub refused_result : {W E : Type 0} (text_of : W → List ℕ) (answer_of : W → KeySameness) (result : Result W E)
     (value_of : Document → Value) (l : Limits) (kind other_kind : Kind)
-    (name other_name first second said other_said : List ℕ) (fault other : Option Fault) → said ≡ name_said name
-    → other_said ≡ name_said other_name → IsJudgedKey value_of l kind first fault
+    (name other_name first second : List ℕ) (fault other : Option Fault) → IsJudgedKey value_of l kind first fault
     → IsJudgedKey value_of l other_kind second other → (is_some fault || is_some other) ≡ true
-    → IfOk result (λ it. text_of it ≡ refused_text said other_said fault other)
+    → IfOk result (λ it. text_of it ≡ refused_text name other_name fault other)
     → IfOk result (λ it. answer_of it ≡ Refused fault other)
     → IfOk result
     (λ it.
     AreCompared value_of l kind other_kind first second (text_of it) (answer_of it)
     ⊎ AreRefusedKeys value_of l kind other_kind name other_name first second (text_of it) (answer_of it))
-refused_result text_of answer_of (Ok it) value_of l kind other_kind name other_name first second said other_said fault
-    other n o a b s t e =
+refused_result text_of answer_of (Ok it) value_of l kind other_kind name other_name first second fault other
+    a b s t e =
     inr
     (record {
       fault = fault;
@@ -51,10 +57,7 @@ refused_result text_of answer_of (Ok it) value_of l kind other_kind name other_n
       judged = a;
       other_judged = b;
       some = s;
-      lines =
-          t
-          ∙ ap (λ z. refused_text z other_said fault other) n
-          ∙ ap (λ z. refused_text (name_said name) z fault other) o;
+      lines = t;
     })
-refused_result text_of answer_of (Err error) value_of l kind other_kind name other_name first second said other_said fault
-    other n o a b s t e = tt
+refused_result text_of answer_of (Err error) value_of l kind other_kind name other_name first second fault other
+    a b s t e = tt

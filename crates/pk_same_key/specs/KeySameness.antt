@@ -11,7 +11,6 @@ use Rattle.pk_documents.specs.declared.document.Document.{Document}
 use Rattle.pk_documents.specs.declared.kind.Kind.{Kind}
 use Rattle.pk_explain.specs.Answers.{IsRefused}
 use Rattle.pk_reports.specs.Texts.{line_feed}
-use Rattle.pk_same.specs.Names.{name_said}
 use Rattle.pk_same.specs.Texts.{refused_text}
 use Rattle.pk_same_key.specs.Parts.{document_parts}
 use Rattle.pk_same_key.specs.Verdicts.{reason_of_both, verdict_of}
@@ -30,6 +29,11 @@ IsKey value_of limits kind octets document =
 abbrev pub IsKeyReading : (Document → Value) → Limits → Kind → List ℕ → KeyReading → Type 0
 IsKeyReading value_of limits kind octets (Accepted document) = IsKey value_of limits kind octets document
 IsKeyReading value_of limits kind octets (RefusedReading fault) = IsRefused limits (type_of kind) octets fault
+
+-- why octets that were read are refused, if they are
+abbrev pub fault_of : KeyReading → Option Fault
+fault_of (Accepted document) = None
+fault_of (RefusedReading fault) = Some fault
 
 -- how the answer for two documents that are accepted is written
 abbrev pub key_line : Document → Document → KeySameness → List ℕ
@@ -62,4 +66,4 @@ pub record AreRefusedKeys (value_of : Document → Value) (limits : Limits) (kin
   pub judged : IsJudgedKey value_of limits kind first fault
   pub other_judged : IsJudgedKey value_of limits other_kind second other
   pub some : (is_some fault || is_some other) ≡ true
-  pub lines : text ≡ refused_text (name_said name) (name_said other_name) fault other
+  pub lines : text ≡ refused_text name other_name fault other

@@ -3,7 +3,7 @@ ghost use Rattle.std.specs.Prelude.{◌≡◌, ◌⊎◌, ◌++◌, IfOk, codes,
 ghost use Rattle.pk_reports.specs.Texts.{line_feed};
 ghost use Rattle.pk_same.specs.Texts.{refused_text};
 ghost use Rattle.std.specs.Option.{option_map};
-ghost use Rattle.pk_same_key.specs.KeySameness.{AreCompared, AreRefusedKeys, IsKeyReading, key_line};
+ghost use Rattle.pk_same_key.specs.KeySameness.{AreCompared, AreRefusedKeys, IsKeyReading, fault_of, key_line};
 ghost use Rattle.pk_same_key.specs.Parts.{document_parts, parts_seen};
 ghost use Rattle.pk_same_key.specs.Verdicts.{named_by, reason_by, reason_of, reason_of_both, verdict_of};
 ghost use Rattle.asn_shapes.specs.Identifiers.{usual};
@@ -13,8 +13,8 @@ use crate::verdict::{KeySameness, is_unnamed, verdict};
 use asn_shapes::identifiers::identifier_of;
 use pk_documents::document::{Document, Valued, read_whole_document};
 use pk_documents::kind::Kind;
-use pk_same::names::{Names, name_text};
-use pk_same::text::{Called, refused_text};
+use pk_same::reading::is_any;
+use pk_same::text::{Names, refused_text};
 use std::alloc::{AllocError, Global};
 use tlv_core::fault::{Fault, ReadError};
 use tlv_core::limits::Limits;
@@ -47,26 +47,30 @@ pub fn same_key_text(
         names.entry.first.now names.entry.second.now first.now second.now
         (string_bytes written.0) written.1) }
 {
-    let name = name_text(alloc, names.first)?;
-    let other_name = name_text(alloc, names.second)?;
-    let called = Called {
-        first: name.as_str(),
-        second: other_name.as_str(),
-    };
     let reading = read(alloc, first, kind, limits)?;
     let other = read(alloc, second, other_kind, limits)?;
-    match (reading, other) {
-        (KeyReading::Accepted(document), KeyReading::Accepted(other)) => {
-            compared(alloc, &document, &other)
-        }
-        (KeyReading::Accepted(_), KeyReading::Refused(fault)) => {
-            refused(alloc, called, None, Some(fault))
-        }
-        (KeyReading::Refused(fault), KeyReading::Accepted(_)) => {
-            refused(alloc, called, Some(fault), None)
-        }
-        (KeyReading::Refused(fault), KeyReading::Refused(other)) => {
-            refused(alloc, called, Some(fault), Some(other))
+    let fault = reading.fault();
+    let other_fault = other.fault();
+    if is_any(fault, other_fault) {
+        return refused(alloc, names, fault, other_fault);
+    }
+    let KeyReading::Accepted(document) = reading else {
+        unreachable!()
+    };
+    let KeyReading::Accepted(other) = other else {
+        unreachable!()
+    };
+    compared(alloc, &document, &other)
+}
+
+impl KeyReading {
+    /// Why it is refused, if it is.
+    fn fault(&self) -> Option<Fault>
+        ensures { result ≡ fault_of self.now }
+    {
+        match self {
+            KeyReading::Accepted(_) => None,
+            KeyReading::Refused(fault) => Some(*fault),
         }
     }
 }
@@ -88,15 +92,15 @@ fn read(alloc: Global, octets: &[u8], kind: Kind, limits: Limits) -> Result<KeyR
 /// The answer where a document is refused, or both.
 fn refused(
     alloc: Global,
-    called: Called<'_>,
+    names: Names<'_>,
     fault: Option<Fault>,
     other: Option<Fault>,
 ) -> Result<(String, KeySameness), AllocError>
     ensures lines { IfOk result (λ written. string_bytes written.0
-        ≡ refused_text called.entry.first.now called.entry.second.now fault other) }
+        ≡ refused_text names.entry.first.now names.entry.second.now fault other) }
     ensures answer { IfOk result (λ written. written.1 ≡ KeySameness.Refused fault other) }
 {
-    let text = refused_text(alloc, called, fault, other)?;
+    let text = refused_text(alloc, names, fault, other)?;
     Ok((text, KeySameness::Refused(fault, other)))
 }
 

@@ -2,7 +2,7 @@
 //! with attributes or of version 2 by `asn1parse -genconf` from the octets of the first one.
 use crate::same_key::same_key_text;
 use pk_documents::kind::Kind;
-use pk_same::names::Names;
+use pk_same::text::Names;
 use std::test::Fail;
 use tlv_core::limits::Limits;
 
@@ -156,8 +156,8 @@ static ROWS: [(Kind, &str, Kind, &str, &str); 19] = [
 fn keys(rt: HostRuntime) -> Result<(), Fail> {
     let limits = Limits::new(32, 1048576).ok_or("limits")?;
     let names = Names {
-        first: b"a.der",
-        second: b"b.der",
+        first: "a.der",
+        second: "b.der",
     };
     for (kind, first, other_kind, second, line) in ROWS.iter() {
         let first = hex::decode(rt.alloc(), *first)?;

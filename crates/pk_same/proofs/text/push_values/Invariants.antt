@@ -5,9 +5,9 @@ use Rattle.pk_same.proofs.text.push_values.Given as goal
 
 abbrev pub invariant-loop-left : goal.invariant-loop-left
 invariant-loop-left l =
-    string_bytes l.text ++ flat_map (difference_lines l.called.first.now l.called.second.now) (map words_of l.left)
+    string_bytes l.text ++ flat_map (difference_lines l.names.first.now l.names.second.now) (map words_of l.left)
     ≡ string_bytes l.fn.text
-    ++ flat_map (difference_lines l.called.first.now l.called.second.now) (map words_of l.told)
+    ++ flat_map (difference_lines l.names.first.now l.names.second.now) (map words_of l.told)
 
 abbrev pub decreases-loop-left : goal.decreases-loop-left
 decreases-loop-left l = length l.left
