@@ -8,6 +8,7 @@ octets of it. Nobody runs it, or whoever runs this. The last line is 'files: N p
 import json
 import os
 import pty
+import re
 import shutil
 import stat
 import subprocess
@@ -15,9 +16,13 @@ import sys
 import tempfile
 
 SECONDS = 60
+EXAMPLES = f"{os.path.dirname(os.path.dirname(os.path.realpath(__file__)))}/examples"
 DER = bytes.fromhex("302e020100300506032b657004220420") + bytes(range(32))
 BER = b"\x30\x81" + DER[1:]
 CUT = DER[:20]
+# a DSA key (1.2.840.10040.4.1) without parameters, whose octets are carried, and one with an octet less
+CARRIED = bytes.fromhex("3013020100300906072a8648ce3804010403020107")
+LESS = bytes.fromhex("3012020100300906072a8648ce38040104020201")
 ROOT, NOBODY = 0, 65534
 FILES = {b"der": DER, b"ber": BER, b"cut": CUT, b"a name": DER, b"qu\"o'te": CUT, b"line\nfeed": CUT, b"-dash": DER,
          b"latin\xff1": DER, "é".encode(): DER, b"back\\slash": BER, b"\x1b[31m": DER}
@@ -26,6 +31,7 @@ TOLD = {b"qu\"o'te": '"qu\\"o\\\'te"', b"line\nfeed": '"line\\nfeed"', b"latin\x
 SAID = {DER: "DER", BER: "not DER at 1", CUT: "fault at 20: Truncated"}
 SHOWN = ("kind: key\nversion: 0\nalgorithm: 1.3.101.112\nparameters: none\nprivate key: curve, 32 octets\n"
          "attributes: absent\npublic key: absent\n")
+NOTE = "private key: the same octets\n"
 BINARY = ("error: what is written is binary, and standard output is a terminal\n\n"
           "  tip: --to NEW-FILE; with --to - it is written all the same\n\nFor more information, try '--help'.\n")
 
@@ -38,6 +44,33 @@ def line_of(name):
 
 def is_not_regular(name):
     return f"error: not a regular file: {name}\n\n  tip: '--to -' writes to standard output\n"
+
+
+def element(tag, *contents):
+    """An element of DER of fewer than 256 octets of contents."""
+    octets = b"".join(contents)
+    return bytes([tag, *([0x81] if len(octets) > 127 else []), len(octets)]) + octets
+
+
+def spellings():
+    """One key of P-256 (1.2.840.10045.3.1.7) in its usual spellings, each with its kind: ECPrivateKey (RFC 5915) with
+    the curve, PKCS #8 (RFC 5958) with the curve in the algorithm's parameters; with the public key and without it, the
+    curve twice, with attributes, and of version 2 (v2, 1) with the public key outside."""
+    curve, point = bytes.fromhex("06082a8648ce3d030107"), b"\4" + bytes(range(64))
+    algorithm = element(0x30, bytes.fromhex("06072a8648ce3d0201"), curve)
+    named, public = element(0xA0, curve), element(0xA1, element(3, b"\0", point))
+    name = element(0x30, bytes.fromhex("06092a864886f70d010914"), element(0x31, element(0x1E, b"\0k")))
+
+    def private(*fields):
+        return element(0x30, b"\2\1\1", element(4, bytes(range(1, 33))), *fields)
+
+    def key(version, inner, *fields):
+        return element(0x30, element(2, bytes([version])), algorithm, element(4, inner), *fields)
+
+    yield from (("ec", private(named)), ("ec", private(named, public)))
+    yield from (("key", key(0, private())), ("key", key(0, private(public))), ("key", key(0, private(named))))
+    yield from (("key", key(0, private(named, public))), ("key", key(0, private(public), element(0xA0, name))))
+    yield "key", key(1, private(), element(0x81, b"\0", point))
 
 
 class Folder:
@@ -169,6 +202,80 @@ def told_in_json(at):
     yield ("show, objects of JSON", (3, due, ""), (status, members(text, "file", "octets", "error"), error))
 
 
+def paired(at):
+    """Runs of same."""
+    same, key = ("same", "-k", "key"), ("same", "--key", "-k", "key")
+    written = list(spellings())
+    for number, (_, octets) in enumerate(written):
+        at.write(b"spelling%d" % number, octets)
+    at.write(b"carried", CARRIED)
+    at.write(b"less", LESS)
+    other = DER[:-1] + b"\xff"
+    at.write(b"other", other)
+    private = "another document: privateKey\n  der: 32 octets\n  other: 32 octets\nprivate key: other octets\n"
+    yield "the same, laid out otherwise", (0, "the same document\n", ""), at.run(*same, "der", "ber")
+    yield "a file with itself", (0, "the same document\n", ""), at.run(*same, "ber", "ber")
+    yield "another private key", (1, private, ""), at.run(*same, "der", "other")
+    yield "standard input first", (0, "the same document\n", ""), at.run(*same, "-", "ber", given=DER)
+    yield "standard input last", (0, "the same document\n", ""), at.run(*same, "ber", "-", given=DER)
+    yield ("standard input, in what differs", (1, private.replace("other:", "-:"), ""),
+           at.run(*same, "der", "-", given=other))
+    refused = "cut: fault at 20: Truncated\n"
+    yield "one that is refused", (2, refused, ""), at.run(*same, "der", "cut")
+    yield "a refused one with itself", (2, refused * 2, ""), at.run(*same, "cut", "cut")
+    yield ("names that are told in quotes", (2, '"line\\nfeed": fault at 20: Truncated\n', ""),
+           at.run(*same, "der", "line\nfeed"))
+    yield "no such file", (3, "", "missing: no such file\n"), at.run(*same, "missing", "cut")
+    yield "no such other file", (3, "", "folder: is a directory\n"), at.run(*same, "cut", "folder")
+    yield "the same key", (0, "the same key\n", ""), at.run(*key, "der", "ber")
+    yield "another key", (1, "another key\n", ""), at.run(*key, "der", "other")
+    for first, (kind, _) in enumerate(written):
+        for second, (other_kind, _) in enumerate(written):
+            words = ("--key", "-k", kind, "-k", other_kind, f"spelling{first}", f"spelling{second}")
+            yield f"spellings {first} and {second} of a key", (0, "the same key\n", ""), at.run("same", *words)
+            if kind == other_kind and first != second:
+                ran = at.run("same", "-k", kind, f"spelling{first}", f"spelling{second}")
+                yield (f"spellings {first} and {second} as documents", (1, "another document", NOTE, ""),
+                       (ran[0], ran[1][:16], ran[1][-len(NOTE):], ran[2]))
+    yield "keys of two algorithms", (1, "another key\n", ""), at.run(*key, "spelling2", "der")
+    yield "a key that is carried", (2, "not compared: id-dsa is carried\n", ""), at.run(*key, "carried", "carried")
+    yield "a refused key", (2, refused, ""), at.run(*key, "cut", "der")
+    yield "by the kind of the first", (2, "spelling0: fault at 5: WrongTag\n", ""), at.run(*key, "der", "spelling0")
+    yield ("a carried key in another document",
+           (1, "another document: privateKey\n  carried: 3 octets\n  less: 2 octets\n"
+            "private key: not compared: id-dsa is carried\n", ""), at.run(*same, "carried", "less"))
+    status, text, error = at.run(*same, "--json", "der", "line\nfeed")
+    fault = {"at": 20, "reason": "Truncated"}
+    due = {"form": 1, "kind": "key", "status": 2, "verdict": "refused", "first": {"file": "der"},
+           "second": {"file": "line\nfeed", "fault": fault}}
+    yield "an object of a refused one", (2, due, ""), (status, without_version(text), error)
+    status, text, error = at.run(*same, "--json", "der", "other")
+    due = {"form": 1, "kind": "key", "status": 1, "verdict": "another", "first": {"file": "der"},
+           "second": {"file": "other"}, "more": 0,
+           "differences": [{"field": "privateKey", "first": "32 octets", "second": "32 octets"}]}
+    yield "an object of what differs", (1, due, ""), (status, without_version(text), error)
+    with open("/dev/full", "wb") as full:
+        yield "a full disk", (3, None, "write failed after 0\n"), at.run(*same, "der", "ber", stdout=full)
+
+
+def without_version(text):
+    """The object of JSON on the one line of a text, without the version of the program."""
+    (line,) = text.splitlines()
+    return {name: it for name, it in json.loads(line).items() if name != "version"}
+
+
+def agreed(at):
+    """Runs of same over each two of the examples of a kind: they are the same where normalise writes the same."""
+    with open(f"{EXAMPLES}/answers.tsv", encoding="utf-8") as file:
+        kinds = {name: kind for kind, name in re.findall(r"\tnormalise --kind (\w+)\t@(\S+)", file.read())}
+    texts = {it: at.run("normalise", "-k", kind, f"{EXAMPLES}/{it}")[:2] for it, kind in kinds.items()}
+    for first in kinds:
+        for second in (it for it in kinds if kinds[it] == kinds[first] and it >= first):
+            status = at.run("same", "-k", kinds[first], f"{EXAMPLES}/{first}", f"{EXAMPLES}/{second}")[0]
+            due = max(texts[first][0], texts[second][0]) or int(texts[first] != texts[second])
+            yield f"{first} and {second}", due, status
+
+
 def made(at):
     """Runs of normalise and signed, and the files that they leave."""
     to = ("normalise", "-k", "key", "--to")
@@ -231,7 +338,7 @@ def closed(at):
 def tried(program):
     """Returns how many runs of the program are right, and how many aren't."""
     count = {True: 0, False: 0}
-    for runs in (judged, listed, told_in_json, made, closed):
+    for runs in (judged, listed, told_in_json, paired, agreed, made, closed):
         at = Folder(program)
         try:
             for what, due, found in runs(at):

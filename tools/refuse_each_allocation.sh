@@ -1,7 +1,7 @@
 #!/bin/sh
 # refuse_each_allocation.sh PROGRAM INPUT WORD..: the program with each allocation refused in turn. Each run answers as
-# with ample memory, or says "out of memory" with status 3 and writes nothing; the last ones meet no refusal. The last
-# line counts those that were answered as want of memory.
+# with ample memory, or says "out of memory" with status 3, perhaps behind the name of a file, and writes nothing; the
+# last ones meet no refusal. The last line counts those that were answered as want of memory.
 set -u
 program=$1 input=$2
 shift 2
@@ -16,7 +16,7 @@ while [ "$whole" -lt 20 ] && [ "$n" -le 5000 ]; do
     got=$?
     if [ "$got" = "$due" ] && cmp -s "$dir/out" "$dir/due" && cmp -s "$dir/err" "$dir/due_err"; then
         whole=$((whole + 1))
-    elif [ "$got" = 3 ] && [ ! -s "$dir/out" ] && [ "$(cat "$dir/err")" = "out of memory" ]; then
+    elif [ "$got" = 3 ] && [ ! -s "$dir/out" ] && grep -qxE "([a-z0-9./-]+: )?out of memory" "$dir/err"; then
         refused=$((refused + 1)) whole=0
     else
         echo "allocation $n refused: status $got, $(wc -c < "$dir/out") octets, '$(cat "$dir/err")'"

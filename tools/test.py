@@ -68,6 +68,9 @@ def allocating():
             yield f"examples/{name}.der", command, "--kind", kind
     for part in ("info", "algorithm", "key", "signature"):
         yield "examples/request-indefinite.der", "signed", "--part", part
+    yield "examples/p256.der", "same", "--kind", "key", "-", "examples/rfc8410-indefinite.der"
+    yield "examples/p256.der", "same", "--key", "--kind", "key", "--kind", "ec", "-", "examples/p256-sec1.der"
+    yield "examples/request-p256.der", "same", "--kind", "request", "--json", "-", "examples/request-rsa2048.der"
 
 
 def parts(program=build.PROGRAM):

@@ -5,7 +5,7 @@ _pkder() {
     if [ "$before" = "=" ]; then before=${COMP_WORDS[COMP_CWORD - 2]}; fi
     if [ "$word" = "=" ]; then word=''; fi
     if [ "$COMP_CWORD" = 1 ]; then
-        words="check explain show normalise signed help --help --version"
+        words="check explain show same normalise signed help --help --version"
     else
         case ${COMP_WORDS[1]}:$before in
             check:-k | check:--kind) words="key ec request public encrypted package" ;;
@@ -23,6 +23,10 @@ _pkder() {
             show:--octets) words="" ;;
             show:--files0-from) files=yes ;;
             show:*) words="--kind --depth --octets --json --files0-from --help" files=yes ;;
+            same:-k | same:--kind) words="key ec request public encrypted package" ;;
+            same:--depth) words="" ;;
+            same:--octets) words="" ;;
+            same:*) words="--kind --depth --octets --key --json --help" files=yes ;;
             normalise:-k | normalise:--kind) words="key ec request public encrypted package" ;;
             normalise:--depth) words="" ;;
             normalise:--octets) words="" ;;
@@ -34,7 +38,7 @@ _pkder() {
             signed:--octets) words="" ;;
             signed:--to) files=yes ;;
             signed:*) words="--part --kind --depth --octets --to --help" files=yes ;;
-            help:*) words="check explain show normalise signed reasons" ;;
+            help:*) words="check explain show same normalise signed reasons" ;;
         esac
     fi
     mapfile -t COMPREPLY < <(compgen -W "$words" -- "$word"; [ -z "$files" ] || compgen -f -- "$word")

@@ -28,6 +28,14 @@ complete -c pkder -n '__fish_seen_subcommand_from show' -l json -d 'write an obj
 complete -c pkder -n '__fish_seen_subcommand_from show' -l files0-from -r -F -d 'read names from it, each ended by an octet 0'
 complete -c pkder -n '__fish_seen_subcommand_from show' -s h -l help -d 'Print help'
 complete -c pkder -n '__fish_seen_subcommand_from show' -F
+complete -c pkder -n __fish_use_subcommand -a same -d 'say whether two are the same document, or what differs'
+complete -c pkder -n '__fish_seen_subcommand_from same' -s k -l kind -x -a 'key ec request public encrypted package' -d 'what it is'
+complete -c pkder -n '__fish_seen_subcommand_from same' -l depth -x -d 'the greatest depth of nesting, 1 to 64'
+complete -c pkder -n '__fish_seen_subcommand_from same' -l octets -x -d 'the greatest number of octets of the document and of its DER text, 1 to 2147483647'
+complete -c pkder -n '__fish_seen_subcommand_from same' -l key -d 'say whether they hold the same private key'
+complete -c pkder -n '__fish_seen_subcommand_from same' -l json -d 'write an object of JSON'
+complete -c pkder -n '__fish_seen_subcommand_from same' -s h -l help -d 'Print help'
+complete -c pkder -n '__fish_seen_subcommand_from same' -F
 complete -c pkder -n __fish_use_subcommand -a normalise -d 'write its DER text, which is its one DER encoding'
 complete -c pkder -n '__fish_seen_subcommand_from normalise' -s k -l kind -x -a 'key ec request public encrypted package' -d 'what it is'
 complete -c pkder -n '__fish_seen_subcommand_from normalise' -l depth -x -d 'the greatest depth of nesting, 1 to 64'
@@ -44,4 +52,4 @@ complete -c pkder -n '__fish_seen_subcommand_from signed' -l to -r -F -d 'write 
 complete -c pkder -n '__fish_seen_subcommand_from signed' -s h -l help -d 'Print help'
 complete -c pkder -n '__fish_seen_subcommand_from signed' -F
 complete -c pkder -n __fish_use_subcommand -a help -d 'Print this message or the help of the given subcommand(s)'
-complete -c pkder -n '__fish_seen_subcommand_from help' -a 'check explain show normalise signed reasons'
+complete -c pkder -n '__fish_seen_subcommand_from help' -a 'check explain show same normalise signed reasons'

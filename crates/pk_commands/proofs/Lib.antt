@@ -1,4 +1,5 @@
 pub mod BlockTargets
+pub mod Comparisons
 pub mod Endings
 pub mod Entries
 pub mod Escapes

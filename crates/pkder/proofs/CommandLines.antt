@@ -1,6 +1,6 @@
 -- What clap makes of the words, as tasks.
 use Rattle.std.proofs.Common.{Global, String, ◌≡◌, ◌∙◌, ◌⊎◌, Bool, List, [], ◌∷◌, None, Option, Some, Result, Ok, Err, ap, cond, false, inl, inr, map, refl, subst, sym, true}
-use Rattle.std.specs.Prelude.{IfSome, IsErr, MatchResult, option_map, slice_get, string_bytes, unwrap_or}
+use Rattle.std.specs.Prelude.{IfSome, IsErr, MatchResult, option_map, slice_get, string_bytes, codes, unwrap_or}
 use Rattle.std.proofs.lemmas.Option.{same_Some}
 use Rattle.std.specs.Borrow.{Bor}
 use Rattle.std.specs.List.{list_any}
@@ -12,11 +12,16 @@ use Rattle.clap.specs.declared.parser.matches.ArgMatches.{ArgMatches}
 use Rattle.clap.specs.declared.parser.matches.Found.{Found}
 use Rattle.clap.proofs.WalkLemmas.{first_value-rows, raw_values-rows}
 use Rattle.pkder.proofs.PlainTexts.{controls_plain}
-use Rattle.pkder.specs.CommandLines.{Asks, AsksNothing, BadOrder, IsFaultOf, IsPlainLine, Means, MeansBy, MeansNothing, TellsOwn, TellsWhy, advice_for_command, advised_line, asks_reasons, bad_value_line, command_advised, controls_line, has_control, missing_line, option_advised, program, value_of}
+use Rattle.pkder.specs.CommandLines.{Asks, AsksNothing, BadAsked, BadKinds, BadOther, IsFaultOf, IsPlainLine, MeansAsked, MeansBy, MeansNothing, ReadsPair, TellsOwn, TellsWhy, advice_for_command, advised_line, are_of_same, asks_reasons, bad_value_line, both_kinds, command_advised, command_name, controls_line, has_control, is_same, kinds_given, kinds_of, missing_line, no_kind_line, option_advised, other_taken, program, taken_kind, value_of}
+use Rattle.pk_documents.specs.declared.kind.Kind.{Kind}
 use Rattle.pkder.specs.declared.refusal.BadValue.{BadValue}
 use Rattle.pkder.specs.declared.line.LineFault.{LineFault}
 use Rattle.pkder.specs.declared.line.LineFault.TheVariants as faults
-use Rattle.pkder.specs.declared.line.Order.{Order}
+use Rattle.pkder.specs.declared.line.Asked.{Asked}
+use Rattle.pkder.specs.declared.line.Asked.TheVariants.{Both, Each}
+use Rattle.pkder.specs.declared.pair.Pair.{Pair}
+use Rattle.pk_commands.specs.declared.task.Action.{Action}
+use Rattle.pk_commands.specs.declared.task.Action.TheVariants.{Check, Explain, Normalise, Show, Signed}
 
 -- ---- the line
 
@@ -31,7 +36,7 @@ none_among kind [] h e = h
 none_among kind (k ∷ ks) h e = cc
 
 -- a line that clap takes
-pub asked : (app : App) (words : List Text) (m : ArgMatches) (r : Result Order LineFault)
+pub asked : (app : App) (words : List Text) (m : ArgMatches) (r : Result Asked LineFault)
     → asks_reasons words ≡ false → app ≡ program → HasMatchesOf app words m
     → (is_simple_and_free app ≡ true → FailsBy (fault_of app words) (Ok m))
     → MatchResult r (MeansBy (subcommand_rows_of m)) (MeansNothing (subcommand_rows_of m))
@@ -43,13 +48,13 @@ asked app words m r plain is matches kinds means =
     (matches (ap is_simple is ∙ simple)).1 ∙ ap (λ a. subcommand_of a words) is in
     go r none met means
   where
-    go : (r : Result Order LineFault) → fault_of program words ≡ [] → subcommand_rows_of m ≡ subcommand_of program words
+    go : (r : Result Asked LineFault) → fault_of program words ≡ [] → subcommand_rows_of m ≡ subcommand_of program words
         → MatchResult r (MeansBy (subcommand_rows_of m)) (MeansNothing (subcommand_rows_of m))
         → MatchResult r (Asks words) (AsksNothing words)
-    go (Ok order) none met h = (plain, none, subst (λ z. MeansBy z order) met h)
+    go (Ok asked) none met h = (plain, none, subst (λ z. MeansBy z asked) met h)
     go (Err (faults.Line text)) none met h = (
       plain,
-      λ order a. h.0 order (subst (λ z. MeansBy z order) (sym met) a.2),
+      λ asked a. h.0 asked (subst (λ z. MeansBy z asked) (sym met) a.2),
       inr (none, subst (λ z. TellsWhy z (string_bytes text)) met h.1),
     )
     go (Err (faults.Help text)) none met h = absurd h
@@ -90,14 +95,14 @@ tells_controls kind words line has is = go (list_any has_control words) _ has
 -- words of which none has
 pub tells_other : (kind : ErrorKind) (words : List Text) (line : Text) (due : Option Text)
     → list_any has_control words ≡ false
-    → option_or (command_advised words) (option_or (option_advised words) (missing_line kind)) ≡ due
+    → option_or (command_advised words) (option_or (option_advised words) (missing_line kind words)) ≡ due
     → IfSome due (λ d. line ≡ d) → TellsOwn kind words line
 tells_other kind words line due none is tells = go (list_any has_control words) _ none
   where
     go : (c : Bool) (own : Option Text) → c ≡ false
         → IfSome
         (cond c own
-        (option_or (command_advised words) (option_or (option_advised words) (missing_line kind))))
+        (option_or (command_advised words) (option_or (option_advised words) (missing_line kind words))))
         (λ d. line ≡ d)
     go true own e = absurd cc
     go false own e = subst (λ o. IfSome o (λ d. line ≡ d)) (sym is) tells
@@ -116,45 +121,55 @@ pub tells_command : (kind : ErrorKind) (words : List Text) (line : Text) → lis
     → Some line ≡ command_advised words → TellsOwn kind words line
 tells_command kind words line none is =
     tells_other kind words line (Some line) none
-    (ap (λ o. option_or o (option_or (option_advised words) (missing_line kind))) (sym is)) refl
+    (ap (λ o. option_or o (option_or (option_advised words) (missing_line kind words))) (sym is)) refl
 
 -- one of whose words is an option of another program
 pub tells_option : (kind : ErrorKind) (words : List Text) (line : Text) → list_any has_control words ≡ false
     → None ≡ command_advised words → Some line ≡ option_advised words → TellsOwn kind words line
 tells_option kind words line none neither is =
     tells_other kind words line (Some line) none
-    (ap (λ o. option_or o (option_or (option_advised words) (missing_line kind))) (sym neither)
-    ∙ ap (λ o. option_or o (missing_line kind)) (sym is)) refl
+    (ap (λ o. option_or o (option_or (option_advised words) (missing_line kind words))) (sym neither)
+    ∙ ap (λ o. option_or o (missing_line kind words)) (sym is)) refl
 
 -- any other one
 pub tells_missing : (kind : ErrorKind) (words : List Text) (line : Text) → list_any has_control words ≡ false
-    → None ≡ command_advised words → None ≡ option_advised words → IfSome (missing_line kind) (λ d. line ≡ d)
+    → None ≡ command_advised words → None ≡ option_advised words → IfSome (missing_line kind words) (λ d. line ≡ d)
     → TellsOwn kind words line
 tells_missing kind words line none first others tells =
-    tells_other kind words line (missing_line kind) none
-    (ap (λ o. option_or o (option_or (option_advised words) (missing_line kind))) (sym first)
-    ∙ ap (λ o. option_or o (missing_line kind)) (sym others)) tells
+    tells_other kind words line (missing_line kind words) none
+    (ap (λ o. option_or o (option_or (option_advised words) (missing_line kind words))) (sym first)
+    ∙ ap (λ o. option_or o (missing_line kind words)) (sym others)) tells
+
+-- what is missing, where the command isn't `same`
+pub missing_due : (words : List Text) (line : Text) → (are_of_same words ≡ false → line ≡ no_kind_line)
+    → IfSome (missing_line errors.MissingRequiredArgument words) (λ d. line ≡ d)
+missing_due words line own = go (are_of_same words) own
+  where
+    go : (b : Bool) → (b ≡ false → line ≡ no_kind_line)
+        → IfSome (cond b None (Some no_kind_line)) (λ d. line ≡ d)
+    go true h = tt
+    go false h = h refl
 
 -- an error for which no line is our own
-pub missing_other : (kind : ErrorKind) (P : Text → Type 0) → (kind ≡ errors.MissingRequiredArgument → ⊥)
-    → IfSome (missing_line kind) P
-missing_other errors.MissingRequiredArgument P other = absurd (other refl)
-missing_other errors.InvalidValue P other = tt
-missing_other errors.UnknownArgument P other = tt
-missing_other errors.InvalidSubcommand P other = tt
-missing_other errors.NoEquals P other = tt
-missing_other errors.ValueValidation P other = tt
-missing_other errors.TooManyValues P other = tt
-missing_other errors.TooFewValues P other = tt
-missing_other errors.WrongNumberOfValues P other = tt
-missing_other errors.ArgumentConflict P other = tt
-missing_other errors.MissingSubcommand P other = tt
-missing_other errors.DisplayHelp P other = tt
-missing_other errors.DisplayHelpOnMissingArgumentOrSubcommand P other = tt
-missing_other errors.DisplayVersion P other = tt
-missing_other errors.Io P other = tt
-missing_other errors.Format P other = tt
-missing_other errors.OutOfMemory P other = tt
+pub missing_other : (kind : ErrorKind) (words : List Text) (P : Text → Type 0)
+    → (kind ≡ errors.MissingRequiredArgument → ⊥) → IfSome (missing_line kind words) P
+missing_other errors.MissingRequiredArgument words P other = absurd (other refl)
+missing_other errors.InvalidValue words P other = tt
+missing_other errors.UnknownArgument words P other = tt
+missing_other errors.InvalidSubcommand words P other = tt
+missing_other errors.NoEquals words P other = tt
+missing_other errors.ValueValidation words P other = tt
+missing_other errors.TooManyValues words P other = tt
+missing_other errors.TooFewValues words P other = tt
+missing_other errors.WrongNumberOfValues words P other = tt
+missing_other errors.ArgumentConflict words P other = tt
+missing_other errors.MissingSubcommand words P other = tt
+missing_other errors.DisplayHelp words P other = tt
+missing_other errors.DisplayHelpOnMissingArgumentOrSubcommand words P other = tt
+missing_other errors.DisplayVersion words P other = tt
+missing_other errors.Io words P other = tt
+missing_other errors.Format words P other = tt
+missing_other errors.OutOfMemory words P other = tt
 
 -- a line that clap refuses
 pub refused : (kind : ErrorKind) (app : App) (words : List Text) (f : LineFault)
@@ -163,7 +178,7 @@ pub refused : (kind : ErrorKind) (app : App) (words : List Text) (f : LineFault)
 refused kind app words (faults.Line text) plain is kinds other =
     let h = among kind app words is kinds other.0.0 in (
       plain,
-      λ order a. none_among kind (fault_of program words) h a.1,
+      λ asked a. none_among kind (fault_of program words) h a.1,
       inl (kind, h, other.0, other.1, plain_refusal kind words (string_bytes text) other.1),
     )
 refused kind app words (faults.Help text) plain is kinds asked =
@@ -201,8 +216,62 @@ texts_of_option o f id is = ap (λ z. unwrap_or z []) (is ∙ raw_values-rows f 
 
 -- its options have a value that they can't have, and the line tells which
 pub told_why : (sub : Option (Text × List Row)) (name : Text) (rows : List Row) (bad : BadValue) (line : Text)
-    → sub ≡ Some (name, rows) → ((order : Order) → Means name rows order → ⊥) → BadOrder name rows bad
+    → sub ≡ Some (name, rows) → ((asked : Asked) → MeansAsked name rows asked → ⊥) → BadAsked name rows bad
     → line ≡ bad_value_line bad
-    → ((order : Order) → MeansBy sub order → ⊥) × TellsWhy sub line
+    → ((asked : Asked) → MeansBy sub asked → ⊥) × TellsWhy sub line
 told_why sub name rows bad line met none why is =
-    (λ order m. none order (subst (λ z. MeansBy z order) met m), subst (λ z. TellsWhy z line) (sym met) (bad, why, is))
+    (λ asked m. none asked (subst (λ z. MeansBy z asked) met m), subst (λ z. TellsWhy z line) (sym met) (bad, why, is))
+
+-- ---- the kinds of two documents
+
+-- the kinds that are given, where some are and where none is
+pub kinds_some : (o : Option (Bor (List (Bor Text)))) (given : Bor (List (Bor Text))) (f : Found) → o ≡ Some given
+    → option_map (λ s. map (λ v. v.now) s.now) o ≡ option_map raw_values (matched_of f (codes "kind"))
+    → map (λ v. v.now) given.now ≡ kinds_given (rows_of f)
+kinds_some o given f is h =
+    sym (ap (λ z. unwrap_or (option_map (λ s. map (λ v. v.now) s.now) z) []) is) ∙ texts_of_option o f (codes "kind") h
+
+pub kinds_none : (o : Option (Bor (List (Bor Text)))) (f : Found) → o ≡ None
+    → option_map (λ s. map (λ v. v.now) s.now) o ≡ option_map raw_values (matched_of f (codes "kind"))
+    → [] ≡ kinds_given (rows_of f)
+kinds_none o f is h =
+    sym (ap (λ z. unwrap_or (option_map (λ s. map (λ v. v.now) s.now) z) []) is) ∙ texts_of_option o f (codes "kind") h
+
+both_first : (o p : Option Kind) (kinds : Kind × Kind) → o ≡ None → both_kinds o p ≡ Some kinds → ⊥
+both_first None p kinds e h = cc
+both_first (Some kind) p kinds e h = cc
+
+both_second : (o p : Option Kind) (kinds : Kind × Kind) → p ≡ None → both_kinds o p ≡ Some kinds → ⊥
+both_second None p kinds e h = cc
+both_second (Some kind) None kinds e h = cc
+both_second (Some kind) (Some other) kinds e h = cc
+
+other_none : (key : Bool) (text : Text) (others : List Text) (bad : BadValue) → BadOther key text others bad
+    → other_taken key text others ≡ None
+other_none true text [] bad h = h.1
+other_none true text (other ∷ others) bad h = refl
+other_none false text others bad h = refl
+
+-- kinds that are refused are none
+pub no_kinds : (key : Bool) (texts : List Text) (bad : BadValue) (kinds : Kind × Kind) → BadKinds key texts bad
+    → kinds_of key texts ≡ Some kinds → ⊥
+no_kinds key [] bad kinds h e = both_first (taken_kind key []) _ kinds h.1 e
+no_kinds key (text ∷ []) bad kinds h e = both_first (taken_kind key text) _ kinds h.1 e
+no_kinds key (text ∷ other ∷ others) bad kinds (inl h) e = both_first (taken_kind key text) _ kinds h.1 e
+no_kinds key (text ∷ other ∷ others) bad kinds (inr h) e =
+    both_second (taken_kind key text) _ kinds (other_none key other others bad h.1) e
+
+-- ---- the command `same`
+
+not_same : (name : Text) (action : Action) → is_same name ≡ true → name ≡ command_name action → ⊥
+not_same name (Show json) same is = let f : false ≡ true = sym (ap is_same is) ∙ same in cc
+not_same name (Check json quiet) same is = let f : false ≡ true = sym (ap is_same is) ∙ same in cc
+not_same name (Explain form) same is = let f : false ≡ true = sym (ap is_same is) ∙ same in cc
+not_same name Normalise same is = let f : false ≡ true = sym (ap is_same is) ∙ same in cc
+not_same name (Signed part) same is = let f : false ≡ true = sym (ap is_same is) ∙ same in cc
+
+-- it asks for nothing where no pair is read
+pub no_pair : (name : Text) (rows : List Row) → is_same name ≡ true → ((pair : Pair) → ReadsPair rows pair → ⊥)
+    → (asked : Asked) → MeansAsked name rows asked → ⊥
+no_pair name rows same none (Each order) h = not_same name order.task.action same h.0.0
+no_pair name rows same none (Both pair) h = none pair h.1

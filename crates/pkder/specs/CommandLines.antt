@@ -25,8 +25,15 @@ use Rattle.pk_commands.specs.declared.task.Action.TheVariants.{Check, Explain, N
 use Rattle.pkder.specs.declared.refusal.BadValue.{BadValue}
 use Rattle.pkder.specs.declared.line.LineFault.{LineFault}
 use Rattle.pkder.specs.declared.line.LineFault.TheVariants as faults
+use Rattle.pkder.specs.declared.line.Asked.{Asked}
+use Rattle.pkder.specs.declared.line.Asked.TheVariants.{Both, Each}
 use Rattle.pkder.specs.declared.line.Order.{Order}
+use Rattle.pkder.specs.declared.pair.Pair.{Pair}
+use Rattle.pk_commands.specs.declared.comparison.Comparison.{Comparison}
+use Rattle.pk_commands.specs.declared.comparison.Question.{Question}
+use Rattle.pk_commands.specs.declared.comparison.Question.TheVariants.{Document, Key}
 use Rattle.pk_commands.specs.declared.task.Task.{Task}
+use Rattle.pk_same.specs.declared.same.Form.TheVariants.{Json, Text as TextForm}
 
 -- ---- the options: their names, and what stands for one that isn't given
 
@@ -64,6 +71,14 @@ name_rule = record (new_rule (codes "file")) { value_names = 1 }
 abbrev pub names_rule : Rule
 names_rule = record name_rule { action = Some Append }
 
+-- the name of a file that has to be given
+abbrev pub required_rule : Text → Rule
+required_rule id = record (new_rule id) { value_names = 1; required = true }
+
+-- the kind of two documents, or the kinds of both
+abbrev pub pair_kinds_rule : Rule
+pair_kinds_rule = record kind_rule { action = Some Append }
+
 -- ---- the commands
 
 abbrev pub with_limit_rules : App → App
@@ -92,6 +107,16 @@ explain_shape = (with_names (with_flag (with_flag (on_kind (codes "explain")) (c
 abbrev pub show_shape : Shape
 show_shape = (with_names (with_flag (on_kind (codes "show")) (codes "json"))).top
 
+-- of two documents of a kind, or of two kinds
+abbrev pub on_kinds : Text → App
+on_kinds name = with_limit_rules (with_rule (new_app name) pair_kinds_rule)
+
+abbrev pub with_pair : App → App
+with_pair app = with_rule (with_rule app (required_rule (codes "first"))) (required_rule (codes "second"))
+
+abbrev pub same_shape : Shape
+same_shape = (with_pair (with_flag (with_flag (on_kinds (codes "same")) (codes "key")) (codes "json"))).top
+
 abbrev pub normalise_shape : Shape
 normalise_shape = (with_name (on_kind (codes "normalise"))).top
 
@@ -105,7 +130,9 @@ abbrev pub program : App
 program =
     with_subcommand
     (with_subcommand
-    (with_subcommand (with_subcommand (with_subcommand top check_shape) explain_shape) show_shape) normalise_shape)
+    (with_subcommand
+    (with_subcommand (with_subcommand (with_subcommand top check_shape) explain_shape) show_shape) same_shape)
+    normalise_shape)
     signed_shape
 
 -- ---- the words that are read
@@ -203,10 +230,79 @@ is_input_twice rows = has_second_dash (is_dash (value_of (codes "files0-from") r
 abbrev pub Means : Text → List Row → Order → Type 0
 Means name rows order = MeansTask name rows order.task × ReadsNames rows order × (is_input_twice rows ≡ false)
 
--- So is the subcommand that was met.
-abbrev pub MeansBy : Option (Text × List Row) → Order → Type 0
-MeansBy None order = ⊥
-MeansBy (Some met) order = Means met.0 met.1 order
+-- ---- two documents that are compared
+
+-- a kind of private keys
+abbrev pub key_kind : Option Kind → Option Kind
+key_kind (Some kinds.Key) = Some kinds.Key
+key_kind (Some kinds.Ec) = Some kinds.Ec
+key_kind _ = None
+
+-- a kind, where private keys are asked for one of theirs
+abbrev pub taken_kind : Bool → Text → Option Kind
+taken_kind key text = if key then key_kind (kind_named text) else kind_named text
+
+-- A second kind stands with private keys alone, and no third one.
+abbrev pub other_taken : Bool → Text → List Text → Option Kind
+other_taken true text [] = taken_kind true text
+other_taken _ text others = None
+
+abbrev pub both_kinds : Option Kind → Option Kind → Option (Kind × Kind)
+both_kinds (Some kind) (Some other) = Some (kind, other)
+both_kinds _ _ = None
+
+-- the kinds of both documents; one that is given alone is that of both
+abbrev pub kinds_of : Bool → List Text → Option (Kind × Kind)
+kinds_of key [] = both_kinds (taken_kind key []) (taken_kind key [])
+kinds_of key (text ∷ []) = both_kinds (taken_kind key text) (taken_kind key text)
+kinds_of key (text ∷ other ∷ others) = both_kinds (taken_kind key text) (other_taken key other others)
+
+abbrev pub kinds_given : List Row → List Text
+kinds_given rows = unwrap_or (all_of (codes "kind") rows) []
+
+abbrev pub is_of_keys : List Row → Bool
+is_of_keys rows = is_given (codes "key") rows
+
+-- of keys in lines alone
+abbrev pub question_by : Bool → Bool → Option Question
+question_by true true = None
+question_by true false = Some Key
+question_by false true = Some (Document Json)
+question_by false false = Some (Document TextForm)
+
+abbrev pub question_of : List Row → Option Question
+question_of rows = question_by (is_of_keys rows) (is_given (codes "json") rows)
+
+-- both are to be standard input
+abbrev pub is_input_both : List Row → Bool
+is_input_both rows = is_dash (value_of (codes "first") rows) && is_dash (value_of (codes "second") rows)
+
+abbrev pub ReadsComparison : List Row → Comparison → Type 0
+ReadsComparison rows comparison =
+    ReadsLimits rows comparison.limits
+    × (question_of rows ≡ Some comparison.question)
+    × (kinds_of (is_of_keys rows) (kinds_given rows) ≡ Some (comparison.kind, comparison.other_kind))
+
+abbrev pub ReadsPair : List Row → Pair → Type 0
+ReadsPair rows pair =
+    ReadsComparison rows pair.comparison
+    × (pair.first.now ≡ value_of (codes "first") rows)
+    × (pair.second.now ≡ value_of (codes "second") rows)
+    × (is_input_both rows ≡ false)
+
+abbrev pub is_same : Text → Bool
+is_same name = bytes_eq name (codes "same")
+
+-- ---- what a command asks for
+
+abbrev pub MeansAsked : Text → List Row → Asked → Type 0
+MeansAsked name rows (Each order) = Means name rows order
+MeansAsked name rows (Both pair) = (is_same name ≡ true) × ReadsPair rows pair
+
+-- So does the subcommand that was met.
+abbrev pub MeansBy : Option (Text × List Row) → Asked → Type 0
+MeansBy None asked = ⊥
+MeansBy (Some met) asked = MeansAsked met.0 met.1 asked
 
 -- ---- control characters, which are told as escapes
 
@@ -245,7 +341,7 @@ advice_for_command word =
     if bytes_eq word (codes "verify") then
     Some (codes "no signature is verified; 'signed' writes what it covers")
     else (if bytes_eq word (codes "diff") || bytes_eq word (codes "compare") then
-    Some (codes "two documents say the same where 'normalise' writes the same octets of both")
+    Some (codes "pkder same --kind key FILE OTHER")
     else (if bytes_eq word (codes "version") then Some (codes "pkder --version") else None))
 
 abbrev pub advice_for_option : Text → Option Text
@@ -290,15 +386,20 @@ no_kind_line =
     codes "error: no kind is named: --kind is key, ec, request, public, encrypted or package" ++ line_feed ++ line_feed
     ++ tip (codes "pkder check --kind key FILE") ++ more
 
-abbrev pub missing_line : ErrorKind → Option Text
-missing_line errors.MissingRequiredArgument = Some no_kind_line
-missing_line _ = None
+-- the command is `same`, which clap says more of
+abbrev pub are_of_same : List Text → Bool
+are_of_same (name ∷ word ∷ words) = is_same word
+are_of_same _ = false
+
+abbrev pub missing_line : ErrorKind → List Text → Option Text
+missing_line errors.MissingRequiredArgument words = if are_of_same words then None else Some no_kind_line
+missing_line _ words = None
 
 -- what is told of words that clap refuses by an error of this kind, where it isn't clap's own text
 abbrev pub refusal_line : ErrorKind → List Text → Option Text
 refusal_line kind words =
     if list_any has_control words then Some (controls_line words)
-    else option_or (command_advised words) (option_or (option_advised words) (missing_line kind))
+    else option_or (command_advised words) (option_or (option_advised words) (missing_line kind words))
 
 abbrev pub TellsOwn : ErrorKind → List Text → Text → Type 0
 TellsOwn kind words line = IfSome (refusal_line kind words) (λ due. line ≡ due)
@@ -352,7 +453,7 @@ BadPart rows bad =
 
 abbrev pub BadCommand : Text → BadValue → Type 0
 BadCommand name bad =
-    Names bad (codes "COMMAND") name (codes "check, explain, show, normalise or signed")
+    Names bad (codes "COMMAND") name (codes "check, explain, show, same, normalise or signed")
     × ((action : Action) → name ≡ command_name action → ⊥)
     × (bad.advice.now ≡ [])
 
@@ -386,6 +487,64 @@ BadInput rows bad =
 abbrev pub BadOrder : Text → List Row → BadValue → Type 0
 BadOrder name rows bad = BadTask name rows bad ⊎ (((task : Task) × MeansTask name rows task) × BadInput rows bad)
 
+abbrev pub wanted_kinds : Bool → Text
+wanted_kinds true = codes "key or ec"
+wanted_kinds false = codes "key, ec, request, public, encrypted or package"
+
+-- a kind that isn't taken of documents, or of private keys
+abbrev pub BadTaken : Bool → Text → BadValue → Type 0
+BadTaken key text bad =
+    Names bad (codes "--kind <KIND>") text (wanted_kinds key)
+    × (taken_kind key text ≡ None)
+    × (bad.advice.now ≡ (if key then [] else advice_for_kind text))
+
+-- a second kind of documents, or a third one of private keys
+abbrev pub NeedlessKind : Text → BadValue → Type 0
+NeedlessKind text bad =
+    Names bad (codes "--kind <KIND>") text (codes "one kind, or two with --key") × (bad.advice.now ≡ [])
+
+abbrev pub BadOther : Bool → Text → List Text → BadValue → Type 0
+BadOther true text [] bad = BadTaken true text bad
+BadOther _ text others bad = NeedlessKind text bad
+
+abbrev pub BadKinds : Bool → List Text → BadValue → Type 0
+BadKinds key [] bad = BadTaken key [] bad
+BadKinds key (text ∷ []) bad = BadTaken key text bad
+BadKinds key (text ∷ other ∷ others) bad =
+    BadTaken key text bad ⊎ (((kind : Kind) × (taken_kind key text ≡ Some kind)) × BadOther key other others bad)
+
+-- JSON of private keys
+abbrev pub BadQuestion : List Row → BadValue → Type 0
+BadQuestion rows bad =
+    Names bad (codes "same --key") (codes "--json") (codes "an answer in lines")
+    × (question_of rows ≡ None)
+    × (bad.advice.now ≡ [])
+
+-- Why two documents aren't compared: a limit is told first, then the question, and then the kinds.
+abbrev pub BadComparison : List Row → BadValue → Type 0
+BadComparison rows bad =
+    BadLimit rows bad
+    ⊎ (((limits : Limits) × ReadsLimits rows limits)
+    × (BadQuestion rows bad
+    ⊎ (((question : Question) × (question_of rows ≡ Some question))
+    × BadKinds (is_of_keys rows) (kinds_given rows) bad)))
+
+abbrev pub BadBoth : List Row → BadValue → Type 0
+BadBoth rows bad =
+    Names bad (codes "FILE") (codes "-") (codes "standard input at most once")
+    × (is_input_both rows ≡ true)
+    × (bad.advice.now ≡ [])
+
+abbrev pub BadPair : List Row → BadValue → Type 0
+BadPair rows bad =
+    BadComparison rows bad
+    ⊎ (((comparison : Comparison) × ReadsComparison rows comparison) × BadBoth rows bad)
+
+-- why that command asks for nothing that can be done
+abbrev pub BadAsked : Text → List Row → BadValue → Type 0
+BadAsked name rows bad =
+    ((is_same name ≡ false) × BadOrder name rows bad) ⊎ ((is_same name ≡ true) × BadPair rows bad)
+
 abbrev pub bad_value_line : BadValue → Text
 bad_value_line bad =
     codes "error: invalid value '" ++ shown bad.value.now ++ codes "' for '" ++ bad.option.now ++ codes "': "
@@ -395,13 +554,13 @@ bad_value_line bad =
 -- why the subcommand that was met means no task
 abbrev pub TellsWhy : Option (Text × List Row) → Text → Type 0
 TellsWhy None line = line ≡ codes "error: a command is wanted" ++ line_feed
-TellsWhy (Some met) line = (bad : BadValue) × BadOrder met.0 met.1 bad × (line ≡ bad_value_line bad)
+TellsWhy (Some met) line = (bad : BadValue) × BadAsked met.0 met.1 bad × (line ≡ bad_value_line bad)
 
 -- ---- what a line asks for
 
 -- No task is meant, and the text tells why; or memory ran out.
 abbrev pub MeansNothing : Option (Text × List Row) → LineFault → Type 0
-MeansNothing met (faults.Line text) = ((order : Order) → MeansBy met order → ⊥) × TellsWhy met (string_bytes text)
+MeansNothing met (faults.Line text) = ((asked : Asked) → MeansBy met asked → ⊥) × TellsWhy met (string_bytes text)
 MeansNothing met (faults.Help text) = ⊥
 MeansNothing met faults.Memory = Unit {0}
 
@@ -411,9 +570,9 @@ asks_reasons (name ∷ help ∷ topic ∷ []) = bytes_eq help (codes "help") && 
 asks_reasons _ = false
 
 -- The words ask for it: clap takes them, and the subcommand that they name means it.
-abbrev pub Asks : List Text → Order → Type 0
-Asks words order =
-    (asks_reasons words ≡ false) × (fault_of program words ≡ []) × MeansBy (subcommand_of program words) order
+abbrev pub Asks : List Text → Asked → Type 0
+Asks words asked =
+    (asks_reasons words ≡ false) × (fault_of program words ≡ []) × MeansBy (subcommand_of program words) asked
 
 -- an error of clap's that is neither help nor the version nor refused memory
 abbrev pub IsRefusal : ErrorKind → Type 0
@@ -436,7 +595,7 @@ TellsFault words line =
 abbrev pub AsksNothing : List Text → LineFault → Type 0
 AsksNothing words (faults.Line text) =
     (asks_reasons words ≡ false)
-    × ((order : Order) → Asks words order → ⊥)
+    × ((asked : Asked) → Asks words asked → ⊥)
     × TellsFault words (string_bytes text)
 AsksNothing words (faults.Help text) =
     (asks_reasons words ≡ true)

@@ -2,9 +2,9 @@
 ghost use Rattle.std.specs.Prelude.{◌≡◌, IfOk, false};
 ghost use Rattle.clap.specs.Words.{app_of, rule_of, shape_of, with_rule};
 ghost use Rattle.clap.specs.declared.builder.command.Command.TheViews.{out-Command as fields_of};
-ghost use Rattle.pkder.specs.CommandLines.{check_shape, depth_rule, explain_shape, file_rule, flag_rule, kind_rule, name_rule, names_rule, normalise_shape, octets_rule, part_rule, program, request_rule, show_shape, signed_shape, top, with_limit_rules, with_name as app_with_name, with_names as app_with_names};
+ghost use Rattle.pkder.specs.CommandLines.{check_shape, depth_rule, explain_shape, file_rule, flag_rule, kind_rule, name_rule, names_rule, normalise_shape, octets_rule, pair_kinds_rule, part_rule, program, request_rule, required_rule, same_shape, show_shape, signed_shape, top, with_limit_rules, with_name as app_with_name, with_names as app_with_names, with_pair as app_with_pair};
 
-use crate::help::{CHECK, EXPLAIN, NORMALISE, PROGRAM, SHOW, SIGNED};
+use crate::help::{CHECK, EXPLAIN, NORMALISE, PROGRAM, SAME, SHOW, SIGNED};
 use clap::{Arg, ArgAction, Command};
 use pk_explain::version::VERSION;
 use std::alloc::{AllocError, Global};
@@ -19,8 +19,10 @@ pub fn command<'a>(alloc: Global) -> Result<Command<'a>, AllocError>
     let with_explain = with_check.subcommand(explain)?;
     let show = show(alloc)?;
     let with_show = with_explain.subcommand(show)?;
+    let same = same(alloc)?;
+    let with_same = with_show.subcommand(same)?;
     let normalise = normalise(alloc)?;
-    let with_normalise = with_show.subcommand(normalise)?;
+    let with_normalise = with_same.subcommand(normalise)?;
     let signed = signed(alloc)?;
     with_normalise.subcommand(signed)
 }
@@ -81,6 +83,20 @@ fn show<'a>(alloc: Global) -> Result<Command<'a>, AllocError>
     with_names(alloc, with_json)
 }
 
+/// The command that says what two documents are to each other.
+fn same<'a>(alloc: Global) -> Result<Command<'a>, AllocError>
+    ensures shape { IfOk result (λ command. shape_of command ≡ same_shape) }
+    ensures local { IfOk result (λ command. (fields_of command).has_globals ≡ false) }
+{
+    let command = Command::new(alloc, "same")
+        .about("say whether two are the same document, or what differs")
+        .after_help(SAME);
+    let on_kinds = on_kinds(alloc, command)?;
+    let with_key = on_kinds.arg(flag(alloc, "key", "say whether they hold the same private key"))?;
+    let with_json = with_key.arg(flag(alloc, "json", "write an object of JSON"))?;
+    with_pair(alloc, with_json)
+}
+
 /// The command that writes the DER text of a document.
 fn normalise<'a>(alloc: Global) -> Result<Command<'a>, AllocError>
     ensures shape { IfOk result (λ command. shape_of command ≡ normalise_shape) }
@@ -118,6 +134,17 @@ fn on_kind<'a>(alloc: Global, command: Command<'a>) -> Result<Command<'a>, Alloc
     with_limits(alloc, with_kind)
 }
 
+/// The command with a kind, or with two, and with limits.
+fn on_kinds<'a>(alloc: Global, command: Command<'a>) -> Result<Command<'a>, AllocError>
+    requires { (fields_of command).has_globals ≡ false }
+    ensures shape { IfOk result (λ new. app_of new
+        ≡ with_limit_rules (with_rule (app_of command.entry) pair_kinds_rule)) }
+    ensures local { IfOk result (λ new. (fields_of new).has_globals ≡ false) }
+{
+    let with_kinds = command.arg(pair_kinds(alloc))?;
+    with_limits(alloc, with_kinds)
+}
+
 /// The command with the options that set limits.
 fn with_limits<'a>(alloc: Global, command: Command<'a>) -> Result<Command<'a>, AllocError>
     requires { (fields_of command).has_globals ≡ false }
@@ -140,6 +167,26 @@ fn with_names<'a>(alloc: Global, command: Command<'a>) -> Result<Command<'a>, Al
         "read names from it, each ended by an octet 0",
     ))?;
     with_list.arg(names(alloc))
+}
+
+/// The command on two files.
+fn with_pair<'a>(alloc: Global, command: Command<'a>) -> Result<Command<'a>, AllocError>
+    requires { (fields_of command).has_globals ≡ false }
+    ensures shape { IfOk result (λ new. app_of new ≡ app_with_pair (app_of command.entry)) }
+    ensures local { IfOk result (λ new. (fields_of new).has_globals ≡ false) }
+{
+    let with_first = command.arg(required(
+        alloc,
+        "first",
+        "FILE",
+        "what is read; - is standard input",
+    ))?;
+    with_first.arg(required(
+        alloc,
+        "second",
+        "OTHER",
+        "what it is compared with; - is standard input",
+    ))
 }
 
 /// The command on one file, and into another.
@@ -173,6 +220,14 @@ fn request<'a>(alloc: Global) -> Arg<'a>
         .required(false)
         .help("what it is: a request")
         .default_value("request")
+}
+
+/// The kind of two documents, or with `--key` the kinds of both.
+fn pair_kinds<'a>(alloc: Global) -> Arg<'a>
+    ensures rule { rule_of result ≡ pair_kinds_rule }
+    ensures local { result.global ≡ false }
+{
+    kind(alloc).action(ArgAction::Append)
 }
 
 fn part<'a>(alloc: Global) -> Arg<'a>
@@ -226,6 +281,17 @@ fn name<'a>(alloc: Global) -> Arg<'a>
     Arg::new(alloc, "file")
         .value_name("FILE")
         .help("what is read; -, or no FILE, is standard input")
+}
+
+/// The name of a file that has to be given.
+fn required<'a>(alloc: Global, id: &'a str, name: &'a str, help: &'a str) -> Arg<'a>
+    ensures rule { rule_of result ≡ required_rule id.entry.now }
+    ensures local { result.global ≡ false }
+{
+    Arg::new(alloc, id)
+        .value_name(name)
+        .help(help)
+        .required(true)
 }
 
 fn depth<'a>(alloc: Global) -> Arg<'a>

@@ -1,5 +1,7 @@
 //! What is made of one document, to standard output or into a file.
 ghost use Rattle.std.specs.Prelude.{◌≡◌, false};
+ghost use Rattle.std.specs.Process.{exit_status};
+ghost use Rattle.pk_commands.specs.Files.{status_of_came};
 
 use crate::line::Order;
 use crate::new_file::{NewFile, Unmade};
@@ -98,7 +100,9 @@ fn is_private(kind: Kind) -> bool {
 }
 
 /// Prints what came of a document, behind its name, and answers the status.
-fn end_named(rt: &HostRuntime, alloc: Global, name: &str, came: &Came) -> ExitCode {
+pub fn end_named(rt: &HostRuntime, alloc: Global, name: &str, came: &Came) -> ExitCode
+    ensures { exit_status result ≡ status_of_came came.now }
+{
     let mut stderr = ToWrite::new(rt.stderr());
     write_named_line(alloc, name.as_bytes(), came, &mut stderr);
     ExitCode::from(came_status(came))

@@ -12,8 +12,8 @@ Kinds, by the line that their PEM files begin with:
 PEM itself is not read: decode what stands between its two lines from base64.
 
 Exit statuses, of several files the greatest:
-  0  done; of check and explain: in DER
-  1  of check and explain: not in DER
+  0  done; of check and explain: in DER; of same: the same
+  1  of check and explain: not in DER; of same: not the same
   2  refused: 'fault at PLACE: REASON', the place an octet counted from 0
   3  reading or writing failed, or memory ran out
   4  the command line is refused
@@ -39,6 +39,19 @@ It shows all that is in the document but private octets, as the
 challengePassword of a request. Kinds and statuses: pkder help.
 
   pkder show --kind request request.der";
+
+pub const SAME: &str = "\
+It says 'the same document', or 'another document:' (status 1) and the fields
+that differ, with what each has there; of what is private the number of octets
+alone. A document that is refused (status 2) is never the same as another.
+
+With --key it says of kinds key and ec whether they hold the same private key:
+its algorithm, curve and private octets, or the modulus and publicExponent of
+RSA. A second --kind is that of OTHER. Not the same means other octets: nothing
+is computed, and no public key is held against its private one.
+
+  pkder same --kind request request.der new.der
+  pkder same --key --kind key --kind ec key.der ec.der";
 
 pub const NORMALISE: &str = "\
 It is binary, and private where the document is: send it to a file, and never

@@ -1,12 +1,13 @@
 //! What a command line asks for.
 ghost use Rattle.std.specs.Prelude.{◌≡◌, ◌≤◌, ℕ, IfErr, IfOk, MatchOption, MatchResult, Some, codes, map, string_bytes};
 ghost use Rattle.clap.specs.Words.{found_of, kind_of, rows_of, subcommand_rows_of};
-ghost use Rattle.pkder.specs.CommandLines.{Asks, AsksNothing, BadAction, BadOrder, BadKind, BadKindOf, BadLimit, BadPart, BadRequest, BadTask, DoesAction, IsFaultOf, IsNumber, Means, MeansBy, MeansNothing, MeansTask, ReadsKind, ReadsLimits, asks_reasons, form_of, has_second_dash as has_dash_again, is_given, kind_named as named_kind, names_of, part_name, value_of};
+ghost use Rattle.pkder.specs.CommandLines.{Asks, AsksNothing, BadAction, BadAsked, BadOrder, BadKind, BadKindOf, BadLimit, BadPart, BadRequest, BadTask, DoesAction, IsFaultOf, IsNumber, Means, MeansAsked, MeansBy, MeansNothing, MeansTask, ReadsKind, ReadsLimits, asks_reasons, form_of, has_second_dash as has_dash_again, is_given, kind_named as named_kind, names_of, part_name, value_of};
 ghost use Rattle.pkder.specs.declared.line.LineFault.TheVariants.{Memory};
 ghost use Rattle.pk_documents.specs.declared.kind.Kind.TheVariants as kinds;
 
 use crate::command::command;
 use crate::help::REASONS;
+use crate::pair::{Pair, read_pair};
 use crate::refusal::{BadValue, advice_for_kind, refusal_text};
 use clap::error::ErrorKind;
 use clap::{ArgMatches, Error};
@@ -18,6 +19,15 @@ use std::alloc::{AllocError, Global};
 use tlv_core::limits::Limits;
 
 /// What a line asks for.
+#[derive(Debug, Drop)]
+pub enum Asked<'a> {
+    /// Something to do with each document.
+    Each(Order<'a>),
+    /// Two documents to compare.
+    Both(Pair<'a>),
+}
+
+/// What is done with documents, and which ones.
 #[derive(Debug, Drop)]
 pub struct Order<'a> {
     /// What is done with each document.
@@ -50,7 +60,7 @@ impl From<AllocError> for LineFault {
 }
 
 /// What the line means, the program's name being the first word.
-pub fn order_of<'a>(alloc: Global, words: &'a [String]) -> Result<Order<'a>, LineFault>
+pub fn asked_of<'a>(alloc: Global, words: &'a [String]) -> Result<Asked<'a>, LineFault>
     ensures { MatchResult result (Asks (map string_bytes words.entry.now))
         (AsksNothing (map string_bytes words.entry.now)) }
 {
@@ -59,7 +69,7 @@ pub fn order_of<'a>(alloc: Global, words: &'a [String]) -> Result<Order<'a>, Lin
     }
     let command = command(alloc)?;
     match command.try_get_matches_from(words) {
-        Ok(matches) => matched_order(alloc, &matches),
+        Ok(matches) => matched(alloc, &matches),
         Err(error) => Err(fault_of(alloc, words, &error)?),
     }
 }
@@ -88,7 +98,7 @@ fn fault_of(alloc: Global, words: &[String], error: &Error) -> Result<LineFault,
 }
 
 /// What a line that clap takes asks for.
-fn matched_order<'a>(alloc: Global, matches: &ArgMatches<'a>) -> Result<Order<'a>, LineFault>
+fn matched<'a>(alloc: Global, matches: &ArgMatches<'a>) -> Result<Asked<'a>, LineFault>
     ensures { MatchResult result (MeansBy (subcommand_rows_of matches.now))
         (MeansNothing (subcommand_rows_of matches.now)) }
 {
@@ -96,9 +106,32 @@ fn matched_order<'a>(alloc: Global, matches: &ArgMatches<'a>) -> Result<Order<'a
         return Err(LineFault::Line("error: a command is wanted\n".to_string(alloc)?));
     };
     let names = read_names(alloc, options)?;
-    match read_order(name, options, names) {
-        Ok(order) => Ok(order),
+    match read_asked(name, options, names) {
+        Ok(asked) => Ok(asked),
         Err(bad) => Err(LineFault::Line(bad.text(alloc)?)),
+    }
+}
+
+/// What a command asks for, by the values of its options, of which these are names of files.
+fn read_asked<'a>(
+    name: &'a str,
+    options: &ArgMatches<'a>,
+    names: Vec<&'a str>,
+) -> Result<Asked<'a>, BadValue<'a>>
+    requires { map (λ name. name.now) names.items ≡ names_of (rows_of (found_of options.now)) }
+    ensures means { MatchResult result (MeansAsked name.entry.now (rows_of (found_of options.now)))
+        (λ _. (asked : _) → MeansAsked name.entry.now (rows_of (found_of options.now)) asked → ⊥) }
+    ensures refused { IfErr result (BadAsked name.entry.now (rows_of (found_of options.now))) }
+{
+    if name == "same" {
+        return match read_pair(options) {
+            Ok(pair) => Ok(Asked::Both(pair)),
+            Err(bad) => Err(bad),
+        };
+    }
+    match read_order(name, options, names) {
+        Ok(order) => Ok(Asked::Each(order)),
+        Err(bad) => Err(bad),
     }
 }
 
@@ -175,7 +208,7 @@ fn read_task<'a>(name: &'a str, options: &ArgMatches<'a>) -> Result<Task, BadVal
 }
 
 /// The limits that the options set.
-fn read_limits<'a>(options: &ArgMatches<'a>) -> Result<Limits, BadValue<'a>>
+pub fn read_limits<'a>(options: &ArgMatches<'a>) -> Result<Limits, BadValue<'a>>
     ensures reads { MatchResult result (ReadsLimits (rows_of (found_of options.now)))
         (λ _. (limits : _) → ReadsLimits (rows_of (found_of options.now)) limits → ⊥) }
     ensures refused { IfErr result (BadLimit (rows_of (found_of options.now))) }
@@ -232,7 +265,7 @@ fn read_action<'a>(name: &'a str, options: &ArgMatches<'a>) -> Result<Action, Ba
     Err(BadValue {
         option: "COMMAND",
         value: name,
-        wanted: "check, explain, show, normalise or signed",
+        wanted: "check, explain, show, same, normalise or signed",
         advice: "",
     })
 }
@@ -308,21 +341,21 @@ fn read_form(options: &ArgMatches<'_>) -> Form
 }
 
 /// Whether a flag is given.
-fn is_flagged(options: &ArgMatches<'_>, id: &str) -> bool
+pub fn is_flagged(options: &ArgMatches<'_>, id: &str) -> bool
     ensures { result ≡ is_given id.now (rows_of (found_of options.now)) }
 {
     value(options, id) == "true"
 }
 
 /// The value of an option, given or standing for it; no text where there is none.
-fn value<'a>(options: &ArgMatches<'a>, id: &str) -> &'a str
+pub fn value<'a>(options: &ArgMatches<'a>, id: &str) -> &'a str
     ensures { result.now ≡ value_of id.now (rows_of (found_of options.now)) }
 {
     options.get_str(id).unwrap_or("")
 }
 
 /// The kind of this name.
-fn kind_named(name: &str) -> Option<Kind>
+pub fn kind_named(name: &str) -> Option<Kind>
     ensures { result ≡ named_kind name.now }
 {
     if name == "key" || name == "pkcs8" {

@@ -1,5 +1,5 @@
 //! `pkder` reads documents in BER or DER, from files or from standard input, and writes what its command says: what they
-//! are, whether they are in DER, their one DER text, a part of them.
+//! are, whether they are in DER, whether two are the same, their one DER text, a part of them.
 //!
 //! Proved here: which words ask for what, and that others are refused; the status that a run ends with. What a task
 //! answers and writes for every input, memory apart, is proved in `pk_commands`. Only tested, by the tables of `tests/`
@@ -12,18 +12,21 @@ ghost use Rattle.pk_commands.specs.Endings.{ServedAs};
 ghost use Rattle.pk_commands.specs.Outcomes.{status_of};
 
 mod command;
+mod compare;
 mod convert;
 mod documents;
 mod help;
 mod line;
 mod new_file;
+mod pair;
 mod refusal;
 mod terminal;
 
 use asn_documents::document::write_octets;
+use compare::compare;
 use convert::convert;
 use documents::judge;
-use line::{LineFault, Order, order_of};
+use line::{Asked, LineFault, Order, asked_of};
 use pk_commands::outcome::{Outcome, status};
 use pk_commands::streams::{answer, tell, write_line};
 use pk_commands::task::{Action, Task};
@@ -64,15 +67,16 @@ fn main(rt: HostRuntime) -> ExitCode {
         Ok(words) => words,
         Err(_) => return finish(&rt, &Outcome::Memory),
     };
-    match order_of(alloc, words.as_slice()) {
-        Ok(order) => perform(&rt, alloc, &order),
+    match asked_of(alloc, words.as_slice()) {
+        Ok(Asked::Each(order)) => perform(&rt, alloc, &order),
+        Ok(Asked::Both(pair)) => compare(&rt, alloc, &pair),
         Err(LineFault::Line(text)) => complain(&rt, text.as_str()),
         Err(LineFault::Help(text)) => finish(&rt, &tell(text.as_str(), rt.stdout()).0),
         Err(LineFault::Memory) => finish(&rt, &Outcome::Memory),
     }
 }
 
-/// Does what the line asks for.
+/// Does what the line asks for with each document.
 fn perform(rt: &HostRuntime, alloc: Global, order: &Order<'_>) -> ExitCode {
     let is_binary = matches!(order.task.action, Action::Normalise | Action::Signed(_));
     if is_binary && order.to.is_none() && is_terminal(rt) {

@@ -1,9 +1,9 @@
 //! What is told of a line that is refused.
-ghost use Rattle.std.specs.Prelude.{◌≡◌, ◌++◌, IfOk, OnOk, map, option_map, string_bytes};
+ghost use Rattle.std.specs.Prelude.{◌≡◌, ◌++◌, IfOk, OnOk, false, map, option_map, string_bytes};
 ghost use Rattle.std.specs.Char.Escape.{escape_default};
 ghost use Rattle.std.specs.List.{list_any};
 ghost use Rattle.clap.specs.Words.{kind_of};
-ghost use Rattle.pkder.specs.CommandLines.{TellsOwn, advice_for_command as command_advice, advice_for_kind as kind_advice, advice_for_option as option_advice, advised_line, bad_value_line, command_advised, controls_line, escaped, has_control, option_advised, quoted, shown, tip};
+ghost use Rattle.pkder.specs.CommandLines.{TellsOwn, advice_for_command as command_advice, advice_for_kind as kind_advice, advice_for_option as option_advice, advised_line, are_of_same, bad_value_line, command_advised, controls_line, escaped, has_control, no_kind_line, option_advised, quoted, shown, tip};
 
 use clap::Error;
 use clap::error::ErrorKind;
@@ -61,8 +61,30 @@ pub fn refusal_text(alloc: Global, words: &[String], error: &Error) -> Result<St
         return Ok(text);
     }
     match error.kind() {
-        ErrorKind::MissingRequiredArgument => NO_KIND.to_string(alloc),
+        ErrorKind::MissingRequiredArgument => missing_text(alloc, words, error),
         _ => error.to_string(alloc),
+    }
+}
+
+/// What is missing: a kind; of `same`, whose words may want a file, in clap's own text.
+fn missing_text(alloc: Global, words: &[String], error: &Error) -> Result<String, AllocError>
+    ensures { IfOk result (λ text. are_of_same (map string_bytes words.now) ≡ false
+        → string_bytes text ≡ no_kind_line) }
+{
+    if are_of_same(words) {
+        error.to_string(alloc)
+    } else {
+        NO_KIND.to_string(alloc)
+    }
+}
+
+/// Whether the command is `same`.
+fn are_of_same(words: &[String]) -> bool
+    ensures { result ≡ are_of_same (map string_bytes words.now) }
+{
+    match words {
+        [_, word, ..] => word.as_str() == "same",
+        _ => false,
     }
 }
 
@@ -123,7 +145,7 @@ fn advice_for_command(word: &str) -> Option<&'static str>
     if word == "verify" {
         Some("no signature is verified; 'signed' writes what it covers")
     } else if word == "diff" || word == "compare" {
-        Some("two documents say the same where 'normalise' writes the same octets of both")
+        Some("pkder same --kind key FILE OTHER")
     } else if word == "version" {
         Some("pkder --version")
     } else {

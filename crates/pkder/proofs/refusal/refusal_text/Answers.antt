@@ -6,7 +6,7 @@ use Rattle.clap.specs.Words.{kind_of}
 use Rattle.clap.proofs.WalkLemmas.{list_any-map}
 use Rattle.clap.specs.declared.error.kind.ErrorKind.TheVariants as errors
 use Rattle.pkder.specs.CommandLines.{command_advised, has_control, missing_line, option_advised}
-use Rattle.pkder.proofs.CommandLines.{missing_other, tells_command, tells_controls, tells_missing, tells_option}
+use Rattle.pkder.proofs.CommandLines.{missing_due, missing_other, tells_command, tells_controls, tells_missing, tells_option}
 use Rattle.pkder.proofs.refusal.refusal_text.Goals as goal
 
 pub returns-then-have_controls : goal.returns-then-have_controls
@@ -46,9 +46,10 @@ returns-in-MissingRequiredArgument c =
     let first : None ≡ command_advised words = search rules in
     let neither : None ≡ option_advised words = search rules in
     let kind : errors.MissingRequiredArgument ≡ kind_of c.args.error.now = search rules in
-    IfOk-weaker c.to_string.result _ _
+    IfOk-weaker c.missing_text.result _ _
     (λ text is. tells_missing (kind_of c.args.error.now) words (string_bytes text) none first neither
-    (subst (λ k. IfSome (missing_line k) (λ d. string_bytes text ≡ d)) kind is)) c.to_string.ensures.ok
+    (subst (λ k. IfSome (missing_line k words) (λ d. string_bytes text ≡ d)) kind
+    (missing_due words (string_bytes text) is))) c.missing_text.ensures
 
 pub returns-in_default-kind : goal.returns-in_default-kind
 returns-in_default-kind c =
@@ -60,6 +61,6 @@ returns-in_default-kind c =
     let neither : None ≡ option_advised words = search rules in
     let other : kind_of c.args.error.now ≡ errors.MissingRequiredArgument → ⊥ =
     λ is. c.in_default-kind.not-MissingRequiredArgument (c.kind.ensures ∙ is) in
-    IfOk-weaker c.to_string-in_default-kind.result _ _
+    IfOk-weaker c.to_string.result _ _
     (λ text is. tells_missing (kind_of c.args.error.now) words (string_bytes text) none first neither
-    (missing_other (kind_of c.args.error.now) _ other)) c.to_string-in_default-kind.ensures.ok
+    (missing_other (kind_of c.args.error.now) words _ other)) c.to_string.ensures.ok

@@ -2,13 +2,13 @@ use Rattle.std.proofs.Common.{◌∙◌, map, sym}
 use Rattle.std.specs.Prelude.{string_bytes}
 use Rattle.clap.specs.Words.{app_of, kind_of}
 use Rattle.pkder.proofs.CommandLines.{asked, refused}
-use Rattle.pkder.proofs.line.order_of.Goals as goal
+use Rattle.pkder.proofs.line.asked_of.Goals as goal
 
 pub returns-in-Ok : goal.returns-in-Ok
 returns-in-Ok c =
     asked (app_of c.in_ok-command.command) (map (λ s. string_bytes s) c.args.words.now) c.in-Ok.matches
-    c.matched_order.result (sym c.are_for_reasons.ensures ∙ c.if-are_for_reasons.false) c.in_ok-command.ensures
-    c.in-Ok.ensures.matches c.in-Ok.ensures.kinds c.matched_order.ensures
+    c.matched.result (sym c.are_for_reasons.ensures ∙ c.if-are_for_reasons.false) c.in_ok-command.ensures
+    c.in-Ok.ensures.matches c.in-Ok.ensures.kinds c.matched.ensures
 
 pub returns-in_ok-fault_of-in-Err : goal.returns-in_ok-fault_of-in-Err
 returns-in_ok-fault_of-in-Err c =

@@ -1,0 +1,294 @@
+//! What two inputs are to each other, of which each has to be one document.
+ghost use Rattle.std.specs.Prelude.{◌≡◌, ◌++◌, IfOk, MatchBool, codes, false, string_bytes};
+ghost use Rattle.pk_commands.specs.Comparisons.{Answers, AnswersDocument, AnswersKey, AnsweredPair, ComparedAs, ComparedFailed, IsNote, IsTold, IsUntold, RepliedComparing, first_unread, has_note, is_key, key_note, key_status, note_by, said_name, sameness_status, second_unread};
+ghost use Rattle.std.specs.Io.KnownBytes.{Keeps};
+
+use crate::comparison::{Compared, Comparison, PairNames, Question};
+use crate::input::read_all;
+use crate::name::{file_name, told_name};
+use asn_documents::document::write_octets;
+use pk_documents::document::{Document, Valued};
+use pk_documents::kind::Kind;
+use pk_same::same::{Form, same_text};
+use pk_same::sameness::Sameness;
+use pk_same::text::Names;
+use pk_same_key::same_key::same_key_text;
+use pk_same_key::verdict::KeySameness;
+use std::alloc::{AllocError, Global};
+use std::io::Write;
+use tlv_core::fault::ReadError;
+use tlv_core::limits::Limits;
+use tlv_core::source::Source;
+use tlv_core::target::{Target, ToWrite};
+
+/// Compares two inputs, and flushes the writer behind what is told.
+pub fn answer_pair<R: Source, S: Source, W: Write + Drop>(
+    alloc: Global,
+    first: &mut R,
+    second: &mut S,
+    writer: W,
+    comparison: &Comparison,
+    names: PairNames<'_>,
+) -> (Compared, W)
+    requires readable { R.has_failed first.old ≡ false }
+    requires other_readable { S.has_failed second.old ≡ false }
+    ensures answered { AnsweredPair ⟦<Document as Valued>⟧.value comparison.now
+        names.entry.first.now names.entry.second.now result.0 (R.remaining first.old)
+        (R.remaining first.new) (S.remaining second.old) (S.remaining second.new)
+        (W.contents writer) (W.contents result.1) }
+    // Nothing is written of what isn't told.
+    ensures unwritten { IsUntold result.0 → result.1 ≡ writer }
+{
+    let mut dst = ToWrite::new(writer);
+    let compared = compare(alloc, first, second, &mut dst, comparison, names);
+    flushed(dst.into_inner(), compared)
+}
+
+/// Takes all of two inputs, or of each one octet more than the limit, and writes what they are to each other.
+pub fn compare<R: Source, S: Source, W: Target>(
+    alloc: Global,
+    first: &mut R,
+    second: &mut S,
+    dst: &mut W,
+    comparison: &Comparison,
+    names: PairNames<'_>,
+) -> Compared
+    requires readable { R.has_failed first.old ≡ false }
+    requires other_readable { S.has_failed second.old ≡ false }
+    requires writable { W.has_failed dst.old ≡ false }
+    ensures replied { RepliedComparing ⟦<Document as Valued>⟧.value comparison.now
+        names.entry.first.now names.entry.second.now result (R.remaining first.old)
+        (R.remaining first.new) (S.remaining second.old) (S.remaining second.new)
+        (W.contents dst.old) (W.contents dst.new) }
+    ensures unwritten { IsUntold result → dst.new ≡ dst.old }
+    // A failed read or write is answered where it failed, and nowhere else.
+    ensures failed { ComparedFailed result (R.has_failed first.new) (S.has_failed second.new)
+        (W.has_failed dst.new) }
+{
+    let most = comparison.limits.octets() as usize + 1;
+    let octets = match read_all(alloc, first, most) {
+        Ok(octets) => octets,
+        Err(error) => return first_unread(&error),
+    };
+    let others = match read_all(alloc, second, most) {
+        Ok(octets) => octets,
+        Err(error) => return second_unread(&error),
+    };
+    let answer = answer(
+        alloc,
+        octets.as_slice(),
+        others.as_slice(),
+        comparison,
+        names,
+    );
+    let Ok((text, status)) = answer else {
+        return Compared::Memory;
+    };
+    match write_octets(text.as_bytes(), dst) {
+        Ok(_) => Compared::Told(status),
+        Err(error) => Compared::WriteFailed(error.written),
+    }
+}
+
+/// How comparing ends where the first input can't be taken.
+fn first_unread(error: &ReadError) -> Compared
+    ensures { result ≡ first_unread error.now }
+{
+    match error {
+        ReadError::Read { at } => Compared::FirstFailed(*at),
+        ReadError::Fault(_) | ReadError::Memory => Compared::Memory,
+    }
+}
+
+/// How comparing ends where the second input can't be taken.
+fn second_unread(error: &ReadError) -> Compared
+    ensures { result ≡ second_unread error.now }
+{
+    match error {
+        ReadError::Read { at } => Compared::SecondFailed(*at),
+        ReadError::Fault(_) | ReadError::Memory => Compared::Memory,
+    }
+}
+
+/// What two slices are to each other, as it is written, and the status that says it.
+fn answer(
+    alloc: Global,
+    first: &[u8],
+    second: &[u8],
+    comparison: &Comparison,
+    names: PairNames<'_>,
+) -> Result<(String, u8), AllocError>
+    ensures { IfOk result (λ it. Answers ⟦<Document as Valued>⟧.value comparison.now
+        names.entry.first.now names.entry.second.now first.now second.now it.1
+        (string_bytes it.0)) }
+{
+    let first_name = said_name(alloc, comparison.question, names.first)?;
+    let second_name = said_name(alloc, comparison.question, names.second)?;
+    let names = Names {
+        first: first_name.as_str(),
+        second: second_name.as_str(),
+    };
+    let kind = comparison.kind;
+    let limits = comparison.limits;
+    match comparison.question {
+        Question::Document(form) => {
+            document_answer(alloc, first, second, kind, limits, names, form)
+        }
+        Question::Key => {
+            let other_kind = comparison.other_kind;
+            let (text, answer) = same_key_text(
+                alloc, first, second, kind, other_kind, limits, names,
+            )?;
+            Ok((text, key_status(answer)))
+        }
+    }
+}
+
+/// A name as the answer has it: JSON escapes by itself.
+fn said_name(alloc: Global, question: Question, name: &[u8]) -> Result<String, AllocError>
+    ensures { IfOk result (λ text. string_bytes text ≡ said_name question name.now) }
+{
+    match question {
+        Question::Document(Form::Json) => file_name(alloc, name),
+        Question::Document(Form::Text) | Question::Key => told_name(alloc, name),
+    }
+}
+
+/// The same where the question is of documents.
+fn document_answer(
+    alloc: Global,
+    first: &[u8],
+    second: &[u8],
+    kind: Kind,
+    limits: Limits,
+    names: Names<'_>,
+    form: Form,
+) -> Result<(String, u8), AllocError>
+    ensures { IfOk result (λ it. AnswersDocument ⟦<Document as Valued>⟧.value form limits kind
+        names.entry.first.now names.entry.second.now first.now second.now it.1
+        (string_bytes it.0)) }
+{
+    let (mut text, sameness) = same_text(alloc, first, second, kind, limits, names, form)?;
+    let is_due = has_note(form, sameness, kind);
+    let note = note_text(alloc, is_due, first, second, kind, limits, names)?;
+    text.push_str(note.as_str())?;
+    Ok((text, sameness_status(sameness)))
+}
+
+/// Whether two documents hold the same private key, where that is due.
+fn note_text(
+    alloc: Global,
+    is_due: bool,
+    first: &[u8],
+    second: &[u8],
+    kind: Kind,
+    limits: Limits,
+    names: Names<'_>,
+) -> Result<String, AllocError>
+    ensures { IfOk result (λ note. IsNote is_due ⟦<Document as Valued>⟧.value limits kind
+        names.entry.first.now names.entry.second.now first.now second.now (string_bytes note)) }
+{
+    if !is_due {
+        return Ok(String::new(alloc));
+    }
+    let (line, answer) = same_key_text(alloc, first, second, kind, kind, limits, names)?;
+    key_note(alloc, answer, line.as_str())
+}
+
+/// Whether behind what is told of two documents stands whether they hold the same private key.
+fn has_note(form: Form, sameness: Sameness, kind: Kind) -> bool
+    ensures { result ≡ has_note form sameness kind }
+{
+    match form {
+        Form::Text => note_by(sameness, kind),
+        Form::Json => false,
+    }
+}
+
+fn note_by(sameness: Sameness, kind: Kind) -> bool
+    ensures { result ≡ note_by sameness kind }
+{
+    match sameness {
+        Sameness::Another => is_key(kind),
+        Sameness::Same | Sameness::Refused(_, _) => false,
+    }
+}
+
+/// Whether documents of this kind are private keys.
+fn is_key(kind: Kind) -> bool
+    ensures { result ≡ is_key kind }
+{
+    match kind {
+        Kind::Key | Kind::Ec => true,
+        Kind::Request | Kind::Public | Kind::Encrypted | Kind::Package => false,
+    }
+}
+
+/// Whether two documents hold the same private key, by the answer and the line that says it.
+fn key_note(alloc: Global, answer: KeySameness, line: &str) -> Result<String, AllocError>
+    ensures { IfOk result (λ text. string_bytes text ≡ key_note answer line.now) }
+{
+    match answer {
+        KeySameness::Same => String::from_str(alloc, "private key: the same octets\n"),
+        KeySameness::Another => String::from_str(alloc, "private key: other octets\n"),
+        KeySameness::NotCompared => reason_note(alloc, line),
+        KeySameness::Refused(_, _) => Ok(String::new(alloc)),
+    }
+}
+
+/// The line that says why keys aren't compared, as a note.
+fn reason_note(alloc: Global, line: &str) -> Result<String, AllocError>
+    ensures { IfOk result (λ text. string_bytes text ≡ codes "private key: " ++ line.now) }
+{
+    let mut text = String::from_str(alloc, "private key: ")?;
+    text.push_str(line)?;
+    Ok(text)
+}
+
+fn sameness_status(sameness: Sameness) -> u8
+    ensures { result ≡ sameness_status sameness }
+{
+    match sameness {
+        Sameness::Same => 0,
+        Sameness::Another => 1,
+        Sameness::Refused(_, _) => 2,
+    }
+}
+
+fn key_status(answer: KeySameness) -> u8
+    ensures { result ≡ key_status answer }
+{
+    match answer {
+        KeySameness::Same => 0,
+        KeySameness::Another => 1,
+        KeySameness::NotCompared | KeySameness::Refused(_, _) => 2,
+    }
+}
+
+/// How comparing ends that ended so before the writer was flushed, and the writer.
+fn flushed<W: Write + Drop>(mut writer: W, compared: Compared) -> (Compared, W)
+    ensures ends { ComparedAs compared result.0 }
+    ensures kept { Keeps (W.contents writer) (W.contents result.1) }
+    ensures unwritten { IsUntold result.0 → result.1 ≡ writer }
+{
+    if !is_told(&compared) {
+        return (compared, writer);
+    }
+    match writer.flush() {
+        Ok(()) => (compared, writer),
+        Err(_) => (unflushed(), writer),
+    }
+}
+
+fn is_told(compared: &Compared) -> bool
+    ensures { MatchBool result (IsTold compared.now) (IsTold compared.now → ⊥) }
+{
+    matches!(compared, Compared::Told(_))
+}
+
+/// How comparing ends where the writer isn't flushed: how many octets it kept back isn't told.
+fn unflushed() -> Compared
+    ensures { result ≡ Compared.WriteFailed 0 }
+{
+    Compared::WriteFailed(0)
+}
