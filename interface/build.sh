@@ -22,28 +22,13 @@ here=$(cd "$(dirname "$0")" && pwd)
 crate=$here/../crates/pkder_c
 out=$here/out
 kit=$(dirname "$(rt doc)")
-
-# What `rt lib` runs for pkder_c alone, over the libraries that stand in crates/.
-over_proved() {
-    set --
-    for name in $(sed -n 's/^pkder_c staticlib://p' "$here/../crates.txt"); do
-        library=$here/../crates/$name/out/rlib/$name.rlib
-        [ -d "$library" ] || library=$kit/rlibs/$name.rlib
-        set -- "$@" --extern "$name=$library"
-    done
-    for folder in "$here"/../crates/*/out/rlib; do
-        set -- "$@" -L "dependency=$folder"
-    done
-    "$kit/bin/rattle" build --crate-name pkder_c src/lib.rt --crate-type staticlib --links pkder_c= --jobs "$(nproc)" \
-        --extern "std=$kit/rlibs/std.rlib" -L "dependency=$kit/rlibs" "$@" --toolchain "$kit/toolchain" \
-        --antt-project "$kit/rattle/logic/antt-project.json" --logic-built "$kit/logic_built" \
-        --backend llvm --cpu "${CPU:-x86-64}" -o out/libpkder_c.a
-}
+# shellcheck source=/dev/null
+. "$here/compile.sh"
 
 compiled() (
     cd "$crate" && mkdir -p out || exit
     if [ "${LIBRARIES:-}" = proved ]; then
-        over_proved && exit
+        over_proved "$here/.." "$kit/toolchain" "$crate/out/libpkder_c.a" && exit
         echo "build.sh: the libraries of crates/ can't be taken as they are, so rt proves them"
     fi
     rt lib --cpu "${CPU:-x86-64}"

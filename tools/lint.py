@@ -1,5 +1,6 @@
 #!/usr/bin/env python3
-"""lint.py: what is written in Python, shell, C, Java, Rust, Go and for man pages, looked at by the usual tool of each.
+"""lint.py: what is written in Python, shell, C, Java, JavaScript, Rust, Go and for man
+pages, looked at by the usual tool of each.
 
 A tool that the machine lacks is left out, and said. The last line is 'lint: N passed, M failed', a tool counting once.
 How each is to look stands in .flake8, .shellcheckrc, .clang-format and interface/rust/rustfmt.toml."""
@@ -19,7 +20,7 @@ LOOKS = [
     (("*.py", "debian/tests/python"), ("python3", "-c", PARSED), "python3"),
     (("*.py", "debian/tests/python"), ("flake8",), "flake8"),
     (("*.sh", "*.bash", ".ci/run", *SHELL), ("shellcheck",), "shellcheck"),
-    (("*.c", "*.h", "*.java"), ("clang-format", "--dry-run", "-Werror"), "clang-format"),
+    (("*.c", "*.h", "*.java", "*.mjs"), ("clang-format", "--dry-run", "-Werror"), "clang-format"),
     (("interface/rust/*.rs",), (*RUSTFMT, "2021"), "rustfmt"),
     (("bench/*.rs",), (*RUSTFMT, "2024"), "none; rustup has a later rustfmt"),
     (("*.go",), ("gofmt", "-d"), "golang-go"),
