@@ -2,14 +2,14 @@
 # build.sh [OUT]: makes pkder.wasm and pkder.html in OUT (interface/web/out unless said otherwise): the library as a
 # module of WebAssembly, and the page with the module in it. It takes the toolchain, over the libraries that
 # tools/build.py left in crates/, Python, and wasm-opt (Debian: binaryen). It proves pkder_c once more, since nothing
-# else makes the code that it starts from. By the environment:
-#   MODULE=FILE  takes this code, which the compiler handed to clang, and proves nothing
+# else makes the code that it starts from, and leaves that code in OUT, as module.bc. By the environment:
+#   MODULE=FILE  takes this code, a module.bc, and proves nothing
 set -eu
 here=$(cd "$(dirname "$0")" && pwd)
 top=$(cd "$here/../.." && pwd)
 # shellcheck source=/dev/null
 . "$here/../compile.sh"
-[ $# -le 1 ] || { sed -n '2,/^set /s/^# //p' "$0" >&2 && exit 1; }
+case "$#${1:-}" in 0 | 1[!-]*) ;; *) sed -n '2,/^set /s/^# //p' "$0" >&2 && exit 1 ;; esac
 command -v wasm-opt > /dev/null || { echo "build.sh: no wasm-opt (Debian: apt-get install binaryen)" >&2 && exit 1; }
 mkdir -p "${1:-$here/out}"
 out=$(cd "${1:-$here/out}" && pwd)
@@ -39,8 +39,10 @@ if [ -n "${MODULE:-}" ]; then
     cp "$MODULE" "$work/module.bc"
 else
     keeping_toolchain
+    export CPU=x86-64 # (of which to_wasm.py knows what to change)
     over_proved "$top" "$work/toolchain" "$work/library.a"
     [ -f "$work/module.bc" ] || { echo "build.sh: the compiler handed no module to clang" >&2 && exit 1; }
+    cp "$work/module.bc" "$out/module.bc"
 fi
 
 # To text, as it is: no pass may run that knows x86-64. Then the same for WebAssembly with addresses of 64 bits.
@@ -54,8 +56,9 @@ compiled() {
 }
 compiled -O3 -x ir -c "$work/wasm.ll" -o "$work/library.o"
 compiled -O2 -ffreestanding -nostdinc -Wall -Wextra -c "$here/native/under.c" -o "$work/under.o"
-# (the stack comes first, so that what runs past its end traps at the address 0)
-set -- --export=pkder_page_room --export=pkder_page_wipe
+# (the stack comes first, so that what runs past its end traps at the address 0; a warning is that of two types of one
+# function, which would trap when it is called)
+set -- --fatal-warnings --export=pkder_page_room --export=pkder_page_wipe
 for name in $(sed -n 's/^ *\(pkder_[a-z_]*\);$/\1/p' "$here/../pkder.map"); do
     set -- "$@" "--export=$name"
 done

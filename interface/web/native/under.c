@@ -3,8 +3,8 @@
  * has to be read here.
  *
  * The library keeps nothing from call to call, so each call begins with an empty heap behind the caller's room. A block
- * has 16, 32, 64 .. octets behind a header; one that is freed is wiped, and goes on the list of its size, from which the
- * next of that size is taken. */
+ * has 16, 32, 64 .. octets behind a header; one that is freed is wiped, and goes on the list of its size, from which
+ * the next of that size is taken. */
 typedef __UINT64_TYPE__ uint64_t; /* (the toolchain's clang has no headers) */
 typedef __UINT8_TYPE__ uint8_t;
 
@@ -22,8 +22,8 @@ typedef struct block {
 #define SIZES 40
 #define MOST ((uint64_t)1 << 36)
 
-extern uint8_t __heap_base[];
-static uint64_t begin, top; /* where the heap begins; where what no block of it was made of begins */
+extern uint8_t __heap_base[], __stack_low[], __stack_high[]; /* (the linker's) */
+static uint64_t top;                                         /* where what no block was made of begins */
 static block *freed[SIZES];
 static uint8_t nothing[16];
 
@@ -45,7 +45,7 @@ static int reaches(uint64_t end) {
 }
 
 static void empty_heap(uint64_t from) {
-    begin = top = from;
+    top = from;
     for (unsigned i = 0; i < SIZES; i++) {
         freed[i] = 0;
     }
@@ -62,11 +62,10 @@ uint64_t pkder_page_room(uint64_t n) {
     return from;
 }
 
-/* Wipes the stack below, the caller's room, and all behind it. */
+/* Wipes the stack, the caller's room, and all behind it. It has no frame of its own there. */
 void pkder_page_wipe(void) {
-    volatile uint8_t here = 0;
     uint64_t from = rounded((uint64_t)__heap_base);
-    __builtin_memset((void *)16, 0, (uint64_t)&here - 64);
+    __builtin_memset(__stack_low, 0, (uint64_t)(__stack_high - __stack_low));
     __builtin_memset((void *)from, 0, memory() - from);
     empty_heap(from);
 }
@@ -122,8 +121,8 @@ tried rattle_realloc(void *old, uint64_t kept, uint64_t n, uint64_t align) {
     return made;
 }
 
-/* What LLVM calls for products and shifts of 128 bits, which the processor doesn't have: by halves, since the compiler's
- * own product and shift are these. A shift is by less than 128. */
+/* What LLVM calls for products and shifts of 128 bits, which the processor doesn't have: by halves, since the
+ * compiler's own product and shift are these. A shift is by less than 128. */
 typedef unsigned __int128 wide;
 
 static wide joined(uint64_t high, uint64_t low) {

@@ -1,7 +1,7 @@
 // The page: takes a file or a text, and shows the report of the document in it. Nothing of it is shown but the report,
 // which holds no octets of private keys; a text is taken out of the box as soon as it is read. Not proved.
 
-import {FORMS, KINDS, Library, NotJudged, PARTS, STATUS, USUAL} from "./pkder.mjs";
+import {FORMS, Library, NotJudged, PARTS, STATUS, USUAL} from "./pkder.mjs";
 import {documentInFile, documentInText, kindOf, NoOctets} from "./reading.mjs";
 
 const VERDICTS = {
@@ -14,6 +14,8 @@ let library = null;
 
 // What the page holds of a document until it is forgotten: its octets, what they came as, and the kind of its label.
 let given = null;
+// How often something was given or forgotten: a file that is read by then may be one of before.
+let turn = 0;
 
 function limits() {
     return {depth: element("depth").valueAsNumber, octets: element("octets").valueAsNumber};
@@ -33,6 +35,7 @@ function clear() {
 }
 
 function forget() {
+    turn += 1;
     given?.octets.fill(0);
     given = null;
     element("text").value = "";
@@ -47,9 +50,10 @@ function attempt(run) {
     try {
         run();
     } catch (why) {
-        if (!(why instanceof NoOctets) && !(why instanceof NotJudged)) throw why;
         clear();
-        say("none", `Not judged: ${why.message}.`, given?.cameAs);
+        const isKnown = why instanceof NoOctets || why instanceof NotJudged;
+        say("none", `Not judged: ${isKnown ? why.message : "the page has a mistake"}.`, given?.cameAs);
+        if (!isKnown) throw why;
     } finally {
         library.wipe();
     }
@@ -61,25 +65,17 @@ function judge() {
     if (!element("depth").validity.valid || !element("octets").validity.valid) {
         throw new NotJudged("the limits are out of range: a depth is 1 to 64, octets are 1 to 2147483647");
     }
-    const chosen = element("kind").value;
-    const kind = chosen in KINDS ? chosen : kindOf(library, given.octets, given.kind, limits());
+    const kind = element("kind").value || kindOf(library, given.octets, given.kind, limits());
     const said = library.check(kind, given.octets, limits());
-    if (!(said.status in VERDICTS)) throw new NotJudged("memory ran out");
     say(VERDICTS[said.status], `${kind}: ${library.lineOf(said)}`,
         `${given.cameAs}, ${given.octets.length} octets (bytes)`);
     report(kind);
     if (said.status !== STATUS.FAULT) offer(kind);
 }
 
-// What a call wrote; of a document that is judged it has something to write, or no memory.
-function writtenBy({text}) {
-    if (text === undefined) throw new NotJudged("memory ran out");
-    return text;
-}
-
 function report(kind) {
     const form = element("all").checked ? FORMS.ALL : 0;
-    const text = writtenBy(library.explain(kind, given.octets, limits(), form));
+    const {text} = library.explain(kind, given.octets, limits(), form);
     element("report").textContent = new TextDecoder().decode(text);
     element("report").hidden = false;
 }
@@ -91,7 +87,7 @@ function offer(kind) {
     element("parts").hidden = kind !== "request";
     if (kind !== "request") return;
     for (const part of Object.keys(PARTS)) {
-        const size = writtenBy(library.signed(part, given.octets, limits())).length;
+        const {size} = library.signed(part, given.octets, limits());
         element(`size-${part}`).textContent = `${size} octets`;
         element(`save-${part}`).onclick = () => save(`${part}.der`, () => library.signed(part, given.octets, limits()));
     }
@@ -100,7 +96,7 @@ function offer(kind) {
 // Hands what the call writes to the browser's own way of saving, and wipes it here.
 function save(name, call) {
     attempt(() => {
-        const text = writtenBy(call());
+        const {text} = call();
         const link = document.createElement("a");
         link.href = URL.createObjectURL(new Blob([text], {type: "application/octet-stream"}));
         link.download = name;
@@ -110,34 +106,48 @@ function save(name, call) {
     });
 }
 
-function take(read) {
-    forget();
+// Takes the document that `read` finds in these octets, which are wiped if they aren't the document themselves.
+function take(octets, read) {
     attempt(() => {
-        given = read();
+        given = read(octets);
         judge();
     });
+    if (given?.octets !== octets) octets.fill(0);
 }
 
 function takeText(text) {
-    take(() => documentInText(new TextEncoder().encode(text)));
+    forget();
+    take(new TextEncoder().encode(text), documentInText);
 }
 
 async function takeFile(file) {
+    forget();
+    const mine = turn;
     // (more is longer than the limit in each spelling)
     const most = 4 * (limits().octets || USUAL.octets) + 65536;
-    const octets = new Uint8Array(await file.slice(0, most).arrayBuffer());
-    take(() => {
+    const read = file.slice(0, most).arrayBuffer();
+    const octets = await read.then((it) => new Uint8Array(it), () => null);
+    if (mine !== turn) {
+        octets?.fill(0);
+        return;
+    }
+    take(octets ?? new Uint8Array(0), (it) => {
+        if (octets === null) throw new NoOctets("the file can't be read");
         if (file.size > most) throw new NoOctets("the file is longer than the limit of octets");
-        return documentInFile(octets);
+        const found = documentInFile(it);
+        return {...found, cameAs: `${file.name}: ${found.cameAs}`};
     });
 }
 
 function takeTransfer(data) {
-    const [file] = data.files;
-    if (file) {
-        takeFile(file);
-    } else {
+    const {files} = data;
+    if (files.length === 1) {
+        takeFile(files[0]);
+    } else if (files.length === 0) {
         takeText(data.getData("text/plain"));
+    } else {
+        forget();
+        say("none", `Not judged: these are ${files.length} files, and one is read at a time.`);
     }
 }
 
@@ -147,7 +157,7 @@ function listen() {
         takeText(element("text").value);
     });
     document.addEventListener("paste", (event) => {
-        if (event.target.matches?.("input")) return;
+        if (event.target.matches?.("input[type=number]")) return;
         event.preventDefault();
         takeTransfer(event.clipboardData);
     });

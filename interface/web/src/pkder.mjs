@@ -12,19 +12,42 @@ export const STATUS = Object.freeze({
     NOT_DER: 5,
     REPORTED: 6,
     UNREPORTED: 7,
+    ANOTHER: 8,
 });
 export const FORMS = Object.freeze({ALL: 1, JSON: 2});
 export const USUAL = Object.freeze({depth: 32, octets: 1048576});
 export const INTERFACE = 1;
 
-// The octets of a pkder_outcome, where its numbers stand, and room for a report at first.
-const OUTCOME = 48;
-const REPORT_ROOM = 8192;
+// The numbers of a pkder_outcome in their order: those of 32 bits, and behind them those of 64.
+export const NUMBERS = Object.freeze(["status", "reason", "insideReason", "which"]);
+export const PLACES = Object.freeze(["at", "insideAt", "taken", "size"]);
+const OUTCOME = 4 * NUMBERS.length + 8 * PLACES.length;
 
-// Nothing was judged: want of memory, a bad call, or a status that this page doesn't know.
+// Of each call the statuses that judge, the one under which it wrote, and the one that asks for more room.
+const {ACCEPTED, FAULT, NO_ROOM, NO_MEMORY, BAD_CALL, NOT_DER, REPORTED, UNREPORTED, ANOTHER} = STATUS;
+const A_TEXT = {
+    judging: [ACCEPTED, FAULT],
+    written: ACCEPTED,
+    short: NO_ROOM
+};
+const CALLS = {
+    pkder_check: {judging: [ACCEPTED, FAULT, NOT_DER]},
+    pkder_same: {judging: [ACCEPTED, FAULT, ANOTHER]},
+    pkder_normalise: A_TEXT,
+    pkder_show: A_TEXT,
+    pkder_signed: A_TEXT,
+    pkder_explain: {judging: [REPORTED], written: REPORTED, short: UNREPORTED},
+};
+const REPORT_ROOM = 8192;
+const WANTS = {
+    [NO_MEMORY]: "memory ran out",
+    [BAD_CALL]: "no kind, part or form has that name, or the limits are out of range"
+};
+
+// Nothing was judged: want of memory, a bad call, a library that broke off or answers what isn't known here.
 export class NotJudged extends Error {}
 
-// Answers that the call gave: what it wrote, as `text`, where its status says that it wrote.
+// The library's calls. Each answers its outcome, and with it, as `text`, what it wrote.
 export class Library {
     #module;
     #exports;
@@ -44,32 +67,38 @@ export class Library {
     }
 
     check(kind, octets, limits = USUAL) {
-        return this.#asked("pkder_check", [KINDS[kind]], octets, limits, null);
+        return this.#judged("pkder_check", [KINDS[kind]], limits, [octets]);
+    }
+
+    // What is refused is the first, or else the second, as `which` says by 1 or 2.
+    same(kind, first, second, limits = USUAL) {
+        return this.#judged("pkder_same", [KINDS[kind]], limits, [first, second]);
     }
 
     normalise(kind, octets, limits = USUAL) {
-        return this.#written("pkder_normalise", [KINDS[kind]], octets, limits, octets.length);
+        return this.#judged("pkder_normalise", [KINDS[kind]], limits, [octets], octets.length);
     }
 
     show(kind, octets, limits = USUAL) {
-        return this.#written("pkder_show", [KINDS[kind]], octets, limits, octets.length);
+        return this.#judged("pkder_show", [KINDS[kind]], limits, [octets], octets.length);
     }
 
     signed(part, octets, limits = USUAL) {
-        return this.#written("pkder_signed", [PARTS[part]], octets, limits, octets.length);
+        return this.#judged("pkder_signed", [PARTS[part]], limits, [octets], octets.length);
     }
 
     // `form` is 0, or the sum of numbers of FORMS.
     explain(kind, octets, limits = USUAL, form = 0) {
-        return this.#written("pkder_explain", [KINDS[kind], form], octets, limits, REPORT_ROOM);
+        return this.#judged("pkder_explain", [KINDS[kind], form], limits, [octets], REPORT_ROOM);
     }
 
-    // The line that the program prints of a fault, or of a place that isn't in DER.
-    lineOf(said) {
-        if (said.reason === 0) return said.at === 0 ? "DER" : `not DER at ${said.at}`;
-        const inside =
-            said.insideReason === 0 ? "" : ` inside at ${said.insideAt}: ${this.reasonName(said.insideReason)}`;
-        return `fault at ${said.at}: ${this.reasonName(said.reason)}${inside}`;
+    // The line that the program's check prints, of what this check answers, or of a fault that another call tells.
+    lineOf({status, reason, at, insideReason, insideAt}) {
+        if (status === ACCEPTED) return "DER";
+        if (status === NOT_DER) return `not DER at ${at}`;
+        if (status !== FAULT) throw new NotJudged(`there is no line for the status ${status}`);
+        const inside = insideReason === 0 ? "" : ` inside at ${insideAt}: ${this.reasonName(insideReason)}`;
+        return `fault at ${at}: ${this.reasonName(reason)}${inside}`;
     }
 
     reasonName(reason) {
@@ -88,45 +117,50 @@ export class Library {
         return new Uint8Array(this.#exports.memory.buffer);
     }
 
-    // Asks with this room at first, and then with as much as the library asks for.
-    #written(name, numbers, octets, limits, room) {
+    // Asks with this room at first, and then with as much as the library asks for. A call that writes nothing has none.
+    #judged(name, numbers, limits, documents, room = null) {
+        const {judging, short} = CALLS[name];
         for (;;) {
-            const said = this.#asked(name, numbers, octets, limits, room);
-            const isShort = said.status === STATUS.NO_ROOM || said.status === STATUS.UNREPORTED;
-            if (!isShort || said.size <= room) return said;
+            const said = this.#asked(name, numbers, limits, documents, room);
+            if (judging.includes(said.status)) return said;
+            if (said.status !== short || said.size <= room) {
+                throw new NotJudged(WANTS[said.status] ?? "the library answers what this page doesn't know");
+            }
             room = said.size;
         }
     }
 
-    // A call; its numbers are the kind or part, and the form of a report; `room` is null of one that writes nothing.
-    // Addresses and sizes have 64 bits.
-    #asked(name, [what, ...form], octets, limits, room) {
-        const outcome = this.#room(OUTCOME + octets.length + (room ?? 0));
-        const from = outcome + OUTCOME, to = from + octets.length;
-        this.#view(from, octets.length).set(octets);
-        const read = [BigInt(from), BigInt(octets.length)];
+    // One call; its numbers are the kind or part, and the form of a report. Addresses and sizes have 64 bits.
+    #asked(name, [what, ...form], limits, documents, room) {
+        const outcome = this.#room(documents.reduce((sum, it) => sum + it.length, OUTCOME + (room ?? 0)));
+        let to = outcome + OUTCOME;
+        const read = documents.flatMap((octets) => {
+            const from = to;
+            to += octets.length;
+            this.#view(from, octets.length).set(octets);
+            return [BigInt(from), BigInt(octets.length)];
+        });
         const written = room === null ? [] : [BigInt(to), BigInt(room)];
         const numbers = [what, limits.depth, BigInt(limits.octets), ...form];
         this.#run(() => this.#exports[name](BigInt(outcome), ...numbers, ...read, ...written));
         const said = this.#outcome(outcome);
-        const hasText = room !== null && (said.status === STATUS.ACCEPTED || said.status === STATUS.REPORTED);
-        return hasText ? {...said, text: this.#view(to, said.size).slice()} : said;
+        return said.status === CALLS[name].written ? {...said, text: this.#view(to, said.size).slice()} : said;
     }
 
-    // A trap (the stack used up) ends the instance, and the next call has a new one.
+    // A trap (the stack used up) ends the instance, whose memory is wiped, and the next call has a new one.
     #run(call) {
         try {
             call();
-        } catch (why) {
-            if (!(why instanceof WebAssembly.RuntimeError)) throw why;
+        } catch {
+            this.memory.fill(0);
             this.#begin();
-            throw new NotJudged("the library's stack is used up");
+            throw new NotJudged("the library broke off");
         }
     }
 
     #room(size) {
         const at = Number(this.#exports.pkder_page_room(BigInt(size)));
-        if (at === 0) throw new NotJudged("memory ran out");
+        if (at === 0) throw new NotJudged(WANTS[NO_MEMORY]);
         return at;
     }
 
@@ -135,10 +169,11 @@ export class Library {
     }
 
     #outcome(at) {
-        const numbers = new DataView(this.#exports.memory.buffer, at, OUTCOME);
-        const [status, reason, insideReason] = [0, 4, 8].map((place) => numbers.getUint32(place, true));
-        const [where, insideAt, taken, size] =
-            [16, 24, 32, 40].map((place) => Number(numbers.getBigUint64(place, true)));
-        return {status, reason, insideReason, at: where, insideAt, taken, size};
+        const view = new DataView(this.#exports.memory.buffer, at, OUTCOME);
+        const places = 4 * NUMBERS.length;
+        return Object.fromEntries([
+            ...NUMBERS.map((name, place) => [name, view.getUint32(4 * place, true)]),
+            ...PLACES.map((name, place) => [name, Number(view.getBigUint64(places + 8 * place, true))]),
+        ]);
     }
 }

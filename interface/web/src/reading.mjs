@@ -14,7 +14,10 @@ export const LABELS = Object.freeze({
 });
 
 const BLANKS = /[ \t\v\f]+/g;
-const BOUNDARY = /^-----(BEGIN|END) (.*)-----$/;
+const AROUND = /^[ \t\v\f]+|[ \t\v\f]+$/g;
+// (a label has no two hyphens in a row)
+const BOUNDARY = /^-----(BEGIN|END) ((?:[^-]|-(?!-))*)-----$/;
+const LIKE_A_BOUNDARY = /-----(BEGIN|END) /;
 const MARK = /^\xEF\xBB\xBF/;
 
 // There are no octets in the text, or it can't be told which.
@@ -56,9 +59,10 @@ export function fromHex(text) {
 function blocksOf(lines) {
     const blocks = [];
     let label = null, body = "";
-    for (const line of lines.map((it) => it.replace(/^[ \t\v\f]+|[ \t\v\f]+$/g, ""))) {
+    for (const line of lines.map((it) => it.replace(AROUND, ""))) {
         const [, what, named] = BOUNDARY.exec(line) ?? [];
         if (what === undefined) {
+            if (LIKE_A_BOUNDARY.test(line)) throw new NoOctets("a BEGIN or END of PEM isn't alone on its line");
             body += `${line}\n`;
         } else if (what === "BEGIN") {
             if (label !== null) throw new NoOctets("a PEM block begins in another one");
@@ -90,10 +94,9 @@ function onlyBlock(found, what) {
 // The octets that a text stands for, what it is, and the kind that its label says, or null.
 export function documentInText(octets) {
     const text = latin1(octets).replace(MARK, "");
-    const lines = linesOf(text);
-    if (lines.some((it) => BOUNDARY.test(it.trim()))) {
-        const blocks = blocksOf(lines);
-        const known = blocks.filter((it) => it.label in LABELS);
+    if (LIKE_A_BOUNDARY.test(text)) {
+        const blocks = blocksOf(linesOf(text));
+        const known = blocks.filter((it) => Object.hasOwn(LABELS, it.label));
         const others = known.length === 0 ? ` (there are: ${blocks.map((it) => it.label).join(", ")})` : "";
         const found = onlyBlock(known, `a kind that is read here${others}`);
         return {octets: found, cameAs: `PEM, ${known[0].label}`, kind: LABELS[known[0].label]};
@@ -110,12 +113,12 @@ export function documentInText(octets) {
 
 // The same of a file, which may be the document itself: each begins with the octet 30, and no text of one does.
 export function documentInFile(octets) {
-    const itself = {octets, cameAs: "a file", kind: null};
+    const itself = {octets, cameAs: "as it is", kind: null};
     if (octets[0] === 0x30) return itself;
     try {
         return documentInText(octets);
     } catch (why) {
-        if (!(why instanceof NoOctets) || linesOf(latin1(octets)).some((it) => BOUNDARY.test(it.trim()))) throw why;
+        if (!(why instanceof NoOctets) || LIKE_A_BOUNDARY.test(latin1(octets))) throw why;
         return itself;
     }
 }
