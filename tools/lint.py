@@ -1,6 +1,6 @@
 #!/usr/bin/env python3
-"""lint.py: what is written in Python, shell, C, Java, JavaScript, Rust, Go and for man
-pages, looked at by the usual tool of each.
+"""lint.py: what is written in Python, shell, C, Java, JavaScript, Rust, Go and for man pages, looked at by the usual
+tool of each.
 
 A tool that the machine lacks is left out, and said. The last line is 'lint: N passed, M failed', a tool counting once.
 How each is to look stands in .flake8, .shellcheckrc, .clang-format and interface/rust/rustfmt.toml."""
