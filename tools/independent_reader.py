@@ -577,6 +577,7 @@ KINDS = {
     "package": package,
 }
 ACTIONS = ("show", "check", "normalise", "signed")
+OTHER_NAMES = {"pkcs8": "key", "sec1": "ec", "csr": "request", "pkcs10": "request", "spki": "public"}
 # The limits, unless said otherwise.
 DEPTH, OCTETS = 32, 1048576
 
@@ -608,7 +609,7 @@ def answer(action, kind, octets, depth=DEPTH, limit=OCTETS, reading_fails=False,
 def command_line():
     parser = argparse.ArgumentParser(description=__doc__, formatter_class=argparse.RawDescriptionHelpFormatter)
     parser.add_argument("action", choices=ACTIONS)
-    parser.add_argument("--kind", choices=KINDS, default="request")
+    parser.add_argument("-k", "--kind", choices=KINDS, type=lambda name: OTHER_NAMES.get(name, name), default="request")
     parser.add_argument("--part", choices=PARTS, default=PARTS[0])
     parser.add_argument("--depth", type=int, choices=range(1, 65), default=DEPTH, metavar="N")
     parser.add_argument("--octets", type=int, choices=range(1, 1 << 31), default=OCTETS, metavar="N")
