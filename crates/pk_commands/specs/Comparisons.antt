@@ -192,6 +192,21 @@ IsTold (SecondFailed at) = ⊥
 IsTold (WriteFailed count) = ⊥
 IsTold Memory = ⊥
 
+-- it says that a read of the first document failed, or of the second
+abbrev pub has_first_failed : Compared → Bool
+has_first_failed (Told status) = false
+has_first_failed (FirstFailed at) = true
+has_first_failed (SecondFailed at) = false
+has_first_failed (WriteFailed count) = false
+has_first_failed Memory = false
+
+abbrev pub has_second_failed : Compared → Bool
+has_second_failed (Told status) = false
+has_second_failed (FirstFailed at) = false
+has_second_failed (SecondFailed at) = true
+has_second_failed (WriteFailed count) = false
+has_second_failed Memory = false
+
 abbrev pub ComparedAs : Compared → Compared → Type 0
 ComparedAs end last = (last ≡ end) ⊎ (IsTold end × (last ≡ WriteFailed 0))
 

@@ -1,6 +1,6 @@
 //! What two inputs are to each other, of which each has to be one document.
 ghost use Rattle.std.specs.Prelude.{◌≡◌, ◌++◌, IfOk, MatchBool, codes, false, string_bytes};
-ghost use Rattle.pk_commands.specs.Comparisons.{Answers, AnswersDocument, AnswersKey, AnsweredPair, ComparedAs, ComparedFailed, IsNote, IsTold, IsUntold, RepliedComparing, first_unread, has_note, is_key, key_note, key_status, note_by, said_name, sameness_status, second_unread};
+ghost use Rattle.pk_commands.specs.Comparisons.{Answers, AnswersDocument, AnswersKey, AnsweredPair, ComparedAs, ComparedFailed, IsNote, IsTold, IsUntold, RepliedComparing, first_unread, has_first_failed, has_note, has_second_failed, is_key, key_note, key_status, note_by, said_name, sameness_status, second_unread};
 ghost use Rattle.std.specs.Io.KnownBytes.{Keeps};
 
 use crate::comparison::{Compared, Comparison, PairNames, Question};
@@ -38,6 +38,9 @@ pub fn answer_pair<R: Source, S: Source, W: Write + Drop>(
         (W.contents writer) (W.contents result.1) }
     // Nothing is written of what isn't told.
     ensures unwritten { IsUntold result.0 → result.1 ≡ writer }
+    // A failed read is answered where that source failed, and nowhere else.
+    ensures first_unread { R.has_failed first.new ≡ has_first_failed result.0 }
+    ensures second_unread { S.has_failed second.new ≡ has_second_failed result.0 }
 {
     let mut dst = ToWrite::new(writer);
     let compared = compare(alloc, first, second, &mut dst, comparison, names);
