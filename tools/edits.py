@@ -15,9 +15,10 @@ what stands there once, and what is put there in its place. An edit of several t
 [[NAME]]. One that changes statements or proofs is tried alone, and one that names no function in a check of the whole
 crate.
 
-A round is one check with many edits in it, at most one for a function, over what the rounds before it proved, of these
-functions and what they call. A function's proof rests on the contracts of what it calls and on its own code alone, so
-each edit is judged by what the check says of its own function:
+A round is one check with many edits in it, at most one for a function, over what the checks before it proved, of these
+functions and what they call; where a crate has several processors, as many rounds go side by side, each in a copy. A
+function's proof rests on the contracts of what it calls and on its own code alone, so each edit is judged by what the
+check says of its own function:
   refused    a part of the function's own proof failed
   waits      the function calls one that has no proof in this round, so the edit comes again in the next one
 What this doesn't tell is tried alone. An edit that only a name tells, as where a proof cites what the edit took away,
@@ -61,6 +62,8 @@ CONTROLLED = {"refused": "refused: ", "proved": "NOT REFUSED", "bad": "BAD EDIT"
 PARTS = ("src", "specs", "proofs")
 NAME = re.compile(r"[A-Za-z0-9_-]+")
 HALF = "--margin"
+# Fewer edits than so many go one round after another.
+FEW = 8
 # How a proof fails that names what an edit took away, and what such a failure takes with it.
 BY_NAME = re.compile(r"proofs/.*(has no field|is not in scope|has no `)")
 CITED = "was not admitted"
@@ -273,9 +276,13 @@ class Share:
         self.is_controlled = True
         self.settle(crate, {})
 
-    def words(self):
-        """The words that give a check its share."""
-        return ["--jobs", str(max(1, self.jobs // max(1, min(self.left, self.jobs))))]
+    def of_crate(self):
+        """The processors of one crate."""
+        return max(1, self.jobs // max(1, min(self.left, self.jobs)))
+
+    def words(self, lanes):
+        """The words that give a check its share, beside others of its crate."""
+        return ["--jobs", str(max(1, self.of_crate() // lanes))]
 
 
 def output_of(words, folder):
@@ -285,6 +292,7 @@ def output_of(words, folder):
 
 class OverLibraries:
     """Checks of a crate over the libraries that `rt ci` left, as interface/build.sh builds over them."""
+    has_others = True
 
     def __init__(self, crate, room):
         self.crate, self.folder, self.kept = crate, f"{room}/{crate.name}", f"{room}/{crate.name}.kept"
@@ -309,6 +317,12 @@ class OverLibraries:
                  "--logic-built", f"{self.kit}/logic_built", "--incremental", self.kept, *words]
         return output_of(words, self.folder)
 
+    def another(self, room):
+        """The same in a copy, which knows what was proved here."""
+        if os.path.isdir(self.kept):
+            shutil.copytree(self.kept, f"{room}/{self.crate.name}.kept")
+        return OverLibraries(self.crate, room)
+
     def serves(self):
         """Whether the toolchain takes them so."""
         try:
@@ -319,6 +333,7 @@ class OverLibraries:
 
 class OverRt:
     """Checks of a crate by `rt`, which proves all below it first, in a copy of what it stands on."""
+    has_others = False
 
     def __init__(self, crate, room):
         root = f"{room}/{crate.name}.root"
@@ -402,7 +417,8 @@ class Trial:
     """The edits of one crate."""
 
     def __init__(self, crate, room, share):
-        self.crate, self.share, self.checks, self.cycles = crate, share, checks_of(crate, room), crate.cycles()
+        self.crate, self.share, self.room, self.cycles = crate, share, room, crate.cycles()
+        self.lanes, self.is_proved = [checks_of(crate, room)], False
 
     def proof_of(self, path):
         """What a function's proof is named by: those of a cycle have theirs together."""
@@ -414,15 +430,16 @@ class Trial:
         proofs = {self.proof_of(it) for it in paths}
         return self.proof_of(path) in proofs or any(path.startswith(f"{it}::") for it in paths)
 
-    def check(self, texts, functions, flags):
-        """Checks functions, or with none the crate, with these texts in the place of its own."""
+    def check(self, texts, functions, flags, lane=0, lanes=1):
+        """Checks functions, or with none the crate, with these texts in the place of its own, beside other lanes."""
+        checks = self.lanes[lane]
         for path, text in texts.items():
-            with open(f"{self.checks.folder}/{path}", "w", encoding="utf-8") as it:
+            with open(f"{checks.folder}/{path}", "w", encoding="utf-8") as it:
                 it.write(text)
         only = [word for it in sorted(functions) for word in ("--only", it)]
-        said = self.checks.check([*flags, *self.share.words(), *only])
+        said = checks.check([*flags, *self.share.words(lanes), *only])
         for path in texts:
-            shutil.copyfile(f"{self.crate.folder}/{path}", f"{self.checks.folder}/{path}")
+            shutil.copyfile(f"{self.crate.folder}/{path}", f"{checks.folder}/{path}")
         return Said(self.crate, said)
 
     def alone(self, edit, flags):
@@ -436,17 +453,19 @@ class Trial:
         is_proved = edit.functions <= said.proved if edit.functions else said.verdict.startswith("logic=proved")
         return "NOT REFUSED: all is proved with this edit" if is_proved else refusal(said.first())
 
-    def round(self, batch, flags):
+    def round(self, batch, flags, lane=0, lanes=1):
         """Returns of each edit why a check of all of them refuses it: None where it waits, '' where that isn't told."""
         texts, why = applied(batch, self.crate.folder)
         asked = set().union(*(it.functions for it in batch))
-        said = None if why else self.check(texts, asked, flags)
+        said = None if why else self.check(texts, asked, flags, lane, lanes)
         if not said or not said.verdict or said.unread(texts):
             half = len(batch) // 2
-            return {**self.round(batch[:half], flags), **self.round(batch[half:], flags)} if half else {batch[0]: ""}
+            halves = [batch[:half], batch[half:]] if half else []
+            ended = {it: why for one in halves for it, why in self.round(one, flags, lane, lanes).items()}
+            return ended or {batch[0]: ""}
         strange = [it for it, why in said.failed.items() if why and not self.is_of(it, asked)]
         if strange and flags:
-            return self.round(batch, [])
+            return self.round(batch, [], lane, lanes)
         if strange:
             say(f"{self.crate.name}: {strange[0]} failed, and no edit is in it")
             return dict.fromkeys(batch, "")
@@ -458,25 +477,47 @@ class Trial:
         told = [it for it in whys if it and not it.startswith("could not tell")]
         return told[0] if told else None if whys and not any(whys) else ""
 
+    def batches(self, edits, count):
+        """Deals edits into so many batches: in each at most one for a function, and none whose text another changes."""
+        batches = [([], set()) for _ in range(count)]
+        for number, it in enumerate(edits):
+            proofs = {self.proof_of(path) for path in it.functions}
+            # (neighbours, of which one often calls the other, go into different ones)
+            for batch, taken in batches[number % count:] + batches[:number % count]:
+                if not proofs & taken and not applied([*batch, it], self.crate.folder)[1]:
+                    batch.append(it)
+                    taken |= proofs
+                    break
+        return [batch for batch, _ in batches if batch]
+
+    def open_lanes(self, edits, flags):
+        """Returns how many rounds of these edits go side by side. Before the first ones what the edits are in is proved
+        as it stands, since each lane would do that anew."""
+        count = min(self.share.of_crate(), len(edits)) if self.lanes[0].has_others else 1
+        if count > 1 and not self.is_proved:
+            if len(edits) < FEW:
+                return 1
+            self.check({}, set().union(*(it.functions for it in edits)), flags)
+            self.is_proved = True
+        while len(self.lanes) < count:
+            self.lanes.append(self.lanes[0].another(f"{self.room}/{self.crate.name}.lane{len(self.lanes)}"))
+        return count
+
     def rounds(self, edits, flags):
         """Returns what rounds say of edits: why each is refused, '' where it has to be tried alone."""
         ended, left = {}, [*edits]
         while left:
-            batch, taken = [], set()
-            for it in left:
-                proofs = {self.proof_of(path) for path in it.functions}
-                # (one whose text another one changes has a round of its own)
-                if not proofs & taken and not applied([*batch, it], self.crate.folder)[1]:
-                    batch.append(it)
-                    taken |= proofs
-            states = self.round(batch, flags)
-            settled = {it: why for it, why in states.items() if why and not (flags and is_doubtful(why))}
-            self.share.settle(self.crate.name, {it: refusal(why) for it, why in settled.items()})
-            # (where all wait, each for another one, no further round would tell more)
-            is_stuck = not any(states.values())
-            ended.update({it: why or "" for it, why in states.items() if why is not None or is_stuck})
+            batches = self.batches(left, self.open_lanes(left, flags))
+            with concurrent.futures.ThreadPoolExecutor(len(batches)) as lanes:
+                running = [lanes.submit(self.round, it, flags, lane, len(batches)) for lane, it in enumerate(batches)]
+            for states in (it.result() for it in running):
+                settled = {it: why for it, why in states.items() if why and not (flags and is_doubtful(why))}
+                self.share.settle(self.crate.name, {it: refusal(why) for it, why in settled.items()})
+                # (where all of a round wait, each for another one, no further round would tell more)
+                is_stuck = not any(states.values())
+                ended.update({it: why or "" for it, why in states.items() if why is not None or is_stuck})
             left = [it for it in left if it not in ended]
-            say(f"{self.crate.name}: {len(batch)} edits in a round, {len(left)} left")
+            say(f"{self.crate.name}: {sum(map(len, batches))} edits in {len(batches)} rounds, {len(left)} left")
         return ended
 
     def unsettled(self, whys):
