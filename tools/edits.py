@@ -62,8 +62,8 @@ CONTROLLED = {"refused": "refused: ", "proved": "NOT REFUSED", "bad": "BAD EDIT"
 PARTS = ("src", "specs", "proofs")
 NAME = re.compile(r"[A-Za-z0-9_-]+")
 HALF = "--margin"
-# Fewer edits than so many go one round after another.
-FEW = 8
+# So many edits in rounds side by side are worth a check of what they are in as it stands.
+MANY = 8
 # How a proof fails that names what an edit took away, and what such a failure takes with it.
 BY_NAME = re.compile(r"proofs/.*(has no field|is not in scope|has no `)")
 CITED = "was not admitted"
@@ -491,12 +491,10 @@ class Trial:
         return [batch for batch, _ in batches if batch]
 
     def open_lanes(self, edits, flags):
-        """Returns how many rounds of these edits go side by side. Before the first ones what the edits are in is proved
-        as it stands, since each lane would do that anew."""
+        """Returns how many rounds of these edits go side by side. Where there are many edits, what they are in is first
+        proved as it stands, since each lane would do that anew."""
         count = min(self.share.of_crate(), len(edits)) if self.lanes[0].has_others else 1
-        if count > 1 and not self.is_proved:
-            if len(edits) < FEW:
-                return 1
+        if count > 1 and len(edits) >= MANY and not self.is_proved:
             self.check({}, set().union(*(it.functions for it in edits)), flags)
             self.is_proved = True
         while len(self.lanes) < count:
