@@ -20,6 +20,8 @@ EXAMPLES = f"{os.path.dirname(os.path.dirname(os.path.realpath(__file__)))}/exam
 DER = bytes.fromhex("302e020100300506032b657004220420") + bytes(range(32))
 BER = b"\x30\x81" + DER[1:]
 CUT = DER[:20]
+# a public key with two lengths in more octets than they need
+TWO_LONG = bytes.fromhex("30812b30810506032b6570032100") + b"\xaa" * 32
 # a DSA key (1.2.840.10040.4.1) without parameters, whose octets are carried, and one with an octet less
 CARRIED = bytes.fromhex("3013020100300906072a8648ce3804010403020107")
 LESS = bytes.fromhex("3012020100300906072a8648ce38040104020201")
@@ -197,6 +199,10 @@ def told_in_json(at):
     status, text, error = at.run("check", "-k", "key", "--json", given=BER)
     yield ("check, an object of standard input", (1, [{"kind": "key", "status": 1, "verdict": "not_der"}], ""),
            (status, members(text, "file", "kind", "status", "verdict"), error))
+    for count in (1, 2):
+        status, text, error = at.run("check", "-k", "public", "--json", "--places", str(count), given=TWO_LONG)
+        told = [(len(it["not_der"]), it["not_der_places"]) for it in map(json.loads, text.splitlines())]
+        yield f"check, {count} of two places that aren't in DER", (1, [(count, 2)], ""), (status, told, error)
     status, text, error = at.run("show", "-k", "key", "--json", "der", "missing")
     due = [{"file": "der", "octets": 48}, {"file": "missing", "error": "no such file"}]
     yield ("show, objects of JSON", (3, due, ""), (status, members(text, "file", "octets", "error"), error))

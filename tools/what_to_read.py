@@ -16,7 +16,7 @@ import sys
 
 TOP = os.path.dirname(os.path.dirname(os.path.realpath(__file__)))
 PAGE = f"{TOP}/docs/definitions.md"
-OF_C = ("normalise", "check", "same", "signed", "show", "explain", "reason_name", "interface")
+OF_C = ("normalise", "check", "same", "signed", "show", "explain", "field", "reason_name", "interface")
 CALLS = {"run": "pk_commands/src/run.rt", "run_files": "pk_commands/src/files.rt", "asked_of": "pkder/src/line.rt",
          "compare": "pk_commands/src/compare.rt", "show_text": "pk_show/src/lib.rt"}
 CALLS |= {f"pkder_{it}": "pkder_c/src/lib.rt" for it in OF_C}

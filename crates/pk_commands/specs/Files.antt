@@ -53,7 +53,7 @@ words_of_came (Unopened why) = why_of why
 -- whether what an action writes is JSON
 abbrev pub is_json : Action → Bool
 is_json (actions.Show json) = json
-is_json (actions.Check json quiet) = json
+is_json (actions.Check json quiet places) = json
 is_json (actions.Explain form) = form.json
 is_json actions.Normalise = false
 is_json (actions.Signed part) = false
@@ -61,7 +61,7 @@ is_json (actions.Signed part) = false
 -- what stands in front of a text that an action writes
 abbrev pub text_front : Action → List ℕ → List ℕ
 text_front (actions.Show json) name = told_name name ++ codes ":\n"
-text_front (actions.Check json quiet) name = told_name name ++ codes ": "
+text_front (actions.Check json quiet places) name = told_name name ++ codes ": "
 text_front (actions.Explain form) name = told_name name ++ codes ":\n"
 text_front actions.Normalise name = []
 text_front (actions.Signed part) name = []

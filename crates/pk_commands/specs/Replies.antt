@@ -146,12 +146,12 @@ RepliedShowing value_of true file limits kind outcome before after old new =
     (DueOfOctets limits (DueOfShownReport file limits kind) before after) outcome old new
 
 -- What `check` writes: a line, or JSON.
-abbrev pub RepliedChecking : Bool → Bool → Option (List ℕ) → Limits → Kind → Outcome → Option (List ℕ)
+abbrev pub RepliedChecking : Bool → Bool → ℕ → Option (List ℕ) → Limits → Kind → Outcome → Option (List ℕ)
     → Option (List ℕ) → Option (List ℕ) → Option (List ℕ) → Type 0
-RepliedChecking false quiet file limits kind outcome before after old new =
+RepliedChecking false quiet places file limits kind outcome before after old new =
     RepliedWith limits (type_of kind) (DueOfCheck quiet limits (type_of kind) before after) outcome before after old new
-RepliedChecking true quiet file limits kind outcome before after old new =
-    RepliedTelling (Checked quiet) file limits kind outcome before after old new
+RepliedChecking true quiet places file limits kind outcome before after old new =
+    RepliedTelling (Checked quiet places) file limits kind outcome before after old new
 
 -- by the action, the name of the file, if it has one, and the values of documents; `Signed` reads a request
 abbrev pub RepliedBy : (Document → Value) → Action → Option (List ℕ) → Kind → Limits → Outcome → Option (List ℕ)
@@ -160,8 +160,8 @@ RepliedBy value_of Normalise file kind limits outcome before after old new =
     RepliedTo limits (type_of kind) outcome before after old new
 RepliedBy value_of (Show json) file kind limits outcome before after old new =
     RepliedShowing value_of json file limits kind outcome before after old new
-RepliedBy value_of (Check json quiet) file kind limits outcome before after old new =
-    RepliedChecking json quiet file limits kind outcome before after old new
+RepliedBy value_of (Check json quiet places) file kind limits outcome before after old new =
+    RepliedChecking json quiet places file limits kind outcome before after old new
 RepliedBy value_of (Explain form) file kind limits outcome before after old new =
     RepliedTelling (Explained form) file limits kind outcome before after old new
 RepliedBy value_of (Signed part) file kind limits outcome before after old new =

@@ -28,16 +28,16 @@ is_der answers.Der = true
 is_der (answers.NotDer at) = false
 is_der (answers.Refused found) = false
 
--- a report as a line of JSON: with all elements or without, of the file of this name
-abbrev pub report_line : Bool → Option (List ℕ) → Report → List ℕ
-report_line all file report = print (report_object report version file all places_told) ++ line_feed
+-- a report as a line of JSON: with all elements or without, and so many places, of the file of this name
+abbrev pub report_line : Bool → ℕ → Option (List ℕ) → Report → List ℕ
+report_line all places file report = print (report_object report version file all places) ++ line_feed
 
 -- what `check` and `explain` tell of a report
 abbrev pub told_text : Telling → Option (List ℕ) → Report → List ℕ
-told_text (Checked quiet) file report =
-    cond (quiet && is_der report.answer) [] (print (check_object report version file places_told) ++ line_feed)
+told_text (Checked quiet places) file report =
+    cond (quiet && is_der report.answer) [] (print (check_object report version file places) ++ line_feed)
 told_text (Explained form) file report =
-    cond form.json (report_line form.all file report) (report_lines report form.all)
+    cond form.json (report_line form.all form.places file report) (report_lines report form.all form.places)
 
 -- how explaining ends, by what checking answers
 abbrev pub explained_outcome : Answer → Outcome
@@ -60,7 +60,7 @@ DueOfShownReport file limits kind octets outcome text =
     × IsReportOf limits kind octets report
     × (is_refusal report.answer ≡ false)
     × (outcome ≡ Done)
-    × (text ≡ report_line true file report)
+    × (text ≡ report_line true places_told file report)
 
 -- why no report of these octets is due: they are refused, or memory ran out
 abbrev pub Unreported : Limits → Kind → List ℕ → ReadError → Type 0

@@ -255,7 +255,7 @@ fn is_json(action: Action) -> bool
 {
     match action {
         Action::Show { json } => json,
-        Action::Check { json, quiet: _ } => json,
+        Action::Check { json, .. } => json,
         Action::Explain(form) => form.json,
         Action::Normalise | Action::Signed(_) => false,
     }

@@ -19,14 +19,12 @@ use tlv_core::fault::Fault;
 /// What a command tells of a report.
 #[derive(Clone, Copy, Debug, PartialEq, Eq)]
 pub enum Telling {
-    /// As `check` gives it in JSON; if that is to be `quiet`, nothing of what is in DER.
-    Checked { quiet: bool },
+    /// As `check` gives it in JSON, with up to so many places that aren't in DER; if that is to be `quiet`, nothing of
+    /// what is in DER.
+    Checked { quiet: bool, places: u64 },
     /// As `explain` gives it.
     Explained(Form),
 }
-
-/// As many places that aren't in DER are told in JSON, at most.
-const PLACES: u64 = 100;
 
 /// What is told of a report, of a file by its name.
 pub fn told_text(
@@ -39,32 +37,33 @@ pub fn told_text(
         ≡ told_text telling (option_map (λ r. r.now) file.entry) report.now) }
 {
     match telling {
-        Telling::Checked { quiet } => {
+        Telling::Checked { quiet, places } => {
             if is_untold(quiet, report.answer) {
                 return Ok(String::new(alloc));
             }
-            check_json(alloc, report, VERSION, file, PLACES)
+            check_json(alloc, report, VERSION, file, places)
         }
         Telling::Explained(form) => {
             if form.json {
-                return report_line(alloc, report, file, form.all);
+                return report_line(alloc, report, file, form.all, form.places);
             }
-            report_text(alloc, report, form.all)
+            report_text(alloc, report, form.all, form.places)
         }
     }
 }
 
-/// A report as a line of JSON.
+/// A report as a line of JSON, with up to so many places that aren't in DER.
 pub fn report_line(
     alloc: Global,
     report: &Report,
     file: Option<&str>,
     all: bool,
+    places: u64,
 ) -> Result<String, AllocError>
     ensures { IfOk result (λ text. string_bytes text
-        ≡ report_line all (option_map (λ r. r.now) file.entry) report.now) }
+        ≡ report_line all places (option_map (λ r. r.now) file.entry) report.now) }
 {
-    report_json(alloc, report, VERSION, file, all, PLACES)
+    report_json(alloc, report, VERSION, file, all, places)
 }
 
 /// Why no report of a file is told, as JSON.

@@ -27,6 +27,7 @@ use pk_documents::kind::Kind;
 use pk_documents::normalise::{NormaliseError, normalise_whole_document};
 use pk_documents::request_part::{Part, write_part};
 use pk_explain::explained::explain;
+use pk_explain::written::PLACES;
 use pk_reports::report::Report;
 use pk_requests::request::CertificationRequest;
 use pk_show::show_text;
@@ -59,8 +60,22 @@ pub fn run<R: Source, W: Target>(
 {
     match task.action {
         Action::Show { json } => show(alloc, src, dst, task.kind, task.limits, json, file),
-        Action::Check { json, quiet } => {
-            check(alloc, src, dst, task.kind, task.limits, json, quiet, file)
+        Action::Check {
+            json,
+            quiet,
+            places,
+        } => {
+            check(
+                alloc,
+                src,
+                dst,
+                task.kind,
+                task.limits,
+                json,
+                quiet,
+                places,
+                file,
+            )
         }
         Action::Explain(form) => {
             let telling = Telling::Explained(form);
@@ -180,7 +195,11 @@ fn write_shown<W: Target>(
 {
     match refusal(report.answer) {
         Some(fault) => Outcome::Fault(fault),
-        None => write_text(report_line(alloc, report, file, true), dst, Outcome::Done),
+        None => write_text(
+            report_line(alloc, report, file, true, PLACES),
+            dst,
+            Outcome::Done,
+        ),
     }
 }
 
@@ -193,18 +212,19 @@ fn check<R: Source, W: Target>(
     limits: Limits,
     json: bool,
     quiet: bool,
+    places: u64,
     file: Option<&str>,
 ) -> Outcome
     requires readable { R.has_failed src.old ≡ false }
     requires writable { W.has_failed dst.old ≡ false }
-    ensures replied { RepliedChecking json quiet (option_map (λ r. r.now) file.entry) limits kind
+    ensures replied { RepliedChecking json quiet places (option_map (λ r. r.now) file.entry) limits kind
         result (R.remaining src.old) (R.remaining src.new) (W.contents dst.old)
         (W.contents dst.new) }
     ensures unwritten { IsSilent result → dst.new ≡ dst.old }
     ensures failed { FailedBy result (R.has_failed src.new) (W.has_failed dst.new) }
 {
     if json {
-        let telling = Telling::Checked { quiet };
+        let telling = Telling::Checked { quiet, places };
         return report(alloc, src, dst, kind, limits, telling, file);
     }
     check_line(alloc, src, dst, kind, limits, quiet)

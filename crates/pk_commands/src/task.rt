@@ -8,9 +8,16 @@ use tlv_core::limits::Limits;
 #[derive(Clone, Copy, Debug, PartialEq, Eq)]
 pub enum Action {
     /// Write what it is, in lines, or as JSON with all of its elements.
-    Show { json: bool },
-    /// Write whether it is in DER, as a line or as JSON; if that is to be `quiet`, nothing of what is in DER.
-    Check { json: bool, quiet: bool },
+    Show {
+        json: bool,
+    },
+    /// Write whether it is in DER, as a line or as JSON with up to so many places that aren't; if that is to be `quiet`,
+    /// nothing of what is in DER.
+    Check {
+        json: bool,
+        quiet: bool,
+        places: u64,
+    },
     /// Write a report of it, refused or not.
     Explain(Form),
     /// Write its DER text.

@@ -3,6 +3,7 @@ use Rattle.std.specs.Prelude.{◌≡◌, ◌++◌, ℕ, List, None, codes, cond}
 use Rattle.json.specs.Print.{print}
 use Rattle.tlv_core.specs.Limits.{Limits}
 use Rattle.pk_documents.specs.declared.kind.Kind.{Kind}
+use Rattle.pk_reports.specs.Field.{field_said}
 use Rattle.pk_reports.specs.Json.{report_object}
 use Rattle.pk_reports.specs.Reports.{report_lines}
 use Rattle.pk_reports.specs.Texts.{line_feed}
@@ -15,15 +16,15 @@ use Rattle.pk_explain.specs.declared.written.Form.{Form}
 abbrev pub version : List ℕ
 version = codes "1.1.0, for logic dac8208d650f15bf"
 
--- as many places that aren't in DER are told in JSON, at most
+-- as many places that aren't in DER are told, where nothing else is asked for
 abbrev pub places_told : ℕ
 places_told = 100
 
 -- a report in this form
 abbrev pub written_text : Form → Report → List ℕ
 written_text form report =
-    cond form.json (print (report_object report version None form.all places_told) ++ line_feed)
-    (report_lines report form.all)
+    cond form.json (print (report_object report version None form.all form.places) ++ line_feed)
+    (report_lines report form.all form.places)
 
 -- The text is the report of these octets, and the answer the one in it.
 abbrev pub IsWritten : Form → Limits → Kind → List ℕ → List ℕ → Answer → Type 0
@@ -32,3 +33,11 @@ IsWritten form limits kind octets text answer =
     × IsReportOf limits kind octets report
     × (answer ≡ report.answer)
     × (text ≡ written_text form report)
+
+-- The text is the path of the field that the report of these octets is about, and the answer the one in it.
+abbrev pub IsFieldOf : Limits → Kind → List ℕ → List ℕ → Answer → Type 0
+IsFieldOf limits kind octets text answer =
+    (report : Report)
+    × IsReportOf limits kind octets report
+    × (answer ≡ report.answer)
+    × (text ≡ field_said report)

@@ -1,10 +1,11 @@
 //! A report as it is written.
 ghost use Rattle.std.specs.Prelude.{◌≡◌, IfOk, string_bytes};
-ghost use Rattle.pk_explain.specs.Written.{IsWritten, written_text};
+ghost use Rattle.pk_explain.specs.Written.{IsFieldOf, IsWritten, written_text};
 
 use crate::explained::explain;
 use crate::version::VERSION;
 use pk_documents::kind::Kind;
+use pk_reports::field::field_text;
 use pk_reports::json_report::report_json;
 use pk_reports::report::{Answer, Report};
 use pk_reports::report_text;
@@ -18,10 +19,12 @@ pub struct Form {
     pub json: bool,
     /// With all elements listed.
     pub all: bool,
+    /// With so many of the places that aren't in DER, at most.
+    pub places: u64,
 }
 
-/// As many places that aren't in DER are told in JSON, at most.
-const PLACES: u64 = 100;
+/// As many places that aren't in DER are told, where nothing else is asked for.
+pub const PLACES: u64 = 100;
 
 /// The report of octets that have to be one document of the kind, as it is written, and the answer of `check` in it.
 pub fn explain_text(
@@ -44,7 +47,23 @@ fn written(alloc: Global, report: &Report, form: Form) -> Result<String, AllocEr
     ensures { IfOk result (λ text. string_bytes text ≡ written_text form report.now) }
 {
     if form.json {
-        return report_json(alloc, report, VERSION, None, form.all, PLACES);
+        return report_json(alloc, report, VERSION, None, form.all, form.places);
     }
-    report_text(alloc, report, form.all)
+    report_text(alloc, report, form.all, form.places)
+}
+
+/// The field that the report of octets is about, which have to be one document of the kind, by its path: the one that is
+/// refused, or the first that isn't in DER. And the answer of `check`.
+pub fn explained_field(
+    alloc: Global,
+    octets: &[u8],
+    kind: Kind,
+    limits: Limits,
+) -> Result<(String, Answer), AllocError>
+    ensures { IfOk result (λ told. IsFieldOf limits kind octets.now
+        (string_bytes told.0) told.1) }
+{
+    let report = explain(alloc, octets, kind, limits)?;
+    let text = field_text(alloc, &report)?;
+    Ok((text, report.answer))
 }

@@ -73,11 +73,11 @@ others_said others =
     cond (others == 0) []
     (codes "...  (places that aren't in DER left out: " ++ decimal others ++ (codes "; --all has them)" ++ line_feed))
 
--- The lines that lead to the first 100 places that aren't in DER, and how many more there are.
-unfoldable pub causes_listing : Layout → List Line → List ℕ
-causes_listing layout lines =
-    listed layout false lines 0 (numbers_from Causes (start_of lines (causes lines - 100)) 0 lines)
-    ++ others_said (causes lines - 100)
+-- The lines that lead to the first places that aren't in DER, so many, and how many more there are.
+unfoldable pub causes_listing : ℕ → Layout → List Line → List ℕ
+causes_listing places layout lines =
+    listed layout false lines 0 (numbers_from Causes (start_of lines (causes lines - places)) 0 lines)
+    ++ others_said (causes lines - places)
 
 -- the line at fault, or the last one
 abbrev pub fault_or_last : Option ℕ → ℕ → ℕ
@@ -92,16 +92,17 @@ some_listing layout lines =
     (numbers_from (Fault (fault_or_last layout.fault (length lines))) (start_of lines 0) 0 lines))
 
 -- the lines of a document that is judged so, where not all are told
-abbrev pub answer_listing : Answer → Layout → List Line → List ℕ
-answer_listing (NotDer at) layout lines = causes_listing layout lines
-answer_listing Der layout lines = some_listing layout lines
-answer_listing (Refused fault) layout lines = some_listing layout lines
+abbrev pub answer_listing : Answer → ℕ → Layout → List Line → List ℕ
+answer_listing (NotDer at) places layout lines = causes_listing places layout lines
+answer_listing Der places layout lines = some_listing layout lines
+answer_listing (Refused fault) places layout lines = some_listing layout lines
 
-abbrev pub lines_listing : Answer → Bool → Layout → List Line → List ℕ
-lines_listing answer all layout lines =
+abbrev pub lines_listing : Answer → Bool → ℕ → Layout → List Line → List ℕ
+lines_listing answer all places layout lines =
     cond (length lines == 0) []
-    (line_feed ++ cond all (all_lines layout 0 lines) (answer_listing answer layout lines))
+    (line_feed ++ cond all (all_lines layout 0 lines) (answer_listing answer places layout lines))
 
 -- The listing of a report.
-abbrev pub listing : Report → Bool → List ℕ
-listing report all = lines_listing report.answer all (layout_of report report.lines.items) report.lines.items
+abbrev pub listing : Report → Bool → ℕ → List ℕ
+listing report all places =
+    lines_listing report.answer all places (layout_of report report.lines.items) report.lines.items

@@ -57,8 +57,8 @@ note_line report note =
 unfoldable pub note_lines : Report → List Note → List ℕ
 note_lines report notes = cond (length notes == 0) [] (line_feed ++ flat_map (note_line report) notes)
 
--- The text of a report, with all lines of the listing or some.
-abbrev pub report_lines : Report → Bool → List ℕ
-report_lines report all =
-    head_line report ++ answer_line report.answer ++ listing report all ++ told_of report.answer report
+-- The text of a report, with all lines of the listing or some: of those that aren't in DER so many.
+abbrev pub report_lines : Report → Bool → ℕ → List ℕ
+report_lines report all places =
+    head_line report ++ answer_line report.answer ++ listing report all places ++ told_of report.answer report
     ++ note_lines report report.notes.items

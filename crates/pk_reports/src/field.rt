@@ -8,7 +8,7 @@ use crate::report::{Answer, Line, Report};
 use std::alloc::{AllocError, Global};
 
 /// The path of the field. Empty where the document is in DER.
-pub(crate) fn field_text(alloc: Global, report: &Report) -> Result<String, AllocError>
+pub fn field_text(alloc: Global, report: &Report) -> Result<String, AllocError>
     ensures { IfOk result (λ text. string_bytes text ≡ field_said report.now) }
 {
     match report.answer {

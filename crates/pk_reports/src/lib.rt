@@ -1,7 +1,7 @@
 //! What is reported of a document, and how it is written.
 //!
 //! `text` and those that begin so have the lines, `json_report` and those that begin so the JSON; the others have what
-//! both say.
+//! both say, and `field` also what is said of the field alone.
 //!
 //! Proved: the text of a report is `report_lines` of `specs/Reports.antt`, and its JSON the tokens `report_object` of
 //! `specs/Json.antt`, wherever there is memory for it. Those are functions of the report (of JSON also of the version,
@@ -12,7 +12,7 @@ ghost use Rattle.std.specs.Prelude.{◌≡◌, IfOk, string_bytes};
 ghost use Rattle.pk_reports.specs.Reports.{report_lines};
 
 mod advice;
-mod field;
+pub mod field;
 mod hints;
 mod json_lists;
 pub mod json_report;
@@ -36,14 +36,20 @@ use crate::text_listing::push_listing;
 use crate::text_report::{push_answer, push_head, push_notes, push_told_lines};
 use std::alloc::{AllocError, Global};
 
-/// The report in lines, each ended by a line feed: with all lines of the listing, or with those that matter.
-pub fn report_text(alloc: Global, report: &Report, all: bool) -> Result<String, AllocError>
-    ensures { IfOk result (λ text. string_bytes text ≡ report_lines report.now all) }
+/// The report in lines, each ended by a line feed: with all lines of the listing, or with those that matter; of a
+/// document that isn't in DER with up to so many places.
+pub fn report_text(
+    alloc: Global,
+    report: &Report,
+    all: bool,
+    places: u64,
+) -> Result<String, AllocError>
+    ensures { IfOk result (λ text. string_bytes text ≡ report_lines report.now all places) }
 {
     let mut text = String::new(alloc);
     push_head(&mut text, report)?;
     push_answer(&mut text, report.answer)?;
-    push_listing(alloc, &mut text, report, all)?;
+    push_listing(alloc, &mut text, report, all, places)?;
     push_told_lines(alloc, &mut text, report)?;
     push_notes(alloc, &mut text, report, &report.notes)?;
     Ok(text)

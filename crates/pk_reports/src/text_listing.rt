@@ -8,21 +8,19 @@ use crate::text::{push_marks, push_number};
 use crate::text_lines::{Layout, digits, push_line};
 use std::alloc::{AllocError, Global};
 
-/// How many places that aren't in DER are told.
-const PLACES: u64 = 100;
-
 /// How many lines a listing has that is told whole.
 const SHORT: usize = 16;
 
-/// The listing of a report.
+/// The listing of a report, with up to so many places that aren't in DER where not all lines are told.
 pub(crate) fn push_listing(
     alloc: Global,
     text: &mut String,
     report: &Report,
     all: bool,
+    places: u64,
 ) -> Result<(), AllocError>
     ensures { OnOk result (string_bytes text.new ≡ string_bytes text.old
-        ++ listing report.now all) }
+        ++ listing report.now all places) }
 {
     let lines = report.lines.as_slice();
     let layout = layout_of(report, lines);
@@ -34,7 +32,7 @@ pub(crate) fn push_listing(
         return push_all(alloc, text, layout, lines);
     }
     match report.answer {
-        Answer::NotDer(_) => push_causes(alloc, text, layout, lines),
+        Answer::NotDer(_) => push_causes(alloc, text, layout, lines, places),
         Answer::Der | Answer::Refused(_) => push_some(alloc, text, layout, lines),
     }
 }
@@ -105,18 +103,19 @@ fn push_all(
     Ok(())
 }
 
-/// The lines that lead to what isn't in DER, and how many places aren't told.
+/// The lines that lead to the first places that aren't in DER, and how many more there are.
 #[tactic(auto, unfolding(crate::specs::Listings::causes_listing))]
 fn push_causes(
     alloc: Global,
     text: &mut String,
     layout: Layout,
     lines: &[Line],
+    places: u64,
 ) -> Result<(), AllocError>
     ensures { OnOk result (string_bytes text.new ≡ string_bytes text.old
-        ++ causes_listing layout lines.now) }
+        ++ causes_listing places layout lines.now) }
 {
-    let others = causes(lines).saturating_sub(PLACES);
+    let others = causes(lines).saturating_sub(places);
     let numbers = picked(alloc, lines, Pick::Causes, others)?;
     push_listed(alloc, text, layout, lines, numbers, false)?;
     push_others(text, others)

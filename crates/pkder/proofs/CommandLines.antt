@@ -1,5 +1,5 @@
 -- What clap makes of the words, as tasks.
-use Rattle.std.proofs.Common.{Global, String, ◌≡◌, ◌∙◌, ◌⊎◌, Bool, List, [], ◌∷◌, None, Option, Some, Result, Ok, Err, ap, cond, false, inl, inr, map, refl, subst, sym, true}
+use Rattle.std.proofs.Common.{Global, String, ℕ, ◌≡◌, ◌∙◌, ◌⊎◌, Bool, List, [], ◌∷◌, None, Option, Some, Result, Ok, Err, ap, cond, false, inl, inr, map, refl, subst, sym, true}
 use Rattle.std.specs.Prelude.{IfSome, IsErr, MatchResult, option_map, slice_get, string_bytes, codes, unwrap_or}
 use Rattle.std.proofs.lemmas.Option.{same_Some}
 use Rattle.std.specs.Borrow.{Bor}
@@ -12,8 +12,9 @@ use Rattle.clap.specs.declared.parser.matches.ArgMatches.{ArgMatches}
 use Rattle.clap.specs.declared.parser.matches.Found.{Found}
 use Rattle.clap.proofs.WalkLemmas.{first_value-rows, raw_values-rows}
 use Rattle.pkder.proofs.PlainTexts.{controls_plain}
-use Rattle.pkder.specs.CommandLines.{Asks, AsksNothing, BadAsked, BadKinds, BadOther, IsFaultOf, IsPlainLine, MeansAsked, MeansBy, MeansNothing, ReadsPair, TellsOwn, TellsWhy, advice_for_command, advised_line, are_of_same, asks_reasons, bad_value_line, both_kinds, command_advised, command_name, controls_line, has_control, is_same, kinds_given, kinds_of, missing_line, no_kind_line, option_advised, other_taken, program, taken_kind, value_of}
+use Rattle.pkder.specs.CommandLines.{Asks, AsksNothing, BadAction, BadAsked, BadKinds, BadOther, BadPart, BadPlaces, IsFaultOf, IsPlainLine, MeansAsked, MeansBy, MeansNothing, MeansTask, ReadsAction, ReadsPair, ReadsPlaces, TellsPlaces, TellsOwn, TellsWhy, advice_for_command, advised_line, are_of_same, asks_reasons, bad_value_line, both_kinds, command_advised, command_name, controls_line, has_control, is_same, kinds_given, kinds_of, missing_line, no_kind_line, option_advised, other_taken, part_name, program, taken_kind, value_of}
 use Rattle.pk_documents.specs.declared.kind.Kind.{Kind}
+use Rattle.pk_documents.specs.declared.request_part.Part.{Part}
 use Rattle.pkder.specs.declared.refusal.BadValue.{BadValue}
 use Rattle.pkder.specs.declared.line.LineFault.{LineFault}
 use Rattle.pkder.specs.declared.line.LineFault.TheVariants as faults
@@ -22,6 +23,7 @@ use Rattle.pkder.specs.declared.line.Asked.TheVariants.{Both, Each}
 use Rattle.pkder.specs.declared.pair.Pair.{Pair}
 use Rattle.pk_commands.specs.declared.task.Action.{Action}
 use Rattle.pk_commands.specs.declared.task.Action.TheVariants.{Check, Explain, Normalise, Show, Signed}
+use Rattle.pk_commands.specs.declared.task.Task.{Task}
 
 -- ---- the line
 
@@ -222,6 +224,39 @@ pub told_why : (sub : Option (Text × List Row)) (name : Text) (rows : List Row)
 told_why sub name rows bad line met none why is =
     (λ asked m. none asked (subst (λ z. MeansBy z asked) met m), subst (λ z. TellsWhy z line) (sym met) (bad, why, is))
 
+-- ---- what a command does
+
+no_places : (rows : List Row) (bad : BadValue) (places : ℕ) → BadPlaces rows bad → ReadsPlaces rows places → ⊥
+no_places rows bad places b r = b.1 places r.0 r.1 r.2
+
+no_part : (rows : List Row) (bad : BadValue) (part : Part) → BadPart rows bad
+    → value_of (codes "part") rows ≡ part_name part → ⊥
+no_part rows bad part b r = b.1 part r
+
+-- a command that tells places, and one of this name
+tells_none : (name other : Text) → TellsPlaces name → name ≡ other → (codes "check" ≡ other → ⊥)
+    → (codes "explain" ≡ other → ⊥) → ⊥
+tells_none name other t e check explain = elim t [ inl h ↦ check (sym h ∙ e) | inr h ↦ explain (sym h ∙ e) ]
+
+bad_action : (name : Text) (rows : List Row) (bad : BadValue) (action : Action) → BadAction name rows bad
+    → name ≡ command_name action → ReadsAction action rows → ⊥
+bad_action name rows bad action (inr (inr h)) e r = h.1 action e
+bad_action name rows bad (Show json) (inl h) e r = cc
+bad_action name rows bad (Check json quiet places) (inl h) e r = cc
+bad_action name rows bad (Explain form) (inl h) e r = cc
+bad_action name rows bad Normalise (inl h) e r = cc
+bad_action name rows bad (Signed part) (inl h) e r = no_part rows bad part h.1 r
+bad_action name rows bad (Show json) (inr (inl h)) e r = tells_none name _ h.0 e (λ z. cc) (λ z. cc)
+bad_action name rows bad (Check json quiet places) (inr (inl h)) e r = no_places rows bad places h.1 r.2
+bad_action name rows bad (Explain form) (inr (inl h)) e r = no_places rows bad form.places h.1 r.2
+bad_action name rows bad Normalise (inr (inl h)) e r = tells_none name _ h.0 e (λ z. cc) (λ z. cc)
+bad_action name rows bad (Signed part) (inr (inl h)) e r = tells_none name _ h.0 e (λ z. cc) (λ z. cc)
+
+-- a command whose action can't be read has no task
+pub no_action : (name : Text) (rows : List Row) (bad : BadValue) (task : Task) → BadAction name rows bad
+    → MeansTask name rows task → ⊥
+no_action name rows bad task h m = bad_action name rows bad task.action h m.0 m.1
+
 -- ---- the kinds of two documents
 
 -- the kinds that are given, where some are and where none is
@@ -265,7 +300,7 @@ no_kinds key (text ∷ other ∷ others) bad kinds (inr h) e =
 
 not_same : (name : Text) (action : Action) → is_same name ≡ true → name ≡ command_name action → ⊥
 not_same name (Show json) same is = let f : false ≡ true = sym (ap is_same is) ∙ same in cc
-not_same name (Check json quiet) same is = let f : false ≡ true = sym (ap is_same is) ∙ same in cc
+not_same name (Check json quiet places) same is = let f : false ≡ true = sym (ap is_same is) ∙ same in cc
 not_same name (Explain form) same is = let f : false ≡ true = sym (ap is_same is) ∙ same in cc
 not_same name Normalise same is = let f : false ≡ true = sym (ap is_same is) ∙ same in cc
 not_same name (Signed part) same is = let f : false ≡ true = sym (ap is_same is) ∙ same in cc

@@ -57,6 +57,10 @@ abbrev pub octets_rule : Rule
 octets_rule = record
     (new_rule (codes "octets")) { long = Some (codes "octets"); value_names = 1; defaults = codes "1048576" ∷ [] }
 
+abbrev pub places_rule : Rule
+places_rule =
+    record (new_rule (codes "places")) { long = Some (codes "places"); value_names = 1; defaults = codes "100" ∷ [] }
+
 abbrev pub flag_rule : Text → Rule
 flag_rule name = record (new_rule name) { long = Some name; action = Some SetTrue }
 
@@ -98,11 +102,15 @@ with_names app = with_rule (with_rule app (file_rule (codes "files0-from"))) nam
 abbrev pub with_name : App → App
 with_name app = with_rule (with_rule app (file_rule (codes "to"))) name_rule
 
+-- with objects of JSON, and a number of places that aren't in DER
+abbrev pub with_json_and_places : App → App
+with_json_and_places app = with_rule (with_flag app (codes "json")) places_rule
+
 abbrev pub check_shape : Shape
-check_shape = (with_names (with_flag (with_flag (on_kind (codes "check")) (codes "quiet")) (codes "json"))).top
+check_shape = (with_names (with_json_and_places (with_flag (on_kind (codes "check")) (codes "quiet")))).top
 
 abbrev pub explain_shape : Shape
-explain_shape = (with_names (with_flag (with_flag (on_kind (codes "explain")) (codes "all")) (codes "json"))).top
+explain_shape = (with_names (with_json_and_places (with_flag (on_kind (codes "explain")) (codes "all")))).top
 
 abbrev pub show_shape : Shape
 show_shape = (with_names (with_flag (on_kind (codes "show")) (codes "json"))).top
@@ -139,7 +147,7 @@ program =
 
 abbrev pub command_name : Action → Text
 command_name (Show json) = codes "show"
-command_name (Check json quiet) = codes "check"
+command_name (Check json quiet places) = codes "check"
 command_name (Explain form) = codes "explain"
 command_name Normalise = codes "normalise"
 command_name (Signed part) = codes "signed"
@@ -173,14 +181,23 @@ value_of id rows = unwrap_or (first_of id rows) []
 abbrev pub is_given : Text → List Row → Bool
 is_given id rows = bytes_eq (value_of id rows) (codes "true")
 
-abbrev pub form_of : List Row → Form
-form_of rows = record { json = is_given (codes "json") rows; all = is_given (codes "all") rows }
+-- how many places that aren't in DER are told
+abbrev pub ReadsPlaces : List Row → ℕ → Type 0
+ReadsPlaces rows places = IsNumber (value_of (codes "places") rows) places × (1 ≤ places) × (places ≤ 2147483647)
+
+abbrev pub ReadsForm : List Row → Form → Type 0
+ReadsForm rows form =
+    (form.json ≡ is_given (codes "json") rows)
+    × (form.all ≡ is_given (codes "all") rows)
+    × ReadsPlaces rows form.places
 
 abbrev pub ReadsAction : Action → List Row → Type 0
 ReadsAction (Show json) rows = json ≡ is_given (codes "json") rows
-ReadsAction (Check json quiet) rows =
-    (json ≡ is_given (codes "json") rows) × (quiet ≡ is_given (codes "quiet") rows)
-ReadsAction (Explain form) rows = form ≡ form_of rows
+ReadsAction (Check json quiet places) rows =
+    (json ≡ is_given (codes "json") rows)
+    × (quiet ≡ is_given (codes "quiet") rows)
+    × ReadsPlaces rows places
+ReadsAction (Explain form) rows = ReadsForm rows form
 ReadsAction Normalise rows = Unit {0}
 ReadsAction (Signed part) rows = value_of (codes "part") rows ≡ part_name part
 
@@ -457,9 +474,20 @@ BadCommand name bad =
     × ((action : Action) → name ≡ command_name action → ⊥)
     × (bad.advice.now ≡ [])
 
--- what is wrong with the command of this name, or with the part that `signed` is to write
+abbrev pub BadPlaces : List Row → BadValue → Type 0
+BadPlaces rows bad =
+    Names bad (codes "--places <N>") (value_of (codes "places") rows) (codes "a number from 1 to 2147483647")
+    × IsNoNumber (value_of (codes "places") rows) 2147483647
+    × (bad.advice.now ≡ [])
+
+-- these commands tell places
+abbrev pub TellsPlaces : Text → Type 0
+TellsPlaces name = (name ≡ codes "check") ⊎ (name ≡ codes "explain")
+
+-- what is wrong with the command of this name, with the part that `signed` is to write, or with the number of places
 abbrev pub BadAction : Text → List Row → BadValue → Type 0
-BadAction name rows bad = ((name ≡ codes "signed") × BadPart rows bad) ⊎ BadCommand name bad
+BadAction name rows bad =
+    ((name ≡ codes "signed") × BadPart rows bad) ⊎ (TellsPlaces name × BadPlaces rows bad) ⊎ BadCommand name bad
 
 -- a kind that the action doesn't take
 abbrev pub BadKindOf : Action → List Row → BadValue → Type 0

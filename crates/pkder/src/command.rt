@@ -2,7 +2,7 @@
 ghost use Rattle.std.specs.Prelude.{◌≡◌, IfOk, false};
 ghost use Rattle.clap.specs.Words.{app_of, rule_of, shape_of, with_rule};
 ghost use Rattle.clap.specs.declared.builder.command.Command.TheViews.{out-Command as fields_of};
-ghost use Rattle.pkder.specs.CommandLines.{check_shape, depth_rule, explain_shape, file_rule, flag_rule, kind_rule, name_rule, names_rule, normalise_shape, octets_rule, pair_kinds_rule, part_rule, program, request_rule, required_rule, same_shape, show_shape, signed_shape, top, with_limit_rules, with_name as app_with_name, with_names as app_with_names, with_pair as app_with_pair};
+ghost use Rattle.pkder.specs.CommandLines.{check_shape, depth_rule, explain_shape, file_rule, flag_rule, kind_rule, name_rule, names_rule, normalise_shape, octets_rule, pair_kinds_rule, part_rule, places_rule, program, request_rule, required_rule, same_shape, show_shape, signed_shape, top, with_limit_rules, with_name as app_with_name, with_names as app_with_names, with_pair as app_with_pair, with_json_and_places as app_with_places};
 
 use crate::help::{CHECK, EXPLAIN, NORMALISE, PROGRAM, SAME, SHOW, SIGNED};
 use clap::{Arg, ArgAction, Command};
@@ -48,12 +48,8 @@ fn check<'a>(alloc: Global) -> Result<Command<'a>, AllocError>
         .after_help(CHECK);
     let on_kind = on_kind(alloc, command)?;
     let with_quiet = on_kind.arg(flag(alloc, "quiet", "write only what is not in DER"))?;
-    let with_json = with_quiet.arg(flag(
-        alloc,
-        "json",
-        "write an object of JSON for each document",
-    ))?;
-    with_names(alloc, with_json)
+    let with_places = with_json_and_places(alloc, with_quiet)?;
+    with_names(alloc, with_places)
 }
 
 /// The command that writes a report of a document.
@@ -66,8 +62,8 @@ fn explain<'a>(alloc: Global) -> Result<Command<'a>, AllocError>
         .after_help(EXPLAIN);
     let on_kind = on_kind(alloc, command)?;
     let with_all = on_kind.arg(flag(alloc, "all", "list all elements, however many there are"))?;
-    let with_json = with_all.arg(flag(alloc, "json", "write an object of JSON for each document"))?;
-    with_names(alloc, with_json)
+    let with_places = with_json_and_places(alloc, with_all)?;
+    with_names(alloc, with_places)
 }
 
 /// The command that says what a document is.
@@ -153,6 +149,16 @@ fn with_limits<'a>(alloc: Global, command: Command<'a>) -> Result<Command<'a>, A
 {
     let with_depth = command.arg(depth(alloc))?;
     with_depth.arg(octets(alloc))
+}
+
+/// The command with objects of JSON, and a number of places that aren't in DER.
+fn with_json_and_places<'a>(alloc: Global, command: Command<'a>) -> Result<Command<'a>, AllocError>
+    requires { (fields_of command).has_globals ≡ false }
+    ensures shape { IfOk result (λ new. app_of new ≡ app_with_places (app_of command.entry)) }
+    ensures local { IfOk result (λ new. (fields_of new).has_globals ≡ false) }
+{
+    let with_json = command.arg(flag(alloc, "json", "write an object of JSON for each document"))?;
+    with_json.arg(places(alloc))
 }
 
 /// The command on any number of files.
@@ -292,6 +298,17 @@ fn required<'a>(alloc: Global, id: &'a str, name: &'a str, help: &'a str) -> Arg
         .value_name(name)
         .help(help)
         .required(true)
+}
+
+fn places<'a>(alloc: Global) -> Arg<'a>
+    ensures rule { rule_of result ≡ places_rule }
+    ensures local { result.global ≡ false }
+{
+    Arg::new(alloc, "places")
+        .long("places")
+        .value_name("N")
+        .help("how many places that are not in DER are listed at most,\n1 to 2147483647")
+        .default_value("100")
 }
 
 fn depth<'a>(alloc: Global) -> Arg<'a>

@@ -1,7 +1,7 @@
 //! What a command line asks for.
 ghost use Rattle.std.specs.Prelude.{◌≡◌, ◌≤◌, ℕ, IfErr, IfOk, MatchOption, MatchResult, Some, codes, map, string_bytes};
 ghost use Rattle.clap.specs.Words.{found_of, kind_of, rows_of, subcommand_rows_of};
-ghost use Rattle.pkder.specs.CommandLines.{Asks, AsksNothing, BadAction, BadAsked, BadOrder, BadKind, BadKindOf, BadLimit, BadPart, BadRequest, BadTask, DoesAction, IsFaultOf, IsNumber, Means, MeansAsked, MeansBy, MeansNothing, MeansTask, ReadsKind, ReadsLimits, asks_reasons, form_of, has_second_dash as has_dash_again, is_given, kind_named as named_kind, names_of, part_name, value_of};
+ghost use Rattle.pkder.specs.CommandLines.{Asks, AsksNothing, BadAction, BadAsked, BadOrder, BadKind, BadKindOf, BadLimit, BadPart, BadPlaces, BadRequest, BadTask, DoesAction, IsFaultOf, IsNumber, Means, MeansAsked, MeansBy, MeansNothing, MeansTask, ReadsForm, ReadsKind, ReadsLimits, ReadsPlaces, asks_reasons, has_second_dash as has_dash_again, is_given, kind_named as named_kind, names_of, part_name, value_of};
 ghost use Rattle.pkder.specs.declared.line.LineFault.TheVariants.{Memory};
 ghost use Rattle.pk_documents.specs.declared.kind.Kind.TheVariants as kinds;
 
@@ -243,13 +243,15 @@ fn read_action<'a>(name: &'a str, options: &ArgMatches<'a>) -> Result<Action, Ba
         (BadAction name.entry.now (rows_of (found_of options.now))) }
 {
     if name == "check" {
+        let places = read_places(options)?;
         return Ok(Action::Check {
             json: is_flagged(options, "json"),
             quiet: is_flagged(options, "quiet"),
+            places,
         });
     }
     if name == "explain" {
-        return Ok(Action::Explain(read_form(options)));
+        return Ok(Action::Explain(read_form(options)?));
     }
     if name == "show" {
         return Ok(Action::Show {
@@ -330,13 +332,33 @@ fn read_part<'a>(options: &ArgMatches<'a>) -> Result<Part, BadValue<'a>>
     })
 }
 
-/// The form that the flags ask for.
-fn read_form(options: &ArgMatches<'_>) -> Form
-    ensures { result ≡ form_of (rows_of (found_of options.now)) }
+/// The form that the options ask for.
+fn read_form<'a>(options: &ArgMatches<'a>) -> Result<Form, BadValue<'a>>
+    ensures { MatchResult result (ReadsForm (rows_of (found_of options.now)))
+        (BadPlaces (rows_of (found_of options.now))) }
 {
-    Form {
+    let places = read_places(options)?;
+    Ok(Form {
         json: is_flagged(options, "json"),
         all: is_flagged(options, "all"),
+        places,
+    })
+}
+
+/// How many places that aren't in DER are told.
+fn read_places<'a>(options: &ArgMatches<'a>) -> Result<u64, BadValue<'a>>
+    ensures { MatchResult result (ReadsPlaces (rows_of (found_of options.now)))
+        (BadPlaces (rows_of (found_of options.now))) }
+{
+    let text = value(options, "places");
+    match number_up_to(text, 2_147_483_647) {
+        Some(places) => Ok(u64::from(places)),
+        None => Err(BadValue {
+            option: "--places <N>",
+            value: text,
+            wanted: "a number from 1 to 2147483647",
+            advice: "",
+        }),
     }
 }
 

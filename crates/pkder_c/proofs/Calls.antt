@@ -7,11 +7,11 @@ use Rattle.pk_documents.specs.declared.document.Document.{Document}
 use Rattle.pk_documents.specs.declared.kind.Kind.{Kind}
 use Rattle.pk_documents.specs.declared.kind.Kind.TheVariants.{Request}
 use Rattle.pk_documents.specs.declared.request_part.Part.{Part}
-use Rattle.pk_explain.specs.Written.{IsWritten}
+use Rattle.pk_explain.specs.Written.{IsFieldOf, IsWritten}
 use Rattle.pk_explain.specs.declared.written.Form.{Form}
 use Rattle.pk_reports.specs.declared.report.Answer.{Answer}
-use Rattle.pkder_c.specs.Calls.{AreLines, Checked, Compared, IsPartText, IsPlace, IsReport, IsSame, IsText, KindRefused, PairRefused, PartRefused, Put, PutReport, ReportRefused, Reported, Wrote}
-use Rattle.pkder_c.specs.Numbers.{IsFormNumber, form_number, kind_number, part_number}
+use Rattle.pkder_c.specs.Calls.{AreLines, Checked, Compared, FieldRefused, IsField, IsPartText, IsPlace, IsReport, IsSame, IsText, KindRefused, PairRefused, PartRefused, Put, PutReport, ReportRefused, Reported, Wrote}
+use Rattle.pkder_c.specs.Numbers.{IsFormNumber, IsFormOf, kind_number, part_number}
 use Rattle.pkder_c.specs.Outcomes.{checked_outcome, compared_outcome, refused_outcome, uncompared_outcome}
 use Rattle.pkder_c.specs.Wholes.{IsWhole, WholeChecked, WholeFault, WholeLines, WholePairRefused, WholePart, WholeRefused, WholeSame, WholeText}
 use Rattle.pkder_c.specs.declared.outcome.PkderOutcome.{PkderOutcome}
@@ -122,12 +122,28 @@ compared (Err refusal) Found Refused outcome found holds is told = inr (refusal,
 
 pub report_for : {V : Type 0} (r : Result V Refusal) (items : V → List ℕ) (answer : V → Answer) (form number : ℕ)
     (wanted : Form) (kind : Kind) (made limits : Limits) (given : List ℕ)
-    → form_number wanted ≡ form → kind_number kind ≡ number → made ≡ limits → IsLimits limits
+    → IsFormOf form wanted → kind_number kind ≡ number → made ≡ limits → IsLimits limits
     → IfOk r (λ v. IsWritten wanted made kind given (items v) (answer v))
     → IfOk r (λ v. IsReport form number limits given (items v) (answer v))
 report_for (Ok v) items answer form number wanted kind made limits given f k e fine h =
     (kind, k, fine, (wanted, f, subst (λ z. IsWritten wanted z kind given (items v) (answer v)) e h))
 report_for (Err refusal) items answer form number wanted kind made limits given f k e fine h = tt
+
+pub field_for : {V : Type 0} (r : Result V Refusal) (items : V → List ℕ) (answer : V → Answer) (number : ℕ)
+    (kind : Kind) (made limits : Limits) (given : List ℕ)
+    → kind_number kind ≡ number → made ≡ limits → IsLimits limits
+    → IfOk r (λ v. IsFieldOf made kind given (items v) (answer v))
+    → IfOk r (λ v. IsField number limits given (items v) (answer v))
+field_for (Ok v) items answer number kind made limits given k e fine h =
+    (kind, k, fine, subst (λ z. IsFieldOf z kind given (items v) (answer v)) e h)
+field_for (Err refusal) items answer number kind made limits given k e fine h = tt
+
+pub field_refused : {V : Type 0} (r : Result V Refusal) (number : ℕ) (kind : Kind) (limits : Limits)
+    → kind_number kind ≡ number → IsLimits limits
+    → IfErr r (λ refusal. refusal ≡ refusals.Memory) → IfErr r (FieldRefused number limits)
+field_refused (Ok v) number kind limits k fine h = tt
+field_refused (Err refusal) number kind limits k fine h =
+    subst (FieldRefused number limits) (sym h) (kind, k, fine, tt)
 
 pub report_refused : {V : Type 0} (r : Result V Refusal) (form number : ℕ) (kind : Kind) (limits : Limits)
     → IsFormNumber form → kind_number kind ≡ number → IsLimits limits

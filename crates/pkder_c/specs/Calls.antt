@@ -9,10 +9,10 @@ use Rattle.pk_documents.specs.declared.document.Document.{Document}
 use Rattle.pk_documents.specs.declared.kind.Kind.{Kind}
 use Rattle.pk_documents.specs.declared.kind.Kind.TheVariants.{Request}
 use Rattle.pk_documents.specs.declared.request_part.Part.{Part}
-use Rattle.pk_explain.specs.Written.{IsWritten}
+use Rattle.pk_explain.specs.Written.{IsFieldOf, IsWritten}
 use Rattle.pk_explain.specs.declared.written.Form.{Form}
 use Rattle.pk_reports.specs.declared.report.Answer.{Answer}
-use Rattle.pkder_c.specs.Numbers.{IsFormNumber, IsKindNumber, IsPartNumber, IsReasonNumber, form_number, kind_number, part_number}
+use Rattle.pkder_c.specs.Numbers.{IsFormNumber, IsFormOf, IsKindNumber, IsPartNumber, IsReasonNumber, kind_number, part_number}
 use Rattle.pkder_c.specs.Outcomes.{accepted_outcome, checked_outcome, compared_outcome, refused_outcome, reported_outcome, too_small_outcome, uncompared_outcome, unreported_outcome}
 use Rattle.pkder_c.specs.Wholes.{IsWhole, WholeChecked, WholeFault, WholeLines, WholePart, WholeSame, WholeText}
 use Rattle.pkder_c.specs.declared.outcome.PkderOutcome.{PkderOutcome}
@@ -58,7 +58,12 @@ IsPartText number limits given text = ForPart number limits (λ allowed part. Wh
 abbrev pub IsReport : ℕ → ℕ → Limits → List ℕ → List ℕ → Answer → Type 0
 IsReport form number limits given text answer =
     ForKind number limits
-    (λ allowed kind. (wanted : Form) × (form_number wanted ≡ form) × IsWritten wanted allowed kind given text answer)
+    (λ allowed kind. (wanted : Form) × IsFormOf form wanted × IsWritten wanted allowed kind given text answer)
+
+-- The text is the path of the field that the report of the octets is about, and the answer the one in it.
+abbrev pub IsField : ℕ → Limits → List ℕ → List ℕ → Answer → Type 0
+IsField number limits given text answer =
+    ForKind number limits (λ allowed kind. IsFieldOf allowed kind given text answer)
 
 -- Why there is none: the call is bad exactly where no kind has the number or the limits are none.
 abbrev pub KindRefused : ℕ → Limits → List ℕ → Refusal → Type 0
@@ -90,6 +95,12 @@ abbrev pub ReportRefused : ℕ → ℕ → Limits → Refusal → Type 0
 ReportRefused form number limits refusals.Call = IsFormNumber form → IsKindNumber number → IsLimits limits → ⊥
 ReportRefused form number limits (refusals.Fault found) = ⊥
 ReportRefused form number limits refusals.Memory = ForKind number limits (λ allowed kind. IsFormNumber form)
+
+-- So of the field of one.
+abbrev pub FieldRefused : ℕ → Limits → Refusal → Type 0
+FieldRefused number limits refusals.Call = IsKindNumber number → IsLimits limits → ⊥
+FieldRefused number limits (refusals.Fault found) = ⊥
+FieldRefused number limits refusals.Memory = ForKind number limits (λ allowed kind. Unit {0})
 
 -- The text stands where the room `old` began, and the rest of the room is as it was; or there is too little room, which
 -- is told, and all of it is as it was.

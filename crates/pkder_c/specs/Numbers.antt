@@ -1,9 +1,10 @@
 -- The numbers of kinds, parts, forms and reasons.
-use Rattle.std.specs.Prelude.{ℕ, ◌+◌, ◌≤◌, cond}
+use Rattle.std.specs.Prelude.{ℕ, ◌+◌, ◌≡◌, ◌≤◌, cond}
 use Rattle.pk_documents.specs.declared.kind.Kind.{Kind}
 use Rattle.pk_documents.specs.declared.kind.Kind.TheVariants as kinds
 use Rattle.pk_documents.specs.declared.request_part.Part.{Part}
 use Rattle.pk_documents.specs.declared.request_part.Part.TheVariants as parts
+use Rattle.pk_explain.specs.Written.{places_told}
 use Rattle.pk_explain.specs.declared.written.Form.{Form}
 
 abbrev pub kind_number : Kind → ℕ
@@ -29,6 +30,10 @@ IsPartNumber number = (1 ≤ number) × (number ≤ 4)
 -- a report with all elements, and one in JSON
 abbrev pub form_number : Form → ℕ
 form_number form = cond form.all 1 0 + cond form.json 2 0
+
+-- the form of a report that this number asks for
+abbrev pub IsFormOf : ℕ → Form → Type 0
+IsFormOf number form = (form_number form ≡ number) × (form.places ≡ places_told)
 
 abbrev pub IsFormNumber : ℕ → Type 0
 IsFormNumber number = number ≤ 3

@@ -1,10 +1,12 @@
 //! Documents by arguments that are numbers.
 ghost use Rattle.std.specs.Prelude.{IfErr, IfOk};
-ghost use Rattle.pkder_c.specs.Calls.{AreLines, IsPartText, IsPlace, IsReport, IsSame, IsText, KindRefused, PairRefused, PartRefused, ReportRefused};
+ghost use Rattle.pkder_c.specs.Calls.{AreLines, FieldRefused, IsField, IsPartText, IsPlace, IsReport, IsSame, IsText, KindRefused, PairRefused, PartRefused, ReportRefused};
 
 use crate::numbers::{form_of, kind_of, limits_of, request_part_of};
 use crate::refusal::{PairRefusal, Refusal};
-use crate::whole::{whole_lines, whole_part, whole_place, whole_report, whole_same, whole_text};
+use crate::whole::{
+    whole_field, whole_lines, whole_part, whole_place, whole_report, whole_same, whole_text,
+};
 use pk_documents::document::{Document, Valued};
 use pk_reports::report::Answer;
 use std::alloc::Global;
@@ -144,4 +146,26 @@ pub fn report_of(
         return Err(Refusal::Call);
     };
     whole_report(alloc, document, limits, wanted, src)
+}
+
+/// The field that the report of the octets is about, and the answer of `check` in it.
+pub fn field_of(
+    alloc: Global,
+    kind: u32,
+    depth: u32,
+    octets: u64,
+    src: &[u8],
+) -> Result<(Vec<u8>, Answer), Refusal>
+    ensures field { IfOk result (λ made. IsField kind
+        (record { depth = depth; octets = octets }) src.now made.0.items made.1) }
+    ensures refused { IfErr result (FieldRefused kind
+        (record { depth = depth; octets = octets })) }
+{
+    let Some(document) = kind_of(kind) else {
+        return Err(Refusal::Call);
+    };
+    let Some(limits) = limits_of(depth, octets) else {
+        return Err(Refusal::Call);
+    };
+    whole_field(alloc, document, limits, src)
 }

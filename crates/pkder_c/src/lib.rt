@@ -9,7 +9,7 @@
 #![tactic(auto)]
 
 ghost use Rattle.std.specs.Prelude.{◌≡◌, length};
-ghost use Rattle.pkder_c.specs.Calls.{AreLines, Checked, Compared, IsPartText, IsPlace, IsReport, IsSame, IsText, KindRefused, Named, PairRefused, PartRefused, ReportRefused, Reported, Wrote};
+ghost use Rattle.pkder_c.specs.Calls.{AreLines, Checked, Compared, FieldRefused, IsField, IsPartText, IsPlace, IsReport, IsSame, IsText, KindRefused, Named, PairRefused, PartRefused, ReportRefused, Reported, Wrote};
 
 mod by_number;
 mod delivery;
@@ -18,7 +18,7 @@ mod outcome;
 mod refusal;
 mod whole;
 
-use crate::by_number::{lines_of, part_of, place_of, report_of, same_of, text_of};
+use crate::by_number::{field_of, lines_of, part_of, place_of, report_of, same_of, text_of};
 use crate::delivery::{deliver, report, tell, tell_pair};
 use crate::numbers::reason_of;
 use crate::outcome::PkderOutcome;
@@ -135,6 +135,23 @@ pub extern "C" fn pkder_explain(
         (length src.now) dst.old dst.new result }
 {
     report(report_of(alloc, kind, depth, octets, form, src), src, dst)
+}
+
+/// Writes the path of the field that the report is about where `dst` begins, if it fits there.
+#[unsafe(no_mangle)]
+pub extern "C" fn pkder_field(
+    alloc: Global,
+    kind: u32,
+    depth: u32,
+    octets: u64,
+    src: &[u8],
+    dst: &mut [u8],
+) -> PkderOutcome
+    ensures { Reported (IsField kind (record { depth = depth; octets = octets }) src.now)
+        (FieldRefused kind (record { depth = depth; octets = octets }))
+        (length src.now) dst.old dst.new result }
+{
+    report(field_of(alloc, kind, depth, octets, src), src, dst)
 }
 
 /// Writes the name of the reason, and an octet 0 behind it, where `dst` has room for both. Answers the octets of the

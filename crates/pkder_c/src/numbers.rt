@@ -2,11 +2,11 @@
 ghost use Rattle.std.specs.Prelude.{◌≡◌, ◌↔◌, IfSome, IsSome};
 ghost use Rattle.tlv_core.specs.Limits.{IsLimits};
 ghost use Rattle.tlv_core.specs.Reasons.{number_of};
-ghost use Rattle.pkder_c.specs.Numbers.{IsFormNumber, IsKindNumber, IsPartNumber, IsReasonNumber, form_number, kind_number, part_number};
+ghost use Rattle.pkder_c.specs.Numbers.{IsFormNumber, IsFormOf, IsKindNumber, IsPartNumber, IsReasonNumber, kind_number, part_number};
 
 use pk_documents::kind::Kind;
 use pk_documents::request_part::Part;
-use pk_explain::written::Form;
+use pk_explain::written::{Form, PLACES};
 use tlv_core::limits::Limits;
 use tlv_core::reason::Reason;
 
@@ -42,7 +42,7 @@ pub fn request_part_of(number: u32) -> Option<Part>
 
 /// The form of a report that has this number.
 pub fn form_of(number: u32) -> Option<Form>
-    ensures form { IfSome result (λ form. form_number form ≡ number) }
+    ensures form { IfSome result (IsFormOf number) }
     ensures exactly { IsSome result ↔ IsFormNumber number }
 {
     let (json, all) = match number {
@@ -52,7 +52,11 @@ pub fn form_of(number: u32) -> Option<Form>
         3 => (true, true),
         _ => return None,
     };
-    Some(Form { json, all })
+    Some(Form {
+        json,
+        all,
+        places: PLACES,
+    })
 }
 
 /// The limits of these numbers.

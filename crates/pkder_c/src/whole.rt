@@ -4,7 +4,7 @@ ghost use Rattle.pk_documents.specs.Kinds.{type_of};
 ghost use Rattle.pk_documents.specs.RequestParts.{part_of};
 ghost use Rattle.pk_documents.specs.declared.kind.Kind.TheVariants.{Request as request_kind};
 ghost use Rattle.pk_show.specs.Shown.{document_lines};
-ghost use Rattle.pk_explain.specs.Written.{IsWritten};
+ghost use Rattle.pk_explain.specs.Written.{IsFieldOf, IsWritten};
 ghost use Rattle.pkder_c.specs.Wholes.{WholeChecked, WholeLines, WholePairRefused, WholePart, WholeRefused, WholeSame, WholeText};
 ghost use Rattle.pkder_c.specs.declared.refusal.Refusal.TheVariants.{Memory};
 
@@ -16,7 +16,7 @@ use pk_documents::document::{Document, Valued, read_whole_document};
 use pk_documents::kind::Kind;
 use pk_documents::normalise::normalise_whole_document;
 use pk_documents::request_part::{Part, write_part};
-use pk_explain::written::{Form, explain_text};
+use pk_explain::written::{Form, explain_text, explained_field};
 use pk_reports::report::Answer;
 use pk_requests::request::CertificationRequest;
 use pk_show::show_text;
@@ -145,6 +145,22 @@ pub fn whole_report(
     ensures memory { IfErr result (λ refusal. refusal ≡ Memory) }
 {
     match explain_text(alloc, src, kind, limits, form) {
+        Ok((text, answer)) => Ok((text.into_bytes(), answer)),
+        Err(_) => Err(Refusal::Memory),
+    }
+}
+
+/// The field that the report of the octets is about, and the answer of `check` in it.
+pub fn whole_field(
+    alloc: Global,
+    kind: Kind,
+    limits: Limits,
+    src: &[u8],
+) -> Result<(Vec<u8>, Answer), Refusal>
+    ensures field { IfOk result (λ made. IsFieldOf limits kind src.now made.0.items made.1) }
+    ensures memory { IfErr result (λ refusal. refusal ≡ Memory) }
+{
+    match explained_field(alloc, src, kind, limits) {
         Ok((text, answer)) => Ok((text.into_bytes(), answer)),
         Err(_) => Err(Refusal::Memory),
     }

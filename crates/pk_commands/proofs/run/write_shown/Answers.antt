@@ -3,6 +3,7 @@ use Rattle.std.specs.Option.{option_map}
 use Rattle.std.specs.Prelude.{string_bytes}
 use Rattle.pk_documents.specs.Kinds.{type_of}
 use Rattle.pk_explain.specs.Answers.{IsAnswer}
+use Rattle.pk_explain.specs.Written.{places_told}
 use Rattle.pk_commands.specs.Reported.{DueOfShownReport, Unreported, report_line}
 use Rattle.pk_commands.specs.declared.outcome.Outcome.TheVariants.{Done}
 use Rattle.pk_commands.proofs.Replies.{text_fails, text_replies, text_silent}
@@ -19,7 +20,7 @@ returns-in-None-clause-replied g c =
     let report = c.args.report.now in
     λ limits kind octets is. text_replies (λ text. string_bytes text) c.args.dst.now c.write_text.new.dst
     g.W.Target.contents g.W.Target.has_failed c.write_text.result Done tt (Unreported limits kind octets)
-    (DueOfShownReport file limits kind octets) (report_line true file report) c.report_line.result c.report_line.ensures
+    (DueOfShownReport file limits kind octets) (report_line true places_told file report) c.report_line.result c.report_line.ensures
     (report, is, c.in-None.ensures, refl, refl) tt c.write_text.ensures
 
 pub returns-in-None-clause-unwritten : goal.returns-in-None-clause-unwritten
