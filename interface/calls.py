@@ -6,16 +6,25 @@ options, none left out, as
   normalise --kind key --depth 32 --octets 1048576
 (check and show the same; signed has --part in place of --kind; explain may have --all and --json behind them). Input
 and output are in hex, and the error is a line. tools/rows.py reads such a table too. Left out are help and command
-lines that are refused, which no call has, rows whose reads or writes fail, and rows that state no answer."""
+lines that are refused, which no call has, rows whose reads or writes fail, and rows that state no answer.
+
+The program has no command `field`. A row of it stands behind each row of explain, with what that says behind `field`,
+and behind each row of check whose document is in DER, of which nothing is said. The last rows are of the documents that
+tests/pkder/explained/reports.txt names one field of. Their status is that of explain."""
+import json
 import os
+import re
 import sys
 
 HERE = os.path.dirname(os.path.realpath(__file__))
 sys.path.insert(0, f"{HERE}/../tools")
 import rows  # noqa: E402
+from explained_reports import FOLDER, blocks  # noqa: E402
 
 USUAL = {"depth": "32", "octets": "1048576"}
 FLAGS = ("--all", "--json")
+# (a long line is broken at a blank, and goes on behind 8 of them)
+FIELD = re.compile(r"^field   (.*(?:\n {8}.*)*)", re.M)
 
 
 def options_of(words):
@@ -31,7 +40,7 @@ def options_of(words):
 
 def call_of(words):
     """The words of the call, none left out, or None where they are none."""
-    if not words or words[0] not in ("check", "normalise", "show", "signed", "explain"):
+    if not words or words[0] not in ("check", "normalise", "show", "signed", "explain", "field"):
         return None
     what = "part" if words[0] == "signed" else "kind"
     flags = [it for it in FLAGS if it in words and words[0] == "explain"]
@@ -45,20 +54,51 @@ def call_of(words):
     return " ".join([words[0], f"--{what}", options[what], "--depth", depth, "--octets", octets, *flags])
 
 
-def line_of(row):
-    """The line of a row, or None where no call answers it."""
+def field_of(call, status, output):
+    """The field that the output of a call is about, or None where such a call tells none."""
+    command = call.split()[0]
+    if command in ("check", "explain") and status == 0:
+        return ""
+    if command != "explain":
+        return None
+    if "--json" in call:
+        return json.loads(output)["field"]
+    return FIELD.search(output.decode("ascii"))[1].replace("\n" + 8 * " ", " ")
+
+
+def line(rule, call, octets, status, output, error=""):
+    return "\t".join([rule, call, octets.hex(), str(status), output.hex(), error])
+
+
+def lines_of(row):
+    """The lines of a row, none where no call answers it."""
     is_stated = row.output is not None and row.error != "*"
     words = rows.words_of(row.words) if not row.device and row.status < 3 and is_stated else ()
     call = call_of(words)
-    cells = [row.rule, call, row.input.hex(), str(row.status), (row.output or b"").hex(), row.error]
-    return call and "\t".join(cells)
+    if call is None:
+        return
+    yield line(row.rule, call, row.input, row.status, row.output, row.error)
+    field = field_of(call, row.status, row.output)
+    if field is not None:
+        yield line(row.rule, " ".join(["field", *call.split()[1:7]]), row.input, row.status, field.encode())
+
+
+def lines_of_reports():
+    """A line of each document whose report has to name one field."""
+    for block in blocks():
+        name, _, rule = block["document"][0].partition(": ")
+        status = 1 if block["line"][0].startswith("not DER") else 2
+        if "|" not in block["field"][0]:
+            with open(f"{FOLDER}/{name}", "rb") as it:
+                octets = it.read()
+            yield line(rule, call_of(["field", "--kind", block["kind"][0]]), octets, status, block["field"][0].encode())
 
 
 def main(tables):
     if not tables:
         sys.exit(__doc__)
-    found = [line for table in tables for _, row in rows.rows_of(table) if (line := line_of(row))]
-    print("\n".join(found))
+    found = [it for table in tables for _, row in rows.rows_of(table) for it in lines_of(row)]
+    print("\n".join([*found, *lines_of_reports()]))
 
 
 if __name__ == "__main__":

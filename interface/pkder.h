@@ -1,8 +1,8 @@
 /* pkder: reads private keys, public keys and certification requests (CSRs) in BER and DER (PKCS #8, RFC 5915, RFC 8410,
  * PKCS #10), and gives their one DER text, which is their DER encoding, whether they are in DER, whether two are the
  * same, what they are in lines, a part of them; or the first fault, with its place and its reason; and of any octets a
- * report for people, as text or as JSON. It does no cryptography, and says of a document that it has a sound form and
- * nothing more. It reads the octets (bytes) of the document itself, and no PEM.
+ * report for people, as text or as JSON, and the field that it is about. It does no cryptography, and says of a document
+ * that it has a sound form and nothing more. It reads the octets (bytes) of the document itself, and no PEM.
  *
  * Compile by `cc FILE.c $(pkg-config --cflags --libs pkder)`, which is -lpkder; the program finds libpkder.so.0 once
  * ldconfig has seen it, or by LD_LIBRARY_PATH. docs/library.md has first steps, and docs/manual.md what each reason
@@ -100,8 +100,8 @@ extern "C" {
 #define PKDER_NO_MEMORY 3u  /* malloc refused: of the octets nothing is said */
 #define PKDER_BAD_CALL 4u   /* no kind, part or form has that number, or the limits are out of range */
 #define PKDER_NOT_DER 5u    /* pkder_check alone: the octets are a document, and not in DER */
-#define PKDER_REPORTED 6u   /* pkder_explain alone: the report is written, whatever the octets are */
-#define PKDER_UNREPORTED 7u /* pkder_explain alone: the same, but dst_len is less than size: dst is as it was */
+#define PKDER_REPORTED 6u   /* pkder_explain and pkder_field alone: it is written, whatever the octets are */
+#define PKDER_UNREPORTED 7u /* of these alone: the same, but dst_len is less than size: dst is as it was */
 #define PKDER_ANOTHER 8u    /* pkder_same alone: both are documents, and not the same */
 
 /* A number that a status doesn't use is 0. */
@@ -235,6 +235,17 @@ pkder_outcome pkder_show(uint32_t kind, uint32_t depth, uint64_t octets, const u
  *     are out of range. */
 pkder_outcome pkder_explain(uint32_t kind, uint32_t depth, uint64_t octets, uint32_t form, const uint8_t *src,
                             size_t src_len, uint8_t *dst, size_t dst_len);
+
+/* Writes the field that the report of the octets of src is about, where dst begins: of octets that are no document the
+ * one that is refused, or in which something is missing; of a document that isn't in DER the first one that isn't; of a
+ * document in DER nothing. It is the path that stands behind `field` in the report, as
+ * "certificationRequestInfo.subject[1][0].value", and of the outermost element the name of its type, in printable ASCII.
+ * No line feed and no octet 0 stands behind it.
+ *
+ * Promised: as of pkder_explain, but that what is written is this path, so that `size` is 0 of a document in DER; and
+ * that PKDER_BAD_CALL comes exactly where no kind has that number or the limits are out of range. */
+pkder_outcome pkder_field(uint32_t kind, uint32_t depth, uint64_t octets, const uint8_t *src, size_t src_len,
+                          uint8_t *dst, size_t dst_len);
 
 /* Writes the name of a reason, as "Truncated", and an octet 0 behind it, where dst begins.
  *

@@ -50,10 +50,10 @@ names_of() {
 # what a library that prints nothing, opens nothing and ends no process may call
 wanted='malloc|realloc|free|mem(cpy|move|set|cmp)|explicit_bzero|malloc_usable_size|_GLOBAL_OFFSET_TABLE_'
 
-# The library has eight names, wants few of others, and has no memory of its own that lasts from call to call.
+# The library has nine names, wants few of others, and has no memory of its own that lasts from call to call.
 symbols() {
     sed -n 's/^ *\(pkder_[a-z_]*\);$/\1/p' "$here/pkder.map" | sort > "$work/due"
-    [ "$(wc -l < "$work/due")" = 8 ] || return 1
+    [ "$(wc -l < "$work/due")" = 9 ] || return 1
     names_of --defined-only "$out/libpkder.a" | cmp - "$work/due" || return 1
     names_of --defined-only -D "$out/libpkder.so.0" | cmp - "$work/due" || return 1
     objdump -p "$out/libpkder.so.0" | grep 'SONAME *libpkder.so.0$' || return 1
@@ -64,7 +64,7 @@ symbols() {
     objdump -h "$out/libpkder.a" | awk '$2 ~ /^\.t?(data|bss)/ && $2 !~ /^\.data\.rel\.ro/ && $3 !~ /^0*(1|10)?$/' |
         grep . && return 1
     objdump -p "$out/libpkder.so.0" | grep -A 1 STACK | grep 'flags rw-$' || return 1
-    echo "eight names"
+    echo "nine names"
 }
 
 # header COMPILER STANDARD..: pkder.h, twice in one source, by the compiler in each of the standards
@@ -165,7 +165,7 @@ files() (
 
 refused() {
     while read -r kind file; do
-        for command in check same normalise show explain explain-all-json; do
+        for command in check same normalise show field explain explain-all-json; do
             try "allocations of $command, $kind" "$work/refuse" $command "$kind" "$top/examples/$file.der"
         done
     done << END
@@ -181,7 +181,7 @@ END
     done
     # (documents that are refused)
     while read -r kind file; do
-        for command in explain explain-all explain-json explain-all-json; do
+        for command in field explain explain-all explain-json explain-all-json; do
             try "allocations of $command, $file" "$work/refuse" $command "$kind" "$top/tests/pkder/explained/$file.der"
         done
     done << END
@@ -198,7 +198,7 @@ is_wiping() {
 # The usual heap frees blocks that hold octets of a key; heap_wiping.c, if the library was built with it, none.
 secrets() {
     sum=0
-    for command in check same normalise show explain explain-all-json; do
+    for command in check same normalise show field explain explain-all-json; do
         blocks=$("$work/secrets" $command key "$top/examples/ed25519.der" 16 32) || return 1
         sum=$((sum + blocks))
     done

@@ -29,13 +29,13 @@ REPORT_CALL(explain_all, PKDER_ALL)
 REPORT_CALL(explain_json, PKDER_JSON)
 REPORT_CALL(explain_all_json, PKDER_ALL | PKDER_JSON)
 
-/* By the numbers of the forms. */
-static text_call *const reports[] = {explain_text, explain_all, explain_json, explain_all_json};
+/* The calls that tell of any octets: reports by the numbers of their forms, and the field that a report is about. */
+static text_call *const reports[] = {explain_text, explain_all, explain_json, explain_all_json, pkder_field};
 #define REPORTS (sizeof reports / sizeof *reports)
 
 static inline int is_report(text_call *call) {
-    for (size_t form = 0; form < REPORTS; form++) {
-        if (call == reports[form]) {
+    for (size_t i = 0; i < REPORTS; i++) {
+        if (call == reports[i]) {
             return 1;
         }
     }
@@ -70,10 +70,10 @@ static inline uint32_t number_of(const char *name, const char *const *names) {
 
 /* Takes a command and a kind, or a part under "signed", or else NULL for the part "info"; 0 where they are none. */
 static inline int is_task(struct task *task, const char *command, const char *what) {
-    static const char *const commands[] = {
-        "check", "normalise", "show", "signed", "explain", "explain-all", "explain-json", "explain-all-json", NULL};
+    static const char *const commands[] = {"check",   "normalise",   "show",         "signed",           "field",
+                                           "explain", "explain-all", "explain-json", "explain-all-json", NULL};
     static const char *const parts[] = {"info", "algorithm", "key", "signature", NULL};
-    static text_call *const calls[] = {NULL,         pkder_normalise, pkder_show,   pkder_signed,
+    static text_call *const calls[] = {NULL,         pkder_normalise, pkder_show,   pkder_signed,    pkder_field,
                                        explain_text, explain_all,     explain_json, explain_all_json};
     uint32_t number = number_of(command, commands);
     if (number == 0) {

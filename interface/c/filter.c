@@ -1,5 +1,6 @@
 /* filter COMMAND [--kind KIND | --part PART] [--depth N] [--octets N] [--all] [--json]: the program pkder again, over
- * the library, from standard input to standard output. It passes the tables of the program's tests. */
+ * the library, from standard input to standard output. It passes the tables of the program's tests. A command of its own
+ * is field, which writes the field that the report is about, and nothing behind it. */
 #include "common.h"
 
 /* The number that a word says; one that is out of range for all limits where it says none. */
@@ -40,7 +41,7 @@ static int read_words(struct task *task, int count, char **words) {
     if (!is_task(task, words[1], what) || depth > PKDER_MOST_DEPTH || octets > PKDER_MOST_OCTETS) {
         return 0;
     }
-    if (is_report(task->call)) {
+    if (task->call == explain_text) {
         task->call = reports[form];
     } else if (form != 0) {
         return 0;

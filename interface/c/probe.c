@@ -1,7 +1,7 @@
 /* probe FILE..: what pkder.h promises and a caller can see, on each file, on it cut at each octet and changed by
  * chance, and on octets by chance, in each kind and part. Octets handed over end where a page begins that can't be
  * touched, or begin where one ends; each beside the one before it. Also: bad calls, no octets, names, one page for
- * both, seven threads. ROUNDS is how often by chance (200). */
+ * both, eight threads. ROUNDS is how often by chance (200). */
 #define _DEFAULT_SOURCE
 #include <pthread.h>
 #include <sys/mman.h>
@@ -109,7 +109,8 @@ static void one(const struct task *task, const uint8_t *given, size_t len) {
     }
 }
 
-/* Whether octets are lines of printable ASCII, or none; of JSON there may be other characters. */
+/* Whether octets are lines of printable ASCII, or none; of JSON there may be other characters, and a field has no end of
+ * a line. */
 static int are_lines(text_call *call, const uint8_t *text, size_t size) {
     int is_json = call == explain_json || call == explain_all_json;
     for (size_t i = 0; i < size; i++) {
@@ -117,7 +118,7 @@ static int are_lines(text_call *call, const uint8_t *text, size_t size) {
             return 0;
         }
     }
-    return size == 0 || text[size - 1] == '\n';
+    return size == 0 || (text[size - 1] == '\n') == (call != pkder_field);
 }
 
 /* The report, with so much room; `due` is what is due of it but the status. */
@@ -132,16 +133,40 @@ static void check_report(const struct task *task, const uint8_t *src, size_t len
     CHECK(is_filled(dst + written, (size_t)(dst_room.at + dst_room.size - dst) - written));
 }
 
+/* The field is the one that the report as text names; none of a document in DER. (Its path has no blank, at which a line
+ * would end.) */
+static void check_field(const struct task *task, const uint8_t *src, size_t len, size_t size) {
+    static const char label[] = "\nfield   ";
+    static uint8_t report[MOST_REPORTED], field[MOST];
+    pkder_outcome said = explain_text(task->what, task->depth, task->octets, src, len, report, sizeof report - 1);
+    CHECK(said.status == PKDER_REPORTED && size < sizeof field);
+    report[said.size] = 0;
+    const char *due = strstr((const char *)report, label);
+    int is_der = said.reason == 0 && said.at == 0;
+    CHECK((due == NULL) == is_der && (size == 0) == is_der);
+    do_task(task, src, len, field, size);
+    if (!is_der) {
+        due += strlen(label);
+        CHECK(strcspn(due, " \n") == size && due[size] == '\n' && memcmp(due, field, size) == 0);
+    }
+}
+
 /* Whatever the octets are there is a report of them, and its numbers are those of pkder_check. */
 static void one_report(const struct task *task, const uint8_t *given, size_t len) {
     uint8_t *src = place(src_room, len);
     memcpy(src, given, len);
     pkder_outcome due = pkder_check(task->what, task->depth, task->octets, src, len);
     pkder_outcome said = do_task(task, src, len, NULL, 0);
-    CHECK(said.status == PKDER_UNREPORTED && said.size > 0 && said.size < dst_room.size);
-    due.size = said.size;
-    for (size_t room = (size_t)said.size - 1; room <= said.size + 1; room++) {
+    size_t size = (size_t)said.size;
+    CHECK(said.status == (size > 0 ? PKDER_UNREPORTED : PKDER_REPORTED) && size < dst_room.size);
+    due.size = size;
+    for (size_t room = size > 0 ? size - 1 : 0; room <= size + 1; room++) {
         check_report(task, src, len, due, room);
+    }
+    if (task->call == pkder_field) {
+        check_field(task, src, len, size);
+    } else {
+        CHECK(size > 0);
     }
     CHECK(memcmp(src, given, len) == 0);
 }
@@ -199,7 +224,7 @@ static void all(uint32_t depth, uint64_t octets, const uint8_t *given, size_t le
     turn++;
     pairs(depth, octets, given, len);
     for (uint32_t what = 1; what <= 6; what++) {
-        /* (the forms take turns) */
+        /* (the forms and the field take turns) */
         one_report(&(struct task){reports[(turn + what) % REPORTS], what, depth, octets}, given, len);
         one(&(struct task){pkder_normalise, what, depth, octets}, given, len);
         one(&(struct task){pkder_show, what, depth, octets}, given, len);
@@ -320,8 +345,8 @@ static void try_nothing(void) {
             CHECK(is_same(&said, &due));
             said = pkder_same(kind, PKDER_DEPTH, PKDER_OCTETS, pointers[i], 0, pointers[0], 0);
             CHECK(is_same(&said, &due_of_first));
-            for (size_t form = 0; form < REPORTS; form++) {
-                said = reports[form](kind, PKDER_DEPTH, PKDER_OCTETS, pointers[i], 0, NULL, 0);
+            for (size_t j = 0; j < REPORTS; j++) {
+                said = reports[j](kind, PKDER_DEPTH, PKDER_OCTETS, pointers[i], 0, NULL, 0);
                 CHECK(said.status == PKDER_UNREPORTED && said.reason == PKDER_REASON_TRUNCATED);
                 CHECK(said.at == 0 && said.taken == 0 && said.size > 0);
             }
@@ -407,10 +432,10 @@ static void *call_often(void *argument) {
 
 /* Threads at once, each with a call of its own. */
 static void try_threads(void) {
-    static text_call *const calls[] = {NULL,         same_as_itself, pkder_normalise, pkder_show,
-                                       pkder_signed, explain_text,   explain_all_json};
+    static text_call *const calls[] = {NULL,         same_as_itself, pkder_normalise,  pkder_show,
+                                       pkder_signed, explain_text,   explain_all_json, pkder_field};
     static const uint32_t due[] = {PKDER_ACCEPTED, PKDER_ACCEPTED, PKDER_ACCEPTED, PKDER_ACCEPTED,
-                                   PKDER_FAULT,    PKDER_REPORTED, PKDER_REPORTED};
+                                   PKDER_FAULT,    PKDER_REPORTED, PKDER_REPORTED, PKDER_REPORTED};
     enum { THREADS = sizeof calls / sizeof *calls };
     static struct repeated repeated[THREADS];
     pthread_t threads[THREADS];

@@ -40,6 +40,7 @@ pkder_outcome pkder_same(uint32_t kind, uint32_t depth, uint64_t octets, const u
 TEXT_CALL(pkder_normalise)
 TEXT_CALL(pkder_signed)
 TEXT_CALL(pkder_show)
+TEXT_CALL(pkder_field)
 
 pkder_outcome pkder_explain(uint32_t kind, uint32_t depth, uint64_t octets, uint32_t form, const uint8_t *src,
                             size_t src_len, uint8_t *dst, size_t dst_len) {

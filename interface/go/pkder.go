@@ -10,7 +10,8 @@
 //
 // All other calls take BER, too. Of Check look at the Form, and not at err alone. Same tells whether two documents are
 // the same; of one that is refused its err is a Fault, which says which one it is. Explain has a report of any octets,
-// for people; of a document that is refused its err is nil, and its Report tells the Fault.
+// for people, and Field the field that it is about; of a document that is refused their err is nil, and the Report tells
+// the Fault.
 package pkder
 
 /*
@@ -255,7 +256,18 @@ func Explain(kind Kind, limits Limits, document []byte, form ReportForm) (Report
 	return report, nil
 }
 
-// firstRoom is room for a report at first; those of all elements may need more.
+// Field answers the path of the field that the report is about, as "privateKey.publicExponent": of a refused document
+// the field that is refused, or the name of the outermost type; of one in BER the first field that isn't in DER; "" of
+// one in DER. It reads the document again, as Explain does.
+func Field(kind Kind, limits Limits, document []byte) (string, error) {
+	path, _, err := written(firstRoom, C.PKDER_REPORTED, C.PKDER_UNREPORTED, func(room []byte) C.pkder_outcome {
+		return C.pkder_field(C.uint32_t(kind), C.uint32_t(limits.Depth), C.uint64_t(limits.Octets),
+			start(document), C.size_t(len(document)), start(room), C.size_t(len(room)))
+	})
+	return string(path), err
+}
+
+// firstRoom is room for a report or a field at first; reports of all elements may need more.
 const firstRoom = 8192
 
 // textOf answers what the call writes; nearly always the document's own size is enough.

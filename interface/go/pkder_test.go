@@ -49,6 +49,11 @@ func said(t *testing.T, words []string, given []byte) (string, []byte, string) {
 		var report Report
 		report, err = Explain(kinds[words[2]], limits, given, ReportForm{All: has(words, "--all"), JSON: has(words, "--json")})
 		text, status = []byte(report.Text), statusOf(report)
+	case "field":
+		var path string
+		path, err = Field(kinds[words[2]], limits, given)
+		report, _ := Explain(kinds[words[2]], limits, given, ReportForm{})
+		text, status = []byte(path), statusOf(report)
 	case "check":
 		var form Form
 		form, err = Check(kinds[words[2]], limits, given)
@@ -200,11 +205,17 @@ func TestBadCalls(t *testing.T) {
 		if _, err := Explain(Key, limits, nil, ReportForm{}); err != ErrCall {
 			t.Error(limits, err)
 		}
+		if _, err := Field(Key, limits, nil); err != ErrCall {
+			t.Error(limits, err)
+		}
 		if same, err := Same(Key, limits, nil, nil); same || err != ErrCall {
 			t.Error(limits, same, err)
 		}
 	}
 	if _, err := Normalise(7, Usual(), nil); err != ErrCall {
+		t.Error(err)
+	}
+	if _, err := Field(7, Usual(), nil); err != ErrCall {
 		t.Error(err)
 	}
 	if _, err := Signed(5, Usual(), nil); err != ErrCall {
@@ -247,6 +258,23 @@ func TestReports(t *testing.T) {
 		if err != nil || report.Form.DER || report.Fault == nil || report.Fault.Reason != ReasonTruncated {
 			t.Error(form, report, err)
 		}
+	}
+}
+
+// The field that a report is about, of a document in DER, of one in BER and of a refused one.
+func TestField(t *testing.T) {
+	key := append(octetsOf(t, "302a300506032b6570032100"), make([]byte, 32)...)
+	inBER := append([]byte{0x30, 0x81}, key[1:]...)
+	due := map[string][]byte{"": key, "SubjectPublicKeyInfo": inBER, "subjectPublicKey": key[:20]}
+	for path, document := range due {
+		if found, err := Field(Public, Usual(), document); err != nil || found != path {
+			t.Error(path, found, err)
+		}
+	}
+	// (with 43 octets at most it is too long from its first octet on)
+	found, err := Field(Public, Limits{Depth: 32, Octets: 43}, key)
+	if err != nil || found != "SubjectPublicKeyInfo" {
+		t.Error(found, err)
 	}
 }
 
@@ -341,6 +369,10 @@ func TestThreads(t *testing.T) {
 				}
 				if same, err := Same(Public, Usual(), key, key); err != nil || !same {
 					t.Error(same, err)
+					return
+				}
+				if path, err := Field(Public, Usual(), key); err != nil || path != "" {
+					t.Error(path, err)
 					return
 				}
 			}

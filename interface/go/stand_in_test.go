@@ -8,13 +8,23 @@ import (
 	"testing"
 )
 
-// refusalOfAll is what all calls answer of the octets, Explain too.
+// refusalOfAll is what all calls answer of the octets, Explain and Field too.
 func refusalOfAll(t *testing.T, document []byte) error {
 	refused := refusal(t, document)
-	if _, err := Explain(Key, Usual(), document, ReportForm{}); err == nil || err.Error() != refused.Error() {
+	if err := unreported(t, document); err.Error() != refused.Error() {
 		t.Fatal(document, refused, err)
 	}
 	return refused
+}
+
+// unreported is what Explain and Field answer of the octets.
+func unreported(t *testing.T, document []byte) error {
+	_, explained := Explain(Key, Usual(), document, ReportForm{})
+	_, err := Field(Key, Usual(), document)
+	if err == nil || explained == nil || err.Error() != explained.Error() {
+		t.Fatal(document, explained, err)
+	}
+	return err
 }
 
 // refusal is what the other calls answer of the octets.
@@ -55,14 +65,27 @@ func TestStandIn(t *testing.T) {
 	if err := refusal(t, []byte{7, 0, 0}); err.Error() != "libpkder answers the status 7" {
 		t.Error(err)
 	}
-	report, err := Explain(Key, Usual(), []byte{6, 28, 28}, ReportForm{})
-	if err != nil || report.Form.DER || report.Fault.Error() != "fault at 5: Later inside at 7: Later" {
-		t.Error(report, err)
-	}
 	var fault *Fault
 	if err := refusalOfAll(t, []byte{1, 28, 28}); !errors.As(err, &fault) ||
 		fault.Error() != "fault at 5: Later inside at 7: Later" {
 		t.Error(err)
+	}
+}
+
+// What the package makes of reports: statuses of other calls are no answer of them.
+func TestStandInOfReports(t *testing.T) {
+	report, err := Explain(Key, Usual(), []byte{6, 28, 28}, ReportForm{})
+	if err != nil || report.Form.DER || report.Fault.Error() != "fault at 5: Later inside at 7: Later" {
+		t.Error(report, err)
+	}
+	if path, err := Field(Key, Usual(), []byte{6, 28, 28}); err != nil || path != "" {
+		t.Error(path, err)
+	}
+	for _, status := range []byte{0, 2, 5} {
+		line := fmt.Sprintf("libpkder answers the status %d", status)
+		if err := unreported(t, []byte{status, 0, 0}); err.Error() != line {
+			t.Error(err)
+		}
 	}
 }
 

@@ -10,11 +10,11 @@
 
 /* Of a thread's stack HotSpot keeps the lowest pages from use. */
 #define KEPT_STACK 65536
-/* Room for a report at first; those of all elements may need more. */
+/* Room for a report or a field at first; reports of all elements may need more. */
 #define REPORT_ROOM 8192
 #define MOST_OCTETS_OF_ARRAY INT32_MAX
 
-enum call { CHECK, NORMALISE, SIGNED, SHOW, EXPLAIN };
+enum call { CHECK, NORMALISE, SIGNED, SHOW, EXPLAIN, FIELD };
 
 /* What is asked of the library, but for the octets. */
 struct question {
@@ -68,6 +68,8 @@ static pkder_outcome asked(const struct question *it, struct octets src, struct 
         return pkder_signed(what, depth, octets, src.start, src.length, dst.start, dst.length);
     case SHOW:
         return pkder_show(what, depth, octets, src.start, src.length, dst.start, dst.length);
+    case FIELD:
+        return pkder_field(what, depth, octets, src.start, src.length, dst.start, dst.length);
     default:
         return pkder_explain(what, depth, octets, (uint32_t)it->form, src.start, src.length, dst.start, dst.length);
     }
@@ -79,7 +81,8 @@ static struct octets room_for(size_t length) {
 
 /* Asks with this room at first, and with as much as is asked for then; the answer's octets are the caller's to free. */
 static pkder_outcome answered(const struct question *it, struct octets src, struct octets *text) {
-    size_t room = it->call == EXPLAIN ? REPORT_ROOM : it->call == CHECK ? 0 : src.length;
+    int is_report = it->call == EXPLAIN || it->call == FIELD;
+    size_t room = is_report ? REPORT_ROOM : it->call == CHECK ? 0 : src.length;
     for (;;) {
         *text = room_for(room);
         if (text->start == NULL) {
@@ -160,6 +163,7 @@ CALL(check, CHECK)
 CALL(normalise, NORMALISE)
 CALL(signed, SIGNED)
 CALL(show, SHOW)
+CALL(field, FIELD)
 
 JNIEXPORT jbyteArray JNICALL NAME(explain)(JNIEnv *env, jclass native, jint kind, jint depth, jint octets, jint form,
                                            jbyteArray document, jlongArray outcome) {

@@ -149,6 +149,15 @@ final class Calls {
         }
     }
 
+    /** The field that a report is about. */
+    static void fields() {
+        Claims.equal(Pkder.field(Kind.KEY, Documents.key()), "", "a sound key");
+        Claims.equal(Pkder.field(Kind.KEY, Documents.keyInBer()), "OneAsymmetricKey", "a key in BER");
+        Claims.equal(Pkder.field(Kind.KEY, Documents.cutKey()), "privateKey", "a cut key");
+        // (with 47 octets at most it is too long from its first octet on)
+        Claims.equal(Pkder.field(Kind.KEY, Documents.key(), new Limits(32, 47)), "OneAsymmetricKey", "47 octets");
+    }
+
     /** A report of all elements that is longer than the room that it gets at first. */
     static void longReport() {
         byte[] request = Documents.cutRequest();
@@ -187,6 +196,8 @@ final class Calls {
         Claims.thrown(due, () -> Pkder.signed(null, NONE), "no part");
         Claims.thrown(due, () -> Pkder.show(Kind.KEY, null), "no document");
         Claims.thrown(due, () -> Pkder.explain(Kind.KEY, null), "no document");
+        Claims.thrown(due, () -> Pkder.field(Kind.KEY, null), "no document");
+        Claims.thrown(due, () -> Pkder.field(null, NONE), "no kind");
         Claims.thrown(due, () -> Pkder.check(Kind.KEY, NONE, null), "no limits");
     }
 

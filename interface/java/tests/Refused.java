@@ -27,6 +27,7 @@ public final class Refused {
         put(tests, "show", () -> Pkder.show(Kind.KEY, DOCUMENT));
         put(tests, "signed", () -> Pkder.signed(Part.INFO, DOCUMENT));
         put(tests, "explain", () -> Pkder.explain(Kind.KEY, DOCUMENT));
+        put(tests, "field", () -> Pkder.field(Kind.KEY, DOCUMENT));
         System.exit(Tests.failed(tests) == 0 ? 0 : 1);
     }
 

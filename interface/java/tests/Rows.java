@@ -85,8 +85,9 @@ final class Rows {
                 case "show":
                     return answer(0, Pkder.show(kind(), document, limits));
                 case "explain":
-                    Report report = Pkder.explain(kind(), document, form(), limits);
-                    return answer(report.fault().isPresent() ? 2 : report.isDer() ? 0 : 1, report.text());
+                    return answer(reportStatus(), Pkder.explain(kind(), document, form(), limits).text());
+                case "field":
+                    return answer(reportStatus(), Pkder.field(kind(), document, limits));
                 default:
                     Verdict verdict = Pkder.check(kind(), document, limits);
                     return answer(verdict.isDer() ? 0 : 1, verdict + "\n");
@@ -98,6 +99,12 @@ final class Rows {
 
     private static Answer answer(int status, String output) {
         return new Answer(status, output.getBytes(StandardCharsets.UTF_8), "");
+    }
+
+    /** The program's status for a report. */
+    private int reportStatus() {
+        Report report = Pkder.explain(kind(), document, form(), limits);
+        return report.fault().isPresent() ? 2 : report.isDer() ? 0 : 1;
     }
 
     private ReportForm form() {

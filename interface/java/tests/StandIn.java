@@ -30,7 +30,7 @@ public final class StandIn {
         System.exit(Tests.failed(tests) == 0 ? 0 : 1);
     }
 
-    /** The calls on one document, of three octets, but explain. */
+    /** The calls on one document, of three octets, that refuse some. */
     private static List<Claims.Attempt> calls(int... told) {
         byte[] document = document(told);
         List<Claims.Attempt> calls = new ArrayList<>();
@@ -50,9 +50,15 @@ public final class StandIn {
         return Pkder.same(Kind.KEY, document(told), document(told));
     }
 
+    /** Those that tell of any octets. */
+    private static List<Claims.Attempt> reporting(int... told) {
+        byte[] document = document(told);
+        return List.of(() -> Pkder.explain(Kind.KEY, document), () -> Pkder.field(Kind.KEY, document));
+    }
+
     private static List<Claims.Attempt> allCalls(int... told) {
         List<Claims.Attempt> calls = calls(told);
-        calls.add(() -> Pkder.explain(Kind.KEY, document(told)));
+        calls.addAll(reporting(told));
         calls.add(() -> same(told));
         return calls;
     }
@@ -86,6 +92,7 @@ public final class StandIn {
         Report report = Pkder.explain(Kind.KEY, document(6, 28, 28));
         Claims.equal(report.isDer() + " " + report.differsAt() + " " + report.fault().orElseThrow(),
             "false OptionalLong.empty fault at 5: Later inside at 7: Later", "a later reason");
+        Claims.equal(Pkder.field(Kind.KEY, document(6, 28, 28)), "", "a later reason");
     }
 
     /** Statuses of reports and of two documents are no answer of other calls, nor are theirs one of a report. */
@@ -96,8 +103,9 @@ public final class StandIn {
             }
         }
         for (int status : new int[] {0, 1, 2, 5, 7, 8}) {
-            Claims.Attempt call = () -> Pkder.explain(Kind.KEY, document(status, 0, 0));
-            Claims.thrown(IllegalStateException.class, call, "status " + status + " of a report");
+            for (Claims.Attempt call : reporting(status, 0, 0)) {
+                Claims.thrown(IllegalStateException.class, call, "status " + status + " of a report");
+            }
         }
         for (Claims.Attempt call : calls(5, 0, 0).subList(2, 5)) {
             Claims.thrown(IllegalStateException.class, call, "status 5 of a text");

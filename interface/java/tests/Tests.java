@@ -21,6 +21,7 @@ public final class Tests {
         tests.put("faults inside", Calls::faultsInside);
         tests.put("which document is refused", Calls::which);
         tests.put("reports", Calls::reports);
+        tests.put("fields", Calls::fields);
         tests.put("a long report", Calls::longReport);
         tests.put("limits", Calls::limits);
         tests.put("nulls", Calls::nulls);

@@ -52,6 +52,7 @@ final class Threads {
         for (int round = 0; round < ROUNDS; round++) {
             Claims.holds(Arrays.equals(Pkder.normalise(Kind.KEY, ber), der), "normalise");
             Claims.holds(Pkder.explain(Kind.KEY, der).isDer(), "explain");
+            Claims.equal(Pkder.field(Kind.KEY, der), "", "field");
             Claims.holds(!Pkder.check(Kind.KEY, ber).isDer(), "check");
             Claims.holds(Pkder.same(Kind.KEY, ber, der), "same");
             String text = Pkder.explain(Kind.REQUEST, request, ReportForm.ALL_JSON, Limits.USUAL).text();
@@ -95,6 +96,8 @@ final class Threads {
                 -> Pkder.same(Kind.PUBLIC, document, document),
             ()
                 -> Pkder.show(Kind.PUBLIC, document),
+            ()
+                -> Pkder.field(Kind.PUBLIC, document),
             () -> Pkder.explain(Kind.PUBLIC, document, ReportForm.ALL_JSON, Limits.USUAL));
     }
 
@@ -142,6 +145,7 @@ final class Threads {
         long before = residentPages();
         for (int round = 0; round < 1000; round++) {
             Pkder.explain(Kind.KEY, zeros);
+            Pkder.field(Kind.KEY, zeros);
             Claims.thrown(FaultException.class, () -> Pkder.same(Kind.KEY, zeros, zeros), "zeros");
         }
         long more = residentPages() - before;

@@ -12,14 +12,25 @@ MEMORY, BAD_CALL, LATER = b"\3\0\0", b"\4\0\0", b"\11\0\0"
 FAULTS = {b"\1\x1c\0": "fault at 5: Later", b"\1\x1c\x1c": "fault at 5: Later inside at 7: Later"}
 
 
-def calls(document):
-    """Each call on the document."""
+def answers(document):
+    """The calls on the document that refuse some."""
     yield lambda: pkder.check(pkder.Kind.KEY, document)
     yield lambda: pkder.require_der(pkder.Kind.KEY, document)
     yield lambda: pkder.normalise(pkder.Kind.KEY, document)
     yield lambda: pkder.show(pkder.Kind.KEY, document)
     yield lambda: pkder.signed(pkder.Part.INFO, document)
+
+
+def reports(document):
+    """Those that tell of any octets."""
     yield lambda: pkder.explain(pkder.Kind.KEY, document)
+    yield lambda: pkder.field(pkder.Kind.KEY, document)
+
+
+def calls(document):
+    """Each call on the document."""
+    yield from answers(document)
+    yield from reports(document)
 
 
 def same(document):
@@ -51,10 +62,17 @@ class Answers(unittest.TestCase):
             report = pkder.explain(pkder.Kind.KEY, document)
             with self.subTest(line=line):
                 self.assertEqual((report.is_der, str(report.fault)), (False, line))
+                self.assertEqual(pkder.field(pkder.Kind.KEY, document), "")
 
     def test_statuses_of_reports_are_no_answer_of_other_calls(self):
         for document in b"\6\0\0", b"\7\0\0":
-            for call in [*list(calls(document))[:-1], lambda document=document: same(document)]:
+            for call in [*answers(document), lambda document=document: same(document)]:
+                with self.subTest(document=document), self.assertRaises(RuntimeError):
+                    call()
+
+    def test_statuses_of_other_calls_are_no_answer_of_reports(self):
+        for document in b"\0\0\0", b"\2\0\0", b"\5\0\0":
+            for call in reports(document):
                 with self.subTest(document=document), self.assertRaises(RuntimeError):
                     call()
 

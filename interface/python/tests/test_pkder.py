@@ -31,9 +31,10 @@ def said(words, document):
             return 0, pkder.normalise(kind, document, **limits), ""
         if command == "show":
             return 0, pkder.show(kind, document, **limits).encode(), ""
-        if command == "explain":
+        if command in ("explain", "field"):
             report = pkder.explain(kind, document, all="--all" in words, json="--json" in words, **limits)
-            return 0 if report.is_der else 2 if report.fault else 1, report.text.encode(), ""
+            text = report.text if command == "explain" else pkder.field(kind, document, **limits)
+            return 0 if report.is_der else 2 if report.fault else 1, text.encode(), ""
         form = pkder.check(kind, document, **limits)
         return 0 if form.is_der else 1, f"{form}\n".encode(), ""
     except pkder.Fault as fault:
@@ -200,6 +201,14 @@ class Reports(unittest.TestCase):
         lines = json.loads(pkder.explain(pkder.Kind.REQUEST, request, all=True, json=True).text)["lines"]
         self.assertEqual(lines[-1]["value"], {"characters": "Zoë-"})
 
+    def test_the_field(self):
+        self.assertEqual(pkder.field(pkder.Kind.KEY, KEY), "")
+        self.assertEqual(pkder.field(pkder.Kind.KEY, KEY_IN_BER), "OneAsymmetricKey")
+        for document in KEY[:20], bytearray(KEY[:20]), memoryview(KEY[:20]):
+            self.assertEqual(pkder.field(pkder.Kind.KEY, document), "privateKey")
+        # (with 47 octets at most it is too long from its first octet on)
+        self.assertEqual(pkder.field(pkder.Kind.KEY, KEY, octets=47), "OneAsymmetricKey")
+
     def test_a_report_is_no_truth_value(self):
         for document in KEY, KEY_IN_BER, KEY[:20]:
             with self.subTest(document=document.hex()), self.assertRaisesRegex(TypeError, "is_der.*require_der"):
@@ -241,8 +250,9 @@ class Calls(unittest.TestCase):
             with self.subTest(kind=kind, depth=depth, octets=octets), self.assertRaises(ValueError) as raised:
                 pkder.check(kind, b"", depth=depth, octets=octets)
             self.assertNotIsInstance(raised.exception, pkder.Fault)
-            with self.subTest(kind=kind, depth=depth, octets=octets), self.assertRaises(ValueError):
-                pkder.explain(kind, b"", depth=depth, octets=octets)
+            for call in pkder.explain, pkder.field:
+                with self.subTest(kind=kind, depth=depth, octets=octets), self.assertRaises(ValueError):
+                    call(kind, b"", depth=depth, octets=octets)
 
     def test_threads(self):
         wrong = []
@@ -253,7 +263,7 @@ class Calls(unittest.TestCase):
             for _ in range(2000):
                 if pkder.normalise(pkder.Kind.KEY, KEY) != KEY or pkder.explain(pkder.Kind.KEY, KEY) != report:
                     wrong.append(1)
-                if not pkder.same(pkder.Kind.KEY, KEY, KEY_IN_BER):
+                if not pkder.same(pkder.Kind.KEY, KEY, KEY_IN_BER) or pkder.field(pkder.Kind.KEY, KEY):
                     wrong.append(2)
 
         threads = [threading.Thread(target=call) for _ in range(4)]

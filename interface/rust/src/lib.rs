@@ -32,15 +32,18 @@
 //! # Ok::<(), pkder::Error>(())
 //! ```
 //!
-//! Of any octets, a refused document's too, `explain` has a report for people, as text or as JSON:
+//! Of any octets, a refused document's too, `explain` has a report for people, as text or as JSON, and `field` the field
+//! that it is about:
 //!
 //! ```
-//! use pkder::{explain, Kind, ReportForm};
+//! use pkder::{explain, field, Kind, ReportForm};
 //!
 //! let report = explain(Kind::Public, &[0x30, 0x2A], ReportForm::default())?;
 //! assert!(!report.is_der());
 //! assert_eq!(report.verdict.unwrap_err().to_string(), "fault at 2: Truncated");
 //! print!("{}", report.text);
+//! // an INTEGER where the SEQUENCE of the algorithm is due
+//! assert_eq!(field(Kind::Public, &[0x30, 0x03, 0x02, 0x01, 0x00])?, "algorithm");
 //! # Ok::<(), pkder::Error>(())
 //! ```
 //!
@@ -369,6 +372,13 @@ impl Limits {
         };
         Ok(Report { text: String::from_utf8_lossy(&text).into_owned(), verdict })
     }
+
+    /// As the free function of the name.
+    pub fn field(self, kind: Kind, document: &[u8]) -> Result<String, Error> {
+        let call = |room: &mut [u8]| raw::field(kind as u32, self, document, room);
+        let (path, _) = written(REPORT, (raw::REPORTED, raw::UNREPORTED), call)?;
+        Ok(String::from_utf8_lossy(&path).into_owned())
+    }
 }
 
 /// Refuses a document that isn't in DER, as one that has a fault.
@@ -410,7 +420,14 @@ pub fn explain(kind: Kind, document: &[u8], form: ReportForm) -> Result<Report, 
     Limits::default().explain(kind, document, form)
 }
 
-/// Room for a report at first; those of all elements may need more.
+/// The path of the field that the report is about, as `privateKey.publicExponent`: of a refused document the field that
+/// is refused, or the name of the outermost type; of one in BER the first field that isn't in DER; empty of one in DER.
+/// It reads the document again, as `explain` does.
+pub fn field(kind: Kind, document: &[u8]) -> Result<String, Error> {
+    Limits::default().field(kind, document)
+}
+
+/// Room for a report or a field at first; reports of all elements may need more.
 const REPORT: usize = 8192;
 
 /// What the call writes of the document; nearly always the document's own size is enough.

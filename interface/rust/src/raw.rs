@@ -65,6 +65,15 @@ extern "C" {
         dst: *mut u8,
         dst_len: usize,
     ) -> Outcome;
+    fn pkder_field(
+        kind: u32,
+        depth: u32,
+        octets: u64,
+        src: *const u8,
+        src_len: usize,
+        dst: *mut u8,
+        dst_len: usize,
+    ) -> Outcome;
     fn pkder_check(kind: u32, depth: u32, octets: u64, src: *const u8, src_len: usize) -> Outcome;
     fn pkder_same(
         kind: u32,
@@ -99,6 +108,10 @@ pub fn explain(kind: u32, limits: Limits, form: ReportForm, src: &[u8], dst: &mu
     let Limits { depth, octets } = limits;
     // SAFETY: both are slices, which don't overlap since one is exclusive.
     unsafe { pkder_explain(kind, depth, octets, form.number(), src.as_ptr(), src.len(), dst.as_mut_ptr(), dst.len()) }
+}
+
+pub fn field(kind: u32, limits: Limits, src: &[u8], dst: &mut [u8]) -> Outcome {
+    text(pkder_field, kind, limits, src, dst)
 }
 
 pub fn check(kind: u32, limits: Limits, src: &[u8]) -> Outcome {

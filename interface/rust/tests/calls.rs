@@ -1,7 +1,8 @@
 //! The rows that PKDER_CALLS names (interface/calls.py makes them), the pairs that PKDER_PAIRS names
 //! (interface/pairs.py), reports, calls that are wrong, and threads.
 use pkder::{
-    check, explain, normalise, require_der, same, show, Error, Form, Kind, Limits, Part, Reason, Report, ReportForm,
+    check, explain, field, normalise, require_der, same, show, Error, Form, Kind, Limits, Part, Reason, Report,
+    ReportForm,
 };
 
 /// An answer: status, output and line on standard error, as the program's.
@@ -62,6 +63,10 @@ fn said(words: &str, given: &[u8]) -> Said {
                 report.text.into_bytes()
             })
         }
+        "field" => limits.field(kind_of(words[2]), given).map(|path| {
+            status = status_of(&limits.explain(kind_of(words[2]), given, ReportForm::default()).unwrap());
+            path.into_bytes()
+        }),
         _ => panic!("no command {}", words[0]),
     };
     match answer {
@@ -167,6 +172,7 @@ fn limits_out_of_range() {
         assert_eq!(limits.show(Kind::Key, &[]), Err(Error::Limits));
         assert_eq!(limits.signed(Part::Info, &[]), Err(Error::Limits));
         assert_eq!(limits.explain(Kind::Key, &[], ReportForm::default()), Err(Error::Limits));
+        assert_eq!(limits.field(Kind::Key, &[]), Err(Error::Limits));
     }
 }
 
@@ -181,6 +187,17 @@ fn reports_have_forms_and_verdicts() {
     // (with all elements it lists subjectPublicKey too, at 10)
     assert_eq!([text(false, false), text(true, false)].map(|it| it.contains("\n10  03 21")), [false, true]);
     assert!(text(false, true).starts_with('{') && text(true, true).starts_with('{'));
+}
+
+#[test]
+fn the_field_of_a_report() {
+    let key = octets("302a300506032b6570032100aaaaaaaaaaaaaaaaaaaaaaaaaaaaaaaaaaaaaaaaaaaaaaaaaaaaaaaaaaaaaaaa");
+    let in_ber = [&[0x30, 0x81][..], &key[1..]].concat();
+    assert_eq!(field(Kind::Public, &key).unwrap(), "");
+    assert_eq!(field(Kind::Public, &in_ber).unwrap(), "SubjectPublicKeyInfo");
+    assert_eq!(field(Kind::Public, &key[..20]).unwrap(), "subjectPublicKey");
+    // (with 43 octets at most it is too long from its first octet on)
+    assert_eq!(Limits { depth: 32, octets: 43 }.field(Kind::Public, &key).unwrap(), "SubjectPublicKeyInfo");
 }
 
 /// A report of all elements that is longer than the room that it gets at first.
@@ -221,6 +238,7 @@ fn threads() {
                     assert_eq!(normalise(Kind::Public, &key).as_ref(), Ok(&key));
                     assert!(explain(Kind::Public, &key, ReportForm::default()).unwrap().is_der());
                     assert_eq!(same(Kind::Public, &key, &key), Ok(true));
+                    assert_eq!(field(Kind::Public, &key).unwrap(), "");
                 }
             });
         }

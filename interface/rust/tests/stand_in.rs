@@ -1,6 +1,6 @@
 //! What the crate makes of answers that no document brings: `cargo test --test stand_in -- --ignored`, linked to the
 //! stand-in of interface/c/stand_in.c.
-use pkder::{check, explain, normalise, require_der, same, show, signed, Error, Kind, Part, ReportForm};
+use pkder::{check, explain, field, normalise, require_der, same, show, signed, Error, Kind, Part, ReportForm};
 
 /// What all calls answer of the octets.
 fn refusal(document: &[u8]) -> Error {
@@ -12,10 +12,17 @@ fn refusal(document: &[u8]) -> Error {
     error
 }
 
-/// What all calls answer of the octets, `explain` too.
+/// What `explain` and `field` answer of the octets.
+fn unreported(document: &[u8]) -> Error {
+    let error = explain(Kind::Key, document, ReportForm::default()).unwrap_err();
+    assert_eq!(field(Kind::Key, document), Err(error));
+    error
+}
+
+/// What all calls answer of the octets, these too.
 fn refusal_of_all(document: &[u8]) -> Error {
     let error = refusal(document);
-    assert_eq!(explain(Kind::Key, document, ReportForm::default()), Err(error));
+    assert_eq!(unreported(document), error);
     error
 }
 
@@ -55,10 +62,19 @@ fn statuses_of_reports_are_no_answer_of_other_calls() {
 
 #[test]
 #[ignore = "not linked to the stand-in"]
+fn statuses_of_other_calls_are_no_answer_of_reports() {
+    for status in [0, 2, 5] {
+        assert_eq!(unreported(&[status, 0, 0]), Error::Unknown(status.into()));
+    }
+}
+
+#[test]
+#[ignore = "not linked to the stand-in"]
 fn reports_of_a_later_library() {
     let report = explain(Kind::Key, &[6, 28, 28], ReportForm::default()).unwrap();
     assert_eq!(report.verdict.unwrap_err().to_string(), "fault at 5: Later inside at 7: Later");
     assert!(!report.is_der());
+    assert_eq!(field(Kind::Key, &[6, 28, 28]).unwrap(), "");
 }
 
 #[test]

@@ -30,13 +30,19 @@ const A_TEXT = {
     written: ACCEPTED,
     short: NO_ROOM
 };
+const A_REPORT = {
+    judging: [REPORTED],
+    written: REPORTED,
+    short: UNREPORTED
+};
 const CALLS = {
     pkder_check: {judging: [ACCEPTED, FAULT, NOT_DER]},
     pkder_same: {judging: [ACCEPTED, FAULT, ANOTHER]},
     pkder_normalise: A_TEXT,
     pkder_show: A_TEXT,
     pkder_signed: A_TEXT,
-    pkder_explain: {judging: [REPORTED], written: REPORTED, short: UNREPORTED},
+    pkder_explain: A_REPORT,
+    pkder_field: A_REPORT,
 };
 const REPORT_ROOM = 8192;
 const WANTS = {
@@ -90,6 +96,10 @@ export class Library {
     // `form` is 0, or the sum of numbers of FORMS.
     explain(kind, octets, limits = USUAL, form = 0) {
         return this.#judged("pkder_explain", [KINDS[kind], form], limits, [octets], REPORT_ROOM);
+    }
+
+    field(kind, octets, limits = USUAL) {
+        return this.#judged("pkder_field", [KINDS[kind]], limits, [octets], REPORT_ROOM);
     }
 
     // The line that the program's check prints, of what this check answers, or of a fault that another call tells.

@@ -148,7 +148,7 @@ async function wiped() {
     const due = Buffer.from(unused.memory);
     for (const call
              of [() => used.check("key", KEY), () => used.explain("key", KEY), () => used.normalise("key", KEY),
-                () => used.same("key", KEY, KEY)]) {
+                () => used.field("key", KEY), () => used.same("key", KEY, KEY)]) {
         call();
         assert.notEqual(Buffer.from(used.memory).indexOf(secret), -1);
         used.wipe();

@@ -30,5 +30,7 @@ final class Native {
 
     static native byte[] explain(int kind, int depth, int octets, int form, byte[] document, long[] outcome);
 
+    static native byte[] field(int kind, int depth, int octets, byte[] document, long[] outcome);
+
     static native byte[] reasonName(int reason);
 }

@@ -239,6 +239,37 @@ public final class Pkder {
         return outcome.hasFault() ? Report.of(text, outcome.fault()) : Report.of(text, outcome.verdict());
     }
 
+    /**
+     * Answers the path of the field that the report is about, as {@code privateKey.publicExponent}: of a refused
+     * document the field that is refused, or the name of the outermost type; of one in BER the first field that isn't
+     * in DER. It reads the document again, as {@link #explain(Kind, byte[])} does.
+     *
+     * @param kind what the document is
+     * @param document its octets
+     * @return the path, which is empty where the document is in DER
+     */
+    public static String field(Kind kind, byte[] document) {
+        return field(kind, document, Limits.USUAL);
+    }
+
+    /**
+     * Answers the path of the field that the report is about.
+     *
+     * @param kind what the document is
+     * @param document its octets
+     * @param limits the limits of what is read
+     * @return the path, which is empty where the document is in DER
+     */
+    public static String field(Kind kind, byte[] document, Limits limits) {
+        int number = kind.number();
+        Outcome outcome = new Outcome();
+        byte[] path = Native.field(number, limits.depth(), limits.octets(), present(document), outcome.numbers);
+        if (outcome.status() != Outcome.REPORTED) {
+            throw outcome.failure();
+        }
+        return new String(path, StandardCharsets.UTF_8);
+    }
+
     private static byte[] written(byte[] document, Call call) throws FaultException {
         Outcome outcome = new Outcome();
         byte[] text = call.on(present(document), outcome.numbers);

@@ -7,11 +7,12 @@
     pkder.show(pkder.Kind.KEY, octets)           what it says, in lines
     pkder.signed(pkder.Part.INFO, octets)        what the signature of a request covers, or another part of it
     pkder.explain(pkder.Kind.KEY, octets)        a report for people: .text, and .is_der, .differs_at or .fault
+    pkder.field(pkder.Kind.KEY, octets)          the field that the report is about: "" where the document is in DER
 
-Each takes a whole document, and raises Fault where that is refused, but explain, which has a report of any octets; same
-takes two, and raises Fault where one of them is refused. All but the first take BER, too. The library is the file that
-the environment names as PKDER_LIBRARY, else the libpkder.so.0 that came with the package, as a wheel's does, else the
-one that the system's loader finds."""
+Each takes a whole document, and raises Fault where that is refused, but explain and field, which answer of any octets;
+same takes two, and raises Fault where one of them is refused. All but the first take BER, too. The library is the file
+that the environment names as PKDER_LIBRARY, else the libpkder.so.0 that came with the package, as a wheel's does, else
+the one that the system's loader finds."""
 import ctypes
 import dataclasses
 import enum
@@ -19,7 +20,7 @@ import os
 from typing import Any, Dict, List, Optional, Tuple, Union
 
 __all__ = ["DEPTH", "OCTETS", "Fault", "Form", "Kind", "NotDer", "Part", "Reason", "Refused", "Report", "check",
-           "explain", "normalise", "require_der", "same", "show", "signed"]
+           "explain", "field", "normalise", "require_der", "same", "show", "signed"]
 
 # The limits unless said otherwise.
 DEPTH = 32
@@ -159,7 +160,7 @@ class _Outcome(ctypes.Structure):
 
 _ACCEPTED, _FAULT, _NO_ROOM, _NO_MEMORY, _BAD_CALL, _NOT_DER, _REPORTED, _UNREPORTED, _ANOTHER = range(9)
 _ALL, _JSON = 1, 2
-# Room for a report at first; those of all elements may need more.
+# Room for a report or a field at first; reports of all elements may need more.
 _REPORT = 8192
 _INTERFACE = 1
 _SRC: List[Any] = [ctypes.c_uint32, ctypes.c_uint32, ctypes.c_uint64, ctypes.c_char_p, ctypes.c_size_t]
@@ -174,6 +175,7 @@ _CALLS: Dict[str, Tuple[List[Any], Any]] = {
     "pkder_signed": (_SRC + _DST, _Outcome),
     "pkder_show": (_SRC + _DST, _Outcome),
     "pkder_explain": (_FORMED + _DST, _Outcome),
+    "pkder_field": (_SRC + _DST, _Outcome),
     "pkder_reason_name": ([ctypes.c_uint32, *_DST], ctypes.c_size_t),
 }
 
@@ -317,3 +319,13 @@ def explain(kind: Kind, document: Octets, *, all: bool = False, json: bool = Fal
     if outcome.reason:
         return Report(text.decode("utf-8"), fault=_fault(outcome))
     return Report(text.decode("utf-8"), outcome.at or None)
+
+
+def field(kind: Kind, document: Octets, *, depth: int = DEPTH, octets: int = OCTETS) -> str:
+    """The path of the field that the report is about, as "privateKey.publicExponent": of a refused document the field
+    that is refused, or the name of the outermost type; of one in BER the first field that isn't in DER; "" of one in
+    DER. It reads the document again, as explain does."""
+    _check_limits(depth, octets)
+    statuses = _REPORTED, _UNREPORTED
+    path, _ = _written("pkder_field", (Kind(kind), depth, octets), _octets(document), _REPORT, statuses)
+    return path.decode("utf-8")
