@@ -4,8 +4,8 @@ command line.
 
 They stand in docs/completions, and tools/install.sh puts them in place. --write writes them. Without it they are
 compared with what the program's help says now, and tried in bash, zsh and fish, where the machine has them: lines that
-are typed so far, beside the words that docs/manual.md has for them. --installed takes those that Debian's package put
-in place. The last line is 'completions: N passed, M failed'."""
+are typed so far, beside the words that docs/manual.md has for them. Help has to fit 80 columns. --installed takes those
+that Debian's package put in place. The last line is 'completions: N passed, M failed'."""
 import contextlib
 import os
 import pty
@@ -107,11 +107,22 @@ def joined(lines):
     return found
 
 
+def help_text(program, *words):
+    """What help says."""
+    return subprocess.run([program, *words, "--help"], capture_output=True, text=True, check=True).stdout
+
+
 def help_of(program, *words):
     """The lines of help, by the titles of their sections."""
-    ran = subprocess.run([program, *words, "--help"], capture_output=True, text=True, check=True)
-    blocks = (block.split("\n") for block in ran.stdout.split("\n\n"))
+    blocks = (block.split("\n") for block in help_text(program, *words).split("\n\n"))
     return {block[0]: joined(block[1:]) for block in blocks}
+
+
+def widths(program, commands):
+    """Whether help fits 80 columns, of the program and of each command."""
+    for words in ([], *([it] for it in commands)):
+        wide = [it for it in help_text(program, *words).split("\n") if len(it) > 80]
+        yield f"help of {' '.join(['pkder', *words])} in 80 columns: {wide}", not wide
 
 
 def command_line(program):
@@ -303,7 +314,8 @@ def main(words):
     programs = [it for it in words if not it.startswith("-")]
     if len(programs) != 1 or len(words) > 2 or {*words} - {"--write", "--installed", *programs}:
         sys.exit(__doc__)
-    line = command_line(os.path.abspath(programs[0]))
+    program = os.path.abspath(programs[0])
+    line = command_line(program)
     made = bash(*line), zsh(*line), fish(*line)
     if "--write" in words:
         os.makedirs(FOLDER, exist_ok=True)
@@ -311,7 +323,7 @@ def main(words):
             with open(name, "w", encoding="utf-8") as file:
                 file.write(text)
         return 0
-    looks = [*looks_at(made, INSTALLED if "--installed" in words else PLACES)]
+    looks = [*widths(program, line[1]), *looks_at(made, INSTALLED if "--installed" in words else PLACES)]
     wrong = [what for what, is_right in looks if not is_right]
     for what in wrong:
         print(what)

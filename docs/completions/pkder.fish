@@ -8,7 +8,7 @@ complete -c pkder -n '__fish_seen_subcommand_from check' -l depth -x -d 'the gre
 complete -c pkder -n '__fish_seen_subcommand_from check' -l octets -x -d 'the greatest number of octets of the document and of its DER text, 1 to 2147483647'
 complete -c pkder -n '__fish_seen_subcommand_from check' -l quiet -d 'write only what is not in DER'
 complete -c pkder -n '__fish_seen_subcommand_from check' -l json -d 'write an object of JSON for each document'
-complete -c pkder -n '__fish_seen_subcommand_from check' -l places -x -d 'how many places that are not in DER are listed at most, 1 to 2147483647'
+complete -c pkder -n '__fish_seen_subcommand_from check' -l places -x -d 'list at most so many places that are not in DER, 1 to 2147483647'
 complete -c pkder -n '__fish_seen_subcommand_from check' -l files0-from -r -F -d 'read names from it, each ended by an octet 0'
 complete -c pkder -n '__fish_seen_subcommand_from check' -s h -l help -d 'Print help'
 complete -c pkder -n '__fish_seen_subcommand_from check' -F
@@ -18,7 +18,7 @@ complete -c pkder -n '__fish_seen_subcommand_from explain' -l depth -x -d 'the g
 complete -c pkder -n '__fish_seen_subcommand_from explain' -l octets -x -d 'the greatest number of octets of the document and of its DER text, 1 to 2147483647'
 complete -c pkder -n '__fish_seen_subcommand_from explain' -l all -d 'list all elements, however many there are'
 complete -c pkder -n '__fish_seen_subcommand_from explain' -l json -d 'write an object of JSON for each document'
-complete -c pkder -n '__fish_seen_subcommand_from explain' -l places -x -d 'how many places that are not in DER are listed at most, 1 to 2147483647'
+complete -c pkder -n '__fish_seen_subcommand_from explain' -l places -x -d 'list at most so many places that are not in DER, 1 to 2147483647'
 complete -c pkder -n '__fish_seen_subcommand_from explain' -l files0-from -r -F -d 'read names from it, each ended by an octet 0'
 complete -c pkder -n '__fish_seen_subcommand_from explain' -s h -l help -d 'Print help'
 complete -c pkder -n '__fish_seen_subcommand_from explain' -F

@@ -307,7 +307,7 @@ fn places<'a>(alloc: Global) -> Arg<'a>
     Arg::new(alloc, "places")
         .long("places")
         .value_name("N")
-        .help("how many places that are not in DER are listed at most,\n1 to 2147483647")
+        .help("list at most so many places that are not in DER,\n1 to 2147483647")
         .default_value("100")
 }
 
