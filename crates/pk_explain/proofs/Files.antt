@@ -1,11 +1,9 @@
 -- The lines of a file and of what is inside its elements.
 use Rattle.std.proofs.Common.{Bool, List, None, Option, Some, ℕ, [], false, inl, inr, refl, subst, sym, true, ◌+◌, ◌∙◌, ◌≡◌}
-use Rattle.tlv_core.specs.declared.fault.Fault.{Fault}
-use Rattle.tlv_core.specs.declared.reason.Reason.{Reason}
 use Rattle.asn_names.specs.declared.element.Element.{Element}
 use Rattle.pk_explain.specs.Insides.{IsOneOf}
 use Rattle.pk_explain.specs.Public.{is_guarded}
-use Rattle.pk_explain.specs.Tellings.{AddsFault, AddsFaultInside, AreGuarded, AreInsideOf, ArePublic, EndInside, KeepsGuarded, KeepsOrEnds, MayAddFault, StaysEnded, TellsFile}
+use Rattle.pk_explain.specs.Tellings.{AreGuarded, AreInsideOf, ArePublic, EndInside, KeepsGuarded, KeepsOrEnds, StaysEnded, TellsFile}
 use Rattle.pk_explain.specs.declared.inside.Inside.{Inside}
 use Rattle.pk_explain.specs.declared.values.Rule.{Rule}
 use Rattle.pk_explain.proofs.Guarded.{all_public}
@@ -64,14 +62,3 @@ file_on rule document elements insides inside number a b c old mid new keeps sta
             | inr ends ↦ absurd (cc)
           ]
     ]
-
-may_add_inside : (inside : Option (ℕ × Reason)) (lines lines' : List Line) → AddsFaultInside inside lines lines'
-    → MayAddFault lines lines'
-may_add_inside None lines lines' h = inl h
-may_add_inside (Some inside) lines lines' h = h
-
--- a line more at most
-pub may_add : (fault : Option Fault) (lines lines' : List Line) → AddsFault fault lines lines'
-    → MayAddFault lines lines'
-may_add None lines lines' h = inl h
-may_add (Some fault) lines lines' h = may_add_inside fault.inside lines lines' h

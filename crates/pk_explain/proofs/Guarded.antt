@@ -1,5 +1,5 @@
 -- The lines of a refused document in which a private key may be: all are public but the last.
-use Rattle.std.proofs.Common.{Bool, List, Some, ℕ, [], ap, cond, false, inl, inr, not, refl, slice_get, subst, sym, true, ◌&&◌, ◌+◌, ◌++◌, ◌||◌, ◌∙◌, ◌∷◌, ◌≡◌, ◌⊎◌}
+use Rattle.std.proofs.Common.{Bool, List, Option, Some, ℕ, [], ap, cond, false, inl, inr, not, refl, slice_get, subst, sym, true, ◌&&◌, ◌+◌, ◌++◌, ◌||◌, ◌∙◌, ◌∷◌, ◌≡◌, ◌⊎◌}
 use Rattle.std.proofs.Math.Numerals.{add-one}
 use Rattle.std.proofs.lemmas.List.{append_assoc}
 use Rattle.std.specs.Option.{is_some}
@@ -16,6 +16,7 @@ use Rattle.pk_explain.specs.declared.hidden.Walk.{Walk}
 use Rattle.pk_explain.specs.declared.places.Placed.{Placed}
 use Rattle.pk_explain.specs.declared.values.Rule.{Rule}
 use Rattle.pk_explain.specs.declared.values.Rule.TheVariants.{Accepted, Guarded, Refused}
+use Rattle.pk_reports.specs.declared.report.Cause.{Cause}
 use Rattle.pk_reports.specs.declared.report.Line.{Line}
 
 -- of one element more nothing is told
@@ -114,14 +115,15 @@ place_added placed element (Member number) old new h = inr h
 place_added placed element (Segment number) old new h = inr h
 
 guarded : (point : Point) (walk : Walk) (element : Element) (told : Told) (all definite : Bool) (octets : List ℕ)
-    (placed : Placed) (elements : List Element) (number : ℕ) (others old new : List Line)
+    (placed : Placed) (elements : List Element) (number : ℕ) (cause : Option Cause) (others old new : List Line)
     → told_in Guarded point walk element ≡ told → slice_get elements number ≡ Some element
-    → AddsLine Guarded told octets placed element old new all → AreGuarded octets elements others number walk.ended old
+    → AddsLine Guarded told octets placed element cause old new all
+    → AreGuarded octets elements others number walk.ended old
     → AreGuarded octets elements others (number + 1) (walk_after Guarded point walk element told all definite).ended new
-guarded point walk element Nothing all definite octets placed elements number others old new t l pushed g =
+guarded point walk element Nothing all definite octets placed elements number cause others old new t l pushed g =
     guarded_more octets elements others number walk.ended (walk.ended || is_behind point walk.fault element) old new
     (or_true walk.ended (is_behind point walk.fault element)) pushed.0 g
-guarded point walk element Header all definite octets placed elements number others old new t l pushed g =
+guarded point walk element Header all definite octets placed elements number cause others old new t l pushed g =
     let told = header_told point walk element t in
     let before = all_public octets elements others number walk.ended old told.0 g in
     let line : IsPublicLine octets elements number pushed.0 = record {
@@ -136,7 +138,7 @@ guarded point walk element Header all definite octets placed elements number oth
       added others before.0 old new pushed.0 pushed.1 before.1,
       inl (public_line octets elements number before.0 pushed.0 before.2 line),
     )
-guarded point walk element Place all definite octets placed elements number others old new t l pushed g =
+guarded point walk element Place all definite octets placed elements number cause others old new t l pushed g =
     let before = all_public octets elements others number walk.ended old (place_told point walk element t) g in
     elim (place_added placed element element.step old new pushed.0) [
       | inl e ↦ (before.0, e ∙ before.1, inl (public_more octets elements number before.0 before.2))
@@ -158,18 +160,18 @@ guarded point walk element Place all definite octets placed elements number othe
     ]
 
 pub keeps : (rule : Rule) (point : Point) (walk : Walk) (element : Element) (told : Told) (all definite : Bool)
-    (octets : List ℕ) (placed : Placed) (elements : List Element) (number : ℕ) (old new : List Line)
-    → told_in rule point walk element ≡ told → slice_get elements number ≡ Some element
-    → AddsLine rule told octets placed element old new all
+    (octets : List ℕ) (placed : Placed) (elements : List Element) (number : ℕ) (cause : Option Cause)
+    (old new : List Line) → told_in rule point walk element ≡ told → slice_get elements number ≡ Some element
+    → AddsLine rule told octets placed element cause old new all
     → KeepsGuarded rule octets elements number walk.ended old
     (walk_after rule point walk element told all definite).ended new
-keeps Accepted point walk element told all definite octets placed elements number old new t l pushed =
+keeps Accepted point walk element told all definite octets placed elements number cause old new t l pushed =
     λ is others g. absurd (cc)
-keeps Refused point walk element told all definite octets placed elements number old new t l pushed =
+keeps Refused point walk element told all definite octets placed elements number cause old new t l pushed =
     λ is others g. absurd (cc)
-keeps Guarded point walk element told all definite octets placed elements number old new t l pushed =
+keeps Guarded point walk element told all definite octets placed elements number cause old new t l pushed =
     λ is others g.
-    guarded point walk element told all definite octets placed elements number others old new t l pushed g
+    guarded point walk element told all definite octets placed elements number cause others old new t l pushed g
 
 ended_told : (rule : Rule) (point : Point) (walk : Walk) (element : Element) → walk.ended ≡ true
     → told_in rule point walk element ≡ Nothing
@@ -182,20 +184,21 @@ ended_told rule point walk element e =
     e
 
 stays_told : (rule : Rule) (point : Point) (walk : Walk) (element : Element) (told : Told) (all definite : Bool)
-    (octets : List ℕ) (placed : Placed) (old new : List Line) → Nothing ≡ told
-    → AddsLine rule told octets placed element old new all
+    (octets : List ℕ) (placed : Placed) (cause : Option Cause) (old new : List Line) → Nothing ≡ told
+    → AddsLine rule told octets placed element cause old new all
     → StaysEnded walk.ended old (walk_after rule point walk element told all definite).ended new
-stays_told rule point walk element Nothing all definite octets placed old new t pushed =
+stays_told rule point walk element Nothing all definite octets placed cause old new t pushed =
     λ e. (or_true walk.ended (ends_untold rule point walk element) e, pushed.0)
-stays_told rule point walk element Header all definite octets placed old new t pushed = absurd (cc)
-stays_told rule point walk element Place all definite octets placed old new t pushed = absurd (cc)
+stays_told rule point walk element Header all definite octets placed cause old new t pushed = absurd (cc)
+stays_told rule point walk element Place all definite octets placed cause old new t pushed = absurd (cc)
 
 -- where nothing more is told
 pub stays : (rule : Rule) (point : Point) (walk : Walk) (element : Element) (told : Told) (all definite : Bool)
-    (octets : List ℕ) (placed : Placed) (old new : List Line) → told_in rule point walk element ≡ told
-    → AddsLine rule told octets placed element old new all
+    (octets : List ℕ) (placed : Placed) (cause : Option Cause) (old new : List Line)
+    → told_in rule point walk element ≡ told
+    → AddsLine rule told octets placed element cause old new all
     → StaysEnded walk.ended old (walk_after rule point walk element told all definite).ended new
-stays rule point walk element told all definite octets placed old new t pushed =
+stays rule point walk element told all definite octets placed cause old new t pushed =
     λ e.
-    stays_told rule point walk element told all definite octets placed old new
+    stays_told rule point walk element told all definite octets placed cause old new
     (sym (ended_told rule point walk element e) ∙ t) pushed e

@@ -4,7 +4,9 @@ pub mod Listed
 pub mod Ordered
 pub mod Outlined
 pub mod Pieces
+pub mod Repeats
 pub mod Reported
 pub mod Sound
 pub mod Steps
+pub mod Taken
 pub mod Whole

@@ -31,7 +31,7 @@ pub file_more : (rule : Rule) (point : Point) (fault : Option Fault) (page : Pag
     → ListsFile rule point fault page insides number others before
     → AddsElement rule point page number before mid → inside ≡ first_inside others number
     → line ≡ length before.lines
-    → AddsDocument rule point fault (slice_get page.elements number) inside line mid end
+    → AddsDocument rule point fault page.causes (slice_get page.elements number) inside line mid end
     → left ≡ behind_inside others number → ListsFile rule point fault page insides (number + 1) left end
 file_more rule point fault page insides number others left inside line before mid end lists adds e l document b =
     subst (λ n. ListsFile rule point fault page insides n left end) (sym (add-one number)) (
@@ -41,9 +41,12 @@ file_more rule point fault page insides number others left inside line before mi
       lists,
       adds,
       subst
-          (λ at. AddsDocument rule point fault (slice_get page.elements number) (first_inside others number) at mid end)
+          (λ at.
+          AddsDocument rule point fault page.causes (slice_get page.elements number) (first_inside others number) at mid
+          end)
           l
-          (subst (λ one. AddsDocument rule point fault (slice_get page.elements number) one line mid end) e document),
+          (subst (λ one. AddsDocument rule point fault page.causes (slice_get page.elements number) one line mid end) e
+          document),
       b,
     )
 

@@ -1,10 +1,12 @@
 -- The places of octets that stand in pieces.
-use Rattle.std.proofs.Common.{List, ap, arith, cond, drop, false, get_or, length, nat_lt, subst, sym, take, ℕ, [], ◌+◌, ◌-◌, ◌∙◌, ◌∷◌, ◌≡◌, ◌≤◌}
+use Rattle.std.proofs.Common.{List, Option, ap, arith, cond, drop, false, get_or, length, nat_lt, subst, sym, take, ℕ, [], ◌+◌, ◌-◌, ◌∙◌, ◌∷◌, ◌≡◌, ◌≤◌}
 use Rattle.std.proofs.Math.Nat.{zero-add}
 use Rattle.std.proofs.lemmas.List.{length-drop, take_all}
 use Rattle.std.proofs.lemmas.Bool.Decides.{nat_tests}
-use Rattle.pk_explain.specs.Places.{Skips, place_of, sum_of}
+use Rattle.asn_names.specs.declared.element.Element.{Element}
+use Rattle.pk_explain.specs.Places.{Page, Skips, place_of, sum_of}
 use Rattle.pk_explain.specs.declared.places.Piece.{Piece}
+use Rattle.pk_reports.specs.declared.report.Cause.{Cause}
 
 pub skip_none : (pieces : List Piece) → Skips pieces 0 pieces
 skip_none pieces = λ number. ap (place_of pieces) (sym (zero-add number))
@@ -12,6 +14,18 @@ skip_none pieces = λ number. ap (place_of pieces) (sym (zero-add number))
 -- the one piece in which a file stands
 abbrev pub whole : ℕ → List Piece
 whole octets = record { at = 0; octets = octets } ∷ []
+
+-- a file with these causes
+abbrev pub file_with : List ℕ → List Element → List (Option Cause) → Page
+file_with document elements causes = record {
+  octets = document;
+  elements = elements;
+  causes = causes;
+  pieces = whole (length document);
+  is_inside = false;
+  depth = 0;
+  around = 0;
+}
 
 not_in_first : (octets number : ℕ) → nat_lt (octets + number) octets ≡ false
 not_in_first octets number = grind (arith, nat_tests)

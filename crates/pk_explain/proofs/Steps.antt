@@ -1,12 +1,14 @@
 -- The steps from the outermost element to another one.
-use Rattle.std.proofs.Common.{List, None, Option, Some, ℕ, [], ap, false, inl, inr, refl, subst, suc, sym, true, zero, ◌++◌, ◌∙◌, ◌≡◌, ◌⊎◌}
+use Rattle.std.proofs.Common.{Bool, List, None, Option, Some, ℕ, [], ap, false, inl, inr, refl, subst, suc, sym, true, zero, ◌++◌, ◌∙◌, ◌≡◌}
 use Rattle.std.proofs.lemmas.List.{append-nil, append_assoc}
 use Rattle.std.specs.List.{slice_get}
 use Rattle.std.specs.Option.{is_some}
 use Rattle.asn_names.specs.declared.element.Element.{Element}
 use Rattle.asn_names.specs.declared.element.Step.{Step}
-use Rattle.pk_explain.specs.Blames.{IsNearest, LeadsTowards, end_of}
-use Rattle.pk_explain.specs.Spots.{AddsWay, AddsWayTo, IsWay, IsWayBy, IsWayTo, due_steps, enclosed, own_step}
+use Rattle.pk_explain.specs.Blames.{IsNearest, end_of}
+use Rattle.pk_explain.specs.Faults.{AddsPublicWay, IsInnerWay, IsPublicAround, IsPublicWay, IsToldWay, IsWayInside, is_private_of, number_at_fault}
+use Rattle.pk_explain.specs.Spots.{AddsWay, AddsWayTo, IsWayBy, IsWayTo, due_steps, enclosed, own_step}
+use Rattle.pk_explain.specs.declared.inside.Inside.{Inside}
 use Rattle.pk_explain.specs.declared.ways.Spot.{Spot}
 
 -- to the outermost one there are none
@@ -54,23 +56,69 @@ pub later_nearest : (elements : List Element) (number : ℕ) (element : Element)
 later_nearest elements number element found inner has later =
     (suc later.0, (element, inner, inr (has, later.1)))
 
--- a way that is all there is leads to what the fault is about
-pub towards_spot : (elements : List Element) (spot : Spot) (old new : List Step) → old ≡ []
-    → AddsWayTo elements spot old new → LeadsTowards elements spot new
-towards_spot elements spot old new none adds =
+-- what is known of the nearest element that isn't private
+pub outermost_public : (elements : List Element) (number : ℕ) → enclosed elements number ≡ None
+    → IsPublicAround elements number number
+outermost_public elements number top = (zero, (ap is_private_of top, refl))
+
+pub own_public : (elements : List Element) (number : ℕ) (element : Element) → enclosed elements number ≡ Some element
+    → element.private ≡ false → IsPublicAround elements number number
+own_public elements number element inner public = (zero, (ap is_private_of inner ∙ public, refl))
+
+pub later_public : (elements : List Element) (number : ℕ) (element : Element) (found : ℕ)
+    → enclosed elements number ≡ Some element → element.private ≡ true → IsPublicAround elements element.around found
+    → IsPublicAround elements number found
+later_public elements number element found inner private later =
+    (suc later.0, (element, inner, private, later.1))
+
+pub public_way : (elements : List Element) (number found : ℕ) (old new : List Step)
+    → IsPublicAround elements number found → AddsWay elements found old new
+    → AddsPublicWay elements (Some number) old new
+public_way elements number found old new around way = (way.0, way.1, (found, around, way.2))
+
+pub no_public_way : (elements : List Element) (old : List Step) → AddsPublicWay elements None old old
+no_public_way elements old = ([], sym (append-nil old), refl)
+
+-- a way that is all there is
+pub told_spot : (near guarded : Bool) (elements : List Element) (spot : Spot) (old new : List Step) → near ≡ true
+    → old ≡ [] → AddsWayTo elements spot old new → IsToldWay near guarded elements spot new
+told_spot near guarded elements spot old new is none adds =
     let same : new ≡ adds.0 = adds.1 ∙ ap (λ steps. steps ++ adds.0) none in
-    inl (subst (IsWayTo elements spot) (sym same) adds.2)
+    subst (λ n. IsToldWay n guarded elements spot new) (sym is) (subst (IsWayTo elements spot) (sym same) adds.2)
 
-pub towards_none : (elements : List Element) (spot : Spot) (new : List Step) → new ≡ [] → LeadsTowards elements spot new
-towards_none elements spot new none = inr (inl none)
+pub told_none : (near guarded : Bool) (elements : List Element) (spot : Spot) (new : List Step) → near ≡ false
+    → guarded ≡ true → new ≡ [] → IsToldWay near guarded elements spot new
+told_none near guarded elements spot new far is none =
+    subst (λ n. IsToldWay n guarded elements spot new) (sym far)
+    (subst (λ g. IsToldWay false g elements spot new) (sym is) none)
 
--- or to another element
-pub towards_other : (elements : List Element) (spot : Spot) (old new : List Step) → old ≡ []
-    → ((new ≡ old) ⊎ ((number : ℕ) × AddsWay elements number old new)) → LeadsTowards elements spot new
-towards_other elements spot old new none adds =
-    elim adds [
-      | inl same ↦ inr (inl (same ∙ none))
-      | inr way ↦
-          let same : new ≡ way.1.0 = way.1.1 ∙ ap (λ steps. steps ++ way.1.0) none in
-          inr (inr (way.0, subst (IsWay elements way.0) (sym same) way.1.2))
-    ]
+pub told_public : (near guarded : Bool) (elements : List Element) (spot : Spot) (old new : List Step) → near ≡ false
+    → guarded ≡ false → old ≡ [] → AddsPublicWay elements (number_at_fault spot) old new
+    → IsToldWay near guarded elements spot new
+told_public near guarded elements spot old new far isnt none adds =
+    let same : new ≡ adds.0 = adds.1 ∙ ap (λ steps. steps ++ adds.0) none in
+    subst (λ n. IsToldWay n guarded elements spot new) (sym far)
+    (subst (λ g. IsToldWay false g elements spot new) (sym isnt)
+    (subst (IsPublicWay elements (number_at_fault spot)) (sym same) adds.2))
+
+-- the way to an element, and from there to what a fault in it is about
+pub way_in : (elements : List Element) (inside : Inside) (near : Bool) (spot : Spot) (old mid new : List Step) → old ≡ []
+    → AddsWay elements inside.container old mid → near ≡ true
+    → AddsWayTo inside.named.elements.items spot mid new → IsWayInside elements inside near spot new
+way_in elements inside near spot old mid new none outer is inner = record {
+  outer = outer.0;
+  inner = inner.0;
+  to_container = outer.2;
+  to_fault = subst (λ n. IsInnerWay n inside.named.elements.items spot inner.0) (sym is) inner.2;
+  are = inner.1 ∙ ap (λ steps. steps ++ inner.0) (outer.1 ∙ ap (λ steps. steps ++ outer.0) none);
+}
+
+pub way_to : (elements : List Element) (inside : Inside) (near : Bool) (spot : Spot) (old new : List Step) → old ≡ []
+    → AddsWay elements inside.container old new → near ≡ false → IsWayInside elements inside near spot new
+way_to elements inside near spot old new none outer far = record {
+  outer = outer.0;
+  inner = [];
+  to_container = outer.2;
+  to_fault = subst (λ n. IsInnerWay n inside.named.elements.items spot []) (sym far) refl;
+  are = outer.1 ∙ ap (λ steps. steps ++ outer.0) none ∙ sym (append-nil outer.0);
+}

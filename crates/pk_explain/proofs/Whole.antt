@@ -8,6 +8,7 @@ use Rattle.tlv_core.specs.declared.fault.Fault.{Fault}
 use Rattle.asn_names.specs.declared.element.Element.{Element}
 use Rattle.asn_names.specs.declared.element.Step.{Step}
 use Rattle.asn_names.specs.declared.element.Step.TheVariants.{Field, Member, Outermost, Outside, Segment}
+use Rattle.pk_explain.specs.Causes.{line_cause}
 use Rattle.pk_explain.specs.Hidden.{depth_if, is_deeper, told_in, walk_after}
 use Rattle.pk_explain.specs.Lines.{AddsLine, AddsPlace}
 use Rattle.pk_explain.specs.ListingLaws.{HasLine, HasPrivate}
@@ -21,6 +22,7 @@ use Rattle.pk_explain.specs.declared.inside.Inside.{Inside}
 use Rattle.pk_explain.specs.declared.places.Placed.{Placed}
 use Rattle.pk_explain.specs.declared.values.Rule.{Rule}
 use Rattle.pk_explain.specs.declared.values.Rule.TheVariants.{Accepted}
+use Rattle.pk_reports.specs.declared.report.Cause.{Cause}
 use Rattle.pk_reports.specs.declared.report.Line.{Line}
 
 -- lines are added to those before
@@ -47,24 +49,25 @@ grew_place placed element (Field name) old new h = grew_some old new (h.0 ∷ []
 grew_place placed element (Member number) old new h = grew_some old new (h.0 ∷ []) h.1
 grew_place placed element (Segment number) old new h = grew_some old new (h.0 ∷ []) h.1
 
-grew_line : (rule : Rule) (told : Told) (octets : List ℕ) (placed : Placed) (element : Element) (old new : List Line)
-    (all : Bool) → AddsLine rule told octets placed element old new all → Grew old new
-grew_line rule Header octets placed element old new all h = grew_some old new (h.0 ∷ []) h.1
-grew_line rule Place octets placed element old new all h = grew_place placed element element.step old new h.0
-grew_line rule Nothing octets placed element old new all h = grew_none old new h.0
+grew_line : (rule : Rule) (told : Told) (octets : List ℕ) (placed : Placed) (element : Element) (cause : Option Cause)
+    (old new : List Line) (all : Bool) → AddsLine rule told octets placed element cause old new all → Grew old new
+grew_line rule Header octets placed element cause old new all h = grew_some old new (h.0 ∷ []) h.1
+grew_line rule Place octets placed element cause old new all h = grew_place placed element element.step old new h.0
+grew_line rule Nothing octets placed element cause old new all h = grew_none old new h.0
 
-grew_one : (rule : Rule) (point : Point) (page : Page) (found : Option Element) (before after : Telling)
-    → AddsOne rule point page found before after → Grew before.lines after.lines
-grew_one rule point page None before after h = grew_none before.lines after.lines (ap (λ t. t.lines) h)
-grew_one rule point page (Some element) before after h =
-    grew_line rule (told_in rule point before.walk element) page.octets _ element before.lines after.lines h.all h.line
+grew_one : (rule : Rule) (point : Point) (page : Page) (cause : Option Cause) (found : Option Element)
+    (before after : Telling) → AddsOne rule point page cause found before after → Grew before.lines after.lines
+grew_one rule point page cause None before after h = grew_none before.lines after.lines (ap (λ t. t.lines) h)
+grew_one rule point page cause (Some element) before after h =
+    grew_line rule (told_in rule point before.walk element) page.octets _ element cause before.lines after.lines h.all
+    h.line
 
 grew_all : (rule : Rule) (point : Point) (page : Page) (number : ℕ) (start end : Telling)
     → Lists rule point page number start end → Grew start.lines end.lines
 grew_all rule point page zero start end h = grew_none start.lines end.lines (ap (λ t. t.lines) h)
 grew_all rule point page (suc number) start end h =
     grew_both start.lines h.0.lines end.lines (grew_all rule point page number start h.0 h.1)
-    (grew_one rule point page (slice_get page.elements number) h.0 end h.2)
+    (grew_one rule point page _ (slice_get page.elements number) h.0 end h.2)
 
 -- what the document inside an element leaves of the lines and of the walk
 record Leaves (before after : Telling) : Type 0 where
@@ -90,23 +93,25 @@ leaves_wanted : (point : Point) (page : Page) (wanted : Bool) (before after : Te
 leaves_wanted point page true before after h = leaves_inside point page before after h
 leaves_wanted point page false before after h = leaves_same before after h
 
-leaves_behind : (point : Point) (inside : Inside) (number : ℕ) (line : Option Line) (wanted : Bool)
-    (before after : Telling) → AddsBehind Accepted point inside number line wanted before after → Leaves before after
-leaves_behind point inside number None wanted before after h = leaves_same before after h
-leaves_behind point inside number (Some line) wanted before after h = leaves_wanted point _ wanted before after h
+leaves_behind : (point : Point) (causes : List (Option Cause)) (inside : Inside) (number : ℕ) (line : Option Line)
+    (wanted : Bool) (before after : Telling)
+    → AddsBehind Accepted point causes inside number line wanted before after → Leaves before after
+leaves_behind point causes inside number None wanted before after h = leaves_same before after h
+leaves_behind point causes inside number (Some line) wanted before after h =
+    leaves_wanted point _ wanted before after h
 
-leaves_document : (point : Point) (fault : Option Fault) (found : Option Element) (inside : Option Inside) (number : ℕ)
-    (before after : Telling) → AddsDocument Accepted point fault found inside number before after
-    → Leaves before after
-leaves_document point fault None inside number before after h = leaves_same before after h
-leaves_document point fault (Some element) None number before after h = leaves_same before after h
-leaves_document point fault (Some element) (Some inside) number before after h =
-    leaves_behind _ inside number (slice_get before.lines number) _ before after h
+leaves_document : (point : Point) (fault : Option Fault) (causes : List (Option Cause)) (found : Option Element)
+    (inside : Option Inside) (number : ℕ) (before after : Telling)
+    → AddsDocument Accepted point fault causes found inside number before after → Leaves before after
+leaves_document point fault causes None inside number before after h = leaves_same before after h
+leaves_document point fault causes (Some element) None number before after h = leaves_same before after h
+leaves_document point fault causes (Some element) (Some inside) number before after h =
+    leaves_behind _ causes inside number (slice_get before.lines number) _ before after h
 
-grown_line : (octets : List ℕ) (element : Element) (old new : List Line) → Grew old new → HasLine octets element old
-    → HasLine octets element new
+grown_line : (octets : List ℕ) (element : Element) (cause : Option Cause) (old new : List Line) → Grew old new
+    → HasLine octets element cause old → HasLine octets element cause new
 unfolding Grew
-grown_line octets element old new g h = record {
+grown_line octets element cause old new g h = record {
   before = h.before;
   line = h.line;
   behind = h.behind ++ g.0;
@@ -114,6 +119,7 @@ grown_line octets element old new g h = record {
   placed = h.placed;
   header = h.header;
   value = h.value;
+  why = h.why;
 }
 
 -- the private element that what comes may be in
@@ -127,7 +133,8 @@ Known elements number (Some depth) =
 SettledOne : Page → List Line → ℕ → Type 0
 SettledOne page lines other =
     (element : Element) → slice_get page.elements other ≡ Some element
-    → HasLine page.octets element lines ⊎ HasPrivate page.elements other element.header.depth
+    → HasLine page.octets element (line_cause page.elements page.causes other) lines
+    ⊎ HasPrivate page.elements other element.header.depth
 
 -- so is each of the first elements, so many
 record State (page : Page) (number : ℕ) (telling : Telling) : Type 0 where
@@ -139,7 +146,10 @@ settled_grown : (page : Page) (old new : List Line) (other : ℕ) → Grew old n
     → SettledOne page new other
 unfolding SettledOne
 settled_grown page old new other g h = λ element listed.
-    elim (h element listed) [ inl line ↦ inl (grown_line page.octets element old new g line) | inr private ↦ inr private ]
+    elim (h element listed) [
+      | inl line ↦ inl (grown_line page.octets element (line_cause page.elements page.causes other) old new g line)
+      | inr private ↦ inr private
+    ]
 
 known_more : (elements : List Element) (number : ℕ) (private : Option ℕ) → Known elements number private
     → Known elements (number + 1) private
@@ -174,7 +184,8 @@ same_element elements number one other h i = cc
 -- an element in a private one
 untold : (point : Point) (page : Page) (number : ℕ) (element : Element) (placed : Placed) (all definite : Bool)
     (before after : Telling) → slice_get page.elements number ≡ Some element
-    → AddsLine Accepted Nothing page.octets placed element before.lines after.lines all
+    → AddsLine Accepted Nothing page.octets placed element (line_cause page.elements page.causes number) before.lines
+    after.lines all
     → after.walk ≡ walk_after Accepted point before.walk element Nothing all definite
     → is_deeper before.walk.private element ≡ true → State page number before → State page (number + 1) after
 unfolding SettledOne
@@ -196,13 +207,15 @@ untold point page number element placed all definite before after listed line wa
 -- an element that has its line
 headed : (point : Point) (page : Page) (number : ℕ) (element : Element) (placed : Placed) (all definite : Bool)
     (before after : Telling) → slice_get page.elements number ≡ Some element
-    → AddsLine Accepted Header page.octets placed element before.lines after.lines all
+    → AddsLine Accepted Header page.octets placed element (line_cause page.elements page.causes number) before.lines
+    after.lines all
     → after.walk ≡ walk_after Accepted point before.walk element Header all definite
     → State page number before → State page (number + 1) after
 unfolding SettledOne
 headed point page number element placed all definite before after listed line walk state =
     let grew = grew_some before.lines after.lines (line.0 ∷ []) line.1 in
-    let has : HasLine page.octets element after.lines = record {
+    let cause = line_cause page.elements page.causes number in
+    let has : HasLine page.octets element cause after.lines = record {
       before = before.lines;
       line = line.0;
       behind = [];
@@ -210,6 +223,7 @@ headed point page number element placed all definite before after listed line wa
       placed = placed;
       header = line.2;
       value = line.3;
+      why = line.4;
     } in record {
       going = ap (λ (w : Walk). w.ended) walk;
       known = subst (Known page.elements (number + 1)) (sym (ap (λ (w : Walk). w.private) walk))
@@ -218,7 +232,7 @@ headed point page number element placed all definite before after listed line wa
           (λ other less. settled_grown page before.lines after.lines other grew (state.settled other less))
           (λ one it.
           inl (
-          subst (λ (e : Element). HasLine page.octets e after.lines)
+          subst (λ (e : Element). HasLine page.octets e cause after.lines)
           (same_element page.elements number element one listed it) has
           ));
     }
@@ -231,24 +245,34 @@ told_by_depth point walk element deeper going e =
 
 told_one : (point : Point) (page : Page) (number : ℕ) (element : Element) (deeper : Bool) (before after : Telling)
     → slice_get page.elements number ≡ Some element → is_deeper before.walk.private element ≡ deeper
-    → IsNext Accepted point page element before after → State page number before → State page (number + 1) after
+    → IsNext Accepted point page (line_cause page.elements page.causes number) element before after
+    → State page number before → State page (number + 1) after
 told_one point page number element true before after listed e next state =
     let placed : Placed = placed_in Accepted point page element (number_around before.numbers page.around element) in
     let definite : Bool = is_around_definite page.elements element in
     let t = told_by_depth point before.walk element true state.going e in
     untold point page number element placed next.all definite before after listed
-    (subst (λ told. AddsLine Accepted told page.octets placed element before.lines after.lines next.all) t next.line)
+    (subst
+    (λ told.
+    AddsLine Accepted told page.octets placed element (line_cause page.elements page.causes number) before.lines
+    after.lines next.all)
+    t next.line)
     (next.walk ∙ ap (λ told. walk_after Accepted point before.walk element told next.all definite) t) e state
 told_one point page number element false before after listed e next state =
     let placed : Placed = placed_in Accepted point page element (number_around before.numbers page.around element) in
     let definite : Bool = is_around_definite page.elements element in
     let t = told_by_depth point before.walk element false state.going e in
     headed point page number element placed next.all definite before after listed
-    (subst (λ told. AddsLine Accepted told page.octets placed element before.lines after.lines next.all) t next.line)
+    (subst
+    (λ told.
+    AddsLine Accepted told page.octets placed element (line_cause page.elements page.causes number) before.lines
+    after.lines next.all)
+    t next.line)
     (next.walk ∙ ap (λ told. walk_after Accepted point before.walk element told next.all definite) t) state
 
 told_found : (point : Point) (page : Page) (number : ℕ) (found : Option Element) (before after : Telling)
-    → slice_get page.elements number ≡ found → AddsOne Accepted point page found before after
+    → slice_get page.elements number ≡ found
+    → AddsOne Accepted point page (line_cause page.elements page.causes number) found before after
     → State page number before → State page (number + 1) after
 unfolding SettledOne
 told_found point page number None before after listed h state = record {
@@ -281,15 +305,20 @@ whole_file point fault page insides (suc number) left end h =
     let before = whole_file point fault page insides number h.0 h.1 h.3 in
     let mid = told_found point page number (slice_get page.elements number) h.1 h.2 refl h.4 before in
     let after = behind_document page (number + 1) h.2 end
-    (leaves_document point fault (slice_get page.elements number) _ _ h.2 end h.5) mid in
+    (leaves_document point fault page.causes (slice_get page.elements number) _ _ h.2 end h.5) mid in
     subst (λ n. State page n end) (add-one number) after
 
 pub none_left : (point : Point) (fault : Option Fault) (page : Page) (insides : List Inside) (lines : List Line)
     → IsListed Accepted point fault page insides lines → (number : ℕ) (element : Element)
     → slice_get page.elements number ≡ Some element
-    → HasLine page.octets element lines ⊎ HasPrivate page.elements number element.header.depth
+    → HasLine page.octets element (line_cause page.elements page.causes number) lines
+    ⊎ HasPrivate page.elements number element.header.depth
 unfolding SettledOne
 none_left point fault page insides lines is number element listed =
     let state = whole_file point fault page insides (length page.elements) is.left is.end is.lists in
-    subst (λ some. HasLine page.octets element some ⊎ HasPrivate page.elements number element.header.depth) (sym is.are)
+    subst
+    (λ some.
+    HasLine page.octets element (line_cause page.elements page.causes number) some
+    ⊎ HasPrivate page.elements number element.header.depth)
+    (sym is.are)
     (state.settled number (slice_get_within page.elements number element listed) element listed)

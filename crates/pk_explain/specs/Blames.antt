@@ -1,19 +1,13 @@
 -- What is told of a fault: the container that it is about, and how many octets an element has too many.
-use Rattle.std.specs.Prelude.{Bool, List, None, Option, Some, [], cond, false, min, nat_le, suc, true, zero, ℕ, ◌+◌, ◌-◌, ◌^◌, ◌≡◌, ◌⊎◌}
+use Rattle.std.specs.Prelude.{Bool, List, None, Option, Some, cond, false, min, nat_le, suc, true, zero, ℕ, ◌+◌, ◌-◌, ◌^◌, ◌≡◌, ◌⊎◌}
 use Rattle.std.specs.List.{slice_get}
 use Rattle.std.specs.Option.{is_some, option_map}
 use Rattle.asn_names.specs.declared.element.Element.{Element}
 use Rattle.asn_outline.specs.declared.announced.Announced.{Announced}
 use Rattle.tlv_core.specs.declared.reason.Reason.{Reason}
 use Rattle.tlv_core.specs.declared.reason.Reason.TheVariants as reasons
-use Rattle.tlv_core.specs.declared.fault.Fault.{Fault}
-use Rattle.asn_names.specs.declared.element.Parting.{Parting}
-use Rattle.asn_names.specs.declared.element.Step.{Step}
-use Rattle.pk_explain.specs.Spots.{IsWay, IsWayTo, enclosed, spot_at}
-use Rattle.pk_explain.specs.declared.ways.Spot.{Spot}
+use Rattle.pk_explain.specs.Spots.{IsWay, enclosed}
 use Rattle.pk_explain.specs.declared.public_fault.PublicFault.{PublicFault}
-use Rattle.pk_reports.specs.declared.report.Answer.{Answer}
-use Rattle.pk_reports.specs.declared.report.Answer.TheVariants.{Der, NotDer, Refused}
 use Rattle.pk_reports.specs.declared.report.Blame.{Blame}
 use Rattle.pk_reports.specs.declared.report.Container.{Container}
 use Rattle.pk_reports.specs.declared.report.Found.{Found}
@@ -102,33 +96,6 @@ IsNumberOf elements _ container element number = number ≡ None
 abbrev pub IsContainerOf : List Element → Reason → Option ℕ → Option ℕ → Option Container → Type 0
 IsContainerOf elements why container element told =
     (number : Option ℕ) × IsNumberOf elements why container element number × IsContainerAt elements number told
-
--- The way of a fault leads to what it is about, or not so far: to another element, or nowhere.
-abbrev pub LeadsTowards : List Element → Spot → List Step → Type 0
-LeadsTowards elements spot steps =
-    IsWayTo elements spot steps ⊎ ((steps ≡ []) ⊎ ((number : ℕ) × IsWay elements number steps))
-
-abbrev pub IsContainerOrNone : List Element → Reason → Spot → Option Container → Type 0
-IsContainerOrNone elements why spot container =
-    (container ≡ None) ⊎ IsContainerOf elements why spot.container spot.element container
-
--- What is known of a fault that isn't inside an OCTET STRING: its place, the way there, the line of the element, and the
--- container that it is about.
-pub record IsKnownOf (elements : List Element) (parting : Parting) (refused : Fault) (fault : PublicFault)
-    : Type 0 where
-  pub file_at : fault.file_at ≡ Some refused.at
-  pub way : LeadsTowards elements (spot_at elements parting refused.at refused.why) fault.way.items
-  pub container : IsContainerOrNone elements refused.why (spot_at elements parting refused.at refused.why)
-      fault.container
-  pub header : fault.header ≡ fault.line
-
--- something is known of the fault of a refused document, and of no other
-abbrev pub IsKnownBy : List Element → Parting → Answer → Option PublicFault → Type 0
-IsKnownBy elements parting Der fault = fault ≡ None
-IsKnownBy elements parting (NotDer place) fault = fault ≡ None
-IsKnownBy elements parting (Refused refused) None = ⊥
-IsKnownBy elements parting (Refused refused) (Some fault) =
-    refused.inside ≡ None → IsKnownOf elements parting refused fault
 
 abbrev pub is_not_shown : Value → Bool
 is_not_shown NotShown = true

@@ -1,8 +1,9 @@
 -- Why an element isn't in DER (X.690 clauses 10 and 11).
-use Rattle.std.specs.Prelude.{Bool, List, None, Option, Some, [], codes, cond, false, length, nat_le, true, ℕ, ◌-◌, ◌∷◌, ◌&&◌, ◌==◌, ◌||◌, ◌^◌, ◌%◌, ◌≡◌, ◌⊎◌, slice_get}
-use Rattle.std.specs.Option.{option_map}
+use Rattle.std.specs.Prelude.{Bool, List, None, Option, Some, [], codes, cond, drop, false, length, nat_le, nat_lt, not, slice_get, slice_set, true, unwrap_or, ℕ, ◌+◌, ◌-◌, ◌∷◌, ◌&&◌, ◌==◌, ◌||◌, ◌^◌, ◌%◌}
+use Rattle.std.specs.Option.{is_some, option_map}
 use Rattle.tlv_core.specs.Header.{der_header}
 use Rattle.tlv_core.specs.Identifier.{Tag}
+use Rattle.asn_elements.specs.Members.{ascends}
 use Rattle.asn_names.specs.Levels.{holds_segments}
 use Rattle.asn_names.specs.declared.element.Element.{Element}
 use Rattle.asn_names.specs.declared.element.Step.{Step}
@@ -10,7 +11,7 @@ use Rattle.asn_names.specs.declared.element.Step.TheVariants.{Field, Member, Out
 use Rattle.asn_outline.specs.declared.announced.Announced.{Announced}
 use Rattle.asn_outline.specs.declared.event.Header.{Header}
 use Rattle.asn_shapes.specs.declared.shape.Shape.{Choice', Containing', DefinedBy', Leaf, ListOf', Named', Open, Private', Refused, Sequence', SetOf', Shape}
-use Rattle.pk_explain.specs.Contents.{contents_in}
+use Rattle.pk_explain.specs.Contents.{between, contents_in}
 use Rattle.pk_explain.specs.Public.{is_field, sort_of}
 use Rattle.pk_explain.specs.declared.values.Sort.{Sort}
 use Rattle.pk_explain.specs.declared.values.Sort.TheVariants.{Bits, Boolean, Characters, Identifier, Integer, Null, Octets}
@@ -130,22 +131,75 @@ abbrev pub is_set : Element → Bool
 is_set element =
     is_set_by element.header.constructed element.header.tag (option_map (λ r. r.now) element.shape)
 
--- The cause is the element's own; or it is the order of its members, where it is a SET OF and has no other (11.6).
-abbrev pub IsCause : List ℕ → Element → Option Cause → Type 0
-IsCause document element cause =
-    (cause ≡ own_cause document element)
-    ⊎ ((own_cause document element ≡ None) × (is_set element ≡ true) × (cause ≡ Some causes.Order))
+-- the octets of an element that stands whole and has a definite length
+abbrev pub text_of : List ℕ → Element → List ℕ
+text_of document element = unwrap_or (between document (Some element.header.at) element.end) []
 
--- a cause for each element
-abbrev pub AreCauses : List ℕ → List Element → List (Option Cause) → Type 0
-AreCauses document [] [] = Unit {0}
-AreCauses document [] (cause ∷ causes') = ⊥
-AreCauses document (element ∷ elements) [] = ⊥
-AreCauses document (element ∷ elements) (cause ∷ causes') =
-    IsCause document element cause × AreCauses document elements causes'
+-- The octets of the members of an element that is so deep, by the elements behind it: of those that are one deeper, as
+-- long as they are deeper.
+abbrev pub member_texts : List ℕ → ℕ → List Element → List (List ℕ)
+member_texts document depth [] = []
+member_texts document depth (element ∷ elements) =
+    cond (nat_lt depth element.header.depth)
+    (cond (element.header.depth == depth + 1) (text_of document element ∷ member_texts document depth elements)
+    (member_texts document depth elements)) []
 
--- the members of the SET OF of this number aren't in order, and it has no other cause
-abbrev pub MayBeOrder : List Element → List (Option Cause) → ℕ → Type 0
-MayBeOrder elements causes' number =
-    (element : Element) × (slice_get elements number ≡ Some element) × (is_set element ≡ true)
-    × (slice_get causes' number ≡ Some None)
+-- the first cause of elements as long as they are deeper
+abbrev pub cause_within : ℕ → List Element → List (Option Cause) → Option Cause
+cause_within depth [] causes' = None
+cause_within depth (element ∷ elements) [] = None
+cause_within depth (element ∷ elements) (cause ∷ causes') =
+    cond (nat_lt depth element.header.depth) (first_of_both cause (cause_within depth elements causes')) None
+
+-- Nothing in an element that is so deep has a cause, and its members don't stand in the order of SET OF (11.6).
+abbrev pub is_out_of_order : List ℕ → ℕ → List Element → List (Option Cause) → Bool
+is_out_of_order document depth elements causes' =
+    not (is_some (cause_within depth elements causes')) && not (ascends (member_texts document depth elements))
+
+-- the order of a SET OF is a cause, by the elements behind it and their causes
+abbrev pub order_cause : List ℕ → Element → List Element → List (Option Cause) → Option Cause
+order_cause document element elements causes' =
+    cond (is_set element && is_out_of_order document element.header.depth elements causes') (Some causes.Order) None
+
+-- The cause of an element before those of the elements behind it: its own, else its order.
+abbrev pub with_cause : List ℕ → Element → List Element → List (Option Cause) → List (Option Cause)
+with_cause document element elements causes' =
+    first_of_both (own_cause document element) (order_cause document element elements causes') ∷ causes'
+
+-- the causes of the elements of a document
+abbrev pub causes_of : List ℕ → List Element → List (Option Cause)
+causes_of document [] = []
+causes_of document (element ∷ elements) = with_cause document element elements (causes_of document elements)
+
+-- an element without a cause is a SET OF that is out of order
+abbrev pub is_disordered_by : List ℕ → Option Element → Option (Option Cause) → List Element → List (Option Cause) → Bool
+is_disordered_by document None cause elements causes' = false
+is_disordered_by document (Some element) None elements causes' = false
+is_disordered_by document (Some element) (Some (Some cause)) elements causes' = false
+is_disordered_by document (Some element) (Some None) elements causes' =
+    is_set element && is_out_of_order document element.header.depth elements causes'
+
+-- so is the element of this number
+abbrev pub is_disordered : List ℕ → List Element → List (Option Cause) → ℕ → Bool
+is_disordered document elements causes' number =
+    is_disordered_by document (slice_get elements number) (slice_get causes' number) (drop (number + 1) elements)
+    (drop (number + 1) causes')
+
+-- its order becomes its cause
+abbrev pub with_order : List ℕ → List Element → List (Option Cause) → ℕ → List (Option Cause)
+with_order document elements causes' number =
+    cond (is_disordered document elements causes' number) (slice_set causes' number (Some causes.Order)) causes'
+
+-- The cause that the line of an element tells: its own; of a private one without a cause the first in it, since no line
+-- tells what is in it.
+abbrev pub line_cause_by : Option Element → Option (Option Cause) → List Element → List (Option Cause) → Option Cause
+line_cause_by None cause elements causes' = None
+line_cause_by (Some element) None elements causes' = None
+line_cause_by (Some element) (Some cause) elements causes' =
+    first_of_both cause (cond element.private (cause_within element.header.depth elements causes') None)
+
+-- of the element of this number; none where there are no causes
+abbrev pub line_cause : List Element → List (Option Cause) → ℕ → Option Cause
+line_cause elements causes' number =
+    line_cause_by (slice_get elements number) (slice_get causes' number) (drop (number + 1) elements)
+    (drop (number + 1) causes')

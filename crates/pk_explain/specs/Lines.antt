@@ -13,6 +13,7 @@ use Rattle.pk_explain.specs.declared.hidden.Told.TheVariants.{Header as HeaderTo
 use Rattle.pk_explain.specs.declared.places.Placed.{Placed}
 use Rattle.pk_explain.specs.declared.values.Rule.{Rule}
 use Rattle.pk_explain.specs.declared.values.Rule.TheVariants.{Accepted, Guarded, Refused}
+use Rattle.pk_reports.specs.declared.report.Cause.{Cause}
 use Rattle.pk_reports.specs.declared.report.Length.{Length}
 use Rattle.pk_reports.specs.declared.report.Line.{Line}
 use Rattle.pk_reports.specs.declared.report.Value.{Value}
@@ -96,11 +97,12 @@ AddsPlace placed element Outside old new = new ≡ old
 AddsPlace placed element _ old new =
     (line : Line) × (new ≡ old ++ (line ∷ [])) × IsPlaceLine placed element line
 
--- What the telling of an element adds to the lines before; `all` says that all octets of its contents are told.
-abbrev pub AddsLine : Rule → Told → List ℕ → Placed → Element → List Line → List Line → Bool → Type 0
-AddsLine rule HeaderTold octets placed element old new all =
+-- What the telling of an element with a cause adds to the lines before; `all` says that all octets of its contents are
+-- told.
+abbrev pub AddsLine : Rule → Told → List ℕ → Placed → Element → Option Cause → List Line → List Line → Bool → Type 0
+AddsLine rule HeaderTold octets placed element cause old new all =
     (line : Line) × (new ≡ old ++ (line ∷ [])) × IsHeaderLine placed element line
-    × IsTold rule octets element line.value × (all ≡ tells_all line.value)
-AddsLine rule PlaceTold octets placed element old new all =
+    × IsTold rule octets element line.value × (line.cause ≡ cause) × (all ≡ tells_all line.value)
+AddsLine rule PlaceTold octets placed element cause old new all =
     AddsPlace placed element element.step old new × (all ≡ false)
-AddsLine rule NothingTold octets placed element old new all = (new ≡ old) × (all ≡ false)
+AddsLine rule NothingTold octets placed element cause old new all = (new ≡ old) × (all ≡ false)

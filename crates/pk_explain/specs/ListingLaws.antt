@@ -1,6 +1,7 @@
 -- The law on the lines of an accepted document: no element is left out.
 use Rattle.std.specs.Prelude.{List, Some, nat_lt, slice_get, true, ℕ, ◌++◌, ◌<◌, ◌∷◌, ◌≡◌, ◌⊎◌}
 use Rattle.asn_names.specs.declared.element.Element.{Element}
+use Rattle.pk_explain.specs.Causes.{line_cause}
 use Rattle.pk_explain.specs.Lines.{IsHeaderLine, IsTold}
 use Rattle.pk_explain.specs.Listings.{IsListed}
 use Rattle.pk_explain.specs.Places.{Page}
@@ -8,12 +9,14 @@ use Rattle.pk_explain.specs.declared.hidden.Point.{Point}
 use Rattle.pk_explain.specs.declared.inside.Inside.{Inside}
 use Rattle.pk_explain.specs.declared.places.Placed.{Placed}
 use Rattle.pk_explain.specs.declared.values.Rule.TheVariants.{Accepted}
+use Rattle.pk_reports.specs.declared.report.Cause.{Cause}
 use Rattle.pk_reports.specs.declared.report.Line.{Line}
 use Rattle.tlv_core.specs.declared.fault.Fault.{Fault}
 use Rattle.std.specs.Prelude.{Option}
 
--- One of the lines is of the element: it has the element's header, and says of its contents what the rule has.
-pub record HasLine (octets : List ℕ) (element : Element) (lines : List Line) : Type 0 where
+-- One of the lines is of the element: it has the element's header and this cause, and says of its contents what the rule
+-- has.
+pub record HasLine (octets : List ℕ) (element : Element) (cause : Option Cause) (lines : List Line) : Type 0 where
   pub before : List Line
   pub line : Line
   pub behind : List Line
@@ -21,6 +24,7 @@ pub record HasLine (octets : List ℕ) (element : Element) (lines : List Line) :
   pub placed : Placed
   pub header : IsHeaderLine placed element line
   pub value : IsTold Accepted octets element line.value
+  pub why : line.cause ≡ cause
 
 -- An element before the one of this number is private, and not so deep.
 pub record HasPrivate (elements : List Element) (number depth : ℕ) : Type 0 where
@@ -37,4 +41,5 @@ NoneIsLeftOut =
     (point : Point) (fault : Option Fault) (page : Page) (insides : List Inside) (lines : List Line)
     → IsListed Accepted point fault page insides lines → (number : ℕ) (element : Element)
     → slice_get page.elements number ≡ Some element
-    → HasLine page.octets element lines ⊎ HasPrivate page.elements number element.header.depth
+    → HasLine page.octets element (line_cause page.elements page.causes number) lines
+    ⊎ HasPrivate page.elements number element.header.depth

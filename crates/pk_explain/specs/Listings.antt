@@ -7,6 +7,7 @@ use Rattle.tlv_core.specs.declared.fault.Fault.{Fault}
 use Rattle.tlv_core.specs.declared.reason.Reason.{Reason}
 use Rattle.asn_names.specs.declared.element.Element.{Element}
 use Rattle.asn_outline.specs.declared.announced.Announced.{Announced}
+use Rattle.pk_explain.specs.Causes.{causes_of, line_cause}
 use Rattle.pk_explain.specs.Hidden.{no_point, point_inside, told_in, walk_after, walk_start}
 use Rattle.pk_explain.specs.Lines.{AddsLine}
 use Rattle.pk_explain.specs.Places.{Page, placed_in}
@@ -19,6 +20,7 @@ use Rattle.pk_explain.specs.declared.inside.Inside.{Inside}
 use Rattle.pk_explain.specs.declared.places.Piece.{Piece}
 use Rattle.pk_explain.specs.declared.values.Rule.{Rule}
 use Rattle.pk_explain.specs.declared.values.Rule.TheVariants.{Accepted, Guarded, Refused}
+use Rattle.pk_reports.specs.declared.report.Cause.{Cause}
 use Rattle.pk_reports.specs.declared.report.Line.{Line}
 
 -- what is known between two elements of a document
@@ -57,13 +59,13 @@ is_definite_of (Some element) = is_definite element.header.announced
 abbrev pub is_around_definite : List Element → Element → Bool
 is_around_definite elements element = is_definite_of (slice_get elements element.around)
 
--- One element more: of it the line is added that its place before or behind the fault, in or beside what is private,
--- gives it.
-pub record IsNext (rule : Rule) (point : Point) (page : Page) (element : Element) (before after : Telling)
-    : Type 0 where
+-- One element more, with a cause or none: of it the line is added that its place before or behind the fault, in or
+-- beside what is private, gives it.
+pub record IsNext (rule : Rule) (point : Point) (page : Page) (cause : Option Cause) (element : Element)
+    (before after : Telling) : Type 0 where
   pub all : Bool
   pub line : AddsLine rule (told_in rule point before.walk element) page.octets
-      (placed_in rule point page element (number_around before.numbers page.around element)) element
+      (placed_in rule point page element (number_around before.numbers page.around element)) element cause
       before.lines after.lines all
   pub numbers : after.numbers ≡ before.numbers
       ++ (own_number (told_in rule point before.walk element) (length before.lines)
@@ -71,14 +73,14 @@ pub record IsNext (rule : Rule) (point : Point) (page : Page) (element : Element
   pub walk : after.walk ≡ walk_after rule point before.walk element (told_in rule point before.walk element) all
       (is_around_definite page.elements element)
 
-abbrev pub AddsOne : Rule → Point → Page → Option Element → Telling → Telling → Type 0
-AddsOne rule point page None before after = after ≡ before
-AddsOne rule point page (Some element) before after = IsNext rule point page element before after
+abbrev pub AddsOne : Rule → Point → Page → Option Cause → Option Element → Telling → Telling → Type 0
+AddsOne rule point page cause None before after = after ≡ before
+AddsOne rule point page cause (Some element) before after = IsNext rule point page cause element before after
 
--- the same of the element of this number
+-- the same of the element of this number, with the cause that its line tells
 abbrev pub AddsElement : Rule → Point → Page → ℕ → Telling → Telling → Type 0
 AddsElement rule point page number before after =
-    AddsOne rule point page (slice_get page.elements number) before after
+    AddsOne rule point page (line_cause page.elements page.causes number) (slice_get page.elements number) before after
 
 -- the first elements of a document, so many, one after another
 abbrev pub Lists : Rule → Point → Page → ℕ → Telling → Telling → Type 0
@@ -130,11 +132,17 @@ is_taken_at point at (Some end) = nat_le point.at at || nat_le end point.at
 abbrev pub is_taken : Point → Element → Bool
 is_taken point element = is_taken_at point element.header.at element.end
 
--- a document inside an element that is so deep, which has the line of this number
-abbrev pub page_inside : Inside → ℕ → ℕ → Page
-page_inside inside depth number = record {
+-- the causes of the elements of a document inside, where those of the file have any
+abbrev pub causes_inside : List (Option Cause) → Inside → List (Option Cause)
+causes_inside [] inside = []
+causes_inside (cause ∷ causes) inside = causes_of inside.octets.items inside.named.elements.items
+
+-- a document inside an element of a file that is so deep, which has the line of this number
+abbrev pub page_inside : List (Option Cause) → Inside → ℕ → ℕ → Page
+page_inside causes inside depth number = record {
   octets = inside.octets.items;
   elements = inside.named.elements.items;
+  causes = causes_inside causes inside;
   pieces = inside.pieces.items;
   is_inside = true;
   depth = min (depth + 1) (2 ^ 64 - 1);
@@ -153,18 +161,18 @@ abbrev pub ListsIf : Bool → Rule → Point → Page → Telling → Telling �
 ListsIf true rule point page before after = ListsInside rule point page before after
 ListsIf false rule point page before after = after ≡ before
 
-abbrev pub AddsBehind : Rule → Point → Inside → ℕ → Option Line → Bool → Telling → Telling → Type 0
-AddsBehind rule point inside number None wanted before after = after ≡ before
-AddsBehind rule point inside number (Some line) wanted before after =
-    ListsIf wanted rule point (page_inside inside line.depth number) before after
+abbrev pub AddsBehind : Rule → Point → List (Option Cause) → Inside → ℕ → Option Line → Bool → Telling → Telling → Type 0
+AddsBehind rule point causes inside number None wanted before after = after ≡ before
+AddsBehind rule point causes inside number (Some line) wanted before after =
+    ListsIf wanted rule point (page_inside causes inside line.depth number) before after
 
--- Behind an element, which has the line of this number, the lines of the document inside it are added: where it was
--- taken whole and the telling hasn't ended.
-abbrev pub AddsDocument : Rule → Point → Option Fault → Option Element → Option Inside → ℕ → Telling → Telling → Type 0
-AddsDocument rule point fault None inside number before after = after ≡ before
-AddsDocument rule point fault (Some element) None number before after = after ≡ before
-AddsDocument rule point fault (Some element) (Some inside) number before after =
-    AddsBehind rule (point_in fault element.header.at) inside number (slice_get before.lines number)
+-- Behind an element of a file with these causes, which has the line of this number, the lines of the document inside it
+-- are added: where it was taken whole and the telling hasn't ended.
+abbrev pub AddsDocument : Rule → Point → Option Fault → List (Option Cause) → Option Element → Option Inside → ℕ → Telling → Telling → Type 0
+AddsDocument rule point fault causes None inside number before after = after ≡ before
+AddsDocument rule point fault causes (Some element) None number before after = after ≡ before
+AddsDocument rule point fault causes (Some element) (Some inside) number before after =
+    AddsBehind rule (point_in fault element.header.at) causes inside number (slice_get before.lines number)
     (is_taken point element && not before.walk.ended) before after
 
 -- the document inside the element of this number, where it is the first of those that are left; and those behind it
@@ -183,7 +191,7 @@ ListsFile rule point fault page insides (suc number) left end =
     (others : List Inside) × (before : Telling) × (mid : Telling)
     × ListsFile rule point fault page insides number others before
     × AddsElement rule point page number before mid
-    × AddsDocument rule point fault (slice_get page.elements number) (first_inside others number)
+    × AddsDocument rule point fault page.causes (slice_get page.elements number) (first_inside others number)
     (length before.lines) mid end
     × (left ≡ behind_inside others number)
 

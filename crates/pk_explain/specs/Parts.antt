@@ -9,13 +9,17 @@ use Rattle.asn_shapes.specs.declared.shape.Shape.{Shape}
 use Rattle.pk_documents.specs.Kinds.{type_of}
 use Rattle.pk_documents.specs.declared.kind.Kind.{Kind}
 use Rattle.pk_explain.specs.Answers.{IsAnswer}
-use Rattle.pk_explain.specs.Blames.{IsKnownBy, blame_by}
+use Rattle.pk_explain.specs.Blames.{blame_by}
+use Rattle.pk_explain.specs.FaultLines.{AddsFault}
+use Rattle.pk_explain.specs.Faults.{IsKnownBy, refused_for}
 use Rattle.pk_explain.specs.Insides.{AreInsides, HasInsides, IsNamed}
 use Rattle.pk_explain.specs.Kinds.{may_be_private, type_name_of, word_of}
 use Rattle.pk_explain.specs.Listings.{IsListed}
+use Rattle.pk_explain.specs.Looks.{LooksLike}
+use Rattle.pk_explain.specs.Notes.{most_notes, notes_by}
 use Rattle.pk_explain.specs.Places.{end_by_told}
 use Rattle.pk_explain.specs.Rules.{fault_of, file_page, is_refusal, point_at, rule_of}
-use Rattle.pk_explain.specs.Tellings.{AddsFault, TellsAll}
+use Rattle.pk_explain.specs.Tellings.{TellsAll}
 use Rattle.pk_explain.specs.declared.inside.Inside.{Inside}
 use Rattle.pk_explain.specs.declared.public_fault.PublicFault.{PublicFault}
 use Rattle.pk_explain.specs.declared.public_part.PublicPart.{PublicPart}
@@ -38,8 +42,8 @@ pub record IsListing (limits : Limits) (of : Kind) (answer : Answer) (document :
   pub has_insides : HasInsides limits document elements (length elements) insides
   pub told : List Line
   pub listed : IsListed (rule_of (may_be_private of) answer) (point_at answer parting) (fault_of answer)
-      (file_page document elements) insides told
-  pub adds : AddsFault (fault_of answer) told lines
+      (file_page answer document elements) insides told
+  pub adds : AddsFault elements insides (fault_of answer) told lines
 
 -- Where a private key may be in a refused document, all lines are public but one, with which the telling ends. One line
 -- more may tell the place of the fault alone.
@@ -62,7 +66,9 @@ pub record IsPublicPart (limits : Limits) (of : Kind) (document : List ℕ) (par
   pub listing : IsListing limits of part.answer document part.lines.items
   pub guarded : may_be_private of ≡ true → is_refusal part.answer ≡ true
       → IsGuarded limits of document part.lines.items
-  pub fault : IsKnownBy listing.elements listing.parting part.answer part.fault
+  pub fault : IsKnownBy (refused_for (rule_of (may_be_private of) part.answer) document listing.root listing.elements
+      listing.parting listing.insides part.lines.items) part.answer part.fault
+  pub looks : LooksLike limits of document part.answer part.looks
 
 -- where the outermost element ends by its length, where that is told: by the first line
 abbrev pub announced_end : List Line → Option ℕ
@@ -76,11 +82,8 @@ blame_of octets (NotDer place) lines fault = None
 blame_of octets (Refused refused) lines None = None
 blame_of octets (Refused refused) lines (Some fault) = Some (blame_by octets refused.why lines fault)
 
--- at most so many notes are told
-abbrev pub most_notes : ℕ
-most_notes = 100
-
--- The report is made of the public part alone; of a refused document there are no notes, and never many.
+-- The report is made of the public part alone; its notes are those on the lines, of a refused document none, and never
+-- many.
 pub record IsReportBy (part : PublicPart) (report : Report) : Type 0 where
   pub kind : report.kind ≡ part.kind
   pub octets : report.octets ≡ part.octets
@@ -89,5 +92,5 @@ pub record IsReportBy (part : PublicPart) (report : Report) : Type 0 where
   pub lines : report.lines ≡ part.lines
   pub blame : report.blame ≡ blame_of part.octets part.answer part.lines.items part.fault
   pub looks : report.looks ≡ part.looks
-  pub notes : is_refusal part.answer ≡ true → report.notes.items ≡ []
+  pub notes : report.notes.items ≡ notes_by part.answer part.lines.items
   pub few : length report.notes.items ≤ most_notes

@@ -10,12 +10,15 @@ use Rattle.pk_explain.specs.declared.places.Piece.{Piece}
 use Rattle.pk_explain.specs.declared.places.Placed.{Placed}
 use Rattle.pk_explain.specs.declared.places.Sheet.{Sheet}
 use Rattle.pk_explain.specs.declared.values.Rule.{Rule}
+use Rattle.pk_reports.specs.declared.report.Cause.{Cause}
 use Rattle.pk_reports.specs.declared.report.Length.{Length}
 
 -- a document whose elements are told: the file, or what one OCTET STRING contains
 pub record Page : Type 0 where
   pub octets : List ℕ
   pub elements : List Element
+  -- why they aren't in DER; of a document that is or that is refused there are none
+  pub causes : List (Option Cause)
   -- where its octets stand in the file
   pub pieces : List Piece
   pub is_inside : Bool
@@ -28,6 +31,7 @@ abbrev pub page_of : Sheet → Page
 page_of sheet = record {
   octets = sheet.octets.now;
   elements = sheet.elements.now;
+  causes = sheet.causes.now;
   pieces = sheet.pieces.now;
   is_inside = sheet.is_inside;
   depth = sheet.depth;

@@ -3,6 +3,7 @@ use Rattle.std.specs.Prelude.{Bool, List, None, Option, Some, [], cond, false, l
 use Rattle.tlv_core.specs.declared.fault.Fault.{Fault}
 use Rattle.asn_names.specs.declared.element.Element.{Element}
 use Rattle.asn_names.specs.declared.element.Parting.{Parting}
+use Rattle.pk_explain.specs.Causes.{causes_of}
 use Rattle.pk_explain.specs.Hidden.{no_point, point_of}
 use Rattle.pk_explain.specs.Places.{Page}
 use Rattle.pk_explain.specs.declared.hidden.Point.{Point}
@@ -10,6 +11,7 @@ use Rattle.pk_explain.specs.declared.values.Rule.{Rule}
 use Rattle.pk_explain.specs.declared.values.Rule.TheVariants.{Accepted, Guarded, Refused as RefusedRule}
 use Rattle.pk_reports.specs.declared.report.Answer.{Answer}
 use Rattle.pk_reports.specs.declared.report.Answer.TheVariants.{Der, NotDer, Refused}
+use Rattle.pk_reports.specs.declared.report.Cause.{Cause}
 
 -- how much is told, by the answer; `private` says that a private key may be in documents of the kind
 abbrev pub rule_of : Bool → Answer → Rule
@@ -33,11 +35,18 @@ point_at Der parting = no_point
 point_at (NotDer place) parting = no_point
 point_at (Refused fault) parting = point_of fault.at fault.why parting
 
--- the file itself, by its elements
-abbrev pub file_page : List ℕ → List Element → Page
-file_page document elements = record {
+-- why the elements of a sound document aren't in DER
+abbrev pub told_causes : Answer → List ℕ → List Element → List (Option Cause)
+told_causes Der document elements = []
+told_causes (NotDer place) document elements = causes_of document elements
+told_causes (Refused fault) document elements = []
+
+-- the file itself, by the answer to it and its elements
+abbrev pub file_page : Answer → List ℕ → List Element → Page
+file_page answer document elements = record {
   octets = document;
   elements = elements;
+  causes = told_causes answer document elements;
   pieces = record { at = 0; octets = length document } ∷ [];
   is_inside = false;
   depth = 0;

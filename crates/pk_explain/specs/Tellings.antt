@@ -1,7 +1,5 @@
 -- The lines of a refused document in which a private key may be: they are of its elements, in their order.
 use Rattle.std.specs.Prelude.{Bool, List, None, Option, Some, [], false, slice_get, suc, true, zero, ℕ, ◌+◌, ◌++◌, ◌∷◌, ◌≡◌, ◌⊎◌}
-use Rattle.tlv_core.specs.declared.fault.Fault.{Fault}
-use Rattle.tlv_core.specs.declared.reason.Reason.{Reason}
 use Rattle.asn_names.specs.declared.element.Element.{Element}
 use Rattle.asn_names.specs.declared.element.Step.TheVariants.{Outside}
 use Rattle.pk_explain.specs.Insides.{IsOneOf}
@@ -112,15 +110,6 @@ pub record IsFaultLine (line : Line) : Type 0 where
 abbrev pub MayAddFault : List Line → List Line → Type 0
 MayAddFault lines lines' =
     (lines' ≡ lines) ⊎ ((line : Line) × (lines' ≡ lines ++ (line ∷ [])) × IsFaultLine line)
-
--- only where the fault is inside an OCTET STRING
-abbrev pub AddsFaultInside : Option (ℕ × Reason) → List Line → List Line → Type 0
-AddsFaultInside None lines lines' = lines' ≡ lines
-AddsFaultInside (Some inside) lines lines' = MayAddFault lines lines'
-
-abbrev pub AddsFault : Option Fault → List Line → List Line → Type 0
-AddsFault None lines lines' = lines' ≡ lines
-AddsFault (Some fault) lines lines' = AddsFaultInside fault.inside lines lines'
 
 -- The lines of a file, and of what is inside one of its elements.
 pub record TellsAll (document : List ℕ) (elements : List Element) (insides : List Inside) (lines : List Line)

@@ -1,12 +1,14 @@
 //! Why elements aren't in DER (X.690 clauses 10 and 11).
-ghost use Rattle.std.specs.Prelude.{◌<◌, ◌≡◌, IfOk, length, map, true};
+ghost use Rattle.std.specs.Prelude.{◌<◌, ◌≡◌, IfOk, length, map, slice_get, true, unwrap_or};
 ghost use Rattle.std.specs.Option.{option_map};
-ghost use Rattle.pk_explain.specs.Causes.{AreCauses, MayBeOrder, bits_cause, boolean_cause, cause_in_contents, is_in_segments, is_set, length_cause, own_cause, unit_of};
-ghost use Rattle.pk_explain.specs.Contents.{contents_in};
+ghost use Rattle.x690.specs.DerTexts.{padded_less};
+ghost use Rattle.asn_elements.specs.Members.{ascends};
 ghost use Rattle.asn_names.specs.Levels.{is_string};
+ghost use Rattle.pk_explain.specs.Causes.{bits_cause, boolean_cause, cause_in_contents, cause_within, causes_of, is_disordered, is_in_segments, is_out_of_order, is_set, length_cause, member_texts, own_cause, text_of, unit_of, with_order};
+ghost use Rattle.pk_explain.specs.Contents.{contents_in};
 
-use crate::inside::{element_at, subtree};
-use crate::values::{Sort, contents_of, is_field, sort_of};
+use crate::inside::element_at;
+use crate::values::{Sort, contents_of, is_field, octets_between, sort_of};
 use asn_names::element::{Element, Step};
 use asn_outline::event::Header;
 use asn_shapes::shape::Shape;
@@ -23,10 +25,10 @@ pub(crate) fn causes_of(
     octets: &[u8],
     elements: &[Element],
 ) -> Result<Vec<Option<Cause>>, AllocError>
-    ensures { IfOk result (λ causes. AreCauses octets.now elements.now causes.items) }
+    ensures { IfOk result (λ causes. causes.items ≡ causes_of octets.now elements.now) }
 {
     let mut causes = own_causes(alloc, octets, elements)?;
-    let count = causes.len();
+    let count = elements.len();
     for back in 0..count {
         set_order(&mut causes, octets, elements, count - 1 - back);
     }
@@ -34,40 +36,49 @@ pub(crate) fn causes_of(
 }
 
 /// The cause of a SET OF whose members aren't in order.
-#[tactic(auto, using(crate::proofs::Ordered::with_order))]
 fn set_order(causes: &mut Vec<Option<Cause>>, octets: &[u8], elements: &[Element], number: usize)
-    ensures { AreCauses octets.now elements.now causes.old.items
-        → AreCauses octets.now elements.now causes.new.items }
+    ensures { causes.new.items
+        ≡ with_order octets.now elements.now causes.old.items number }
 {
-    if !is_disordered(octets, causes.as_slice(), elements, number) {
+    if !is_disordered(octets, elements, causes.as_slice(), number) {
         return;
     }
     causes[number] = Some(Cause::Order);
 }
 
-/// Whether the members of a SET OF, which are in DER, aren't in order.
+/// Whether the element of this number has no cause and is a SET OF that is out of order.
 fn is_disordered(
     octets: &[u8],
-    causes: &[Option<Cause>],
     elements: &[Element],
+    causes: &[Option<Cause>],
     number: usize,
 ) -> bool
-    ensures order { result ≡ true → MayBeOrder elements.now causes.now number }
+    ensures is { result ≡ is_disordered octets.now elements.now causes.now number }
     ensures within { result ≡ true → number < length causes.now }
 {
     let (Some(element), Some(None)) = (element_at(elements, number), causes.get(number)) else {
         return false;
     };
-    is_set(element) && is_out_of_order(octets, &causes[number..], &elements[number..])
+    let depth = element.header.depth;
+    is_set(element)
+        && is_out_of_order(
+            octets,
+            depth,
+            &elements[number + 1..],
+            &causes[number + 1..],
+        )
 }
 
-/// Whether what is in the first of the elements is in DER, and isn't in order.
-fn is_out_of_order(octets: &[u8], causes: &[Option<Cause>], elements: &[Element]) -> bool {
-    let count = subtree(elements);
-    match causes.get(..count) {
-        Some(members) => is_in_der(members) && !is_ordered(octets, &elements[..count]),
-        None => false,
-    }
+/// Whether nothing in an element that is so deep has a cause, and its members aren't in order.
+fn is_out_of_order(
+    octets: &[u8],
+    depth: u64,
+    elements: &[Element],
+    causes: &[Option<Cause>],
+) -> bool
+    ensures { result ≡ is_out_of_order octets.now depth elements.now causes.now }
+{
+    cause_within(depth, elements, causes).is_none() && !is_ordered(octets, depth, elements)
 }
 
 fn own_causes(
@@ -86,22 +97,28 @@ fn own_causes(
     Ok(causes)
 }
 
-/// Whether none of them has a cause.
-fn is_in_der(causes: &[Option<Cause>]) -> bool {
-    for cause in causes {
-        if cause.is_some() {
-            return false;
+/// The first cause of elements as long as they are deeper.
+pub(crate) fn cause_within(
+    depth: u64,
+    elements: &[Element],
+    causes: &[Option<Cause>],
+) -> Option<Cause>
+    ensures { result ≡ cause_within depth elements.now causes.now }
+{
+    let mut left = elements;
+    let mut others = causes;
+    while let [element, behind @ ..] = left {
+        let [cause, later @ ..] = others else {
+            return None;
+        };
+        if element.header.depth <= depth {
+            return None;
         }
-    }
-    true
-}
-
-/// The first of the causes.
-pub(crate) fn first_cause(causes: &[Option<Cause>]) -> Option<Cause> {
-    for cause in causes {
         if cause.is_some() {
             return *cause;
         }
+        left = behind;
+        others = later;
     }
     None
 }
@@ -233,51 +250,58 @@ fn is_set(element: &Element) -> bool
     }
 }
 
-/// Whether the members of the first of the elements stand in order, which are all in DER.
-fn is_ordered(octets: &[u8], elements: &[Element]) -> bool {
-    if elements.is_empty() {
-        return true;
-    }
-    let depth = elements[0].header.depth.saturating_add(1);
-    let mut before: &[u8] = &octets[..0];
-    for element in &elements[1..] {
-        if element.header.depth == depth {
+/// Whether the members of an element that is so deep stand in order, none less than the one before it.
+fn is_ordered(octets: &[u8], depth: u64, elements: &[Element]) -> bool
+    ensures { result ≡ ascends (member_texts octets.now depth elements.now) }
+{
+    let mut before: &[u8] = &[];
+    let mut left = elements;
+    while let [element, behind @ ..] = left {
+        if element.header.depth <= depth {
+            return true;
+        }
+        if element.header.depth == depth + 1 {
             let member = text_of(octets, element);
-            if !is_at_most(before, member) {
+            if is_less(member, before) {
                 return false;
             }
             before = member;
         }
+        left = behind;
     }
     true
 }
 
 /// The octets of an element of definite length.
-fn text_of<'a>(octets: &'a [u8], element: &Element) -> &'a [u8] {
-    let at = element.header.at;
-    match element.end {
-        Some(end) => match octets.get(at as usize..end as usize) {
-            Some(text) => text,
-            None => &octets[..0],
-        },
-        None => &octets[..0],
+fn text_of<'a>(octets: &'a [u8], element: &Element) -> &'a [u8]
+    ensures { result.now ≡ text_of octets.now element.now }
+{
+    let Some(end) = element.end else {
+        return &[];
+    };
+    match octets_between(octets, element.header.at, end) {
+        Some(text) => text,
+        None => &[],
     }
 }
 
-/// Whether one text comes before another or is the same, the shorter one padded with octets 0 (X.690 11.6).
-fn is_at_most(first: &[u8], second: &[u8]) -> bool {
-    let count = first.len().max(second.len());
-    for i in 0..count {
+/// Whether one text is less than another, the shorter one padded at its end with octets 00 (X.690 11.6).
+fn is_less(first: &[u8], second: &[u8]) -> bool
+    ensures { result ≡ padded_less first.now second.now }
+{
+    for i in 0..second.len() {
         let one = octet_at(first, i);
-        let other = octet_at(second, i);
+        let other = second[i];
         if one != other {
             return one < other;
         }
     }
-    true
+    false
 }
 
-fn octet_at(octets: &[u8], place: usize) -> u8 {
+fn octet_at(octets: &[u8], place: usize) -> u8
+    ensures { result ≡ unwrap_or (slice_get octets.now place) 0 }
+{
     match octets.get(place) {
         Some(octet) => *octet,
         None => 0,

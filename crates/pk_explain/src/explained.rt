@@ -1,8 +1,8 @@
 //! The report of a document: made of its public part alone, so two documents with the same one have the same report.
-ghost use Rattle.std.specs.Prelude.{◌≡◌, ◌≤◌, IfOk, [], length, true};
-ghost use Rattle.pk_explain.specs.Parts.{IsReportBy, announced_end, blame_of, most_notes};
+ghost use Rattle.std.specs.Prelude.{◌≡◌, ◌≤◌, IfOk, length};
+ghost use Rattle.pk_explain.specs.Notes.{most_notes, notes_by};
+ghost use Rattle.pk_explain.specs.Parts.{IsReportBy, announced_end, blame_of};
 ghost use Rattle.pk_explain.specs.Reports.{IsReportOf};
-ghost use Rattle.pk_explain.specs.Rules.{is_refusal};
 
 use crate::blame::blame_by;
 use crate::notes::notes_of;
@@ -74,7 +74,7 @@ fn told_blame(
 
 /// The notes, of a document that is accepted.
 fn told_notes(alloc: Global, answer: Answer, lines: &[Line]) -> Result<Vec<Note>, AllocError>
-    ensures none { IfOk result (λ notes. is_refusal answer ≡ true → notes.items ≡ []) }
+    ensures are { IfOk result (λ notes. notes.items ≡ notes_by answer lines.now) }
     ensures few { IfOk result (λ notes. length notes.items ≤ most_notes) }
 {
     match answer {

@@ -1,5 +1,5 @@
 //! Documents that OCTET STRINGs contain, and where their octets stand in the file.
-ghost use Rattle.std.specs.Prelude.{◌<◌, ◌++◌, ◌≡◌, ◌≤◌, IfOk, IfSome, OnOk, length, slice_get};
+ghost use Rattle.std.specs.Prelude.{◌<◌, ◌++◌, ◌≡◌, IfOk, IfSome, OnOk, length, slice_get};
 ghost use Rattle.std.specs.Option.{option_map};
 ghost use Rattle.pk_explain.specs.Insides.{AddsInside, AreInsides, HasInsides, IsDocumentIn, IsNamed, contained, contents_within, deeper_contents, deeper_pieces, own_contents, own_pieces, pieces_within};
 
@@ -194,20 +194,4 @@ fn push_contents(
         })?;
     }
     Ok(())
-}
-
-/// How many of the elements are the first one and what is in it.
-pub(crate) fn subtree(elements: &[Element]) -> usize
-    ensures { result ≤ length elements.now }
-{
-    if elements.is_empty() {
-        return 0;
-    }
-    let depth = elements[0].header.depth;
-    for i in 1..elements.len() {
-        if elements[i].header.depth <= depth {
-            return i;
-        }
-    }
-    elements.len()
 }

@@ -12,6 +12,7 @@ mod blame;
 mod causes;
 pub mod explained;
 mod fault_line;
+mod heads;
 mod hidden;
 mod inside;
 mod keys;

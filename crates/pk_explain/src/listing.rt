@@ -1,8 +1,9 @@
 //! The lines of a report: an element each.
 ghost use Rattle.std.specs.Prelude.{Bool, ℕ, List, [], ◌≡◌, ◌⊎◌, ◌++◌, ◌∷◌, IfOk, OnOk, false, min, slice_get, true, unwrap_or, ◌+◌, ◌-◌, ◌^◌};
 ghost use Rattle.std.specs.Option.{option_map};
+ghost use Rattle.pk_explain.specs.Causes.{line_cause};
 ghost use Rattle.pk_explain.specs.Lines.{AddsLine, AddsPlace, IsHeaderLine, IsPlaceLine, IsTold, inside_of, size_between};
-ghost use Rattle.pk_explain.specs.Listings.{AddsDocument, AddsElement, IsListed, Lists, Telling, behind_inside, count_before, count_in_first, count_inside, first_inside, is_around_definite, is_taken, number_around, own_number, point_in, start_of, telling, walk_behind_inside};
+ghost use Rattle.pk_explain.specs.Listings.{AddsDocument, AddsElement, IsListed, Lists, Telling, behind_inside, causes_inside, count_before, count_in_first, count_inside, first_inside, is_around_definite, is_taken, number_around, own_number, point_in, start_of, telling, walk_behind_inside};
 ghost use Rattle.pk_explain.specs.Places.{SkipsIn, page_of};
 ghost use Rattle.pk_explain.specs.Insides.{IsOneOf};
 ghost use Rattle.pk_explain.specs.Tellings.{AreGuarded, KeepsGuarded, KeepsOrEnds, StaysEnded, TellsFile};
@@ -10,9 +11,9 @@ ghost use Rattle.pk_explain.specs.declared.inside.Inside.{Inside};
 ghost use Rattle.pk_explain.specs.Public.{is_guarded, tells_all};
 ghost use Rattle.pk_reports.specs.declared.report.Line.{Line};
 
-use crate::causes::{causes_of, first_cause};
+use crate::causes::{cause_within, causes_of};
 use crate::hidden::{Point, Told, Walk, no_point, point_inside, told_of, walk_behind, walk_start};
-use crate::inside::{Inside, element_at, subtree};
+use crate::inside::{Inside, element_at};
 use crate::places::{Piece, Placed, Sheet, later_pieces, placed_in, told_length};
 use crate::values::{Rule, contents_of, is_guarded, tells_all, told_value};
 use asn_names::element::{Element, Step};
@@ -122,6 +123,7 @@ fn push_header(
         × (lines.new.items ≡ lines.old.items ++ (line ∷ []))
         × IsHeaderLine placed element.now line
         × IsTold rule octets.now element.now line.value
+        × (line.cause ≡ cause)
         × (all ≡ tells_all line.value)) }
 {
     let value = line_value(alloc, rule, octets, element)?;
@@ -144,24 +146,26 @@ fn push_place(lines: &mut Vec<Line>, placed: Placed, element: &Element) -> Resul
     }
 }
 
-/// The cause of an element whose header is told.
-fn told_cause(sheet: Sheet<'_>, number: usize, told: Told) -> Option<Cause> {
-    match told {
-        Told::Header => line_cause(sheet, number),
-        Told::Place | Told::Nothing => None,
-    }
-}
-
-/// The cause of an element; of a private one the first in it, since no line tells what is in it.
-fn line_cause(sheet: Sheet<'_>, number: usize) -> Option<Cause> {
-    if number >= sheet.elements.len() || number >= sheet.causes.len() {
+/// The cause that the line of the element of this number tells: that of a private one is the first in it, since no line
+/// tells what is in it.
+fn line_cause(sheet: Sheet<'_>, number: usize) -> Option<Cause>
+    ensures { result ≡ line_cause sheet.entry.elements.now sheet.entry.causes.now number }
+{
+    let (Some(element), Some(cause)) = (
+        element_at(sheet.elements, number),
+        sheet.causes.get(number),
+    ) else {
         return None;
+    };
+    if cause.is_some() || !element.private {
+        return *cause;
     }
-    if !sheet.elements[number].private {
-        return sheet.causes[number];
-    }
-    let count = subtree(&sheet.elements[number..]).min(sheet.causes.len() - number);
-    first_cause(&sheet.causes[number..number + count])
+    let behind = number + 1;
+    cause_within(
+        element.header.depth,
+        &sheet.elements[behind..],
+        &sheet.causes[behind..],
+    )
 }
 
 /// Whether the container around an element has a definite length.
@@ -228,37 +232,32 @@ fn push_element(
     let definite = is_around_definite(sheet.elements, element);
     let placed = placed_in(rule, point, sheet, element, around);
     let told = told_of(rule, point, walk, element);
-    let cause = told_cause(sheet, number, told);
     numbers.push(own_number(told, lines.len() as u64, around))?;
-    let all = push_line(
-        alloc,
-        lines,
-        rule,
-        told,
-        sheet.octets,
-        placed,
-        element,
-        cause,
-    )?;
+    let all = push_line(alloc, lines, rule, told, sheet, placed, element, number)?;
     Ok(walk_behind(rule, point, walk, element, told, all, definite))
 }
 
-/// Tells of an element what is told of it, and answers whether all octets of its contents are told.
+/// Tells of the element of this number what is told of it, and answers whether all octets of its contents are told.
 fn push_line(
     alloc: Global,
     lines: &mut Vec<Line>,
     rule: Rule,
     told: Told,
-    octets: &[u8],
+    sheet: Sheet<'_>,
     placed: Placed,
     element: &Element,
-    cause: Option<Cause>,
+    number: usize,
 ) -> Result<bool, AllocError>
     ensures { IfOk result (λ all.
-        AddsLine rule told octets.now placed element.now lines.old.items lines.new.items all) }
+        AddsLine rule told sheet.entry.octets.now placed element.now
+        (line_cause sheet.entry.elements.now sheet.entry.causes.now number)
+        lines.old.items lines.new.items all) }
 {
     match told {
-        Told::Header => push_header(alloc, lines, rule, octets, placed, element, cause),
+        Told::Header => {
+            let cause = line_cause(sheet, number);
+            push_header(alloc, lines, rule, sheet.octets, placed, element, cause)
+        }
         Told::Place => {
             push_place(lines, placed, element)?;
             Ok(false)
@@ -432,7 +431,8 @@ fn push_inside_of(
     ensures ends { IfOk result (λ behind. KeepsOrEnds rule (option_map (λ r. r.now) inside.entry)
         walk.ended lines.old.items behind.ended lines.new.items) }
     ensures adds { IfOk result (λ behind. (numbers : List ℕ)
-        → AddsDocument rule point fault (slice_get file.entry.elements.now element)
+        → AddsDocument rule point fault file.entry.causes.now
+        (slice_get file.entry.elements.now element)
         (option_map (λ r. r.now) inside.entry) number (telling walk numbers lines.old.items)
         (telling behind numbers lines.new.items)) }
 {
@@ -445,7 +445,7 @@ fn push_inside_of(
     if walk.ended || !is_taken(point, element) {
         return Ok(walk);
     }
-    let causes = inside_causes(alloc, file.causes.is_empty(), inside)?;
+    let causes = causes_inside(alloc, file.causes, inside)?;
     let sheet = inside_sheet(inside, causes.as_slice(), depth, number as u64);
     let ended = push_inside(
         alloc,
@@ -468,13 +468,15 @@ fn depth_inside(lines: &[Line], number: usize) -> Option<u64>
     }
 }
 
-/// Why the elements inside aren't in DER, unless none are wanted.
-fn inside_causes(
+/// Why the elements inside aren't in DER, where those of the file have causes.
+fn causes_inside(
     alloc: Global,
-    none: bool,
+    causes: &[Option<Cause>],
     inside: &Inside,
-) -> Result<Vec<Option<Cause>>, AllocError> {
-    if none {
+) -> Result<Vec<Option<Cause>>, AllocError>
+    ensures { IfOk result (λ all. all.items ≡ causes_inside causes.now inside.now) }
+{
+    if causes.is_empty() {
         return Ok(Vec::new(alloc));
     }
     causes_of(
@@ -496,6 +498,7 @@ fn inside_sheet<'a>(
     ensures page { page_of result ≡ record {
       octets = inside.now.octets.items;
       elements = inside.now.named.elements.items;
+      causes = causes.now;
       pieces = inside.now.pieces.items;
       is_inside = true;
       depth = depth;

@@ -1,19 +1,20 @@
 //! What other standards forbid in an accepted document, by its lines.
-ghost use Rattle.std.specs.Prelude.{◌≤◌, IfOk, OnOk, length};
-ghost use Rattle.pk_explain.specs.Parts.{most_notes};
+ghost use Rattle.std.specs.Prelude.{◌≡◌, ◌≤◌, IfOk, OnOk, length, option_and_then, slice_get};
+ghost use Rattle.std.specs.Option.{option_map};
+ghost use Rattle.pkix_types.specs.Identifiers.{ec_public_key, length_under};
+ghost use Rattle.x690.specs.Lists.{same_octets};
+ghost use Rattle.pk_explain.specs.Notes.{add_note, arcs_of, are_same, context_behind, context_start, curve_behind, is_attribute, is_curve_named, is_point, is_public_key, is_repeated, is_same_field, is_same_identifier, is_same_step, is_single_valued, members_of, ml_dsa_lengths, ml_kem_lengths, most_notes, named, nist_encapsulation, nist_signature, notes_on, parameters, public_octets, remark_if, remark_on, remark_on_algorithm, remark_on_bits, remark_on_key, remark_on_repeat, remark_on_values, remark_once_more, slh_dsa_sha2_lengths, slh_dsa_shake_lengths};
 
-use crate::keys::sizes_of;
+use crate::keys::{curve_octets, has_contents};
 use crate::values::is_field;
-use asn_shapes::identifiers::Identifier;
+use asn_names::element::Step;
 use pk_reports::report::{Line, Note, Remark, Value};
 use std::alloc::{AllocError, Global};
 
 /// What the lines before say of the ones that follow.
 #[derive(Clone, Copy)]
 struct Context {
-    /// The last algorithm is id-ecPublicKey.
-    is_ec: bool,
-    /// How many octets a private key of its curve has, where that is a known one.
+    /// How many octets a coordinate of the curve has that was named behind the last algorithm, where it is a known one.
     curve: Option<u64>,
     /// How many octets a public key of the last algorithm has, where it is one of a single length.
     public: Option<u64>,
@@ -26,27 +27,23 @@ const MOST_NOTES: usize = 100;
 
 /// The notes on the lines of an accepted document, in their order: the first ones, where there are many.
 pub(crate) fn notes_of(alloc: Global, lines: &[Line]) -> Result<Vec<Note>, AllocError>
-    ensures { IfOk result (λ notes. length notes.items ≤ most_notes) }
+    ensures are { IfOk result (λ notes. notes.items ≡ notes_on lines.now) }
+    ensures few { IfOk result (λ notes. length notes.items ≤ most_notes) }
 {
     let mut notes = Vec::new(alloc);
-    let mut context = Context {
-        is_ec: false,
-        curve: None,
-        public: None,
-        is_single: false,
-    };
+    let mut context = start();
     for i in 0..lines.len() {
-        push_note(&mut notes, i, remark_on(context, &lines[i..]))?;
-        push_note(&mut notes, i, remark_on_repeat(lines, i))?;
-        context = context_behind(context, &lines[i]);
+        let line = &lines[i];
+        push_note(&mut notes, i, remark_on(context, line, &lines[i + 1..]))?;
+        push_note(&mut notes, i, remark_on_repeat(lines, &lines[..i], line))?;
+        context = context_behind(context, line);
     }
     Ok(notes)
 }
 
 /// A remark on the line of this number, where there is one and room for it.
 fn push_note(notes: &mut Vec<Note>, line: usize, remark: Option<Remark>) -> Result<(), AllocError>
-    ensures { OnOk result (length notes.old.items ≤ most_notes
-        → length notes.new.items ≤ most_notes) }
+    ensures { OnOk result (notes.new.items ≡ add_note notes.old.items line remark) }
 {
     let Some(remark) = remark else {
         return Ok(());
@@ -61,242 +58,432 @@ fn push_note(notes: &mut Vec<Note>, line: usize, remark: Option<Remark>) -> Resu
     Ok(())
 }
 
-/// id-ecPublicKey, 1.2.840.10045.2.1.
-fn is_ec_public_key(identifier: &Identifier) -> bool {
-    match identifier.contents {
-        [0x2A, 0x86, 0x48, 0xCE, 0x3D, 0x02, 0x01] => true,
-        _ => false,
+fn start() -> Context
+    ensures { result ≡ context_start }
+{
+    Context {
+        curve: None,
+        public: None,
+        is_single: false,
     }
 }
 
-/// challengePassword, extensionRequest (RFC 2985 sections 5.4.1, 5.4.2).
-fn is_single_valued(identifier: &Identifier) -> bool {
-    match identifier.contents {
-        [0x2A, 0x86, 0x48, 0x86, 0xF7, 0x0D, 0x01, 0x09, 0x07 | 0x0E] => true,
-        _ => false,
-    }
-}
-
-/// The octets of a public key of ML-DSA (RFC 9881), ML-KEM (RFC 9935), SLH-DSA (RFC 9909).
-fn public_octets(identifier: &Identifier) -> Option<u64> {
-    match identifier.contents {
-        [0x60, 0x86, 0x48, 0x01, 0x65, 0x03, 0x04, 0x03, number] => match *number {
-            17 => Some(1312),
-            18 => Some(1952),
-            19 => Some(2592),
-            20 | 21 | 26 | 27 => Some(32),
-            22 | 23 | 28 | 29 => Some(48),
-            24 | 25 | 30 | 31 => Some(64),
-            _ => None,
-        },
-        [0x60, 0x86, 0x48, 0x01, 0x65, 0x03, 0x04, 0x04, number] => match *number {
-            1 => Some(800),
-            2 => Some(1184),
-            3 => Some(1568),
-            _ => None,
-        },
-        _ => None,
-    }
-}
-
-fn named(line: &Line) -> Option<&'static Identifier> {
-    match line.value {
-        Value::Named(identifier) => Some(identifier),
-        _ => None,
-    }
-}
-
-fn context_behind(context: Context, line: &Line) -> Context {
+fn context_behind(context: Context, line: &Line) -> Context
+    ensures { result ≡ context_behind context line.now }
+{
+    let name = named(&line.value);
     if is_field(line.step, "algorithm") {
-        let (is_ec, public) = match named(line) {
-            Some(identifier) => (is_ec_public_key(identifier), public_octets(identifier)),
-            None => (false, None),
-        };
         return Context {
-            is_ec,
+            public: public_octets_of(name),
             curve: None,
-            public,
             ..context
         };
     }
     if is_field(line.step, "type") {
-        let is_single = match named(line) {
-            Some(identifier) => is_single_valued(identifier),
-            None => false,
-        };
         return Context {
-            is_single,
+            is_single: is_single_valued(name),
             ..context
         };
     }
-    match named(line) {
-        Some(identifier) => match sizes_of(identifier.contents) {
-            Some(sizes) if sizes.public.is_none() => Context {
-                curve: Some(sizes.private),
-                ..context
-            },
-            _ => context,
-        },
-        None => context,
+    Context {
+        curve: curve_behind(context.curve, name),
+        ..context
     }
 }
 
-/// What is remarked on the first of the lines.
-fn remark_on(context: Context, lines: &[Line]) -> Option<Remark> {
-    let Some(line) = lines.first() else {
-        return None;
+/// The contents octets of the object identifier that a value is, where it has a usual name.
+fn named(value: &Value) -> Option<&'static [u8]>
+    ensures { option_map (λ r. r.now) result ≡ named value.now }
+{
+    match value {
+        Value::Named(identifier) => Some(identifier.contents),
+        _ => None,
+    }
+}
+
+/// Its arcs, where it has none.
+fn arcs_of(value: &Value) -> Option<&[u8]>
+    ensures { option_map (λ r. r.now) result ≡ arcs_of value.now }
+{
+    match value {
+        Value::Arcs(text) => Some(text.as_bytes()),
+        _ => None,
+    }
+}
+
+/// How many octets a coordinate has, behind another identifier.
+fn curve_behind(curve: Option<u64>, name: Option<&[u8]>) -> Option<u64>
+    ensures { result ≡ curve_behind curve (option_map (λ r. r.now) name.entry) }
+{
+    let Some(name) = name else {
+        return curve;
     };
+    match curve_octets(name) {
+        Some(octets) => Some(octets),
+        None => curve,
+    }
+}
+
+/// An attribute of a single value: challengePassword, extensionRequest (RFC 2985 sections 5.4.1, 5.4.2).
+fn is_single_valued(name: Option<&[u8]>) -> bool
+    ensures { result ≡ is_single_valued (option_map (λ r. r.now) name.entry) }
+{
+    let Some(name) = name else {
+        return false;
+    };
+    has_contents(
+        name,
+        &[0x2A, 0x86, 0x48, 0x86, 0xF7, 0x0D, 0x01, 0x09, 0x07],
+    ) || has_contents(
+        name,
+        &[0x2A, 0x86, 0x48, 0x86, 0xF7, 0x0D, 0x01, 0x09, 0x0E],
+    )
+}
+
+/// The octets of a public key under the algorithm, where all have the same number.
+fn public_octets_of(name: Option<&[u8]>) -> Option<u64>
+    ensures { result ≡ option_and_then public_octets (option_map (λ r. r.now) name.entry) }
+{
+    match name {
+        Some(name) => public_octets(name),
+        None => None,
+    }
+}
+
+fn public_octets(algorithm: &[u8]) -> Option<u64>
+    ensures { result ≡ public_octets algorithm.now }
+{
+    if let Some(octets) = ml_dsa_octets(algorithm) {
+        return Some(octets);
+    }
+    if let Some(octets) = ml_kem_octets(algorithm) {
+        return Some(octets);
+    }
+    if let Some(octets) = slh_dsa_sha2_octets(algorithm) {
+        return Some(octets);
+    }
+    slh_dsa_shake_octets(algorithm)
+}
+
+/// Of ML-DSA-44, ML-DSA-65, ML-DSA-87 (RFC 9881).
+fn ml_dsa_octets(algorithm: &[u8]) -> Option<u64>
+    ensures { result ≡ length_under ml_dsa_lengths algorithm.now }
+{
+    if is_signature(algorithm, 17) {
+        Some(1312)
+    } else if is_signature(algorithm, 18) {
+        Some(1952)
+    } else if is_signature(algorithm, 19) {
+        Some(2592)
+    } else {
+        None
+    }
+}
+
+/// Of ML-KEM-512, ML-KEM-768, ML-KEM-1024 (RFC 9935).
+fn ml_kem_octets(algorithm: &[u8]) -> Option<u64>
+    ensures { result ≡ length_under ml_kem_lengths algorithm.now }
+{
+    if is_encapsulation(algorithm, 1) {
+        Some(800)
+    } else if is_encapsulation(algorithm, 2) {
+        Some(1184)
+    } else if is_encapsulation(algorithm, 3) {
+        Some(1568)
+    } else {
+        None
+    }
+}
+
+/// Of SLH-DSA with SHA2: 128s, 128f, 192s, 192f, 256s, 256f (RFC 9909).
+fn slh_dsa_sha2_octets(algorithm: &[u8]) -> Option<u64>
+    ensures { result ≡ length_under slh_dsa_sha2_lengths algorithm.now }
+{
+    if is_signature(algorithm, 20) {
+        Some(32)
+    } else if is_signature(algorithm, 21) {
+        Some(32)
+    } else if is_signature(algorithm, 22) {
+        Some(48)
+    } else if is_signature(algorithm, 23) {
+        Some(48)
+    } else if is_signature(algorithm, 24) {
+        Some(64)
+    } else if is_signature(algorithm, 25) {
+        Some(64)
+    } else {
+        None
+    }
+}
+
+/// Of SLH-DSA with SHAKE, in the same order.
+fn slh_dsa_shake_octets(algorithm: &[u8]) -> Option<u64>
+    ensures { result ≡ length_under slh_dsa_shake_lengths algorithm.now }
+{
+    if is_signature(algorithm, 26) {
+        Some(32)
+    } else if is_signature(algorithm, 27) {
+        Some(32)
+    } else if is_signature(algorithm, 28) {
+        Some(48)
+    } else if is_signature(algorithm, 29) {
+        Some(48)
+    } else if is_signature(algorithm, 30) {
+        Some(64)
+    } else if is_signature(algorithm, 31) {
+        Some(64)
+    } else {
+        None
+    }
+}
+
+/// A signature of NIST, 2.16.840.1.101.3.4.3.NUMBER.
+fn is_signature(algorithm: &[u8], number: u8) -> bool
+    ensures { result ≡ same_octets algorithm.now (nist_signature number) }
+{
+    has_contents(
+        algorithm,
+        &[0x60, 0x86, 0x48, 0x01, 0x65, 0x03, 0x04, 0x03, number],
+    )
+}
+
+/// A key encapsulation of NIST, 2.16.840.1.101.3.4.4.NUMBER.
+fn is_encapsulation(algorithm: &[u8], number: u8) -> bool
+    ensures { result ≡ same_octets algorithm.now (nist_encapsulation number) }
+{
+    has_contents(
+        algorithm,
+        &[0x60, 0x86, 0x48, 0x01, 0x65, 0x03, 0x04, 0x04, number],
+    )
+}
+
+/// id-ecPublicKey, 1.2.840.10045.2.1.
+fn is_ec_public_key(algorithm: &[u8]) -> bool
+    ensures { result ≡ same_octets algorithm.now ec_public_key }
+{
+    has_contents(algorithm, &[0x2A, 0x86, 0x48, 0xCE, 0x3D, 0x02, 0x01])
+}
+
+/// What is remarked on a line, by what the lines before say and by the lines behind.
+fn remark_on(context: Context, line: &Line, behind: &[Line]) -> Option<Remark>
+    ensures { result ≡ remark_on context line.now behind.now }
+{
     if is_field(line.step, "algorithm") {
-        return remark_on_algorithm(line, lines.get(1));
+        return remark_on_algorithm(named(&line.value), parameters(behind));
     }
     if is_field(line.step, "values") && context.is_single {
-        let count = members_of(lines);
-        return if count > 1 {
-            Some(Remark::SeveralValues(count))
-        } else {
-            None
-        };
+        return remark_on_values(members_of(line.depth, behind));
     }
-    match line.value {
-        Value::Bits(octets, unused) if is_public_key(line) => {
-            remark_on_bits(context, octets, unused)
-        }
+    if is_public_key(line.step) {
+        return remark_on_key(context, &line.value);
+    }
+    None
+}
+
+/// A remark, where this is so.
+fn remark_if(said: bool, remark: Remark) -> Option<Remark>
+    ensures { result ≡ remark_if said remark }
+{
+    if said { Some(remark) } else { None }
+}
+
+/// The parameters behind an algorithm.
+fn parameters(behind: &[Line]) -> Option<&Line>
+    ensures { option_map (λ r. r.now) result ≡ parameters behind.now }
+{
+    match behind.first() {
+        Some(line) if is_field(line.step, "parameters") => Some(line),
         _ => None,
     }
 }
 
-fn is_public_key(line: &Line) -> bool {
-    is_field(line.step, "subjectPublicKey")
-        || is_field(line.step, "publicKey")
-        || is_field(line.step, "")
+fn remark_on_algorithm(name: Option<&[u8]>, parameters: Option<&Line>) -> Option<Remark>
+    ensures { result ≡ remark_on_algorithm (option_map (λ r. r.now) name.entry)
+        (option_map (λ r. r.now) parameters.entry) }
+{
+    let Some(algorithm) = name else {
+        return None;
+    };
+    if public_octets(algorithm).is_some() {
+        return remark_if(parameters.is_some(), Remark::NeedlessParameters);
+    }
+    remark_if(
+        is_ec_public_key(algorithm) && !is_curve_named(parameters),
+        Remark::NoNamedCurve,
+    )
 }
 
-fn remark_on_algorithm(line: &Line, next: Option<&Line>) -> Option<Remark> {
-    let Some(identifier) = named(line) else {
-        return None;
-    };
-    let parameters = match next {
-        Some(next) if is_field(next.step, "parameters") => Some(next),
-        _ => None,
-    };
-    if public_octets(identifier).is_some() {
-        return if parameters.is_some() {
-            Some(Remark::NeedlessParameters)
-        } else {
-            None
-        };
-    }
-    if !is_ec_public_key(identifier) {
-        return None;
-    }
+/// Whether parameters are an object identifier.
+fn is_curve_named(parameters: Option<&Line>) -> bool
+    ensures { result ≡ is_curve_named (option_map (λ r. r.now) parameters.entry) }
+{
     match parameters {
-        Some(line) => match line.value {
-            Value::Named(_) | Value::Arcs(_) => None,
-            _ => Some(Remark::NoNamedCurve),
-        },
-        None => Some(Remark::NoNamedCurve),
+        Some(line) => named(&line.value).is_some() || arcs_of(&line.value).is_some(),
+        None => false,
     }
 }
 
-/// A public key of so many octets and unused bits.
-fn remark_on_bits(context: Context, octets: u64, unused: u8) -> Option<Remark> {
-    if let Some(due) = context.public {
-        return if octets != due {
-            Some(Remark::KeySize(octets, due))
-        } else {
-            None
-        };
-    }
-    let Some(size) = context.curve else {
-        return None;
-    };
-    if unused != 0 {
-        return Some(Remark::PointBits);
-    }
-    let is_point = octets == size.saturating_add(1)
-        || octets == size.saturating_mul(2).saturating_add(1);
-    if is_point {
-        None
-    } else {
-        Some(Remark::PointSize(octets))
-    }
+fn remark_on_values(members: u64) -> Option<Remark>
+    ensures { result ≡ remark_on_values members }
+{
+    remark_if(members > 1, Remark::SeveralValues(members))
 }
 
-/// How many members the first of the lines has.
-fn members_of(lines: &[Line]) -> u64 {
-    if lines.is_empty() {
-        return 0;
-    }
-    let depth = lines[0].depth;
-    let mut count: u64 = 0;
-    for line in &lines[1..] {
+/// How many members an element of this depth has, by the lines behind its own.
+fn members_of(depth: u64, behind: &[Line]) -> u64
+    ensures { result ≡ members_of depth behind.now }
+{
+    let mut count = 0;
+    for i in 0..behind.len() {
+        let line = &behind[i];
         if line.depth <= depth {
-            break;
+            return count;
         }
-        if line.depth == depth.saturating_add(1) {
-            count = count.saturating_add(1);
+        if line.depth - 1 == depth {
+            count += 1;
         }
     }
     count
 }
 
-/// How many earlier members of a list are looked at for the same identifier.
-const MOST: usize = 32;
+fn is_public_key(step: Step) -> bool
+    ensures { result ≡ is_public_key step }
+{
+    is_field(step, "subjectPublicKey") || is_field(step, "publicKey") || is_field(step, "")
+}
 
-/// What is remarked on an identifier that an earlier one of the same list has too.
-fn remark_on_repeat(lines: &[Line], number: usize) -> Option<Remark> {
-    if number >= lines.len() {
-        return None;
-    }
-    let line = &lines[number];
-    let remark = if is_field(line.step, "extnID") {
-        Remark::ExtensionTwice
-    } else if is_field(line.step, "type") && is_in_attribute(lines, line) {
-        Remark::AttributeTwice
-    } else {
-        return None;
-    };
-    if is_repeated(&lines[..number], line) {
-        Some(remark)
-    } else {
-        None
+fn remark_on_key(context: Context, value: &Value) -> Option<Remark>
+    ensures { result ≡ remark_on_key context value.now }
+{
+    match value {
+        Value::Bits(octets, unused) => {
+            remark_on_bits(context.public, context.curve, *octets, *unused)
+        }
+        _ => None,
     }
 }
 
-fn is_in_attribute(lines: &[Line], line: &Line) -> bool {
-    match lines.get(line.around as usize) {
-        Some(around) => around.type_name == "RequestAttribute",
+/// A public key of so many octets and unused bits, where so many are due, or a point with coordinates of so many.
+fn remark_on_bits(
+    public: Option<u64>,
+    curve: Option<u64>,
+    octets: u64,
+    unused: u8,
+) -> Option<Remark>
+    ensures { result ≡ remark_on_bits public curve octets unused }
+{
+    match (public, curve) {
+        (Some(due), _) => remark_if(octets != due, Remark::KeySize(octets, due)),
+        (None, None) => None,
+        (None, Some(_)) if unused != 0 => Some(Remark::PointBits),
+        (None, Some(coordinate)) => {
+            remark_if(!is_point(coordinate, octets), Remark::PointSize(octets))
+        }
+    }
+}
+
+/// A point is a first octet and one coordinate or two (RFC 5480 section 2.2, SEC 1 section 2.3.3).
+fn is_point(coordinate: u64, octets: u64) -> bool
+    ensures { result ≡ is_point coordinate octets }
+{
+    if octets <= coordinate {
+        return false;
+    }
+    let other = octets - coordinate - 1;
+    other == 0 || other == coordinate
+}
+
+/// How many earlier members of a list are looked at for the same identifier.
+const MOST_MEMBERS: usize = 32;
+
+/// What is remarked on a line, where one of the same list before it says the same.
+fn remark_on_repeat(lines: &[Line], before: &[Line], line: &Line) -> Option<Remark>
+    ensures { result ≡ remark_on_repeat lines.now before.now line.now }
+{
+    let Some(remark) = remark_once_more(lines, line) else {
+        return None;
+    };
+    remark_if(is_repeated(before, line), remark)
+}
+
+/// What may not stand there twice: an extension (RFC 5280 section 4.2), an attribute of a request (RFC 2986 section
+/// 4.1).
+fn remark_once_more(lines: &[Line], line: &Line) -> Option<Remark>
+    ensures { result ≡ remark_once_more lines.now line.now }
+{
+    if is_field(line.step, "extnID") {
+        return Some(Remark::ExtensionTwice);
+    }
+    remark_if(
+        is_field(line.step, "type") && is_attribute(lines.get(line.around as usize)),
+        Remark::AttributeTwice,
+    )
+}
+
+/// Whether an element is an attribute of a request.
+fn is_attribute(around: Option<&Line>) -> bool
+    ensures { result ≡ is_attribute (option_map (λ r. r.now) around.entry) }
+{
+    match around {
+        Some(around) => is_name(around.type_name, "RequestAttribute"),
         None => false,
     }
 }
 
-/// Whether one of the last lines before says the same identifier as the same field, in the same list.
-fn is_repeated(before: &[Line], line: &Line) -> bool {
-    let mut looked = 0;
+fn is_name(name: &str, word: &str) -> bool
+    ensures { result ≡ same_octets name.now word.now }
+{
+    name == word
+}
+
+/// Whether the same identifier as the same field stands in one of the last members of the list before it.
+fn is_repeated(before: &[Line], line: &Line) -> bool
+    ensures { result ≡ is_repeated before.now line.now }
+{
+    let list = line.depth.saturating_sub(2);
+    let mut most = MOST_MEMBERS;
     for back in 0..before.len() {
         let other = &before[before.len() - 1 - back];
-        if other.depth.saturating_add(2) <= line.depth || looked >= MOST {
+        if most == 0 || other.depth <= list {
             return false;
         }
-        if other.depth == line.depth && is_same_step(other, line) {
-            looked += 1;
-            if is_same_identifier(other, line) {
+        if is_same_field(line, other) {
+            if is_same_identifier(line, other) {
                 return true;
             }
+            most -= 1;
         }
     }
     false
 }
 
-fn is_same_step(one: &Line, other: &Line) -> bool {
-    (is_field(one.step, "extnID") && is_field(other.step, "extnID"))
-        || (is_field(one.step, "type") && is_field(other.step, "type"))
+fn is_same_field(line: &Line, other: &Line) -> bool
+    ensures { result ≡ is_same_field line.now other.now }
+{
+    other.depth == line.depth && is_same_step(other.step, line.step)
 }
 
-fn is_same_identifier(one: &Line, other: &Line) -> bool {
-    match (&one.value, &other.value) {
-        (Value::Named(a), Value::Named(b)) => a.contents == b.contents,
-        (Value::Arcs(a), Value::Arcs(b)) => a.as_bytes() == b.as_bytes(),
+fn is_same_step(one: Step, other: Step) -> bool
+    ensures { result ≡ is_same_step one other }
+{
+    (is_field(one, "extnID") && is_field(other, "extnID"))
+        || (is_field(one, "type") && is_field(other, "type"))
+}
+
+fn is_same_identifier(line: &Line, other: &Line) -> bool
+    ensures { result ≡ is_same_identifier line.now other.now }
+{
+    are_same(named(&other.value), named(&line.value))
+        || are_same(arcs_of(&other.value), arcs_of(&line.value))
+}
+
+/// Whether two are there, and are the same.
+fn are_same(one: Option<&[u8]>, other: Option<&[u8]>) -> bool
+    ensures { result ≡ are_same (option_map (λ r. r.now) one.entry)
+        (option_map (λ r. r.now) other.entry) }
+{
+    match (one, other) {
+        (Some(one), Some(other)) => has_contents(one, other),
         _ => false,
     }
 }

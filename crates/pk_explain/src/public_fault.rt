@@ -1,20 +1,23 @@
 //! What is known of a fault: the part that is public.
-ghost use Rattle.std.specs.Prelude.{ℕ, ◌≡◌, ◌⊎◌, IfOk, None, OnOk, Some, slice_get};
+ghost use Rattle.std.specs.Prelude.{◌≡◌, IfOk, None, OnOk, Some, length, slice_get};
 ghost use Rattle.std.specs.Option.{is_some};
-ghost use Rattle.pk_explain.specs.Blames.{IsContainerAt, IsContainerOf, IsContainerOrNone, IsKnownOf, IsNearest, IsNumberOf, LeadsTowards, announced_end, end_of};
-ghost use Rattle.pk_explain.specs.Spots.{AddsWay};
+ghost use Rattle.pk_explain.specs.Blames.{IsContainerAt, IsContainerOf, IsNearest, IsNumberOf, announced_end, end_of};
+ghost use Rattle.pk_explain.specs.Dues.{due_at, told_due};
+ghost use Rattle.pk_explain.specs.Faults.{AddsPublicWay, IsKnown, IsKnownInside, IsKnownOutside, IsPublicAround, IsToldContainer, IsToldWay, IsWayInside, case_of, contents_found, is_in_private, may_tell_by, more_inside, more_of, number_at_fault, says_field, sizes_outside_by, sizes_within};
+ghost use Rattle.pk_explain.specs.OwnLines.{line_at, line_of, or_line};
+ghost use Rattle.pk_explain.specs.Public.{is_guarded};
 
 use crate::blame::found_of;
 use crate::fault_line::{first_piece_place, inside_at};
-use crate::inside::{Inside, element_at, subtree};
-use crate::keys::{last_sizes, private_octets};
-use crate::told::{is_near, line_at, line_of, told_inside, told_outside};
-use crate::values::{Rule, Sort, contents_of, is_guarded, sort_of};
+use crate::inside::{Inside, element_at};
+use crate::keys::{less, sizes_at, sizes_inside};
+use crate::told::{Told, is_near, line_at, line_of, told_inside, told_outside};
+use crate::values::{Rule, is_guarded};
 use crate::ways::{Spot, due_of, enclosed, push_spot_way, push_way, spot_of};
 use asn_names::element::{Element, Step};
 use asn_names::naming::Named;
 use asn_shapes::shape::Shape;
-use pk_reports::report::{Container, Due, Line};
+use pk_reports::report::{Container, Due, Found, Line};
 use std::alloc::{AllocError, Global};
 use tlv_core::fault::Fault;
 use tlv_core::reason::Reason;
@@ -54,51 +57,43 @@ pub(crate) struct Refusal<'a> {
 
 /// What is known of the fault that a document is refused for.
 pub(crate) fn public_fault(alloc: Global, refusal: Refusal<'_>) -> Result<PublicFault, AllocError>
-    ensures { IfOk result (λ fault. refusal.entry.fault.inside ≡ None
-        → IsKnownOf refusal.entry.named.now.elements.items refusal.entry.named.now.parting
-        refusal.entry.fault fault) }
+    ensures { IfOk result (λ fault. IsKnown (case_of refusal.entry) fault) }
 {
-    match refusal.fault.inside {
-        Some((at, why)) => match inside_at(refusal.named, refusal.insides, refusal.fault.at) {
-            Some(inside) => fault_inside(alloc, refusal, inside, at, why),
-            None => fault_outside(alloc, refusal),
-        },
+    let Some((at, why)) = refusal.fault.inside else {
+        return fault_outside(alloc, refusal);
+    };
+    match inside_at(refusal.named, refusal.insides, refusal.fault.at) {
+        Some(inside) => fault_inside(alloc, refusal, inside, at, why),
         None => fault_outside(alloc, refusal),
     }
 }
 
-/// Of a fault inside `privateKey`. No header is told.
+/// Of a fault inside an OCTET STRING. No header is told.
 fn fault_inside(
     alloc: Global,
     refusal: Refusal<'_>,
     inside: &Inside,
     at: u64,
     why: Reason,
-) -> Result<PublicFault, AllocError> {
-    let elements = inside.named.elements.as_slice();
+) -> Result<PublicFault, AllocError>
+    ensures { IfOk result (λ fault. IsKnownInside (case_of refusal.entry) inside.now at why fault) }
+{
     let spot = spot_of(&inside.named, at, why);
     let told = told_inside(refusal.lines, refusal.fault.at);
-    let mut way = Vec::new(alloc);
-    push_way(
-        &mut way,
-        refusal.named.elements.as_slice(),
-        inside.container,
-    )?;
-    let mut due = Due::Unsaid;
-    if is_near(elements, spot, told) {
-        push_spot_way(&mut way, elements, spot)?;
-        due = due_of(elements, spot, why, inside.shape);
-    }
-    let line = match line_of(told, elements, spot) {
-        None => line_at(told, at),
-        line => line,
-    };
-    let (key_octets, due_octets) = inside_sizes(refusal, inside, why);
+    let near = is_near(inside.named.elements.as_slice(), spot, told);
+    let way = way_inside(alloc, refusal, inside, near, spot)?;
+    let (key_octets, due_octets) = sizes_within(refusal, inside, why);
     Ok(PublicFault {
-        file_at: first_piece_place(inside, at),
+        file_at: first_piece_place(inside.pieces.as_slice(), at),
         way,
-        due,
-        line,
+        due: told_due(
+            near,
+            inside.named.elements.as_slice(),
+            spot,
+            why,
+            inside.shape,
+        ),
+        line: line_inside(told, inside.named.elements.as_slice(), spot, at),
         header: None,
         container: None,
         more: more_inside(refusal, inside, at, why),
@@ -107,60 +102,101 @@ fn fault_inside(
     })
 }
 
-/// How many octets the private key inside has that is at fault for them, and how many it has to have.
-fn inside_sizes(refusal: Refusal<'_>, inside: &Inside, why: Reason) -> (Option<u64>, Option<u64>) {
-    if why != Reason::KeyLength {
-        return (None, None);
+/// The way to the element that the document is in, and from there to what the fault is about, where that may be told.
+#[tactic(auto, using(crate::proofs::Steps::way_in, crate::proofs::Steps::way_to))]
+fn way_inside(
+    alloc: Global,
+    refusal: Refusal<'_>,
+    inside: &Inside,
+    near: bool,
+    spot: Spot,
+) -> Result<Vec<Step>, AllocError>
+    ensures { IfOk result (λ way. IsWayInside refusal.entry.named.now.elements.items inside.now near
+        spot way.items) }
+{
+    let mut way = Vec::new(alloc);
+    push_way(
+        &mut way,
+        refusal.named.elements.as_slice(),
+        inside.container,
+    )?;
+    if near {
+        push_spot_way(&mut way, inside.named.elements.as_slice(), spot)?;
     }
-    let elements = refusal.named.elements.as_slice();
-    let before = &elements[..inside.container.min(elements.len())];
-    let due = match last_sizes(refusal.octets, before) {
-        Some(sizes) => Some(sizes.private),
-        None => None,
-    };
-    (private_octets(inside.named.elements.as_slice()), due)
+    Ok(way)
 }
 
-/// How many octets follow the document inside, which has so many: where its header is told that they stand in, in one
-/// piece.
-fn more_inside(refusal: Refusal<'_>, inside: &Inside, taken: u64, why: Reason) -> Option<u64> {
-    if why != Reason::Trailing || inside.pieces.len() != 1 {
-        return None;
+/// The number of the line of the element at fault, else of one at its place.
+fn line_inside(told: Told<'_>, elements: &[Element], spot: Spot, at: u64) -> Option<u64>
+    ensures { result ≡ or_line (line_of told.entry.container told.entry.lines.now elements.now spot)
+        (line_at told.entry.container told.entry.lines.now at) }
+{
+    match line_of(told, elements, spot) {
+        None => line_at(told, at),
+        line => line,
     }
-    let line = line_at(told_outside(refusal.lines), refusal.fault.at);
-    let Some(found) = found_of(refusal.lines, line) else {
+}
+
+/// How many octets the private key inside has that is at fault for them, and how many it has to have.
+fn sizes_within(refusal: Refusal<'_>, inside: &Inside, why: Reason) -> (Option<u64>, Option<u64>)
+    ensures { result ≡ sizes_within why (case_of refusal.entry) inside.now }
+{
+    match why {
+        Reason::KeyLength => sizes_inside(
+            refusal.octets,
+            refusal.named.elements.as_slice(),
+            inside,
+        ),
+        _ => (None, None),
+    }
+}
+
+/// How many octets follow the document inside, which has so many: where it stands in one piece, and the header is told
+/// of the element that it is in.
+fn more_inside(refusal: Refusal<'_>, inside: &Inside, taken: u64, why: Reason) -> Option<u64>
+    ensures { result ≡ more_inside why (case_of refusal.entry) inside.now taken }
+{
+    match why {
+        Reason::Trailing if inside.pieces.len() == 1 => {
+            let line = line_at(told_outside(refusal.lines), refusal.fault.at);
+            match contents_found(found_of(refusal.lines, line)) {
+                Some(contents) => less(contents, taken),
+                None => None,
+            }
+        }
+        _ => None,
+    }
+}
+
+/// How many octets the contents of an element have by its header.
+fn contents_found(found: Option<Found>) -> Option<u64>
+    ensures { result ≡ contents_found found }
+{
+    let Some(found) = found else {
         return None;
     };
-    let Some(length) = found.length else {
-        return None;
-    };
-    let Some(contents) = length.contents else {
-        return None;
-    };
-    contents.checked_sub(taken)
+    match found.length {
+        Some(length) => length.contents,
+        None => None,
+    }
 }
 
 /// Of a fault in the file.
 fn fault_outside(alloc: Global, refusal: Refusal<'_>) -> Result<PublicFault, AllocError>
-    ensures { IfOk result (λ fault. IsKnownOf refusal.entry.named.now.elements.items
-        refusal.entry.named.now.parting refusal.entry.fault fault) }
+    ensures { IfOk result (λ fault. IsKnownOutside (case_of refusal.entry) fault) }
 {
-    let elements = refusal.named.elements.as_slice();
     let why = refusal.fault.why;
     let spot = spot_of(refusal.named, refusal.fault.at, why);
-    let told = told_outside(refusal.lines);
-    let line = line_of(told, elements, spot);
-    let near = match refusal.rule {
-        Rule::Guarded => is_near(elements, spot, told) || is_public_key_rule(why),
-        _ => line.is_some() || !is_in_private(elements, spot),
-    };
+    let line = own_line(refusal, spot);
+    let near = may_tell(refusal, spot, line);
+    let elements = refusal.named.elements.as_slice();
     let way = way_towards(alloc, refusal.rule, near, elements, spot)?;
-    let container = container_near(alloc, near, elements, spot, why)?;
-    let (key_octets, due_octets) = outside_sizes(refusal, spot, why);
+    let container = told_container(alloc, near, elements, spot, why)?;
+    let (key_octets, due_octets) = sizes_outside(refusal, spot, why);
     Ok(PublicFault {
         file_at: Some(refusal.fault.at),
         way,
-        due: due_near(near, elements, spot, why, refusal.root),
+        due: told_due(near, elements, spot, why, refusal.root),
         line,
         header: line,
         container,
@@ -170,8 +206,33 @@ fn fault_outside(alloc: Global, refusal: Refusal<'_>) -> Result<PublicFault, All
     })
 }
 
+/// The number of the line of what a fault in the file is about.
+fn own_line(refusal: Refusal<'_>, spot: Spot) -> Option<u64>
+    ensures { result
+        ≡ line_of None refusal.entry.lines.now refusal.entry.named.now.elements.items spot }
+{
+    line_of(
+        told_outside(refusal.lines),
+        refusal.named.elements.as_slice(),
+        spot,
+    )
+}
+
+/// Whether it may be told what is due at a fault in the file, and in what: where a private key may be in the document,
+/// if all before it is told or the reason says as much; else if it has a line or isn't private.
+fn may_tell(refusal: Refusal<'_>, spot: Spot, line: Option<u64>) -> bool
+    ensures { result ≡ may_tell_by (case_of refusal.entry) spot line }
+{
+    let elements = refusal.named.elements.as_slice();
+    if is_guarded(refusal.rule) {
+        is_near(elements, spot, told_outside(refusal.lines)) || says_field(refusal.fault.why)
+    } else {
+        line.is_some() || !is_in_private(elements, spot)
+    }
+}
+
 /// The way to what a fault is about, where that may be told; else, where no private key may be, to what is around it.
-#[tactic(auto, using(crate::proofs::Steps::towards_none, crate::proofs::Steps::towards_other, crate::proofs::Steps::towards_spot))]
+#[tactic(auto, using(crate::proofs::Steps::told_none, crate::proofs::Steps::told_public, crate::proofs::Steps::told_spot))]
 fn way_towards(
     alloc: Global,
     rule: Rule,
@@ -179,7 +240,7 @@ fn way_towards(
     elements: &[Element],
     spot: Spot,
 ) -> Result<Vec<Step>, AllocError>
-    ensures { IfOk result (λ way. LeadsTowards elements.now spot way.items) }
+    ensures { IfOk result (λ way. IsToldWay near (is_guarded rule) elements.now spot way.items) }
 {
     let mut way = Vec::new(alloc);
     if near {
@@ -189,18 +250,14 @@ fn way_towards(
     if is_guarded(rule) {
         return Ok(way);
     }
-    push_public_way(&mut way, elements, spot)?;
+    push_public_way(&mut way, elements, number_at_fault(spot))?;
     Ok(way)
 }
 
 /// What is due, where that may be told.
-fn due_near(
-    near: bool,
-    elements: &[Element],
-    spot: Spot,
-    why: Reason,
-    root: &'static Shape,
-) -> Due {
+fn told_due(near: bool, elements: &[Element], spot: Spot, why: Reason, root: &'static Shape) -> Due
+    ensures { result ≡ told_due near (due_at elements.now spot why root.entry) }
+{
     if near {
         due_of(elements, spot, why, root)
     } else {
@@ -209,14 +266,14 @@ fn due_near(
 }
 
 /// The container that a fault is about, where that may be told.
-fn container_near(
+fn told_container(
     alloc: Global,
     near: bool,
     elements: &[Element],
     spot: Spot,
     why: Reason,
 ) -> Result<Option<Container>, AllocError>
-    ensures { IfOk result (λ told. IsContainerOrNone elements.now why spot told) }
+    ensures { IfOk result (λ told. IsToldContainer near elements.now why spot told) }
 {
     if near {
         container_of(alloc, elements, spot, why)
@@ -226,43 +283,64 @@ fn container_near(
 }
 
 /// Whether the reason alone says which field is refused.
-fn is_public_key_rule(why: Reason) -> bool {
+fn says_field(why: Reason) -> bool
+    ensures { result ≡ says_field why }
+{
     match why {
         Reason::VersionRule | Reason::KeyLength => true,
         _ => false,
     }
 }
 
+/// The number of the container at fault, or of the element.
+fn number_at_fault(spot: Spot) -> Option<usize>
+    ensures { result ≡ number_at_fault spot }
+{
+    match spot.container {
+        Some(container) => Some(container),
+        None => spot.element,
+    }
+}
+
 /// Whether the element or container at fault is in a private one.
-fn is_in_private(elements: &[Element], spot: Spot) -> bool {
-    let number = match (spot.container, spot.element) {
-        (Some(container), _) => container,
-        (None, Some(number)) => number,
-        (None, None) => return false,
+fn is_in_private(elements: &[Element], spot: Spot) -> bool
+    ensures { result ≡ is_in_private elements.now spot }
+{
+    let Some(number) = number_at_fault(spot) else {
+        return false;
     };
-    match elements.get(number) {
+    match element_at(elements, number) {
         Some(element) => element.private,
         None => false,
     }
 }
 
-/// The way to the nearest element around the one at fault that isn't private.
-fn push_public_way(way: &mut Vec<Step>, elements: &[Element], spot: Spot) -> Result<(), AllocError>
-    ensures { OnOk result ((way.new.items ≡ way.old.items)
-        ⊎ ((number : ℕ) × AddsWay elements.now number way.old.items way.new.items)) }
+/// The way to the nearest element around the one of this number that isn't private.
+#[tactic(auto, using(crate::proofs::Steps::no_public_way, crate::proofs::Steps::public_way))]
+fn push_public_way(
+    way: &mut Vec<Step>,
+    elements: &[Element],
+    number: Option<usize>,
+) -> Result<(), AllocError>
+    ensures { OnOk result (AddsPublicWay elements.now number way.old.items way.new.items) }
 {
-    let mut number = match (spot.container, spot.element) {
-        (Some(container), _) => container,
-        (None, Some(number)) => number,
-        (None, None) => return Ok(()),
-    };
-    for _ in 0..64 {
-        match elements.get(number) {
-            Some(element) if element.private => number = element.around as usize,
-            _ => break,
-        }
+    match number {
+        Some(number) => push_way(way, elements, public_around(elements, number)),
+        None => Ok(()),
     }
-    push_way(way, elements, number)
+}
+
+/// The number of the nearest element around the one of this number that isn't private, or its own.
+fn public_around(elements: &[Element], number: usize) -> usize
+    ensures { IsPublicAround elements.now number result }
+{
+    let Some(element) = enclosed(elements, number) else {
+        return number;
+    };
+    if !element.private {
+        return number;
+    }
+    public_around(elements, element.around as usize)
 }
 
 /// Of PastEnd the nearest container of definite length round the element, of Missing the one that has ended.
@@ -347,60 +425,26 @@ fn has_end(elements: &[Element], number: usize) -> bool
 }
 
 /// How many octets follow the document, where that is its fault.
-fn more_of(refusal: Refusal<'_>, why: Reason) -> Option<u64> {
-    if why != Reason::Trailing {
-        return None;
+fn more_of(refusal: Refusal<'_>, why: Reason) -> Option<u64>
+    ensures { result ≡ more_of why (length refusal.entry.octets.now) refusal.entry.fault.at }
+{
+    match why {
+        Reason::Trailing => less(refusal.octets.len() as u64, refusal.fault.at),
+        _ => None,
     }
-    (refusal.octets.len() as u64).checked_sub(refusal.fault.at)
 }
 
 /// How many octets the key has that is at fault for them, and how many it has to have.
-fn outside_sizes(refusal: Refusal<'_>, spot: Spot, why: Reason) -> (Option<u64>, Option<u64>) {
-    let elements = refusal.named.elements.as_slice();
-    let Some(number) = spot.element else {
-        return (None, None);
-    };
-    if why != Reason::KeyLength || number >= elements.len() {
-        return (None, None);
+fn sizes_outside(refusal: Refusal<'_>, spot: Spot, why: Reason) -> (Option<u64>, Option<u64>)
+    ensures { result ≡ sizes_outside_by why (case_of refusal.entry) spot }
+{
+    match why {
+        Reason::KeyLength => sizes_at(
+            refusal.octets,
+            refusal.named.elements.as_slice(),
+            refusal.insides,
+            spot.element,
+        ),
+        _ => (None, None),
     }
-    let before = &elements[..number];
-    let rest = &elements[number..];
-    if sort_of(&elements[number]) == Sort::Bits {
-        return public_sizes(refusal.octets, before, &elements[number]);
-    }
-    let sizes = match last_sizes(refusal.octets, before) {
-        None => last_sizes(refusal.octets, rest),
-        sizes => sizes,
-    };
-    let due = match sizes {
-        Some(sizes) => Some(sizes.private),
-        None => None,
-    };
-    (
-        inside_key_octets(refusal, number, &rest[..subtree(rest)]),
-        due,
-    )
-}
-
-/// How many octets a public key has, and how many it has to have by the elements before.
-fn public_sizes(octets: &[u8], before: &[Element], key: &Element) -> (Option<u64>, Option<u64>) {
-    let size = match contents_of(octets, key) {
-        Some(contents) => (contents.len() as u64).checked_sub(1),
-        None => None,
-    };
-    let due = match last_sizes(octets, before) {
-        Some(sizes) => sizes.public,
-        None => None,
-    };
-    (size, due)
-}
-
-/// The octets of the private key in an element, or in the document inside it.
-fn inside_key_octets(refusal: Refusal<'_>, number: usize, within: &[Element]) -> Option<u64> {
-    for inside in refusal.insides {
-        if inside.container == number {
-            return private_octets(inside.named.elements.as_slice());
-        }
-    }
-    private_octets(within)
 }

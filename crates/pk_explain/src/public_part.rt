@@ -1,12 +1,13 @@
 //! The public part of a document: all that a report is made of.
 ghost use Rattle.std.specs.Prelude.{List, ◌≡◌, IfOk, true};
-ghost use Rattle.pk_explain.specs.Blames.{IsKnownBy};
+ghost use Rattle.pk_explain.specs.FaultLines.{AddsFault};
+ghost use Rattle.pk_explain.specs.Faults.{IsKnownBy, refused_for};
 ghost use Rattle.pk_explain.specs.Kinds.{may_be_private};
 ghost use Rattle.pk_explain.specs.Listings.{IsListed};
 ghost use Rattle.pk_explain.specs.Parts.{IsPublicPart};
 ghost use Rattle.pk_explain.specs.Public.{is_guarded};
-ghost use Rattle.pk_explain.specs.Rules.{fault_of, file_page, point_at, rule_of};
-ghost use Rattle.pk_explain.specs.Tellings.{AddsFault, TellsAll};
+ghost use Rattle.pk_explain.specs.Rules.{fault_of, file_page, point_at, rule_of, told_causes};
+ghost use Rattle.pk_explain.specs.Tellings.{TellsAll};
 ghost use Rattle.pk_reports.specs.declared.report.Line.{Line};
 
 use crate::answer::answer_of;
@@ -22,6 +23,7 @@ use crate::public_fault::{PublicFault, Refusal, public_fault};
 use crate::values::Rule;
 use asn_names::element::{Element, Parting};
 use asn_names::naming::Named;
+use asn_shapes::shape::Shape;
 use pk_documents::kind::Kind;
 use pk_reports::report::{Answer, Cause, KindWords, Line, Looks};
 use std::alloc::{AllocError, Global};
@@ -54,13 +56,14 @@ pub(crate) fn public_part(
 {
     let answer = answer_of(alloc, octets, kind, limits)?;
     let rule = rule_of(kind, answer);
-    let named = named_elements(alloc, octets, shape_of(kind), limits)?;
+    let root = shape_of(kind);
+    let named = named_elements(alloc, octets, root, limits)?;
     let insides = documents_inside(alloc, octets, named.elements.as_slice(), limits)?;
     let lines = told_lines(alloc, octets, rule, answer, &named, insides.as_slice())?;
     let fault = told_fault(
         alloc,
         octets,
-        kind,
+        root,
         rule,
         answer,
         &named,
@@ -119,8 +122,8 @@ fn told_lines(
         → TellsAll octets.now named.now.elements.items insides.now lines.items) }
     ensures listed { IfOk result (λ lines. (told : List Line)
         × IsListed rule (point_at answer named.now.parting) (fault_of answer)
-        (file_page octets.now named.now.elements.items) insides.now told
-        × AddsFault (fault_of answer) told lines.items) }
+        (file_page answer octets.now named.now.elements.items) insides.now told
+        × AddsFault named.now.elements.items insides.now (fault_of answer) told lines.items) }
 {
     let elements = named.elements.as_slice();
     let causes = told_causes(alloc, octets, answer, elements)?;
@@ -152,7 +155,9 @@ fn told_causes(
     octets: &[u8],
     answer: Answer,
     elements: &[Element],
-) -> Result<Vec<Option<Cause>>, AllocError> {
+) -> Result<Vec<Option<Cause>>, AllocError>
+    ensures { IfOk result (λ causes. causes.items ≡ told_causes answer octets.now elements.now) }
+{
     match answer {
         Answer::NotDer(_) => causes_of(alloc, octets, elements),
         _ => Ok(Vec::new(alloc)),
@@ -163,15 +168,15 @@ fn told_causes(
 fn told_fault(
     alloc: Global,
     octets: &[u8],
-    kind: Kind,
+    root: &'static Shape,
     rule: Rule,
     answer: Answer,
     named: &Named,
     insides: &[Inside],
     lines: &[Line],
 ) -> Result<Option<PublicFault>, AllocError>
-    ensures { IfOk result (λ fault.
-        IsKnownBy named.now.elements.items named.now.parting answer fault) }
+    ensures { IfOk result (λ fault. IsKnownBy (refused_for rule octets.now root.entry
+        named.now.elements.items named.now.parting insides.now lines.now) answer fault) }
 {
     let Answer::Refused(fault) = answer else {
         return Ok(None);
@@ -180,7 +185,7 @@ fn told_fault(
         rule,
         fault,
         octets,
-        root: shape_of(kind),
+        root,
         named,
         insides,
         lines,

@@ -216,7 +216,8 @@ pub(crate) fn contents_of<'a>(octets: &'a [u8], element: &Element) -> Option<&'a
     }
 }
 
-fn octets_between(octets: &[u8], begin: u64, end: u64) -> Option<&[u8]>
+/// The octets between two places, where they are there.
+pub(crate) fn octets_between(octets: &[u8], begin: u64, end: u64) -> Option<&[u8]>
     ensures { option_map (λ r. r.now) result ≡ between octets.now (Some begin) (Some end) }
 {
     if begin <= end && end <= octets.len() as u64 {

@@ -1,6 +1,7 @@
 //! Where a fault lies: the element or the container, by its way from the outermost element.
 ghost use Rattle.std.specs.Prelude.{◌<◌, ◌≡◌, ◌++◌, IfSome, OnOk, drop};
 ghost use Rattle.std.specs.Option.{option_map};
+ghost use Rattle.pk_explain.specs.Dues.{due_at, number_due, reason_due};
 ghost use Rattle.pk_explain.specs.Spots.{AddsWay, AddsWayTo, at_element, due_step, due_steps, enclosed, is_outside_of, is_sequence, key_in, number_from, own_step, private_from, spot_at, unfinished, where_parting, where_placed};
 
 use crate::inside::element_at;
@@ -164,25 +165,41 @@ fn unfinished(elements: &[Element], parting: &Parting) -> Option<usize>
     }
 }
 
-/// What is due, by the level or by the element's own type.
-pub(crate) fn due_of(elements: &[Element], spot: Spot, why: Reason, root: &'static Shape) -> Due {
+/// What is due: what may stand next in the container at fault; else the outermost type, where another tag stands; else the
+/// element's own type, where that has the wrong form.
+pub(crate) fn due_of(elements: &[Element], spot: Spot, why: Reason, root: &'static Shape) -> Due
+    ensures { result ≡ due_at elements.now spot why root.entry }
+{
     match spot.level {
-        Some(Level::Fields(fields)) => return Due::Fields(fields),
-        Some(Level::Members(shape, _, _)) => return Due::Type(shape),
-        _ => {}
+        Some(Level::Fields(fields)) => Due::Fields(fields),
+        Some(Level::Members(shape, _, _)) => Due::Type(shape),
+        _ => reason_due(elements, spot, why, root),
     }
-    if why == Reason::WrongTag && spot.container.is_none() {
-        return Due::Type(root);
+}
+
+fn reason_due(elements: &[Element], spot: Spot, why: Reason, root: &'static Shape) -> Due
+    ensures { result ≡ reason_due elements.now spot why spot.container root.entry }
+{
+    match (why, spot.container) {
+        (Reason::WrongTag, None) => Due::Type(root),
+        (Reason::WrongForm, _) => number_due(elements, spot.element),
+        _ => Due::Unsaid,
     }
-    match (why, spot.element) {
-        (Reason::WrongForm, Some(number)) => match elements.get(number) {
-            Some(element) => match element.shape {
-                Some(shape) => Due::Type(shape),
-                None => Due::Unsaid,
-            },
+}
+
+/// A value of the element's own type.
+fn number_due(elements: &[Element], number: Option<usize>) -> Due
+    ensures { result ≡ number_due elements.now number }
+{
+    let Some(number) = number else {
+        return Due::Unsaid;
+    };
+    match element_at(elements, number) {
+        Some(element) => match element.shape {
+            Some(shape) => Due::Type(shape),
             None => Due::Unsaid,
         },
-        _ => Due::Unsaid,
+        None => Due::Unsaid,
     }
 }
 

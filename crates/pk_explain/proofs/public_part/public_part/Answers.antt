@@ -1,4 +1,6 @@
 use Rattle.std.proofs.Common.{length, rules, subst}
+use Rattle.pk_explain.specs.FaultLines.{AddsFault}
+use Rattle.pk_explain.specs.Faults.{IsKnownBy, refused_for}
 use Rattle.pk_explain.specs.Insides.{AreInsides, HasInsides}
 use Rattle.pk_explain.specs.Kinds.{may_be_private}
 use Rattle.pk_explain.specs.Listings.{IsListed}
@@ -15,8 +17,8 @@ returns c =
       octets = search rules;
       answer = search rules;
       listing = record {
-        root = c.shape_of.result;
-        type = c.shape_of.ensures;
+        root = c.shape_of-root.result;
+        type = c.shape_of-root.ensures;
         elements = c.in_ok-named.named.elements.items;
         parting = c.in_ok-named.named.parting;
         is_named = c.in_ok-named.ensures;
@@ -29,19 +31,24 @@ returns c =
         listed = subst
             (λ rule.
             IsListed rule (point_at c.in_ok-answer.answer c.in_ok-named.named.parting) (fault_of c.in_ok-answer.answer)
-            (file_page c.args.octets.now c.in_ok-named.named.elements.items) c.in_ok-insides.insides.items told.0)
+            (file_page c.in_ok-answer.answer c.args.octets.now c.in_ok-named.named.elements.items)
+            c.in_ok-insides.insides.items told.0)
             c.rule_of-rule.ensures
             (subst
             (λ insides.
             IsListed c.rule_of-rule.result (point_at c.in_ok-answer.answer c.in_ok-named.named.parting)
             (fault_of c.in_ok-answer.answer)
-            (file_page c.args.octets.now c.in_ok-named.named.elements.items) insides told.0)
+            (file_page c.in_ok-answer.answer c.args.octets.now c.in_ok-named.named.elements.items) insides told.0)
             c.as_slice-2.ensures.value told.1);
-        adds = told.2;
+        adds = subst
+            (λ insides.
+            AddsFault c.in_ok-named.named.elements.items insides (fault_of c.in_ok-answer.answer) told.0
+            c.in_ok-lines.lines.items)
+            c.as_slice-2.ensures.value told.2;
       };
       guarded = λ private refused. record {
-        root = c.shape_of.result;
-        type = c.shape_of.ensures;
+        root = c.shape_of-root.result;
+        type = c.shape_of-root.ensures;
         named = (c.in_ok-named.named.elements.items, c.in_ok-named.named.parting);
         is_named = c.in_ok-named.ensures;
         insides = c.in_ok-insides.insides.items;
@@ -54,5 +61,23 @@ returns c =
             (c.in_ok-lines.ensures.guarded
             (reported (may_be_private c.args.kind) _ _ c.rule_of-rule.ensures private refused));
       };
-      fault = c.in_ok-fault.ensures;
+      fault = subst
+          (λ rule.
+          IsKnownBy (refused_for rule c.args.octets.now c.shape_of-root.result c.in_ok-named.named.elements.items
+          c.in_ok-named.named.parting c.in_ok-insides.insides.items c.in_ok-lines.lines.items)
+          c.in_ok-answer.answer c.in_ok-fault.fault)
+          c.rule_of-rule.ensures
+          (subst
+          (λ insides.
+          IsKnownBy (refused_for c.rule_of-rule.result c.args.octets.now c.shape_of-root.result
+          c.in_ok-named.named.elements.items c.in_ok-named.named.parting insides c.in_ok-lines.lines.items)
+          c.in_ok-answer.answer c.in_ok-fault.fault)
+          c.as_slice-3.ensures.value
+          (subst
+          (λ lines.
+          IsKnownBy (refused_for c.rule_of-rule.result c.args.octets.now c.shape_of-root.result
+          c.in_ok-named.named.elements.items c.in_ok-named.named.parting c.as_slice-3.result.now lines)
+          c.in_ok-answer.answer c.in_ok-fault.fault)
+          c.as_slice-4.ensures.value c.in_ok-fault.ensures));
+      looks = c.in_ok-looks.ensures;
     }

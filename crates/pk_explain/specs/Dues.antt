@@ -1,0 +1,46 @@
+-- What is due where a document is refused.
+use Rattle.std.specs.Prelude.{List, None, Option, Some, cond, slice_get, ℕ, Bool}
+use Rattle.std.specs.Borrow.{Bor}
+use Rattle.asn_names.specs.declared.element.Element.{Element}
+use Rattle.asn_names.specs.declared.element.Level.{Level}
+use Rattle.asn_names.specs.declared.element.Level.TheVariants as levels
+use Rattle.asn_shapes.specs.declared.shape.Shape.{Shape}
+use Rattle.tlv_core.specs.declared.reason.Reason.{Reason}
+use Rattle.tlv_core.specs.declared.reason.Reason.TheVariants as reasons
+use Rattle.pk_explain.specs.declared.ways.Spot.{Spot}
+use Rattle.pk_reports.specs.declared.report.Due.{Due}
+use Rattle.pk_reports.specs.declared.report.Due.TheVariants.{Fields, «Type» as OfType, Unsaid}
+
+abbrev pub type_due : Option (Bor Shape) → Due
+type_due None = Unsaid
+type_due (Some shape) = OfType shape
+
+-- a value of the element's own type
+abbrev pub element_due : Option Element → Due
+element_due None = Unsaid
+element_due (Some element) = type_due element.shape
+
+abbrev pub number_due : List Element → Option ℕ → Due
+number_due elements None = Unsaid
+number_due elements (Some number) = element_due (slice_get elements number)
+
+-- Where another tag stands that of the outermost type; where an element has the wrong form its own type.
+abbrev pub reason_due : List Element → Spot → Reason → Option ℕ → Bor Shape → Due
+reason_due elements spot reasons.WrongTag None root = OfType root
+reason_due elements spot reasons.WrongTag (Some container) root = Unsaid
+reason_due elements spot reasons.WrongForm container root = number_due elements spot.element
+reason_due elements spot _ container root = Unsaid
+
+-- What may stand next in the container at fault.
+abbrev pub level_due : Option Level → Due → Due
+level_due None other = other
+level_due (Some (levels.Fields fields)) other = Fields fields
+level_due (Some (levels.Members shape least number)) other = OfType shape
+level_due (Some (levels.Segments number)) other = other
+
+abbrev pub due_at : List Element → Spot → Reason → Bor Shape → Due
+due_at elements spot why root = level_due spot.level (reason_due elements spot why spot.container root)
+
+-- the same, where it may be told
+abbrev pub told_due : Bool → Due → Due
+told_due told due = cond told due Unsaid
