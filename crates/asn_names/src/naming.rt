@@ -30,8 +30,9 @@ pub fn name_elements(
     ensures { IfOk result (λ named. (named.elements.items, named.parting)
         ≡ named_by document.now events.now stop root.entry) }
 {
+    // (at most one for each event, and the one in which reading stops)
     let mut walk = Walk {
-        elements: Vec::new(alloc),
+        elements: Vec::with_capacity(alloc, events.len().saturating_add(1))?,
         containers: Vec::new(alloc),
     };
     let subject = Subject { document, root };
@@ -39,6 +40,7 @@ pub fn name_elements(
         Some(parting) => parting,
         None => stop_walk(&mut walk, document, root, stop)?,
     };
+    walk.elements.shrink_to_fit();
     Ok(Named {
         elements: walk.elements,
         parting,

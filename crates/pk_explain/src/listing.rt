@@ -397,7 +397,7 @@ pub(crate) fn lines_of(
     ensures listed { IfOk result (λ lines. SkipsIn sheet.entry
         → IsListed rule point fault (page_of sheet.entry) insides.now lines.items) }
 {
-    let mut lines: Vec<Line> = Vec::new(alloc);
+    let mut lines: Vec<Line> = Vec::with_capacity(alloc, most_lines(sheet.elements, insides))?;
     let mut numbers = Vec::with_capacity(alloc, sheet.elements.len())?;
     let mut walk = walk_start();
     let mut left = insides;
@@ -412,6 +412,15 @@ pub(crate) fn lines_of(
         walk = next;
     }
     Ok(lines)
+}
+
+/// How many lines there are at most: one of each element, and one of the fault.
+fn most_lines(elements: &[Element], insides: &[Inside]) -> usize {
+    let mut count = elements.len().saturating_add(1);
+    for inside in insides {
+        count = count.saturating_add(inside.named.elements.len());
+    }
+    count
 }
 
 /// The lines of the document inside an element that has the line of this number, where there is one and it was taken
