@@ -552,7 +552,10 @@ class Refused:
     def __init__(self, record, crate):
         self.record, self.crate, self.of_all = record, crate, record.sum_of_all(crate)
         self.file = f"{KEPT}/{crate.name}-{self.of_all}"
-        self.known = {*text_of(self.file).split()} if os.path.isfile(self.file) else set()
+        self.known = self.in_file()
+
+    def in_file(self):
+        return {*text_of(self.file).split()} if os.path.isfile(self.file) else set()
 
     def sum_of(self, edit):
         return hashlib.sha256(f"{self.of_all} {edit.name} {edit.changes}".encode()).hexdigest()
@@ -571,7 +574,8 @@ class Refused:
         is_false = any(self.sum_of(it) in self.known for it, text in ended.items() if not is_well(text))
         if self.record.sum_of_all(self.crate) != self.of_all:
             return
-        self.known = refused if is_false else self.known | refused
+        # (another run may have kept some of its own meanwhile)
+        self.known = refused if is_false else self.known | self.in_file() | refused
         try:
             os.makedirs(KEPT, exist_ok=True)
             with open(f"{self.file}.{os.getpid()}", "w", encoding="utf-8") as it:
