@@ -1,8 +1,9 @@
 -- What a report tells of contents. A refused private key tells its versions and its identifiers alone; any document
 -- tells the number of the octets of what is private, of keys and signatures, and of strings that aren't a subject's.
-use Rattle.std.specs.Prelude.{Bool, List, None, Option, Some, [], cond, false, length, nat_le, not, true, ℕ, ◌&&◌, ◌==◌, ◌||◌, ◌∷◌, ◌<◌, ◌≡◌, codes}
+use Rattle.std.specs.Prelude.{Bool, List, None, Option, Some, [], cond, false, length, nat_le, nat_lt, not, true, ℕ, ◌&&◌, ◌==◌, ◌||◌, ◌∷◌, ◌<◌, ◌≡◌, ◌⊎◌, codes}
 use Rattle.std.specs.Option.{option_map}
 use Rattle.tlv_core.specs.Identifier.{Tag}
+use Rattle.tlv_core.specs.ObjectIdentifier.{IsObjectIdentifier}
 use Rattle.x690.specs.Lists.{same_octets}
 use Rattle.asn_names.specs.declared.element.Element.{Element}
 use Rattle.asn_names.specs.declared.element.Step.{Step}
@@ -85,13 +86,33 @@ sort_by tag (Some shape) = sort_of_type tag shape
 abbrev pub sort_of : Element → Sort
 sort_of element = sort_by element.header.tag (option_map (λ r. r.now) element.shape)
 
--- The value says no more than what contents of this sort are.
+abbrev pub is_small : List ℕ → Bool
+is_small [] = false
+is_small (octet ∷ []) = nat_lt octet 128
+is_small (octet ∷ (other ∷ octets)) = false
+
+abbrev pub has_unused : List ℕ → Bool
+has_unused [] = false
+has_unused (unused ∷ octets) = nat_lt unused 8
+
+-- Of contents of this sort their number alone is told: they aren't short, or aren't what they have to be.
+abbrev pub IsSizeAlone : Rule → Sort → List ℕ → Type 0
+IsSizeAlone rule Null contents = (length contents == 0) ≡ false
+IsSizeAlone rule Boolean contents = (length contents == 1) ≡ false
+IsSizeAlone rule Integer contents = is_small contents ≡ false
+IsSizeAlone rule Bits contents = has_unused contents ≡ false
+IsSizeAlone rule Characters contents = ⊥
+IsSizeAlone rule Octets contents = Unit {0}
+IsSizeAlone rule IdentifierSort contents =
+    (usual contents ≡ None) × ((is_guarded rule ≡ true) ⊎ (IsObjectIdentifier contents → ⊥))
+
+-- The value says what contents of this sort are.
 abbrev pub Says : Rule → Sort → List ℕ → Value → Type 0
 Says rule sort contents values.Nothing = ⊥
 Says rule sort contents values.NotShown = ⊥
-Says rule sort contents (values.Size number) = number ≡ length contents
+Says rule sort contents (values.Size number) = (number ≡ length contents) × IsSizeAlone rule sort contents
 Says rule sort contents (values.Bits number unused) =
-    (sort ≡ Bits) × (octets : List ℕ) × (contents ≡ unused ∷ octets) × (number ≡ length octets)
+    (sort ≡ Bits) × (octets : List ℕ) × (contents ≡ unused ∷ octets) × (number ≡ length octets) × (unused < 8)
 Says rule sort contents values.Null = (sort ≡ Null) × (contents ≡ [])
 Says rule sort contents (values.Boolean is) =
     (sort ≡ Boolean) × (octet : ℕ) × (contents ≡ octet ∷ []) × (is ≡ not (octet == 0))

@@ -1,7 +1,8 @@
 //! What contents say, and whether a report tells it.
-ghost use Rattle.std.specs.Prelude.{◌≡◌, ◌==◌, IfOk, cond};
+ghost use Rattle.std.specs.Prelude.{◌≡◌, ◌==◌, IfOk, cond, length};
 ghost use Rattle.std.specs.Option.{option_map};
 ghost use Rattle.pk_explain.specs.Contents.{between, contents_in};
+ghost use Rattle.pk_explain.specs.declared.values.Rule.{Rule};
 ghost use Rattle.pk_explain.specs.Public.{Says, Tells, is_field, is_guarded, is_public, sort_of, sort_of_leaf, sort_of_number, tells_all};
 
 use asn_names::element::{Element, Step};
@@ -140,17 +141,56 @@ pub(crate) fn told_value(
 fn value_of(alloc: Global, rule: Rule, sort: Sort, contents: &[u8]) -> Result<Value, AllocError>
     ensures { IfOk result (λ value. Says rule sort contents.now value) }
 {
-    let size = Value::Size(contents.len() as u64);
-    match (sort, contents) {
-        (Sort::Boolean, [octet]) => Ok(Value::Boolean(*octet != 0)),
-        (Sort::Integer, [octet]) if *octet < 128 => Ok(Value::Number(*octet)),
-        (Sort::Null, []) => Ok(Value::Null),
-        (Sort::Identifier, _) => identifier_value(alloc, rule, contents),
-        (Sort::Bits, [unused, behind @ ..]) if *unused < 8 => {
-            Ok(Value::Bits(behind.len() as u64, *unused))
-        }
-        (Sort::Characters, _) => Ok(Value::Characters(contents.to_vec(alloc)?)),
-        _ => Ok(size),
+    match sort {
+        Sort::Boolean => Ok(boolean_value(contents)),
+        Sort::Integer => Ok(integer_value(contents)),
+        Sort::Null => Ok(null_value(contents)),
+        Sort::Identifier => identifier_value(alloc, rule, contents),
+        Sort::Bits => Ok(bits_value(contents)),
+        Sort::Characters => Ok(Value::Characters(contents.to_vec(alloc)?)),
+        Sort::Octets => Ok(size_alone(contents)),
+    }
+}
+
+fn size_alone(contents: &[u8]) -> Value
+    ensures { result ≡ Value.Size (length contents.now) }
+{
+    Value::Size(contents.len() as u64)
+}
+
+fn boolean_value(contents: &[u8]) -> Value
+    ensures { (rule : Rule) → Says rule Sort.Boolean contents.now result }
+{
+    match contents {
+        [octet] => Value::Boolean(*octet != 0),
+        _ => size_alone(contents),
+    }
+}
+
+fn integer_value(contents: &[u8]) -> Value
+    ensures { (rule : Rule) → Says rule Sort.Integer contents.now result }
+{
+    match contents {
+        [octet] if *octet < 128 => Value::Number(*octet),
+        _ => size_alone(contents),
+    }
+}
+
+fn null_value(contents: &[u8]) -> Value
+    ensures { (rule : Rule) → Says rule Sort.Null contents.now result }
+{
+    match contents {
+        [] => Value::Null,
+        _ => size_alone(contents),
+    }
+}
+
+fn bits_value(contents: &[u8]) -> Value
+    ensures { (rule : Rule) → Says rule Sort.Bits contents.now result }
+{
+    match contents {
+        [unused, behind @ ..] if *unused < 8 => Value::Bits(behind.len() as u64, *unused),
+        _ => size_alone(contents),
     }
 }
 
