@@ -1,7 +1,7 @@
 -- What is known of a fault. Where a private key may be in the document, no more than what stands before it tells.
 use Rattle.std.specs.Prelude.{Bool, List, None, Option, Some, [], cond, false, length, nat_lt, not, slice_get, suc, true, zero, ℕ, ◌++◌, ◌==◌, ◌&&◌, ◌||◌, ◌∷◌, ◌≡◌}
 use Rattle.std.specs.Borrow.{Bor}
-use Rattle.std.specs.Option.{is_some}
+use Rattle.std.specs.Option.{is_some, option_or}
 use Rattle.asn_names.specs.declared.element.Element.{Element}
 use Rattle.asn_names.specs.declared.element.Parting.{Parting}
 use Rattle.asn_names.specs.declared.element.Step.{Step}
@@ -12,7 +12,7 @@ use Rattle.tlv_core.specs.declared.reason.Reason.TheVariants as reasons
 use Rattle.pk_explain.specs.Blames.{IsContainerOf, found_of}
 use Rattle.pk_explain.specs.Dues.{due_at, told_due}
 use Rattle.pk_explain.specs.KeyOctets.{less, sizes_at, sizes_inside}
-use Rattle.pk_explain.specs.OwnLines.{is_near, line_at, line_of, or_line}
+use Rattle.pk_explain.specs.OwnLines.{is_near, line_at, line_of}
 use Rattle.pk_explain.specs.Places.{end_of, place_of}
 use Rattle.pk_explain.specs.Public.{is_guarded}
 use Rattle.pk_explain.specs.Spots.{IsWay, IsWayTo, enclosed, spot_at}
@@ -67,7 +67,7 @@ refused_for rule octets root elements parting insides lines fault = record {
 
 -- the element or the container at fault
 abbrev pub number_at_fault : Spot → Option ℕ
-number_at_fault spot = or_line spot.container spot.element
+number_at_fault spot = option_or spot.container spot.element
 
 abbrev pub is_private_of : Option Element → Bool
 is_private_of None = false
@@ -170,17 +170,13 @@ inside_at elements [] at = None
 inside_at elements (inside ∷ insides) at =
     cond (stands_at at (slice_get elements inside.container)) (Some inside) (inside_at elements insides at)
 
-abbrev pub is_one : List Piece → Bool
-is_one [] = true
-is_one (piece ∷ pieces) = false
-
 -- The place in the file of one inside, where it stands in the first segment: where a later one begins private octets may
 -- say.
 abbrev pub first_piece_place : List Piece → ℕ → Option ℕ
 first_piece_place [] at = None
 first_piece_place (first ∷ pieces) at =
     cond (nat_lt at first.octets) (place_of (first ∷ pieces) at)
-    (cond ((at == first.octets) && is_one pieces) (end_of (first ∷ pieces) at) None)
+    (cond ((at == first.octets) && (length pieces == 0)) (end_of (first ∷ pieces) at) None)
 
 -- what a fault inside is about; whether all before it is told
 abbrev pub spot_in : Inside → ℕ → Reason → Spot
@@ -205,7 +201,7 @@ pub record IsWayInside (elements : List Element) (inside : Inside) (near : Bool)
 -- the line of the element at fault, else one at its place
 abbrev pub line_inside : Case → Inside → Spot → ℕ → Option ℕ
 line_inside case inside spot at =
-    or_line (line_of (Some case.fault.at) case.lines inside.named.elements.items spot)
+    option_or (line_of (Some case.fault.at) case.lines inside.named.elements.items spot)
     (line_at (Some case.fault.at) case.lines at)
 
 -- How many octets follow the document inside, which has so many: where it stands in one piece, and the header is told of

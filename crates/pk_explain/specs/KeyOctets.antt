@@ -1,5 +1,6 @@
 -- How many octets the keys of a document have, and how many they have to have.
 use Rattle.std.specs.Prelude.{Bool, List, None, Option, Some, [], cond, drop, false, length, nat_le, nat_lt, slice_get, take, true, ℕ, ◌-◌, ◌==◌, ◌&&◌, ◌∷◌}
+use Rattle.std.specs.Option.{option_or}
 use Rattle.asn_names.specs.declared.element.Element.{Element}
 use Rattle.asn_outline.specs.declared.announced.Announced.{Announced}
 use Rattle.pk_explain.specs.Blames.{far_from}
@@ -28,15 +29,11 @@ sizes_in Octets contents = None
 abbrev pub said_sizes : List ℕ → Element → Option KeySizes
 said_sizes octets element = sizes_in (sort_of element) (contents_in octets element)
 
-abbrev pub or_sizes : Option KeySizes → Option KeySizes → Option KeySizes
-or_sizes None other = other
-or_sizes (Some sizes) other = Some sizes
-
 -- the sizes that the last of the elements says which says some; else these
 abbrev pub last_sizes : List ℕ → Option KeySizes → List Element → Option KeySizes
 last_sizes octets sizes [] = sizes
 last_sizes octets sizes (element ∷ elements) =
-    last_sizes octets (or_sizes (said_sizes octets element) sizes) elements
+    last_sizes octets (option_or (said_sizes octets element) sizes) elements
 
 -- The contents octets of an element, where its length is of the short form (X.690 8.1.3.4).
 abbrev pub short_by : ℕ → ℕ → Option ℕ → Option ℕ
@@ -109,7 +106,7 @@ sizes_of_element octets elements insides number (Some element) =
       )
       | false ↦ (
         octets_inside number insides (private_octets (drop number elements)),
-        private_size (or_sizes (last_sizes octets None (take number elements))
+        private_size (option_or (last_sizes octets None (take number elements))
             (last_sizes octets None (drop number elements))),
       )
     ]

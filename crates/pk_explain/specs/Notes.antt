@@ -56,12 +56,12 @@ public_octets algorithm =
     (option_or (length_under ml_kem_lengths algorithm)
     (option_or (length_under slh_dsa_sha2_lengths algorithm) (length_under slh_dsa_shake_lengths algorithm)))
 
--- the contents octets of the object identifier that a value is, where it has a usual name
+-- the contents octets of an object identifier that has a usual name
 abbrev pub named : Value → Option (List ℕ)
 named (Named identifier) = Some identifier.now.contents.now
 named _ = None
 
--- its arcs, where it has none
+-- the arcs of one that has none, in decimal
 abbrev pub arcs_of : Value → Option (List ℕ)
 arcs_of (Arcs text) = Some (string_bytes text)
 arcs_of _ = None

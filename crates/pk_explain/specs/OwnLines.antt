@@ -68,7 +68,3 @@ line_of_number container lines elements (Some number) =
 -- the number of the line of the element at fault
 abbrev pub line_of : Option ℕ → List Line → List Element → Spot → Option ℕ
 line_of container lines elements spot = line_of_number container lines elements spot.element
-
-abbrev pub or_line : Option ℕ → Option ℕ → Option ℕ
-or_line None other = other
-or_line (Some number) other = Some number

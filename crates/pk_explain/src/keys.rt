@@ -1,9 +1,10 @@
 //! How many octets keys have (RFC 7748, RFC 8032, RFC 5915 section 3).
 ghost use Rattle.std.specs.Prelude.{◌≡◌, None};
+ghost use Rattle.std.specs.Option.{option_or};
 ghost use Rattle.pkix_types.specs.Identifiers.{curve_lengths, length_under, rfc8410_lengths};
 ghost use Rattle.x690.specs.Lists.{same_octets};
 ghost use Rattle.pk_explain.specs.Contents.{contents_in};
-ghost use Rattle.pk_explain.specs.KeyOctets.{bits_octets, deeper_key_octets, last_sizes, less, octets_inside, or_sizes, private_octets, private_size, public_size, said_sizes, short_octets, sizes_at, sizes_inside};
+ghost use Rattle.pk_explain.specs.KeyOctets.{bits_octets, deeper_key_octets, last_sizes, less, octets_inside, private_octets, private_size, public_size, said_sizes, short_octets, sizes_at, sizes_inside};
 ghost use Rattle.pk_explain.specs.Keys.{sizes_of};
 
 use crate::inside::{Inside, element_at};
@@ -107,7 +108,7 @@ fn said_sizes(octets: &[u8], element: &Element) -> Option<KeySizes>
 }
 
 pub(crate) fn or_sizes(sizes: Option<KeySizes>, other: Option<KeySizes>) -> Option<KeySizes>
-    ensures { result ≡ or_sizes sizes other }
+    ensures { result ≡ option_or sizes other }
 {
     match sizes {
         Some(sizes) => Some(sizes),

@@ -91,7 +91,7 @@ fn context_behind(context: Context, line: &Line) -> Context
     }
 }
 
-/// The contents octets of the object identifier that a value is, where it has a usual name.
+/// The contents octets of an object identifier that has a usual name.
 fn named(value: &Value) -> Option<&'static [u8]>
     ensures { option_map (λ r. r.now) result ≡ named value.now }
 {
@@ -101,7 +101,7 @@ fn named(value: &Value) -> Option<&'static [u8]>
     }
 }
 
-/// Its arcs, where it has none.
+/// The arcs of one that has none, in decimal.
 fn arcs_of(value: &Value) -> Option<&[u8]>
     ensures { option_map (λ r. r.now) result ≡ arcs_of value.now }
 {

@@ -1,10 +1,10 @@
 //! What is known of a fault: the part that is public.
 ghost use Rattle.std.specs.Prelude.{◌≡◌, IfOk, None, OnOk, Some, length, slice_get};
-ghost use Rattle.std.specs.Option.{is_some};
+ghost use Rattle.std.specs.Option.{is_some, option_or};
 ghost use Rattle.pk_explain.specs.Blames.{IsContainerAt, IsContainerOf, IsNearest, IsNumberOf, announced_end, end_of};
 ghost use Rattle.pk_explain.specs.Dues.{due_at, told_due};
 ghost use Rattle.pk_explain.specs.Faults.{AddsPublicWay, IsKnown, IsKnownInside, IsKnownOutside, IsPublicAround, IsToldContainer, IsToldWay, IsWayInside, case_of, contents_found, is_in_private, may_tell_by, more_inside, more_of, number_at_fault, says_field, sizes_outside_by, sizes_within};
-ghost use Rattle.pk_explain.specs.OwnLines.{line_at, line_of, or_line};
+ghost use Rattle.pk_explain.specs.OwnLines.{line_at, line_of};
 ghost use Rattle.pk_explain.specs.Public.{is_guarded};
 
 use crate::blame::found_of;
@@ -128,7 +128,7 @@ fn way_inside(
 
 /// The number of the line of the element at fault, else of one at its place.
 fn line_inside(told: Told<'_>, elements: &[Element], spot: Spot, at: u64) -> Option<u64>
-    ensures { result ≡ or_line (line_of told.entry.container told.entry.lines.now elements.now spot)
+    ensures { result ≡ option_or (line_of told.entry.container told.entry.lines.now elements.now spot)
         (line_at told.entry.container told.entry.lines.now at) }
 {
     match line_of(told, elements, spot) {
