@@ -1,9 +1,10 @@
 -- What a report tells of contents. A refused private key tells its versions and its identifiers alone; any document
 -- tells the number of the octets of what is private, of keys and signatures, and of strings that aren't a subject's.
-use Rattle.std.specs.Prelude.{Bool, List, None, Option, Some, [], cond, false, length, nat_le, nat_lt, not, true, ℕ, ◌&&◌, ◌==◌, ◌||◌, ◌∷◌, ◌<◌, ◌≡◌, ◌⊎◌, codes}
+use Rattle.std.specs.Prelude.{Bool, List, None, Option, Some, [], cond, false, length, nat_le, nat_lt, not, string_bytes, true, ℕ, ◌&&◌, ◌==◌, ◌||◌, ◌∷◌, ◌<◌, ◌≡◌, ◌⊎◌, codes}
 use Rattle.std.specs.Option.{option_map}
 use Rattle.tlv_core.specs.Identifier.{Tag}
 use Rattle.tlv_core.specs.ObjectIdentifier.{IsObjectIdentifier}
+use Rattle.tlv_core.specs.Texts.{oid_text}
 use Rattle.x690.specs.Lists.{same_octets}
 use Rattle.asn_names.specs.declared.element.Element.{Element}
 use Rattle.asn_names.specs.declared.element.Step.{Step}
@@ -121,6 +122,7 @@ Says rule sort contents (values.Named known) =
     (sort ≡ IdentifierSort) × (usual contents ≡ Some (row_of known.now))
 Says rule sort contents (values.Arcs text) =
     (sort ≡ IdentifierSort) × (usual contents ≡ None) × (is_guarded rule ≡ false)
+    × IsObjectIdentifier contents × (string_bytes text ≡ oid_text contents)
 Says rule sort contents (values.Characters octets) = (sort ≡ Characters) × (octets.items ≡ contents)
 
 -- What is told of the contents of an element: their number alone where it is private, or where they aren't public.

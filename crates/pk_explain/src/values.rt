@@ -8,11 +8,11 @@ ghost use Rattle.pk_explain.specs.Public.{Says, Tells, is_field, is_guarded, is_
 use asn_names::element::{Element, Step};
 use asn_shapes::identifiers::identifier_of;
 use asn_shapes::shape::{Contents, Shape};
-use itoa::Buffer;
 use pk_reports::report::Value;
 use std::alloc::{AllocError, Global};
 use tlv_core::oid::{Oid, OidError};
 use tlv_core::tag::{Class, Tag};
+use tlv_core::text::push_oid;
 
 /// How much a report tells.
 #[derive(Clone, Copy)]
@@ -132,7 +132,7 @@ pub(crate) fn told_value(
 {
     let sort = sort_of(element);
     if element.private || !is_public(rule, sort, element.step) {
-        return Ok(Value::Size(contents.len() as u64));
+        return Ok(size_alone(contents));
     }
     value_of(alloc, rule, sort, contents)
 }
@@ -202,35 +202,17 @@ fn identifier_value(alloc: Global, rule: Rule, contents: &[u8]) -> Result<Value,
         return Ok(Value::Named(known));
     }
     if is_guarded(rule) {
-        return Ok(Value::Size(contents.len() as u64));
+        return Ok(size_alone(contents));
     }
     match Oid::from_content(alloc, contents) {
-        Ok(id) => Ok(Value::Arcs(arcs_text(alloc, &id)?)),
-        Err(OidError::Bad) => Ok(Value::Size(contents.len() as u64)),
+        Ok(id) => {
+            let mut arcs = String::new(alloc);
+            push_oid(&mut arcs, &id)?;
+            Ok(Value::Arcs(arcs))
+        }
+        Err(OidError::Bad) => Ok(size_alone(contents)),
         Err(OidError::Memory) => Err(AllocError),
     }
-}
-
-/// The arcs of an object identifier in decimal, a full stop between each two.
-fn arcs_text(alloc: Global, id: &Oid) -> Result<String, AllocError> {
-    let mut text = String::new(alloc);
-    let (first, second, mut later) = id.arcs();
-    push_number(&mut text, first)?;
-    push_arc(&mut text, second)?;
-    while let Some(arc) = later.next() {
-        push_arc(&mut text, arc)?;
-    }
-    Ok(text)
-}
-
-fn push_arc(text: &mut String, arc: u128) -> Result<(), AllocError> {
-    text.push_str(".")?;
-    push_number(text, arc)
-}
-
-fn push_number(text: &mut String, number: u128) -> Result<(), AllocError> {
-    let mut buffer = Buffer::new();
-    text.push_str(buffer.format(number))
 }
 
 /// Whether all octets that were passed are told by this value.

@@ -1,4 +1,3 @@
-pub mod Arcs
 pub mod Behind
 pub mod Members
 pub mod RequestValues

@@ -1,5 +1,4 @@
 pub mod Lines
 pub mod Parts
 pub mod Shown
-pub mod TextLaws
 pub mod Texts

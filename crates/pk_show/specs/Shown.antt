@@ -1,6 +1,7 @@
 -- The lines of keys and requests, and of what is in them.
 use Rattle.std.specs.Prelude.{List, None, Option, Some, codes, cond, decimal, flat_map, length, ℕ, ◌++◌}
 use Rattle.std.specs.Option.{option_map}
+use Rattle.tlv_core.specs.Texts.{oid_text}
 use Rattle.asn_containers.specs.Containers.{list_items, set_items}
 use Rattle.asn_fields.specs.declared.either.Either.{Either}
 use Rattle.asn_fields.specs.declared.either.Either.TheVariants.{First, Second}
@@ -37,7 +38,7 @@ use Rattle.pk_documents.specs.declared.document.Document.{Document}
 use Rattle.pk_documents.specs.declared.document.Document.TheVariants as documents
 use Rattle.pk_show.specs.Lines.{any_text, bits_said, line, octets_line, optional, parameters_text}
 use Rattle.pk_show.specs.Parts.{name_items, rsa_key_text, values_in}
-use Rattle.pk_show.specs.Texts.{hex_text, oid_text}
+use Rattle.pk_show.specs.Texts.{hex_text}
 
 -- An AlgorithmIdentifier, by these labels.
 unfoldable pub algorithm_lines : List ℕ → List ℕ → AlgorithmIdentifier → List ℕ

@@ -9,7 +9,7 @@ ghost use Rattle.x690.specs.Lists.{one_of};
 
 use crate::lines::{push_absent_line, push_any_line, push_list, push_number_line, push_set};
 use crate::shown::Shown;
-use crate::texts::{push_hex, push_number, push_oid};
+use crate::texts::push_hex;
 use asn_values::any::Any;
 use asn_values::list::List;
 use asn_values::set_of::SetOf;
@@ -18,6 +18,7 @@ use pkix_values::extension::Extension;
 use pkix_values::request_attribute::RequestAttribute;
 use std::alloc::{AllocError, Global};
 use tlv_core::oid::Oid;
+use tlv_core::text::{push_number, push_oid};
 
 /// An open value is shown as a value of an attribute.
 impl Shown for Any {

@@ -1,7 +1,7 @@
 //! Documents of keys and certification requests as lines of text (`docs/formats.md`).
 //!
-//! `texts` has numbers, octets, bits and object identifiers, `lines` what one line says and the members of lists and
-//! sets, `attributes`, `keys` and `requests` the lines of what documents are made of; `laws` has a law on these texts.
+//! `texts` has octets and bits, `lines` what one line says and the members of lists and sets, `attributes`, `keys` and
+//! `requests` the lines of what documents are made of.
 //!
 //! Proved: the text of a document is `document_lines` of `specs/Shown.antt`, wherever there is memory for it.
 #![tactic(auto)]
@@ -11,7 +11,6 @@ ghost use Rattle.pk_show.specs.Shown.{document_lines};
 
 mod attributes;
 mod keys;
-pub mod laws;
 mod lines;
 mod requests;
 mod shown;

@@ -3,10 +3,10 @@ ghost use Rattle.std.specs.Prelude.{◌≡◌, ◌++◌, OnOk, codes, decimal, f
 ghost use Rattle.std.specs.Option.{option_map};
 ghost use Rattle.asn_containers.specs.Containers.{list_items, set_items};
 ghost use Rattle.pk_show.specs.Lines.{any_text, bits_said, line, octets_line, optional, parameters_text};
-ghost use Rattle.pk_show.specs.Texts.{oid_text};
+ghost use Rattle.tlv_core.specs.Texts.{oid_text};
 
 use crate::shown::Shown;
-use crate::texts::{push_bits, push_hex, push_number, push_oid};
+use crate::texts::{push_bits, push_hex};
 use asn_values::any::Any;
 use asn_values::bits::Bits;
 use asn_values::der_text::der_text;
@@ -14,6 +14,7 @@ use asn_values::list::List;
 use asn_values::set_of::SetOf;
 use std::alloc::{AllocError, Global};
 use tlv_core::oid::Oid;
+use tlv_core::text::{push_number, push_oid};
 
 /// A line that says a number.
 #[tactic(auto, unfolding(crate::specs::Lines::line))]

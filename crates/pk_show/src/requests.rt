@@ -8,12 +8,12 @@ use crate::attributes::push_attributes;
 use crate::keys::{push_algorithm, push_public_key};
 use crate::lines::{push_any_line, push_bits_line, push_number_line, push_set};
 use crate::shown::Shown;
-use crate::texts::push_oid;
 use asn_values::list::List;
 use pk_requests::info::CertificationRequestInfo;
 use pk_requests::request::CertificationRequest;
 use pkix_values::name::{Name, NameItem, Rdn};
 use std::alloc::{AllocError, Global};
+use tlv_core::text::push_oid;
 
 impl Shown for NameItem {
     ghost lines = { item_line };

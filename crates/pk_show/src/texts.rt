@@ -1,20 +1,11 @@
-//! Numbers, octets, bits and object identifiers in text.
-ghost use Rattle.std.specs.Prelude.{◌≡◌, ◌++◌, OnOk, codes, decimal, string_bytes};
+//! Octets and bits in text.
+ghost use Rattle.std.specs.Prelude.{◌≡◌, ◌++◌, OnOk, string_bytes};
 ghost use Rattle.asn_elements.specs.Leaves.{bit_string_of};
-ghost use Rattle.pk_show.specs.Texts.{bits_text, hex_text, oid_text};
+ghost use Rattle.pk_show.specs.Texts.{bits_text, hex_text};
 
 use asn_values::bits::Bits;
-use itoa::Buffer;
 use std::alloc::{AllocError, Global};
-use tlv_core::oid::Oid;
-
-/// A number in decimal digits.
-pub(crate) fn push_number(text: &mut String, number: u128) -> Result<(), AllocError>
-    ensures { OnOk result (string_bytes text.new ≡ string_bytes text.old ++ decimal number) }
-{
-    let mut buffer = Buffer::new();
-    text.push_str(buffer.format(number))
-}
+use tlv_core::text::push_number;
 
 /// Octets in hexadecimal digits, lower case; a hyphen where there are none.
 pub(crate) fn push_hex(alloc: Global, text: &mut String, octets: &[u8]) -> Result<(), AllocError>
@@ -27,28 +18,6 @@ pub(crate) fn push_hex(alloc: Global, text: &mut String, octets: &[u8]) -> Resul
             text.push_str(digits.as_str())
         }
     }
-}
-
-/// The arcs of an object identifier, a full stop between each two.
-pub(crate) fn push_oid(text: &mut String, id: &Oid) -> Result<(), AllocError>
-    ensures { OnOk result (string_bytes text.new ≡ string_bytes text.old ++ oid_text id.now) }
-{
-    let (first, second, mut later) = id.arcs();
-    push_number(text, first)?;
-    push_arc(text, second)?;
-    while let Some(arc) = later.next() {
-        push_arc(text, arc)?;
-    }
-    Ok(())
-}
-
-/// A full stop and an arc.
-fn push_arc(text: &mut String, arc: u128) -> Result<(), AllocError>
-    ensures { OnOk result (string_bytes text.new ≡ string_bytes text.old
-        ++ (codes "." ++ decimal arc)) }
-{
-    text.push_str(".")?;
-    push_number(text, arc)
 }
 
 /// The octets of a bit string, and how many bits of the last one are unused.

@@ -1,3 +1,4 @@
+pub mod Arcs
 pub mod Base128
 pub mod Digits
 pub mod Headers

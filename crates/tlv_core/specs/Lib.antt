@@ -10,3 +10,4 @@ pub mod Reasons
 pub mod Sinks
 pub mod Sources
 pub mod Targets
+pub mod Texts

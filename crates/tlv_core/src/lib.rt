@@ -19,3 +19,4 @@ pub mod source;
 mod subidentifier;
 pub mod tag;
 pub mod target;
+pub mod text;

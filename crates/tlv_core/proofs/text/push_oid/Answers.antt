@@ -1,7 +1,7 @@
 use Rattle.std.proofs.Common.{◌∙◌, ◌++◌, ap, append-nil, codes, decimal, drop, string_bytes, sym}
-use Rattle.pk_show.specs.Texts.{arcs_of, dotted, oid_text}
-use Rattle.pk_show.proofs.Arcs.{arcs_fit, behind_stops, first_arcs_text, is_first, next_arc_text, none_first}
-use Rattle.pk_show.proofs.texts.push_oid.Goals as goal
+use Rattle.tlv_core.specs.Texts.{arcs_of, dotted, oid_text}
+use Rattle.tlv_core.proofs.Arcs.{arcs_fit, behind_stops, first_arcs_text, is_first, next_arc_text, none_first}
+use Rattle.tlv_core.proofs.text.push_oid.Goals as goal
 
 pub loop-arc-init : goal.loop-arc-init
 loop-arc-init c =

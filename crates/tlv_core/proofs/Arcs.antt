@@ -4,7 +4,7 @@ use Rattle.std.proofs.lemmas.Bool.Decides.{nat_tests}
 use Rattle.tlv_core.specs.Identifier.{base128}
 use Rattle.tlv_core.specs.ObjectIdentifier.{IsObjectIdentifier, ObjectIdentifierOctets}
 use Rattle.tlv_core.proofs.Base128.{IsRun, base128_run, base128_value, run_value}
-use Rattle.pk_show.specs.Texts.{arcs_by, arcs_of, dotted, subidentifiers}
+use Rattle.tlv_core.specs.Texts.{arcs_by, arcs_of, dotted, subidentifiers}
 
 -- a run of octets that bit 8 joins is one subidentifier
 run_first : (high : ℕ) (run rest : List ℕ) → IsRun run

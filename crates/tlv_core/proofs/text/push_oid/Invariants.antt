@@ -1,8 +1,8 @@
 use Rattle.std.proofs.Common.{List, ℕ, ◌≡◌, ◌++◌, length, string_bytes}
 use Rattle.tlv_core.specs.LaterArcs.{StillToCome, octets_left}
-use Rattle.pk_show.specs.Texts.{arcs_of, dotted}
-use Rattle.pk_show.proofs.Arcs.{behind_stops}
-use Rattle.pk_show.proofs.texts.push_oid.Given as goal
+use Rattle.tlv_core.specs.Texts.{arcs_of, dotted}
+use Rattle.tlv_core.proofs.Arcs.{behind_stops}
+use Rattle.tlv_core.proofs.text.push_oid.Given as goal
 
 abbrev pub invariant-loop-arc : goal.invariant-loop-arc
 invariant-loop-arc l =
