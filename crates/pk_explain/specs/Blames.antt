@@ -16,14 +16,14 @@ use Rattle.pk_reports.specs.declared.report.Line.{Line}
 use Rattle.pk_reports.specs.declared.report.Value.{Value}
 use Rattle.pk_reports.specs.declared.report.Value.TheVariants.{NotShown}
 
--- a place so many octets behind another one, as far as 64 bits go
-abbrev pub far_from : ℕ → ℕ → ℕ
-far_from place octets = min (place + octets) (2 ^ 64 - 1)
+-- a sum, at most the largest number of 64 bits
+abbrev pub saturating_sum : ℕ → ℕ → ℕ
+saturating_sum one other = min (one + other) (2 ^ 64 - 1)
 
 -- where an element of definite length ends by its header
 abbrev pub end_by : Option Announced → Option ℕ
 end_by None = None
-end_by (Some announced) = option_map (far_from announced.contents) announced.length
+end_by (Some announced) = option_map (saturating_sum announced.contents) announced.length
 
 abbrev pub announced_end : Element → Option ℕ
 announced_end element = end_by element.header.announced
@@ -47,7 +47,7 @@ IsNearest elements number found = (count : ℕ) × NearestDefinite count element
 -- what length octets say that the contents have, counted from the element's start
 abbrev pub far_of : ℕ → Option Length → Option ℕ
 far_of at None = None
-far_of at (Some length) = option_map (far_from (far_from at length.header)) length.contents
+far_of at (Some length) = option_map (saturating_sum (saturating_sum at length.header)) length.contents
 
 abbrev pub reach_of : Option Found → Option ℕ
 reach_of None = None

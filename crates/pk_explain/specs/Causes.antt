@@ -132,17 +132,17 @@ is_set element =
     is_set_by element.header.constructed element.header.tag (option_map (λ r. r.now) element.shape)
 
 -- the octets of an element that stands whole and has a definite length
-abbrev pub text_of : List ℕ → Element → List ℕ
-text_of document element = unwrap_or (between document (Some element.header.at) element.end) []
+abbrev pub encoding_of : List ℕ → Element → List ℕ
+encoding_of document element = unwrap_or (between document (Some element.header.at) element.end) []
 
 -- The octets of the members of an element that is so deep, by the elements behind it: of those that are one deeper, as
 -- long as they are deeper.
-abbrev pub member_texts : List ℕ → ℕ → List Element → List (List ℕ)
-member_texts document depth [] = []
-member_texts document depth (element ∷ elements) =
+abbrev pub member_encodings : List ℕ → ℕ → List Element → List (List ℕ)
+member_encodings document depth [] = []
+member_encodings document depth (element ∷ elements) =
     cond (nat_lt depth element.header.depth)
-    (cond (element.header.depth == depth + 1) (text_of document element ∷ member_texts document depth elements)
-    (member_texts document depth elements)) []
+    (cond (element.header.depth == depth + 1) (encoding_of document element ∷ member_encodings document depth elements)
+    (member_encodings document depth elements)) []
 
 -- the first cause of elements as long as they are deeper
 abbrev pub cause_within : ℕ → List Element → List (Option Cause) → Option Cause
@@ -154,7 +154,7 @@ cause_within depth (element ∷ elements) (cause ∷ causes') =
 -- Nothing in an element that is so deep has a cause, and its members don't stand in the order of SET OF (11.6).
 abbrev pub is_out_of_order : List ℕ → ℕ → List Element → List (Option Cause) → Bool
 is_out_of_order document depth elements causes' =
-    not (is_some (cause_within depth elements causes')) && not (ascends (member_texts document depth elements))
+    not (is_some (cause_within depth elements causes')) && not (ascends (member_encodings document depth elements))
 
 -- the order of a SET OF is a cause, by the elements behind it and their causes
 abbrev pub order_cause : List ℕ → Element → List Element → List (Option Cause) → Option Cause
@@ -172,7 +172,8 @@ causes_of document [] = []
 causes_of document (element ∷ elements) = with_cause document element elements (causes_of document elements)
 
 -- an element without a cause is a SET OF that is out of order
-abbrev pub is_disordered_by : List ℕ → Option Element → Option (Option Cause) → List Element → List (Option Cause) → Bool
+abbrev pub is_disordered_by : List ℕ → Option Element → Option (Option Cause) → List Element → List (Option Cause)
+    → Bool
 is_disordered_by document None cause elements causes' = false
 is_disordered_by document (Some element) None elements causes' = false
 is_disordered_by document (Some element) (Some (Some cause)) elements causes' = false

@@ -5,7 +5,7 @@ use Rattle.asn_names.specs.declared.element.Element.{Element}
 use Rattle.tlv_core.specs.declared.fault.Fault.{Fault}
 use Rattle.tlv_core.specs.declared.reason.Reason.{Reason}
 use Rattle.tlv_core.specs.declared.reason.Reason.TheVariants as reasons
-use Rattle.pk_explain.specs.Blames.{far_from, is_not_shown}
+use Rattle.pk_explain.specs.Blames.{saturating_sum, is_not_shown}
 use Rattle.pk_explain.specs.Faults.{first_piece_place, inside_at, spot_in}
 use Rattle.pk_explain.specs.OwnLines.{is_near, line_at, line_of, line_of_number}
 use Rattle.pk_explain.specs.Tellings.{IsFaultLine}
@@ -37,7 +37,7 @@ around_fault lines container elements spot outer =
 pub record IsPlaceAlone (place at number : ℕ) (around line : Line) : Type 0 where
   pub place_is : line.at ≡ place
   pub inside : line.inside ≡ Some at
-  pub depth : line.depth ≡ far_from around.depth 1
+  pub depth : line.depth ≡ saturating_sum around.depth 1
   pub number_is : line.around ≡ number
   pub tag : line.tag ≡ around.tag
   pub alone : IsFaultLine line

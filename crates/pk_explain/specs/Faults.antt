@@ -93,8 +93,8 @@ spot_of case = spot_at case.elements case.parting case.fault.at case.fault.why
 abbrev pub own_line : Case → Option ℕ
 own_line case = line_of None case.lines case.elements (spot_of case)
 
--- It may be told what is due at a fault in the file, and in what: where a private key may be in the document, if all before
--- it is told or the reason says as much; else if it has a line or isn't private.
+-- It may be told what is due at a fault in the file, and in what: where a private key may be in the document, if all
+-- before it is told or the reason says as much; else if it has a line or isn't private.
 abbrev pub may_tell_by : Case → Spot → Option ℕ → Bool
 may_tell_by case spot line =
     cond (is_guarded case.rule) (is_near case.elements spot None case.lines || says_field case.fault.why)
@@ -124,8 +124,8 @@ abbrev pub AddsPublicWay : List Element → Option ℕ → List Step → List St
 AddsPublicWay elements number old new =
     (steps : List Step) × (new ≡ old ++ steps) × IsPublicWay elements number steps
 
--- The steps to what a fault is about, where that may be told. Else there are none where a private key may be, and in other
--- documents those to the nearest element round it that isn't private.
+-- The steps to what a fault is about, where that may be told. Else there are none where a private key may be, and in
+-- other documents those to the nearest element round it that isn't private.
 abbrev pub IsToldWay : Bool → Bool → List Element → Spot → List Step → Type 0
 IsToldWay true guarded elements spot steps = IsWayTo elements spot steps
 IsToldWay false true elements spot steps = steps ≡ []
@@ -170,8 +170,8 @@ inside_at elements [] at = None
 inside_at elements (inside ∷ insides) at =
     cond (stands_at at (slice_get elements inside.container)) (Some inside) (inside_at elements insides at)
 
--- The place in the file of one inside, where it stands in the first segment: where a later one begins private octets may
--- say.
+-- The place in the file of one inside, where it stands in the first segment: where a later one begins private octets
+-- may say.
 abbrev pub first_piece_place : List Piece → ℕ → Option ℕ
 first_piece_place [] at = None
 first_piece_place (first ∷ pieces) at =
@@ -204,8 +204,8 @@ line_inside case inside spot at =
     option_or (line_of (Some case.fault.at) case.lines inside.named.elements.items spot)
     (line_at (Some case.fault.at) case.lines at)
 
--- How many octets follow the document inside, which has so many: where it stands in one piece, and the header is told of
--- the element that it is in.
+-- How many octets follow the document inside, which has so many: where it stands in one piece, and the header is told
+-- of the element that it is in.
 abbrev pub contents_told : Option Length → Option ℕ
 contents_told None = None
 contents_told (Some length) = length.contents

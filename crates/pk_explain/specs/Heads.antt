@@ -1,5 +1,5 @@
 -- What a document is by its headers: how the elements inside the outermost one begin.
-use Rattle.std.specs.Prelude.{Bool, List, None, Option, Some, [], cond, false, min, nat_le, nat_lt, ℕ, ◌&&◌, ◌+◌, ◌-◌, ◌==◌, ◌^◌, ◌∷◌}
+use Rattle.std.specs.Prelude.{Bool, List, None, Option, Some, [], cond, false, nat_le, nat_lt, ℕ, ◌&&◌, ◌-◌, ◌==◌, ◌∷◌}
 use Rattle.std.specs.List.{slice_get}
 use Rattle.std.specs.Str.{bytes_eq}
 use Rattle.tlv_core.specs.Identifier.{Tag}
@@ -7,6 +7,7 @@ use Rattle.asn_outline.specs.declared.event.Event.{Event}
 use Rattle.asn_outline.specs.declared.event.Event.TheVariants.{Begin, End, Primitive}
 use Rattle.asn_outline.specs.declared.event.Header.{Header}
 use Rattle.asn_outline.specs.declared.event.Stop.{Stop}
+use Rattle.pk_explain.specs.Blames.{saturating_sum}
 use Rattle.pk_explain.specs.Contents.{between}
 use Rattle.pk_explain.specs.declared.heads.Heads.{Heads}
 use Rattle.pk_reports.specs.declared.report.Looks.{Looks}
@@ -42,15 +43,12 @@ code_of tag =
 abbrev pub no_heads : Heads
 no_heads = record { count = 0; integers = 0; first = 0; second = 0; third = 0; in_first = 0; in_second = 0 }
 
--- one more, up to the largest number of 64 bits
-abbrev pub one_more : ℕ → ℕ
-one_more count = min (count + 1) (2 ^ 64 - 1)
-
 -- One more element stands in the outermost one. INTEGERs are counted where nothing else stands before them.
 abbrev pub counted : Heads → ℕ → Heads
 counted heads code = record heads {
-  count = one_more heads.count;
-  integers = cond ((code == integer) && (heads.integers == heads.count)) (one_more heads.integers) heads.integers;
+  count = saturating_sum heads.count 1;
+  integers =
+      cond ((code == integer) && (heads.integers == heads.count)) (saturating_sum heads.integers 1) heads.integers;
 }
 
 -- the tags of the first three are kept

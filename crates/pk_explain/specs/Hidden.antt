@@ -140,8 +140,8 @@ told_by Accepted private sure = Header
 told_by Refused private sure = cond private Place Header
 told_by Guarded private sure = cond (private || not sure) Place Header
 
--- Nothing is told of an element, before the end of the telling: in what is private; and in a refused document behind the
--- fault, and behind the first member of a set of private ones.
+-- Nothing is told of an element, before the end of the telling: in what is private; and in a refused document behind
+-- the fault, and behind the first member of a set of private ones.
 abbrev pub is_untold : Rule → Point → Walk → Element → Bool
 is_untold Accepted point walk element = is_deeper walk.private element
 is_untold Refused point walk element =

@@ -3,7 +3,7 @@ use Rattle.std.specs.Prelude.{Bool, List, None, Option, Some, [], cond, drop, fa
 use Rattle.std.specs.Option.{option_or}
 use Rattle.asn_names.specs.declared.element.Element.{Element}
 use Rattle.asn_outline.specs.declared.announced.Announced.{Announced}
-use Rattle.pk_explain.specs.Blames.{far_from}
+use Rattle.pk_explain.specs.Blames.{saturating_sum}
 use Rattle.pk_explain.specs.Contents.{contents_in}
 use Rattle.pk_explain.specs.Keys.{sizes_of}
 use Rattle.pk_explain.specs.Public.{sort_of}
@@ -39,7 +39,7 @@ last_sizes octets sizes (element ∷ elements) =
 abbrev pub short_by : ℕ → ℕ → Option ℕ → Option ℕ
 short_by at contents None = None
 short_by at contents (Some length) =
-    cond (nat_lt length 128 && (contents == far_from at 2)) (Some length) None
+    cond (nat_lt length 128 && (contents == saturating_sum at 2)) (Some length) None
 
 abbrev pub short_announced : ℕ → Option Announced → Option ℕ
 short_announced at None = None
@@ -94,8 +94,8 @@ is_bits Identifier = false
 is_bits Characters = false
 is_bits Octets = false
 
--- How many octets the key has that an element is or holds, and how many it has to have: of a public key by the identifiers
--- before it, of a private one by these or, where they say nothing, by those behind.
+-- How many octets the key has that an element is or holds, and how many it has to have: of a public key by the
+-- identifiers before it, of a private one by these or, where they say nothing, by those behind.
 abbrev pub sizes_of_element : List ℕ → List Element → List Inside → ℕ → Option Element → Option ℕ × Option ℕ
 sizes_of_element octets elements insides number None = (None, None)
 sizes_of_element octets elements insides number (Some element) =

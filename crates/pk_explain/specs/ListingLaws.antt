@@ -14,8 +14,8 @@ use Rattle.pk_reports.specs.declared.report.Line.{Line}
 use Rattle.tlv_core.specs.declared.fault.Fault.{Fault}
 use Rattle.std.specs.Prelude.{Option}
 
--- One of the lines is of the element: it has the element's header and this cause, and says of its contents what the rule
--- has.
+-- One of the lines is of the element: it has the element's header and this cause, and says of its contents what the
+-- rule has.
 pub record HasLine (octets : List ℕ) (element : Element) (cause : Option Cause) (lines : List Line) : Type 0 where
   pub before : List Line
   pub line : Line

@@ -161,14 +161,16 @@ abbrev pub ListsIf : Bool → Rule → Point → Page → Telling → Telling �
 ListsIf true rule point page before after = ListsInside rule point page before after
 ListsIf false rule point page before after = after ≡ before
 
-abbrev pub AddsBehind : Rule → Point → List (Option Cause) → Inside → ℕ → Option Line → Bool → Telling → Telling → Type 0
+abbrev pub AddsBehind : Rule → Point → List (Option Cause) → Inside → ℕ → Option Line → Bool → Telling → Telling
+    → Type 0
 AddsBehind rule point causes inside number None wanted before after = after ≡ before
 AddsBehind rule point causes inside number (Some line) wanted before after =
     ListsIf wanted rule point (page_inside causes inside line.depth number) before after
 
 -- Behind an element of a file with these causes, which has the line of this number, the lines of the document inside it
 -- are added: where it was taken whole and the telling hasn't ended.
-abbrev pub AddsDocument : Rule → Point → Option Fault → List (Option Cause) → Option Element → Option Inside → ℕ → Telling → Telling → Type 0
+abbrev pub AddsDocument : Rule → Point → Option Fault → List (Option Cause) → Option Element → Option Inside → ℕ
+    → Telling → Telling → Type 0
 AddsDocument rule point fault causes None inside number before after = after ≡ before
 AddsDocument rule point fault causes (Some element) None number before after = after ≡ before
 AddsDocument rule point fault causes (Some element) (Some inside) number before after =

@@ -85,8 +85,8 @@ is_base64 octet =
     || (octet == 61) || is_blank octet
 
 -- A file that isn't PEM, by its first 16 octets; the base64 of a SEQUENCE begins with M.
-abbrev pub text_of : List ℕ → Looks
-text_of octets =
+abbrev pub looks_by_text : List ℕ → Looks
+looks_by_text octets =
     cond (length octets == 0) looks.Empty
     (cond (list_all is_hexadecimal (take 16 octets)) looks.Hexadecimal
     (cond (begin_with (codes "M") octets && list_all is_base64 (take 16 octets)) looks.Base64 looks.Unknown))
@@ -134,5 +134,5 @@ abbrev pub LooksLike : Limits → Kind → List ℕ → Answer → Looks → Typ
 LooksLike limits asked octets answer look =
     elim (is_looked_at answer) [
       | false ↦ look ≡ looks.Unknown
-      | true ↦ IsLook limits asked octets (pem_label octets) (text_of octets) look
+      | true ↦ IsLook limits asked octets (pem_label octets) (looks_by_text octets) look
     ]

@@ -82,8 +82,8 @@ end_by_length header = end_by_told header.at (told_length header)
 abbrev pub has_ended : Point → ℕ → ℕ → Bool
 has_ended point at end = nat_le end point.at || (point.complete && nat_le point.at at)
 
--- Where an element ends in the file by where its contents end: of a refused document where that is before the fault, and
--- where a private key may be in it in the first segment.
+-- Where an element ends in the file by where its contents end: of a refused document where that is before the fault,
+-- and where a private key may be in it in the first segment.
 abbrev pub end_in_file : Rule → Point → Page → Element → Option ℕ → Option ℕ
 end_in_file rule point page element None = None
 end_in_file rule point page element (Some end) =

@@ -121,8 +121,8 @@ abbrev pub placed_or_parting : List Element → Option ℕ → Parting → Spot
 placed_or_parting elements None parting = where_parting parting
 placed_or_parting elements (Some number) parting = where_placed elements number parting
 
--- What a fault of this place and reason is about: of Missing the container; of Truncated the last element, where it isn't
--- whole; of KeyLength the key; else the element at the place, or what is due in its place.
+-- What a fault of this place and reason is about: of Missing the container; of Truncated the last element, where it
+-- isn't whole; of KeyLength the key; else the element at the place, or what is due in its place.
 abbrev pub spot_at : List Element → Parting → ℕ → Reason → Spot
 spot_at elements parting at reasons.Missing = where_parting parting
 spot_at elements parting at reasons.Truncated = at_or_parting (unfinished elements parting) parting

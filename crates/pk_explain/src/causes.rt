@@ -4,7 +4,7 @@ ghost use Rattle.std.specs.Option.{option_map};
 ghost use Rattle.x690.specs.DerTexts.{padded_less};
 ghost use Rattle.asn_elements.specs.Members.{ascends};
 ghost use Rattle.asn_names.specs.Levels.{is_string};
-ghost use Rattle.pk_explain.specs.Causes.{bits_cause, boolean_cause, cause_in_contents, cause_within, causes_of, is_disordered, is_in_segments, is_out_of_order, is_set, length_cause, member_texts, own_cause, text_of, unit_of, with_order};
+ghost use Rattle.pk_explain.specs.Causes.{bits_cause, boolean_cause, cause_in_contents, cause_within, causes_of, is_disordered, is_in_segments, is_out_of_order, is_set, length_cause, member_encodings, own_cause, encoding_of, unit_of, with_order};
 ghost use Rattle.pk_explain.specs.Contents.{contents_in};
 
 use crate::inside::element_at;
@@ -252,7 +252,7 @@ fn is_set(element: &Element) -> bool
 
 /// Whether the members of an element that is so deep stand in order, none less than the one before it.
 fn is_ordered(octets: &[u8], depth: u64, elements: &[Element]) -> bool
-    ensures { result ≡ ascends (member_texts octets.now depth elements.now) }
+    ensures { result ≡ ascends (member_encodings octets.now depth elements.now) }
 {
     let mut before: &[u8] = &[];
     let mut left = elements;
@@ -261,7 +261,7 @@ fn is_ordered(octets: &[u8], depth: u64, elements: &[Element]) -> bool
             return true;
         }
         if element.header.depth == depth + 1 {
-            let member = text_of(octets, element);
+            let member = encoding_of(octets, element);
             if is_less(member, before) {
                 return false;
             }
@@ -273,8 +273,8 @@ fn is_ordered(octets: &[u8], depth: u64, elements: &[Element]) -> bool
 }
 
 /// The octets of an element of definite length.
-fn text_of<'a>(octets: &'a [u8], element: &Element) -> &'a [u8]
-    ensures { result.now ≡ text_of octets.now element.now }
+fn encoding_of<'a>(octets: &'a [u8], element: &Element) -> &'a [u8]
+    ensures { result.now ≡ encoding_of octets.now element.now }
 {
     let Some(end) = element.end else {
         return &[];

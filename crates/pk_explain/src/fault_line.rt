@@ -10,7 +10,7 @@ use crate::places::{Piece, end_of, place_of};
 use crate::told::{
     is_hidden, is_near, line_at, line_of, line_of_number, told_inside, told_outside,
 };
-use crate::ways::{Spot, spot_of};
+use crate::ways::{Spot, spot_at};
 use asn_names::element::{Element, Step};
 use asn_names::naming::Named;
 use pk_reports::report::{Line, Value};
@@ -84,7 +84,7 @@ pub(crate) fn push_fault_line(
     if is_between(why) {
         return Ok(());
     }
-    let spot = spot_of(&inside.named, at, why);
+    let spot = spot_at(&inside.named, at, why);
     match fault_line(lines.as_slice(), fault.at, inside, at, spot) {
         Some(line) => {
             lines.push(line)?;

@@ -267,8 +267,8 @@ fn told_by(rule: Rule, private: bool, sure: bool) -> Told
     }
 }
 
-/// What is known behind an element of which this is told. `all` says that its value tells all its octets, `definite` that
-/// the container around it has a definite length.
+/// What is known behind an element of which this is told. `all` says that its value tells all its octets, `definite`
+/// that the container around it has a definite length.
 pub(crate) fn walk_behind(
     rule: Rule,
     point: Point,

@@ -42,13 +42,13 @@ pub(crate) fn sizes_of(identifier: &[u8]) -> Option<KeySizes>
 fn rfc8410_octets(algorithm: &[u8]) -> Option<u64>
     ensures { result ≡ length_under rfc8410_lengths algorithm.now }
 {
-    if has_contents(algorithm, &[0x2B, 0x65, 0x6E]) {
+    if are_same_octets(algorithm, &[0x2B, 0x65, 0x6E]) {
         Some(32)
-    } else if has_contents(algorithm, &[0x2B, 0x65, 0x6F]) {
+    } else if are_same_octets(algorithm, &[0x2B, 0x65, 0x6F]) {
         Some(56)
-    } else if has_contents(algorithm, &[0x2B, 0x65, 0x70]) {
+    } else if are_same_octets(algorithm, &[0x2B, 0x65, 0x70]) {
         Some(32)
-    } else if has_contents(algorithm, &[0x2B, 0x65, 0x71]) {
+    } else if are_same_octets(algorithm, &[0x2B, 0x65, 0x71]) {
         Some(57)
     } else {
         None
@@ -59,15 +59,15 @@ fn rfc8410_octets(algorithm: &[u8]) -> Option<u64>
 pub(crate) fn curve_octets(curve: &[u8]) -> Option<u64>
     ensures { result ≡ length_under curve_lengths curve.now }
 {
-    if has_contents(curve, &[0x2B, 0x81, 0x04, 0x00, 0x21]) {
+    if are_same_octets(curve, &[0x2B, 0x81, 0x04, 0x00, 0x21]) {
         Some(28)
-    } else if has_contents(curve, &[0x2A, 0x86, 0x48, 0xCE, 0x3D, 0x03, 0x01, 0x07]) {
+    } else if are_same_octets(curve, &[0x2A, 0x86, 0x48, 0xCE, 0x3D, 0x03, 0x01, 0x07]) {
         Some(32)
-    } else if has_contents(curve, &[0x2B, 0x81, 0x04, 0x00, 0x0A]) {
+    } else if are_same_octets(curve, &[0x2B, 0x81, 0x04, 0x00, 0x0A]) {
         Some(32)
-    } else if has_contents(curve, &[0x2B, 0x81, 0x04, 0x00, 0x22]) {
+    } else if are_same_octets(curve, &[0x2B, 0x81, 0x04, 0x00, 0x22]) {
         Some(48)
-    } else if has_contents(curve, &[0x2B, 0x81, 0x04, 0x00, 0x23]) {
+    } else if are_same_octets(curve, &[0x2B, 0x81, 0x04, 0x00, 0x23]) {
         Some(66)
     } else {
         None
@@ -75,7 +75,7 @@ pub(crate) fn curve_octets(curve: &[u8]) -> Option<u64>
 }
 
 /// Whether an object identifier has these contents octets.
-pub(crate) fn has_contents(identifier: &[u8], contents: &[u8]) -> bool
+pub(crate) fn are_same_octets(identifier: &[u8], contents: &[u8]) -> bool
     ensures { result ≡ same_octets identifier.now contents.now }
 {
     identifier == contents

@@ -2,7 +2,7 @@
 ghost use Rattle.std.specs.Prelude.{IfOk, None, map, ◌≡◌};
 ghost use Rattle.std.specs.List.{list_all};
 ghost use Rattle.std.specs.Option.{option_map};
-ghost use Rattle.pk_explain.specs.Looks.{IsDocument, IsFirst, IsLook, IsOtherDocument, LooksLike, is_base64, is_hexadecimal, is_kind_like, is_labelled, is_looked_at, kinds, label_among, pem_label, text_of};
+ghost use Rattle.pk_explain.specs.Looks.{IsDocument, IsFirst, IsLook, IsOtherDocument, LooksLike, is_base64, is_hexadecimal, is_kind_like, is_labelled, is_looked_at, kinds, label_among, pem_label, looks_by_text};
 
 use crate::answer::answer_of;
 use crate::heads::looks_by_outline;
@@ -60,12 +60,12 @@ fn is_kind_like(why: Reason) -> bool
 
 fn look(alloc: Global, octets: &[u8], kind: Kind, limits: Limits) -> Result<Looks, AllocError>
     ensures { IfOk result (λ look.
-        IsLook limits kind octets.now (pem_label octets.now) (text_of octets.now) look) }
+        IsLook limits kind octets.now (pem_label octets.now) (looks_by_text octets.now) look) }
 {
     if let Some(label) = pem_label(octets) {
         return Ok(Looks::Pem(label));
     }
-    match text_of(octets) {
+    match looks_by_text(octets) {
         Looks::Unknown => look_at_document(alloc, octets, kind, limits),
         text => Ok(text),
     }
@@ -125,8 +125,8 @@ fn is_labelled(text: &[u8], label: &str) -> bool
 }
 
 /// What a text is that isn't PEM, by its first 16 octets: what stands behind them may be private.
-fn text_of(octets: &[u8]) -> Looks
-    ensures { result ≡ text_of octets.now }
+fn looks_by_text(octets: &[u8]) -> Looks
+    ensures { result ≡ looks_by_text octets.now }
 {
     if octets.is_empty() {
         return Looks::Empty;
@@ -145,14 +145,7 @@ fn text_of(octets: &[u8]) -> Looks
 fn are_all_hexadecimal(octets: &[u8]) -> bool
     ensures { result ≡ list_all is_hexadecimal octets.now }
 {
-    let mut left = octets;
-    while let [octet, behind @ ..] = left {
-        if !is_hexadecimal(*octet) {
-            return false;
-        }
-        left = behind;
-    }
-    true
+    octets.iter().all(|octet| is_hexadecimal(*octet))
 }
 
 fn is_hexadecimal(octet: u8) -> bool
@@ -168,14 +161,7 @@ fn is_hexadecimal(octet: u8) -> bool
 fn are_all_base64(octets: &[u8]) -> bool
     ensures { result ≡ list_all is_base64 octets.now }
 {
-    let mut left = octets;
-    while let [octet, behind @ ..] = left {
-        if !is_base64(*octet) {
-            return false;
-        }
-        left = behind;
-    }
-    true
+    octets.iter().all(|octet| is_base64(*octet))
 }
 
 fn is_base64(octet: u8) -> bool

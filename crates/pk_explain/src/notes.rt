@@ -5,7 +5,7 @@ ghost use Rattle.pkix_types.specs.Identifiers.{ec_public_key, length_under};
 ghost use Rattle.x690.specs.Lists.{same_octets};
 ghost use Rattle.pk_explain.specs.Notes.{add_note, arcs_of, are_same, context_behind, context_start, curve_behind, is_attribute, is_curve_named, is_point, is_public_key, is_repeated, is_same_field, is_same_identifier, is_same_step, is_single_valued, members_of, ml_dsa_lengths, ml_kem_lengths, most_notes, named, nist_encapsulation, nist_signature, notes_on, parameters, public_octets, remark_if, remark_on, remark_on_algorithm, remark_on_bits, remark_on_key, remark_on_repeat, remark_on_values, remark_once_more, slh_dsa_sha2_lengths, slh_dsa_shake_lengths};
 
-use crate::keys::{curve_octets, has_contents};
+use crate::keys::{are_same_octets, curve_octets};
 use crate::values::is_field;
 use asn_names::element::Step;
 use pk_reports::report::{Line, Note, Remark, Value};
@@ -131,10 +131,10 @@ fn is_single_valued(name: Option<&[u8]>) -> bool
     let Some(name) = name else {
         return false;
     };
-    has_contents(
+    are_same_octets(
         name,
         &[0x2A, 0x86, 0x48, 0x86, 0xF7, 0x0D, 0x01, 0x09, 0x07],
-    ) || has_contents(
+    ) || are_same_octets(
         name,
         &[0x2A, 0x86, 0x48, 0x86, 0xF7, 0x0D, 0x01, 0x09, 0x0E],
     )
@@ -241,7 +241,7 @@ fn slh_dsa_shake_octets(algorithm: &[u8]) -> Option<u64>
 fn is_signature(algorithm: &[u8], number: u8) -> bool
     ensures { result ≡ same_octets algorithm.now (nist_signature number) }
 {
-    has_contents(
+    are_same_octets(
         algorithm,
         &[0x60, 0x86, 0x48, 0x01, 0x65, 0x03, 0x04, 0x03, number],
     )
@@ -251,7 +251,7 @@ fn is_signature(algorithm: &[u8], number: u8) -> bool
 fn is_encapsulation(algorithm: &[u8], number: u8) -> bool
     ensures { result ≡ same_octets algorithm.now (nist_encapsulation number) }
 {
-    has_contents(
+    are_same_octets(
         algorithm,
         &[0x60, 0x86, 0x48, 0x01, 0x65, 0x03, 0x04, 0x04, number],
     )
@@ -261,7 +261,7 @@ fn is_encapsulation(algorithm: &[u8], number: u8) -> bool
 fn is_ec_public_key(algorithm: &[u8]) -> bool
     ensures { result ≡ same_octets algorithm.now ec_public_key }
 {
-    has_contents(algorithm, &[0x2A, 0x86, 0x48, 0xCE, 0x3D, 0x02, 0x01])
+    are_same_octets(algorithm, &[0x2A, 0x86, 0x48, 0xCE, 0x3D, 0x02, 0x01])
 }
 
 /// What is remarked on a line, by what the lines before say and by the lines behind.
@@ -483,7 +483,7 @@ fn are_same(one: Option<&[u8]>, other: Option<&[u8]>) -> bool
         (option_map (λ r. r.now) other.entry) }
 {
     match (one, other) {
-        (Some(one), Some(other)) => has_contents(one, other),
+        (Some(one), Some(other)) => are_same_octets(one, other),
         _ => false,
     }
 }

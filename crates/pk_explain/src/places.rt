@@ -141,8 +141,8 @@ pub(crate) fn end_by_length(header: &Header) -> Option<u64>
     sum_of(header.at.saturating_add(length.header), contents)
 }
 
-/// The length of an element, where it may be told: where it has at most four octets. A damaged one may have taken octets
-/// of a private element for its own, also where what comes of it is accepted.
+/// The length of an element, where it may be told: where it has at most four octets. A damaged one may have taken
+/// octets of a private element for its own, also where what comes of it is accepted.
 pub(crate) fn told_length(header: &Header) -> Option<Length>
     ensures { result ≡ told_length header.now }
 {

@@ -13,7 +13,7 @@ use crate::inside::{Inside, element_at};
 use crate::keys::{less, sizes_at, sizes_inside};
 use crate::told::{Told, is_near, line_at, line_of, told_inside, told_outside};
 use crate::values::{Rule, is_guarded};
-use crate::ways::{Spot, due_of, enclosed, push_spot_way, push_way, spot_of};
+use crate::ways::{Spot, due_of, enclosed, push_spot_way, push_way, spot_at};
 use asn_names::element::{Element, Step};
 use asn_names::naming::Named;
 use asn_shapes::shape::Shape;
@@ -78,7 +78,7 @@ fn fault_inside(
 ) -> Result<PublicFault, AllocError>
     ensures { IfOk result (λ fault. IsKnownInside (case_of refusal.entry) inside.now at why fault) }
 {
-    let spot = spot_of(&inside.named, at, why);
+    let spot = spot_at(&inside.named, at, why);
     let told = told_inside(refusal.lines, refusal.fault.at);
     let near = is_near(inside.named.elements.as_slice(), spot, told);
     let way = way_inside(alloc, refusal, inside, near, spot)?;
@@ -186,7 +186,7 @@ fn fault_outside(alloc: Global, refusal: Refusal<'_>) -> Result<PublicFault, All
     ensures { IfOk result (λ fault. IsKnownOutside (case_of refusal.entry) fault) }
 {
     let why = refusal.fault.why;
-    let spot = spot_of(refusal.named, refusal.fault.at, why);
+    let spot = spot_at(refusal.named, refusal.fault.at, why);
     let line = own_line(refusal, spot);
     let near = may_tell(refusal, spot, line);
     let elements = refusal.named.elements.as_slice();

@@ -25,7 +25,7 @@ pub(crate) struct Spot {
 }
 
 /// What a fault is about, by its place and its reason.
-pub(crate) fn spot_of(named: &Named, at: u64, why: Reason) -> Spot
+pub(crate) fn spot_at(named: &Named, at: u64, why: Reason) -> Spot
     ensures { result ≡ spot_at named.now.elements.items named.now.parting at why }
 {
     let elements = named.elements.as_slice();
@@ -165,8 +165,8 @@ fn unfinished(elements: &[Element], parting: &Parting) -> Option<usize>
     }
 }
 
-/// What is due: what may stand next in the container at fault; else the outermost type, where another tag stands; else the
-/// element's own type, where that has the wrong form.
+/// What is due: what may stand next in the container at fault; else the outermost type, where another tag stands; else
+/// the element's own type, where that has the wrong form.
 pub(crate) fn due_of(elements: &[Element], spot: Spot, why: Reason, root: &'static Shape) -> Due
     ensures { result ≡ due_at elements.now spot why root.entry }
 {

@@ -52,8 +52,8 @@ fn written(alloc: Global, report: &Report, form: Form) -> Result<String, AllocEr
     report_text(alloc, report, form.all, form.places)
 }
 
-/// The field that the report of octets is about, which have to be one document of the kind, by its path: the one that is
-/// refused, or the first that isn't in DER. And the answer of `check`.
+/// The field that the report of octets is about, which have to be one document of the kind, by its path: the one that
+/// is refused, or the first that isn't in DER. And the answer of `check`.
 pub fn explained_field(
     alloc: Global,
     octets: &[u8],

@@ -1,11 +1,11 @@
 use Rattle.std.proofs.Common.{length, ◌∷◌, ◌≡◌}
 use Rattle.asn_elements.specs.Members.{ascends}
-use Rattle.pk_explain.specs.Causes.{member_texts}
+use Rattle.pk_explain.specs.Causes.{member_encodings}
 use Rattle.pk_explain.proofs.causes.is_ordered.Given as goal
 
 abbrev pub invariant-loop-left : goal.invariant-loop-left
 invariant-loop-left l =
-    ascends (l.before ∷ member_texts l.octets l.depth l.left) ≡ ascends (member_texts l.octets l.depth l.elements)
+    ascends (l.before ∷ member_encodings l.octets l.depth l.left) ≡ ascends (member_encodings l.octets l.depth l.elements)
 
 abbrev pub decreases-loop-left : goal.decreases-loop-left
 decreases-loop-left l = length l.left
