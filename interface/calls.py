@@ -84,14 +84,15 @@ def lines_of(row):
 
 
 def lines_of_reports():
-    """A line of each document whose report has to name one field."""
+    """A line of each document whose report has to name one field, or none."""
     for block in blocks():
         name, _, rule = block["document"][0].partition(": ")
-        status = 1 if block["line"][0].startswith("not DER") else 2
-        if "|" not in block["field"][0]:
+        status = {"DER": 0, "not": 1}.get(block["line"][0].partition(" ")[0], 2)
+        field = block.get("field", [""])[0]
+        if "|" not in field:
             with open(f"{FOLDER}/{name}", "rb") as it:
                 octets = it.read()
-            yield line(rule, call_of(["field", "--kind", block["kind"][0]]), octets, status, block["field"][0].encode())
+            yield line(rule, call_of(["field", "--kind", block["kind"][0]]), octets, status, field.encode())
 
 
 def main(tables):

@@ -6,8 +6,9 @@ to stand there each, in small or capital letters:
   document   the file, and what it shows
   kind       of the document
   line       the line of `check`
-  field      the path; any of those between bars
+  field      the path; any of those between bars; where the block has none, the report has none either
   due, found, likely, do   words that stand behind this label
+  note       the same; there are as many notes as such lines
   any        words that stand behind some label
   number     a key of the JSON, and its number
   looks      what `looks_like` is in the JSON
@@ -23,6 +24,7 @@ from explained import TOP, answer, objects_in, try_all
 
 FOLDER = f"{TOP}/tests/pkder/explained"
 LABELS = ("field", "due", "found", "likely", "do")
+TOLD = (*LABELS[1:], "note")
 LISTED = re.compile(r" *(\d+)  ((?:[0-9a-f]{2}(?: [0-9a-f]{2})*)?) +(\S.*)")
 LEFT_OUT = re.compile(r" +\.\.\. +\((\d+) lines? left out; --all has (?:them|it)\)")
 MOST = 100
@@ -52,6 +54,7 @@ class Report:
         is_listing = parts and not re.match(r"[a-z]+ ", parts[0])
         self.listing = parts[0].split("\n") if is_listing else []
         self.said = self.labels("\n".join(parts[is_listing:]))
+        self.notes = re.findall(r"(?m)^note +(.*)", "\n".join(parts[is_listing:]))
 
     @staticmethod
     def labels(text):
@@ -90,9 +93,11 @@ def due_lines(texts):
 
 def wrong_in_words(block, report):
     """What the parts with labels lack."""
-    if block["field"][0].split(" | ").count(report.said.get("field", "")) != 1:
+    if block.get("field", [""])[0].split(" | ").count(report.said.get("field", "")) != 1:
         yield f"field: {report.said.get('field')!r}"
-    for label in LABELS[1:]:
+    if len(report.notes) != len(block.get("note", [])):
+        yield f"notes: {report.notes}"
+    for label in TOLD:
         for due in block.get(label, []):
             yield from (f"{label}: no {it!r} in {report.said.get(label)!r}"
                         for it in missing_words(due, report.said.get(label, "")))
