@@ -17,8 +17,8 @@ use Rattle.x690.specs.Reads.{Heard, Refused, Said}
 use Rattle.x690.specs.TypeTerms.{ContainingType, Rule, TypeTerm}
 use Rattle.x690.specs.Values.{Leaf, Same, Value, leaf_contents}
 use Rattle.x690.proofs.Runs.{bind_assoc}
-use Rattle.x690_laws.proofs.Sames.{equivalence}
-use Rattle.x690_laws.proofs.Texts.{same_der}
+use Rattle.x690_laws.proofs.ValuesSame.{equivalence}
+use Rattle.x690_laws.proofs.TextsAsLayouts.{same_der}
 use Rattle.ber_pull.specs.Hears.{Hears, heard_error}
 use Rattle.ber_pull.proofs.Hearing.{hears_as, hears_done, hears_error, hears_fail, hears_on, hears_same, hears_then}
 use Rattle.asn_contained.specs.ClosedTypes.{reader_closed}

@@ -15,7 +15,7 @@ use Rattle.x690.specs.Reading.{Fail, Reading, require}
 use Rattle.x690.specs.Reads.{Heard, Refused}
 use Rattle.x690.specs.TypeTerms.{DefinedByType, RefusedType, TypeTerm}
 use Rattle.x690.specs.Values.{Same, Value, leaf_at}
-use Rattle.x690_laws.proofs.OneValue.{leaf_at_same}
+use Rattle.x690_laws.proofs.ValuesOfTrees.{leaf_at_same}
 use Rattle.asn_fields.specs.Insides.{Inside}
 use Rattle.asn_fields.specs.FieldReadings.{with_field}
 use Rattle.ber_pull.specs.Hears.{Hears}

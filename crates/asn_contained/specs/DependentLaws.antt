@@ -5,7 +5,7 @@ use Rattle.x690.specs.DerTexts.{der}
 use Rattle.x690.specs.Lists.{Each, one_of}
 use Rattle.x690.specs.TypeTerms.{Fields, Optional, Required, TypeTerm}
 use Rattle.x690.specs.Values.{Same, Value, leaf_at, value_tag}
-use Rattle.x690_laws.proofs.OneValue.{leaf_at_same}
+use Rattle.x690_laws.proofs.ValuesOfTrees.{leaf_at_same}
 use Rattle.asn_elements.proofs.SameMembers.{each_last}
 use Rattle.asn_fields.specs.FieldReadings.{with_field}
 use Rattle.asn_fields.specs.Apart.{Begins, BeginsAsTyped, Tells, apart, fits_one, may_begin}

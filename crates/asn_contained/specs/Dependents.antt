@@ -43,9 +43,9 @@ TakesBehind old new next type earlier value result =
     → AnswersValue old new (read_take outer.limits type fields inside (next_of next)) value result
 
 -- with what stands behind it,
-abbrev pub DueBehind : {R A : Type 0} {s : Ghosts R} → Pull R s → Pull R s → code.Next → code.Next → TypeTerm
+abbrev pub RequiredBehind : {R A : Type 0} {s : Ghosts R} → Pull R s → Pull R s → code.Next → code.Next → TypeTerm
     → List Value → (A → Value) → Result A ReadError → Type 0
-DueBehind old new next next' type earlier value result =
+RequiredBehind old new next next' type earlier value result =
     (fields : List Value) → Each Same fields earlier
     → AnswersField old new next (λ outer inside. read_due outer.limits type fields inside (next_of next)) Same value
     (next_of next') result

@@ -1,5 +1,5 @@
 //! OCTET STRINGs that contain an element (X.690 8.7, X.682 11).
-ghost use Rattle.x690_laws.proofs.OneTexts.{leaf_one_text};
+ghost use Rattle.x690_laws.proofs.TextsTellApart.{leaf_one_text};
 ghost use Rattle.std.specs.Prelude.{◌≡◌, ◌↔◌, ◌+◌, ◌<◌, ◌^◌, IfOk, IsSome, IsTrue, None, OnOk, length, refl, slice_get};
 ghost use Rattle.tlv_core.specs.Sinks.{count, Puts};
 ghost use Rattle.x690.specs.DerTexts.{der};
@@ -13,7 +13,7 @@ ghost use Rattle.asn_contained.specs.Contained.{AnswersContained};
 use asn_elements::der_text::{DerText, same_text};
 use asn_elements::element::Element;
 use asn_elements::framing::{Stands, element_size, find_octet, put_header};
-use asn_elements::leaf_reading::{Kind, expect_tag, read_leaf};
+use asn_elements::leaf_reading::{SimpleType, expect_tag, read_leaf};
 use asn_elements::tags::{is_same_tag, universal_tag};
 use asn_elements::whole::read_whole;
 use ber_pull::pull::Pull;
@@ -47,7 +47,7 @@ pub fn read_contained<R: Source, T: Element>(
 {
     let at = expect_tag(pull, own)?;
     let limits = pull.limits();
-    let octets = read_leaf(alloc, pull, Kind::OctetString)?;
+    let octets = read_leaf(alloc, pull, SimpleType::OctetString)?;
     match read_whole(alloc, &octets, limits) {
         Ok(value) => Ok(value),
         Err(ReadError::Fault(fault)) => {

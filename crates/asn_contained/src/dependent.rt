@@ -11,7 +11,7 @@ ghost use Rattle.x690.specs.Values.{Value, value_tag};
 ghost use Rattle.ber_pull.specs.View.{standing, AsksNoMemory, SameSource, Keeps, ReadsFail, Onward, Unmoved, Uses};
 ghost use Rattle.asn_fields.specs.Apart.{may_begin};
 ghost use Rattle.asn_fields.specs.Fields.{IsInside, LeavesWithin, StaysInside, stands_next};
-ghost use Rattle.asn_contained.specs.Dependents.{AnswersBehind, DueBehind, OneTextBehind, OptionalBehind, TakesBehind, suits_where_there};
+ghost use Rattle.asn_contained.specs.Dependents.{AnswersBehind, RequiredBehind, OneTextBehind, OptionalBehind, TakesBehind, suits_where_there};
 ghost use Rattle.asn_contained.specs.DependentLaws.{dependent_begin, dependent_tell};
 
 use asn_elements::element::Element;
@@ -163,7 +163,7 @@ pub fn due_dependent<R: Source, A: FieldsText, F: DependentElement<A>>(
     requires fine { (standing pull.old).error ≡ None }
     requires inside { IsInside pull.old next.old }
     ensures same_source { SameSource pull.old pull.new }
-    ensures reads { DueBehind pull.old pull.new next.old next.new F.type_term
+    ensures reads { RequiredBehind pull.old pull.new next.old next.new F.type_term
         (A.values earlier.now) F.value result }
     ensures suits { IfOk result (λ field. F.suits (A.values earlier.now) field ≡ true) }
     ensures short { IfOk result (λ field. length (der (F.value field)) < 2 ^ 32) }

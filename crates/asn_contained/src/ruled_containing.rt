@@ -4,7 +4,7 @@ ghost use Rattle.x690.specs.DerTexts.{der};
 ghost use Rattle.x690.specs.Layouts.{universal};
 ghost use Rattle.x690.specs.TypeTerms.{ContainingType};
 ghost use Rattle.x690.specs.Values.{Leaf};
-ghost use Rattle.x690_laws.proofs.OneTexts.{leaf_one_text};
+ghost use Rattle.x690_laws.proofs.TextsTellApart.{leaf_one_text};
 ghost use Rattle.asn_contained.specs.Dependents.{passes};
 
 use crate::containing::{Containing, read_contained};

@@ -14,9 +14,9 @@ use Rattle.x690.specs.Points.{fault}
 use Rattle.x690.specs.Premises.{Lawful}
 use Rattle.x690.specs.TypeTerms.{TypeTerm}
 use Rattle.x690.specs.Values.{Value}
-use Rattle.x690_laws.proofs.Headers.{split_alone}
-use Rattle.x690_laws.proofs.Refit.{text_spells}
-use Rattle.x690_laws.proofs.Texts.{same_der}
+use Rattle.x690_laws.proofs.LayoutsOfHeaders.{split_alone}
+use Rattle.x690_laws.proofs.TextsSpell.{text_spells}
+use Rattle.x690_laws.proofs.TextsAsLayouts.{same_der}
 use Rattle.asn_elements.specs.Whole.{IsFailedRead, TellsInsideOf}
 use Rattle.asn_documents.specs.ReadValues.{ReadsValue, StopsReading}
 use Rattle.asn_documents.specs.Checked.{CheckedAs, InBoth, Unchecked, WhereTold}

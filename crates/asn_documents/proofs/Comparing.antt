@@ -5,7 +5,7 @@ use Rattle.std.proofs.lemmas.List.{take_at}
 use Rattle.std.proofs.lemmas.Option.{slice_get-get_or, slice_get_past}
 use Rattle.tlv_core.specs.declared.sink.WriteError.{WriteError}
 use Rattle.asn_documents.specs.WrittenValues.{WritesText}
-use Rattle.x690_laws.proofs.Headers.{split_alone}
+use Rattle.x690_laws.proofs.LayoutsOfHeaders.{split_alone}
 use Rattle.asn_documents.specs.Comparisons.{the_octet}
 use Rattle.asn_documents.specs.Differences.{DiffersFirst}
 

@@ -10,11 +10,11 @@ use Rattle.x690.specs.Fitting.{Spells}
 use Rattle.x690.specs.Premises.{Lawful}
 use Rattle.x690.specs.TypeTerms.{TypeTerm}
 use Rattle.x690.specs.Values.{Same, Value}
-use Rattle.x690_laws.proofs.DocumentAnswers.{refused_is_spelled_by_none, spelling_is_answered, texts_tell_values}
-use Rattle.x690_laws.proofs.Headers.{split_alone}
-use Rattle.x690_laws.proofs.Refit.{text_spells}
-use Rattle.x690_laws.proofs.Sames.{equivalence}
-use Rattle.x690_laws.proofs.Texts.{same_der}
+use Rattle.x690_laws.proofs.AnswersOfDocuments.{refused_is_spelled_by_none, spelling_is_answered, texts_tell_values}
+use Rattle.x690_laws.proofs.LayoutsOfHeaders.{split_alone}
+use Rattle.x690_laws.proofs.TextsSpell.{text_spells}
+use Rattle.x690_laws.proofs.ValuesSame.{equivalence}
+use Rattle.x690_laws.proofs.TextsAsLayouts.{same_der}
 use Rattle.asn_documents.specs.ReadValues.{ReadsValue, StopsReading}
 use Rattle.asn_elements.specs.Whole.{TellsInsideOf}
 use Rattle.asn_documents.specs.Normalised.{NormalisedAs, Took, Unread, WrittenInPart}

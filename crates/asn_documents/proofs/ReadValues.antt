@@ -20,10 +20,10 @@ use Rattle.x690.specs.TypeTerms.{TypeTerm}
 use Rattle.x690.specs.Values.{Same, Value}
 use Rattle.x690.proofs.Needs.{longer}
 use Rattle.x690.proofs.Runs.{taken}
-use Rattle.x690_laws.proofs.DocumentAnswers.{answered, fits_text, halted_is, judged, long_text, one_answer, rest_apart, spelled_place}
-use Rattle.x690_laws.proofs.Judging.{sound}
-use Rattle.x690_laws.proofs.ShortTexts.{read_texts}
-use Rattle.x690_laws.proofs.Texts.{same_der}
+use Rattle.x690_laws.proofs.AnswersOfDocuments.{answered, fits_text, halted_is, judged, long_text, one_answer, rest_apart, spelled_place}
+use Rattle.x690_laws.proofs.ReadingOfElements.{sound}
+use Rattle.x690_laws.proofs.LengthsOfReadTexts.{read_texts}
+use Rattle.x690_laws.proofs.TextsAsLayouts.{same_der}
 use Rattle.ber_pull.specs.Hears.{Hears, heard_error}
 use Rattle.ber_pull.proofs.Hearing.{hears_given}
 use Rattle.asn_documents.specs.ReadValues.{AnswersFault, ReadsValue, StopsReading}

@@ -8,8 +8,8 @@ ghost use Rattle.asn_documents.specs.Keepings.{failed, kept, reference, source, 
 ghost use Rattle.asn_documents.specs.ReadValues.{ReadsValue, StopsReading};
 
 use crate::difference::difference_from_text;
-use crate::document::read_value;
 use crate::keeping::Keeping;
+use crate::value::read_value;
 use asn_elements::element::Element;
 use std::alloc::Global;
 use tlv_core::fault::ReadError;

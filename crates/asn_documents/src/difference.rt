@@ -3,7 +3,7 @@ ghost use Rattle.std.specs.Prelude.{◌≡◌, ◌≤◌, ◌≢◌, ◌<◌, �
 ghost use Rattle.x690.specs.DerTexts.{der};
 ghost use Rattle.asn_documents.specs.Differences.{Differs};
 
-use crate::document::write_text;
+use crate::value::write_text;
 use asn_elements::der_text::DerText;
 use tlv_core::source::Failed;
 use tlv_core::target::Target;

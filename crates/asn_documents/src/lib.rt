@@ -16,7 +16,7 @@
 
 pub mod check;
 pub mod difference;
-pub mod document;
 mod keeping;
 pub mod normalise;
+pub mod value;
 pub mod whole;

@@ -5,7 +5,7 @@ ghost use Rattle.x690.specs.Values.{Value};
 ghost use Rattle.asn_documents.specs.Normalised.{Failures, IsRead, NormalisedAs, RefusedAs};
 ghost use Rattle.asn_documents.specs.declared.normalise.NormaliseError.TheVariants.{Read as unread, Write as unwritten};
 
-use crate::document::{read_value, write_text};
+use crate::value::{read_value, write_text};
 use asn_elements::element::Element;
 use std::alloc::Global;
 use thiserror::Error;

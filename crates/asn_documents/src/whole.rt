@@ -10,8 +10,8 @@ ghost use Rattle.asn_documents.specs.ReadValues.{ReadsValue};
 ghost use Rattle.asn_documents.specs.WholeInputs.{EndsAfter, Followed, RefusedWhole, StopsWhole};
 
 use crate::check::check_value;
-use crate::document::{read_value, write_text};
 use crate::normalise::NormaliseError;
+use crate::value::{read_value, write_text};
 use asn_elements::element::Element;
 use std::alloc::Global;
 use tlv_core::fault::{Fault, ReadError};

@@ -12,8 +12,8 @@ use Rattle.std.specs.Ordering.{is_lt, nat_cmp, on}
 use Rattle.x690.specs.DerTexts.{Ascends, arrange, der, padded_less}
 use Rattle.x690.specs.Values.{Value, values_of}
 use Rattle.x690_laws.specs.ValueLaws.{plain_less}
-use Rattle.x690_laws.proofs.Texts.{arrangement}
-use Rattle.x690_laws.proofs.Lengths.{ders_values}
+use Rattle.x690_laws.proofs.TextsAsLayouts.{arrangement}
+use Rattle.x690_laws.proofs.LengthsOfTexts.{ders_values}
 use Rattle.asn_elements.specs.Members.{ascends}
 use Rattle.asn_elements.proofs.Ascending.{ascends_by}
 use Rattle.asn_elements.proofs.PairedMembers.{permuted}

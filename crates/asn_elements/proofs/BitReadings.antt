@@ -7,9 +7,9 @@ use Rattle.x690.specs.Points.{Enclosing}
 use Rattle.x690.specs.Reading.{Took, run}
 use Rattle.x690.specs.Reads.{Reads, Said}
 use Rattle.x690.proofs.Runs.{took_bind, took_done}
-use Rattle.x690_laws.proofs.ContentsFaulting.{all_stand, one_stands}
+use Rattle.x690_laws.proofs.FaultsOfContents.{all_stand, one_stands}
 use Rattle.x690.specs.ReadContents.{is_bit_segment}
-use Rattle.x690_laws.proofs.LeafSound.{segment_fits}
+use Rattle.x690_laws.proofs.ReadingLeavesSound.{segment_fits}
 use Rattle.ber_pull.proofs.Joining.{clear_at}
 use Rattle.ber_pull.specs.Calls.{read_bits, read_segments}
 use Rattle.ber_pull.specs.Hears.{Hears}

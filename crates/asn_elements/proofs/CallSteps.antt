@@ -5,8 +5,8 @@ use Rattle.x690.specs.Points.{fault}
 use Rattle.x690.specs.ReadHeaders.{ContainerEnds, ElementStands, Next, in_container, next_tag, primitive_contents}
 use Rattle.x690.specs.Reading.{Done, Fail, Halted, Outcome, Reading, Took, run, ◌>>=◌}
 use Rattle.x690.proofs.Runs.{bind_same, halt_bind, run_bind}
-use Rattle.x690_laws.proofs.HeaderFaulting.{require_off}
-use Rattle.x690_laws.proofs.HeaderGives.{choose_second, not_false, require_on}
+use Rattle.x690_laws.proofs.FaultsOfHeaders.{require_off}
+use Rattle.x690_laws.proofs.ReadingOfHeaders.{choose_second, not_false, require_on}
 use Rattle.x690_laws.specs.StepLaws.{read_all_segments, read_only_segment}
 use Rattle.ber_pull.specs.Calls.{read_entering, read_leaving, read_next, read_primitive, read_segments}
 use Rattle.ber_pull.specs.Standing.{Standing, enclosing, is_over}

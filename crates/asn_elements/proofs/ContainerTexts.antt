@@ -11,8 +11,8 @@ use Rattle.tlv_core.specs.Length.{shortest_length}
 use Rattle.x690.specs.DerTexts.{arrange, der, der_element, der_texts, texts_of}
 use Rattle.x690.specs.Lists.{join}
 use Rattle.x690.specs.Values.{Sequence, SetOf, Value, values_of}
-use Rattle.x690_laws.proofs.ContentLengths.{arranged_length}
-use Rattle.x690_laws.proofs.Lengths.{der_bag, der_row, ders_values}
+use Rattle.x690_laws.proofs.LengthsOfContents.{arranged_length}
+use Rattle.x690_laws.proofs.LengthsOfTexts.{der_bag, der_row, ders_values}
 use Rattle.asn_elements.specs.Framing.{framed}
 use Rattle.asn_elements.specs.Members.{ascends}
 use Rattle.asn_elements.proofs.Ascending.{ascends_is}

@@ -12,8 +12,8 @@ use Rattle.x690.specs.Reading.{choose}
 use Rattle.x690.specs.Reads.{Heard, Said}
 use Rattle.x690.specs.TypeTerms.{TypeTerm}
 use Rattle.x690.specs.Values.{Same, Value}
-use Rattle.x690_laws.proofs.HeaderSound.{NextEnds, next_took}
-use Rattle.x690_laws.proofs.Texts.{same_der}
+use Rattle.x690_laws.proofs.ReadingHeadersSound.{NextEnds, next_took}
+use Rattle.x690_laws.proofs.TextsAsLayouts.{same_der}
 use Rattle.ber_pull.specs.Calls.{read_next}
 use Rattle.ber_pull.specs.Hears.{Hears, heard, heard_error, next_at}
 use Rattle.ber_pull.specs.Standing.{Standing, after_next, place, started}

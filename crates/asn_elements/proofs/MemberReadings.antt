@@ -23,7 +23,7 @@ use Rattle.ber_pull.specs.declared.state.Given.{Given}
 use Rattle.ber_pull.proofs.Hearing.{hears_as, hears_done, hears_error, hears_memory, hears_same, hears_then}
 use Rattle.ber_pull.proofs.Nexts.{place_taken}
 use Rattle.x690.proofs.Runs.{bind_assoc, bind_same}
-use Rattle.x690_laws.proofs.ShortTexts.{texts_pushed}
+use Rattle.x690_laws.proofs.LengthsOfReadTexts.{texts_pushed}
 
 -- going in
 

@@ -5,8 +5,8 @@ use Rattle.x690.specs.Contents as kinds
 use Rattle.x690.specs.Contents.{LeafContents}
 use Rattle.x690.specs.Layouts.{universal}
 use Rattle.x690.specs.ReadContents.{is_object_identifier}
-use Rattle.x690_laws.proofs.Gives.{contents_on}
-use Rattle.x690_laws.proofs.LeafSound.{contents_fit}
+use Rattle.x690_laws.proofs.ReadingOfLayouts.{contents_on}
+use Rattle.x690_laws.proofs.ReadingLeavesSound.{contents_fit}
 
 pub identifier_on : (o : List ℕ) → IsObjectIdentifier o → is_object_identifier o ≡ true
 unfolding LeafContents

@@ -6,8 +6,8 @@ use Rattle.std.proofs.lemmas.List.Sorted.{IsPermutation-keeps}
 use Rattle.tlv_core.specs.Identifier.{Tag}
 use Rattle.x690.specs.Lists.{Each, Paired, Picked}
 use Rattle.x690.specs.Values.{Same, SetOf, Value, members, values_of}
-use Rattle.x690_laws.proofs.Pairing.{paired_add, paired_take}
-use Rattle.x690_laws.proofs.Sames.{paired_bag}
+use Rattle.x690_laws.proofs.ListsPaired.{paired_add, paired_take}
+use Rattle.x690_laws.proofs.ValuesSame.{paired_bag}
 
 abbrev Alike : {A : Type 0} → A → A → Type 0
 Alike x y = x ≡ y

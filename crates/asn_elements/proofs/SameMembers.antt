@@ -4,7 +4,7 @@ use Rattle.tlv_core.specs.Identifier.{Tag}
 use Rattle.x690.specs.DerTexts.{texts_of}
 use Rattle.x690.specs.Lists.{Each}
 use Rattle.x690.specs.Values.{Same, SameInPlace, Sequence, Value, values_of}
-use Rattle.x690_laws.proofs.Texts.{canonical}
+use Rattle.x690_laws.proofs.TextsAsLayouts.{canonical}
 
 pub each_last : (vs ws : List Value) (v w : Value) → Each Same vs ws → Same v w
     → Each Same (vs ++ v ∷ []) (ws ++ w ∷ [])

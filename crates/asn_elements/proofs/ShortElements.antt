@@ -11,7 +11,7 @@ use Rattle.x690.specs.Reading.{Fail, ◌>>=◌}
 use Rattle.x690.specs.Reads.{Said}
 use Rattle.x690.specs.TypeTerms.{TypeTerm}
 use Rattle.x690.specs.Values.{Value}
-use Rattle.x690_laws.proofs.ShortTexts.{read_texts}
+use Rattle.x690_laws.proofs.LengthsOfReadTexts.{read_texts}
 use Rattle.ber_pull.specs.Hears.{Hears}
 use Rattle.ber_pull.proofs.Hearing.{hears_as, hears_given, hears_then}
 

@@ -11,7 +11,7 @@ use Rattle.x690.specs.Reading.{Reading, choose, require}
 use Rattle.x690.specs.StringTypes.{carried_string, string_types}
 use Rattle.x690.specs.TypeTerms.{LeafType, choice_of, fits_tag}
 use Rattle.x690.specs.Values.{Value}
-use Rattle.x690_laws.proofs.Sound.{same_tag_is}
+use Rattle.x690_laws.proofs.ReadingLayoutsSound.{same_tag_is}
 use Rattle.ber_pull.specs.Standing.{Standing}
 use Rattle.ber_pull.specs.declared.state.Given.{Given}
 use Rattle.asn_elements.specs.Reading.{read_given, read_given_leaf, string_kind}

@@ -13,7 +13,7 @@ truth b = b.value
 
 -- the contents of an INTEGER
 abbrev pub integer_of : Int → List ℕ
-integer_of n = n.content.items
+integer_of n = n.contents.items
 
 -- the octets of an OCTET STRING
 abbrev pub octets_of : Octets → List ℕ
@@ -29,4 +29,4 @@ text_octets text = text.octets.items
 
 -- the contents of a BIT STRING: the number of unused bits, and the octets
 abbrev pub bit_string_of : Bits → List ℕ
-bit_string_of bits = bits.content.items
+bit_string_of bits = bits.contents.items

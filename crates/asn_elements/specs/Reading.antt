@@ -20,8 +20,8 @@ use Rattle.ber_pull.specs.View.{Answers}
 use Rattle.ber_pull.specs.declared.pull.Pull.{Pull}
 use Rattle.ber_pull.specs.declared.state.Given.{Given}
 use Rattle.asn_elements.specs.BitStrings.{IsDerBits}
-use Rattle.asn_elements.specs.declared.leaf_reading.Kind.{Kind}
-use Rattle.asn_elements.specs.declared.leaf_reading.Kind.TheVariants as coded
+use Rattle.asn_elements.specs.declared.leaf_reading.SimpleType.{SimpleType}
+use Rattle.asn_elements.specs.declared.leaf_reading.SimpleType.TheVariants as coded
 
 -- the element that is given, as the type
 abbrev pub read_given : TypeTerm → Standing → Given → Reading Value
@@ -31,7 +31,7 @@ read_given type s g = read_type s.limits type [] (enclosing s) g.at g.tag g.cons
 abbrev pub read_given_leaf : LeafKind → Tag → Standing → Given → Reading Value
 read_given_leaf kind own s g = read_leaf s.limits (enclosing s) kind g.at own g.constructed
 
-abbrev pub kind_of : Kind → LeafKind
+abbrev pub kind_of : SimpleType → LeafKind
 kind_of coded.Boolean = kinds.Boolean
 kind_of coded.Integer = kinds.Integer
 kind_of coded.Null = kinds.Null
@@ -45,7 +45,7 @@ string_kind true = kinds.Utf8String
 string_kind false = kinds.OctetString
 
 -- what is known of a leaf's contents, whoever told them
-abbrev pub HasContents : Kind → List ℕ → Type 0
+abbrev pub HasContents : SimpleType → List ℕ → Type 0
 HasContents coded.Boolean contents = (contents ≡ 0 ∷ []) ⊎ (contents ≡ 255 ∷ [])
 HasContents coded.Integer contents = is_integer_contents contents ≡ true
 HasContents coded.Null contents = contents ≡ []

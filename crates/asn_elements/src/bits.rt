@@ -1,8 +1,8 @@
 //! BIT STRING (X.690 8.6, 11.2).
-ghost use Rattle.x690_laws.proofs.OneTexts.{leaf_one_text};
+ghost use Rattle.x690_laws.proofs.TextsTellApart.{leaf_one_text};
 ghost use Rattle.std.specs.Prelude.{◌≡◌, ◌↔◌, ◌<◌, ◌≤◌, ◌∷◌, IsTrue, drop, get_or, length};
-ghost use Rattle.x690_laws.proofs.ClosedTypes.{leaf_closed};
-ghost use Rattle.x690_laws.proofs.OwnTags.{leaf_fits};
+ghost use Rattle.x690_laws.proofs.TypesClosed.{leaf_closed};
+ghost use Rattle.x690_laws.proofs.TypesOfOneTag.{leaf_fits};
 ghost use Rattle.x690.specs.Layouts.{universal};
 ghost use Rattle.x690.specs.Contents.{BitString};
 ghost use Rattle.x690.specs.TypeTerms.{LeafType};
@@ -13,7 +13,7 @@ use crate::der_text::DerText;
 use crate::element::Element;
 use crate::implicit::{ImplicitElement, ImplicitText};
 use crate::leaf::{leaf_octet, leaf_size, put_leaf};
-use crate::leaf_reading::{Kind, read_leaf_as};
+use crate::leaf_reading::{SimpleType, read_leaf_as};
 use crate::tags::{is_same_tag, universal_tag};
 use ber_pull::pull::Pull;
 use std::alloc::Global;
@@ -27,9 +27,9 @@ use tlv_core::target::Target;
 #[derive(Drop)]
 pub struct Bits {
     /// The number of unused bits, and behind it the octets, in which these bits are 0.
-    content: Vec<u8>,
-    ghost some: { 0 < length content.items },
-    ghost whole: { IsDerBits content.items },
+    contents: Vec<u8>,
+    ghost some: { 0 < length contents.items },
+    ghost whole: { IsDerBits contents.items },
 }
 
 impl Bits {
@@ -42,7 +42,7 @@ impl Bits {
         ensures few { result ≤ 7 }
         ensures whole { IsDerBits (bit_string_of self.now) }
     {
-        self.content[0]
+        self.contents[0]
     }
 
     /// The octets of the bits, the first bit leading; unused bits are 0 (X.690 8.6.2.1, 11.2.1).
@@ -52,14 +52,14 @@ impl Bits {
             ≡ get_or (bit_string_of self.now) 0 0 ∷ result.now }
         ensures whole { IsDerBits (bit_string_of self.now) }
     {
-        &self.content[1..]
+        &self.contents[1..]
     }
 
     /// Whether the two have the same bits.
     pub fn same(&self, other: &Bits) -> bool
         ensures { IsTrue result ↔ (bit_string_of self.now ≡ bit_string_of other.now) }
     {
-        self.content == other.content
+        self.contents == other.contents
     }
 }
 
@@ -92,15 +92,15 @@ impl ImplicitText for Bits {
     ghost one_text_as = { λ own x y. leaf_one_text own own (bit_string_of x) (bit_string_of y) };
 
     fn size_as(&self, tag: Tag) -> u64 {
-        leaf_size(tag, &self.content)
+        leaf_size(tag, &self.contents)
     }
 
     fn put_as<W: Target>(&self, sink: &mut Sink<'_, W>, tag: Tag) -> Result<(), WriteError> {
-        put_leaf(tag, &self.content, sink)
+        put_leaf(tag, &self.contents, sink)
     }
 
     fn octet_as(&self, i: u64, tag: Tag) -> Option<u8> {
-        leaf_octet(tag, &self.content, i)
+        leaf_octet(tag, &self.contents, i)
     }
 }
 
@@ -131,7 +131,7 @@ impl ImplicitElement for Bits {
         pull: &mut Pull<'_, R>,
         tag: Tag,
     ) -> Result<Bits, ReadError> {
-        let content = read_leaf_as(alloc, pull, tag, Kind::BitString)?;
-        Ok(Bits { content })
+        let contents = read_leaf_as(alloc, pull, tag, SimpleType::BitString)?;
+        Ok(Bits { contents })
     }
 }

@@ -1,7 +1,7 @@
 //! BOOLEAN (X.690 8.2, 11.1).
-ghost use Rattle.x690_laws.proofs.OneTexts.{leaf_one_text};
+ghost use Rattle.x690_laws.proofs.TextsTellApart.{leaf_one_text};
 ghost use Rattle.std.specs.Prelude.{◌≡◌, ◌↔◌, ◌∷◌, [], IsTrue, cond};
-ghost use Rattle.x690_laws.proofs.ClosedTypes.{leaf_closed};
+ghost use Rattle.x690_laws.proofs.TypesClosed.{leaf_closed};
 ghost use Rattle.x690.specs.Layouts.{universal};
 ghost use Rattle.x690.specs.Contents.{Boolean};
 ghost use Rattle.x690.specs.TypeTerms.{LeafType};
@@ -10,7 +10,7 @@ ghost use Rattle.x690.specs.Values.{Leaf};
 use crate::der_text::DerText;
 use crate::element::Element;
 use crate::leaf::{leaf_octet, leaf_size, put_leaf};
-use crate::leaf_reading::{Kind, read_leaf_as};
+use crate::leaf_reading::{SimpleType, read_leaf_as};
 use crate::tags::{is_same_tag, universal_tag};
 use ber_pull::pull::Pull;
 use std::alloc::Global;
@@ -83,7 +83,7 @@ impl Element for Bool {
     }
 
     fn read<R: Source>(alloc: Global, pull: &mut Pull<'_, R>) -> Result<Bool, ReadError> {
-        let contents = read_leaf_as(alloc, pull, universal_tag(1), Kind::Boolean)?;
+        let contents = read_leaf_as(alloc, pull, universal_tag(1), SimpleType::Boolean)?;
         let value = contents[0] != 0;
         Ok(Bool { value })
     }

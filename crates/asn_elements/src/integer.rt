@@ -1,8 +1,8 @@
 //! INTEGER (X.690 8.3).
-ghost use Rattle.x690_laws.proofs.OneTexts.{leaf_one_text};
+ghost use Rattle.x690_laws.proofs.TextsTellApart.{leaf_one_text};
 ghost use Rattle.std.specs.Prelude.{◌≡◌, ◌↔◌, ◌≤◌, ◌<◌, ◌^◌, Err, IfOk, IsTrue, length, true};
 ghost use Rattle.asn_elements.specs.declared.build.BuildError.TheVariants.{Bad, TooBig};
-ghost use Rattle.x690_laws.proofs.ClosedTypes.{leaf_closed};
+ghost use Rattle.x690_laws.proofs.TypesClosed.{leaf_closed};
 ghost use Rattle.x690.specs.Contents.{Integer, IsInteger};
 ghost use Rattle.x690.specs.DerTexts.{der};
 ghost use Rattle.x690.specs.ReadContents.{is_integer_contents};
@@ -14,7 +14,7 @@ use crate::build::BuildError;
 use crate::der_text::DerText;
 use crate::element::Element;
 use crate::leaf::{is_long_leaf, leaf_octet, leaf_size, put_leaf};
-use crate::leaf_reading::{Kind, read_leaf_as};
+use crate::leaf_reading::{SimpleType, read_leaf_as};
 use crate::tags::{is_same_tag, universal_tag};
 use ber_pull::pull::Pull;
 use std::alloc::Global;
@@ -28,8 +28,8 @@ use tlv_core::target::Target;
 /// 8.3).
 #[derive(Drop)]
 pub struct Int {
-    content: Vec<u8>,
-    ghost is: { is_integer_contents content.items ≡ true },
+    contents: Vec<u8>,
+    ghost is: { is_integer_contents contents.items ≡ true },
 }
 
 impl Int {
@@ -39,7 +39,7 @@ impl Int {
     ///
     /// Errors: `TooBig` where the text would be longer than 2^40 octets, `Bad` where there are no octets, or the first
     /// nine bits are all 0 or all 1 (X.690 8.3.2), `Memory`.
-    pub fn from_content(alloc: Global, octets: &[u8]) -> Result<Int, BuildError>
+    pub fn from_contents(alloc: Global, octets: &[u8]) -> Result<Int, BuildError>
         ensures made { IfOk result (λ n. integer_of n ≡ octets.now) }
         ensures too_big { (result ≡ Err TooBig)
             ↔ (2 ^ 40 < length (der (Leaf (universal 2) octets.now))) }
@@ -52,23 +52,23 @@ impl Int {
         if !is_integer(octets) {
             return Err(BuildError::Bad);
         }
-        let content = octets.to_vec(alloc)?;
-        Ok(Int { content })
+        let contents = octets.to_vec(alloc)?;
+        Ok(Int { contents })
     }
 
     /// The octets of its contents.
-    pub fn content(&self) -> &[u8]
+    pub fn contents(&self) -> &[u8]
         ensures value { result.now ≡ integer_of self.now }
         ensures is { IsInteger (integer_of self.now) }
     {
-        &self.content
+        &self.contents
     }
 
     /// Whether the two are the same number.
     pub fn same(&self, other: &Int) -> bool
         ensures { IsTrue result ↔ (integer_of self.now ≡ integer_of other.now) }
     {
-        self.content == other.content
+        self.contents == other.contents
     }
 }
 
@@ -93,15 +93,15 @@ impl DerText for Int {
         (integer_of y) };
 
     fn size(&self) -> u64 {
-        leaf_size(universal_tag(2), &self.content)
+        leaf_size(universal_tag(2), &self.contents)
     }
 
     fn put<W: Target>(&self, sink: &mut Sink<'_, W>) -> Result<(), WriteError> {
-        put_leaf(universal_tag(2), &self.content, sink)
+        put_leaf(universal_tag(2), &self.contents, sink)
     }
 
     fn octet(&self, i: u64) -> Option<u8> {
-        leaf_octet(universal_tag(2), &self.content, i)
+        leaf_octet(universal_tag(2), &self.contents, i)
     }
 }
 
@@ -116,7 +116,7 @@ impl Element for Int {
     }
 
     fn read<R: Source>(alloc: Global, pull: &mut Pull<'_, R>) -> Result<Int, ReadError> {
-        let content = read_leaf_as(alloc, pull, universal_tag(2), Kind::Integer)?;
-        Ok(Int { content })
+        let contents = read_leaf_as(alloc, pull, universal_tag(2), SimpleType::Integer)?;
+        Ok(Int { contents })
     }
 }

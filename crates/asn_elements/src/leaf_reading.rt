@@ -28,7 +28,7 @@ use tlv_core::tag::Tag;
 
 /// The kinds of leaves, OBJECT IDENTIFIER apart.
 #[derive(Clone, Copy)]
-pub enum Kind {
+pub enum SimpleType {
     Boolean,
     Integer,
     Null,
@@ -81,30 +81,30 @@ fn is_string(utf8: bool, octets: &[u8]) -> bool
 
 /// Whether the octets are the contents of a primitive leaf of the kind.
 #[inline(always)]
-fn is_contents(kind: Kind, contents: &[u8]) -> bool
+fn is_contents(kind: SimpleType, contents: &[u8]) -> bool
     ensures { result ≡ reading.is_contents (kind_of kind) contents.now }
 {
     match kind {
-        Kind::Boolean => contents.len() == 1,
-        Kind::Integer => is_integer(contents),
-        Kind::Null => contents.is_empty(),
-        Kind::BitString => is_bit_segment(contents),
-        Kind::OctetString => is_string(false, contents),
-        Kind::Utf8String => is_string(true, contents),
+        SimpleType::Boolean => contents.len() == 1,
+        SimpleType::Integer => is_integer(contents),
+        SimpleType::Null => contents.is_empty(),
+        SimpleType::BitString => is_bit_segment(contents),
+        SimpleType::OctetString => is_string(false, contents),
+        SimpleType::Utf8String => is_string(true, contents),
     }
 }
 
 /// Why octets that aren't contents of the kind are refused.
-fn bad_contents(kind: Kind) -> Reason
+fn bad_contents(kind: SimpleType) -> Reason
     ensures bad { result ≡ reading.bad_contents (kind_of kind) }
     ensures plain { result ≡ Inner → ⊥ }
 {
     match kind {
-        Kind::Boolean => Reason::BadBoolean,
-        Kind::Integer => Reason::BadInteger,
-        Kind::Null => Reason::BadNull,
-        Kind::BitString => Reason::BadBits,
-        Kind::OctetString | Kind::Utf8String => Reason::BadText,
+        SimpleType::Boolean => Reason::BadBoolean,
+        SimpleType::Integer => Reason::BadInteger,
+        SimpleType::Null => Reason::BadNull,
+        SimpleType::BitString => Reason::BadBits,
+        SimpleType::OctetString | SimpleType::Utf8String => Reason::BadText,
     }
 }
 
@@ -121,14 +121,14 @@ fn clear_bits(contents: &mut Vec<u8>)
 
 /// Makes the contents those of DER: TRUE is FF, and unused bits are 0 (X.690 11.1, 11.2.1).
 #[inline(always)]
-fn make_der(kind: Kind, contents: &mut Vec<u8>)
+fn make_der(kind: SimpleType, contents: &mut Vec<u8>)
     requires fit { reading.is_contents (kind_of kind) contents.old.items ≡ true }
     ensures der { contents.new.items ≡ reading.der_contents (kind_of kind) contents.old.items }
     ensures contents { HasContents kind contents.new.items }
 {
     match kind {
-        Kind::Boolean if contents[0] != 0 => contents[0] = 255,
-        Kind::BitString => clear_bits(contents),
+        SimpleType::Boolean if contents[0] != 0 => contents[0] = 255,
+        SimpleType::BitString => clear_bits(contents),
         _ => {}
     }
 }
@@ -138,7 +138,7 @@ fn make_der(kind: Kind, contents: &mut Vec<u8>)
 #[inline(always)]
 fn read_primitive_leaf<R: Source>(
     pull: &mut Pull<'_, R>,
-    kind: Kind,
+    kind: SimpleType,
     contents: &mut Vec<u8>,
 ) -> Result<(), ReadError>
     requires primitive { (g : Given) → (standing pull.old).given ≡ Some g → g.constructed ≡ true
@@ -223,7 +223,7 @@ fn read_octets_leaf<R: Source>(
 pub fn read_leaf_into<R: Source>(
     alloc: Global,
     pull: &mut Pull<'_, R>,
-    kind: Kind,
+    kind: SimpleType,
     contents: &mut Vec<u8>,
 ) -> Result<(), ReadError>
     requires { (standing pull.old).error ≡ None → IsSome (standing pull.old).given }
@@ -243,10 +243,12 @@ pub fn read_leaf_into<R: Source>(
         return read_primitive_leaf(pull, kind, contents);
     }
     match kind {
-        Kind::BitString => *contents = read_bits_leaf(alloc, pull)?,
-        Kind::OctetString => read_octets_leaf(alloc, pull, false, contents)?,
-        Kind::Utf8String => read_octets_leaf(alloc, pull, true, contents)?,
-        Kind::Boolean | Kind::Integer | Kind::Null => read_primitive_leaf(pull, kind, contents)?,
+        SimpleType::BitString => *contents = read_bits_leaf(alloc, pull)?,
+        SimpleType::OctetString => read_octets_leaf(alloc, pull, false, contents)?,
+        SimpleType::Utf8String => read_octets_leaf(alloc, pull, true, contents)?,
+        SimpleType::Boolean | SimpleType::Integer | SimpleType::Null => read_primitive_leaf(
+            pull, kind, contents,
+        )?,
     }
     Ok(())
 }
@@ -255,7 +257,7 @@ pub fn read_leaf_into<R: Source>(
 pub fn read_leaf<R: Source>(
     alloc: Global,
     pull: &mut Pull<'_, R>,
-    kind: Kind,
+    kind: SimpleType,
 ) -> Result<Vec<u8>, ReadError>
     requires { (standing pull.old).error ≡ None → IsSome (standing pull.old).given }
     ensures same_source { SameSource pull.old pull.new }
@@ -280,7 +282,7 @@ pub fn read_leaf_as<R: Source>(
     alloc: Global,
     pull: &mut Pull<'_, R>,
     own: Tag,
-    kind: Kind,
+    kind: SimpleType,
 ) -> Result<Vec<u8>, ReadError>
     requires { (standing pull.old).error ≡ None → IsSome (standing pull.old).given }
     ensures same_source { SameSource pull.old pull.new }

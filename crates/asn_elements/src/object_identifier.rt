@@ -1,9 +1,9 @@
 //! OBJECT IDENTIFIER (X.690 8.19); the type is `tlv_core`'s `Oid`.
-ghost use Rattle.x690_laws.proofs.OneTexts.{leaf_one_text};
+ghost use Rattle.x690_laws.proofs.TextsTellApart.{leaf_one_text};
 ghost use Rattle.std.specs.Prelude.{◌≡◌, None, Some, IsSome, OnOk};
 ghost use Rattle.tlv_core.specs.Identifier.{Tag as Identified};
 ghost use Rattle.tlv_core.specs.ObjectIdentifier.{IsObjectIdentifier};
-ghost use Rattle.x690_laws.proofs.ClosedTypes.{leaf_closed};
+ghost use Rattle.x690_laws.proofs.TypesClosed.{leaf_closed};
 ghost use Rattle.x690.specs.Contents.{ObjectIdentifier};
 ghost use Rattle.x690.specs.Layouts.{universal};
 ghost use Rattle.x690.specs.TypeTerms.{LeafType};
@@ -34,15 +34,15 @@ impl DerText for Oid {
     ghost one_text = { λ x y. leaf_one_text (universal 6) (universal 6) x y };
 
     fn size(&self) -> u64 {
-        leaf_size(universal_tag(6), self.content())
+        leaf_size(universal_tag(6), self.contents())
     }
 
     fn put<W: Target>(&self, sink: &mut Sink<'_, W>) -> Result<(), WriteError> {
-        put_leaf(universal_tag(6), self.content(), sink)
+        put_leaf(universal_tag(6), self.contents(), sink)
     }
 
     fn octet(&self, i: u64) -> Option<u8> {
-        leaf_octet(universal_tag(6), self.content(), i)
+        leaf_octet(universal_tag(6), self.contents(), i)
     }
 }
 

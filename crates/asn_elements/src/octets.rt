@@ -1,8 +1,8 @@
 //! OCTET STRING (X.690 8.7).
-ghost use Rattle.x690_laws.proofs.OneTexts.{leaf_one_text};
+ghost use Rattle.x690_laws.proofs.TextsTellApart.{leaf_one_text};
 ghost use Rattle.std.specs.Prelude.{◌≡◌, ◌↔◌, ◌<◌, ◌^◌, Err, IfOk, IsTrue, length};
 ghost use Rattle.asn_elements.specs.declared.build.BuildError.TheVariants.{Bad, TooBig};
-ghost use Rattle.x690_laws.proofs.ClosedTypes.{leaf_closed};
+ghost use Rattle.x690_laws.proofs.TypesClosed.{leaf_closed};
 ghost use Rattle.x690.specs.DerTexts.{der};
 ghost use Rattle.x690.specs.Layouts.{universal};
 ghost use Rattle.x690.specs.Contents.{OctetString};
@@ -13,7 +13,7 @@ use crate::build::BuildError;
 use crate::der_text::DerText;
 use crate::element::Element;
 use crate::leaf::{is_long_leaf, leaf_octet, leaf_size, put_leaf};
-use crate::leaf_reading::{Kind, read_leaf_as};
+use crate::leaf_reading::{SimpleType, read_leaf_as};
 use crate::tags::{is_same_tag, universal_tag};
 use ber_pull::pull::Pull;
 use std::alloc::Global;
@@ -95,7 +95,7 @@ impl Element for Octets {
     }
 
     fn read<R: Source>(alloc: Global, pull: &mut Pull<'_, R>) -> Result<Octets, ReadError> {
-        let octets = read_leaf_as(alloc, pull, universal_tag(4), Kind::OctetString)?;
+        let octets = read_leaf_as(alloc, pull, universal_tag(4), SimpleType::OctetString)?;
         Ok(Octets { octets })
     }
 }

@@ -1,6 +1,6 @@
 //! Character strings and times (X.690 8.23, 8.25).
-ghost use Rattle.x690_laws.proofs.OneTexts.{leaf_one_text};
-ghost use Rattle.x690_laws.proofs.ClosedTypes.{strings_closed};
+ghost use Rattle.x690_laws.proofs.TextsTellApart.{leaf_one_text};
+ghost use Rattle.x690_laws.proofs.TypesClosed.{strings_closed};
 ghost use Rattle.std.specs.Prelude.{◌≡◌, ◌↔◌, None, Some, IfErr, IfOk, IsSome, IsTrue, IsUtf8, OnOk, true};
 ghost use Rattle.tlv_core.specs.declared.reason.Reason.TheVariants.{WrongTag};
 ghost use Rattle.x690.specs.Layouts.{same_tag, universal};
@@ -18,7 +18,7 @@ ghost use Rattle.asn_elements.specs.Reading.{kind_of, string_kind};
 use crate::der_text::DerText;
 use crate::element::Element;
 use crate::leaf::{leaf_octet, leaf_size, put_leaf};
-use crate::leaf_reading::{Kind, read_leaf};
+use crate::leaf_reading::{SimpleType, read_leaf};
 use crate::tags::{is_same_tag, universal_tag};
 use ber_pull::pull::Pull;
 use std::alloc::Global;
@@ -76,13 +76,13 @@ fn is_string_tag(tag: Tag) -> bool
 }
 
 /// How a string of this tag is read.
-fn kind_by_tag(tag: Tag) -> Kind
+fn kind_by_tag(tag: Tag) -> SimpleType
     ensures { kind_of result ≡ string_kind (same_tag (universal 12) tag) }
 {
     if is_same_tag(universal_tag(12), tag) {
-        Kind::Utf8String
+        SimpleType::Utf8String
     } else {
-        Kind::OctetString
+        SimpleType::OctetString
     }
 }
 

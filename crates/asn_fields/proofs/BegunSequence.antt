@@ -17,7 +17,7 @@ use Rattle.x690.specs.Reading.{Done, Reading, run, ◌>>=◌}
 use Rattle.x690.specs.Reads.{Refused, Said}
 use Rattle.x690.specs.TypeTerms.{Default, DefinedByType, EndOfFields, Fields, Optional, Required, Rule, RuledType, SequenceType, TypeTerm, fits_tag}
 use Rattle.x690.specs.Values.{Leaf, Same, Sequence, SetOf, Value, leaf_at, values_of}
-use Rattle.x690_laws.proofs.OneValue.{leaf_at_same}
+use Rattle.x690_laws.proofs.ValuesOfTrees.{leaf_at_same}
 use Rattle.asn_fields.specs.Insides.{Inside, Within}
 use Rattle.asn_fields.specs.FieldReadings.{but_default, read_begin, read_due, read_end, read_optional, read_take, with_field}
 use Rattle.ber_pull.specs.Hears.{Continues, Hears, heard_error, next_at}

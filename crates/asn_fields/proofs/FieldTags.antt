@@ -9,9 +9,9 @@ use Rattle.x690.specs.ReadHeaders.{ElementStands}
 use Rattle.x690.specs.Reads.{Said}
 use Rattle.x690.specs.TypeTerms.{ChoiceType, ContainingType, DefinedByType, LeafType, OpenType, RefusedType, RuledType, SequenceOfType, SequenceType, SetOfType, TypeTerm, fits_tag}
 use Rattle.x690.specs.Values.{Same, Value, value_tag}
-use Rattle.x690_laws.proofs.Refit.{begins_fits}
-use Rattle.x690_laws.proofs.Soundness.{type_took}
-use Rattle.x690_laws.proofs.Texts.{canonical}
+use Rattle.x690_laws.proofs.TextsSpell.{begins_fits}
+use Rattle.x690_laws.proofs.ReadingSound.{type_took}
+use Rattle.x690_laws.proofs.TextsAsLayouts.{canonical}
 use Rattle.asn_fields.specs.Insides.{BeginsBefore}
 use Rattle.ber_pull.specs.Hears.{Hears}
 use Rattle.ber_pull.specs.Standing.{Standing, enclosing}

@@ -9,9 +9,9 @@ use Rattle.x690.specs.ReadTypes.{read_type}
 use Rattle.x690.specs.Reads.{Said}
 use Rattle.x690.specs.TypeTerms.{TypeTerm}
 use Rattle.x690.specs.Values.{Same, Value}
-use Rattle.x690_laws.proofs.HeaderSound.{next_took}
-use Rattle.x690_laws.proofs.ShortTexts.{read_texts}
-use Rattle.x690_laws.proofs.Texts.{canonical}
+use Rattle.x690_laws.proofs.ReadingHeadersSound.{next_took}
+use Rattle.x690_laws.proofs.LengthsOfReadTexts.{read_texts}
+use Rattle.x690_laws.proofs.TextsAsLayouts.{canonical}
 use Rattle.asn_fields.specs.Insides.{BeginsBefore}
 use Rattle.ber_pull.specs.Hears.{Hears, next_at}
 use Rattle.ber_pull.specs.Standing.{IsGiven, Standing, enclosing}

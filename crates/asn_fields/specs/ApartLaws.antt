@@ -4,16 +4,16 @@ use Rattle.tlv_core.specs.Identifier.{Tag}
 use Rattle.x690.specs.DerTexts.{der, der_element}
 use Rattle.x690.specs.Contents.{Boolean}
 use Rattle.x690.specs.Layouts.{same_tag, universal}
-use Rattle.x690_laws.proofs.Sound.{same_tag_is}
+use Rattle.x690_laws.proofs.ReadingLayoutsSound.{same_tag_is}
 use Rattle.x690.specs.TypeTerms.{ChoiceType, ContainingType, Default, DefinedByType, EndOfFields, Fields, LeafType, OpenType, Optional, RefusedType, Required, Rule, RuledType, SequenceOfType, SequenceType, SetOfType, TypeTerm}
 use Rattle.x690.specs.Values.{Leaf, Same, Sequence, SetOf, Value, leaf_at, value_tag, values_of}
 use Rattle.std.specs.Option.{option_map}
 use Rattle.x690.specs.Lists.{Each, one_of}
-use Rattle.x690_laws.proofs.OneValue.{leaf_at_same}
+use Rattle.x690_laws.proofs.ValuesOfTrees.{leaf_at_same}
 use Rattle.asn_fields.specs.declared.either.Either.{Either}
 use Rattle.asn_fields.specs.declared.either.Either.TheVariants.{First, Second}
-use Rattle.x690_laws.proofs.OneTexts.{each_sequence, leaf_one_text, sequence_texts}
-use Rattle.x690_laws.proofs.Texts.{element_alone}
+use Rattle.x690_laws.proofs.TextsTellApart.{each_sequence, leaf_one_text, sequence_texts}
+use Rattle.x690_laws.proofs.TextsAsLayouts.{element_alone}
 use Rattle.asn_fields.specs.FieldReadings.{with_field}
 use Rattle.asn_fields.specs.Fields.{unless_false}
 use Rattle.asn_fields.specs.Apart.{Begins, BeginsAsTyped, Tells, apart, fields_may_begin, fits_one, is_end, may_begin, none_of}

@@ -3,14 +3,14 @@ ghost use Rattle.std.specs.Prelude.{◌≡◌, ◌++◌, ◌+◌, ◌<◌, ◌^�
 ghost use Rattle.tlv_core.specs.Sinks.{count, Puts};
 ghost use Rattle.x690.specs.DerTexts.{texts_of};
 ghost use Rattle.x690.specs.Premises.{FairRule, HonestRule};
-ghost use Rattle.x690.specs.TypeTerms.{Required, Rule, RuledType};
+ghost use Rattle.x690.specs.TypeTerms.{Required as RequiredType, Rule, RuledType};
 ghost use Rattle.x690.specs.Values.{value_tag};
 ghost use Rattle.asn_fields.specs.Apart.{may_begin};
 ghost use Rattle.asn_fields.specs.ApartLaws.{judged_begin, judged_tell};
 
-use crate::due::Due;
 use crate::field_list::{FieldsText, FirstFields};
 use crate::fields::{Next, ahead, take};
+use crate::required::Required;
 use asn_elements::der_text::DerText;
 use asn_elements::element::Element;
 use ber_pull::pull::Pull;
@@ -41,7 +41,7 @@ pub trait FieldRules<A: FieldsText, T: DerText>: Drop {
 /// The fields `A`, and one behind them that is due, which the rule lets pass.
 #[derive(Drop)]
 pub struct Judged<A: FieldsText, T: DerText, K: FieldRules<A, T>> {
-    fields: (A, Due<T>),
+    fields: (A, Required<T>),
     rules: PhantomData<K>,
     ghost judged: { K.rule (A.values fields.0) (T.value fields.1.0) ≡ None },
 }
@@ -64,7 +64,7 @@ impl<A: FieldsText, T: DerText, K: FieldRules<A, T>> Judged<A, T, K> {
 }
 
 impl<A: FieldsText, T: Element, K: FieldRules<A, T>> FieldsText for Judged<A, T, K> {
-    ghost types = { λ rest. A.types (Required (RuledType K.rule T.type_term) rest) };
+    ghost types = { λ rest. A.types (RequiredType (RuledType K.rule T.type_term) rest) };
 
     ghost most = { A.most + 1 };
 
@@ -106,7 +106,7 @@ impl<A: FirstFields, T: Element, K: FieldRules<A, T>> FirstFields for Judged<A, 
         }
         *next = ahead(pull)?;
         Ok(Judged {
-            fields: (earlier, Due(field)),
+            fields: (earlier, Required(field)),
             rules: PhantomData,
         })
     }

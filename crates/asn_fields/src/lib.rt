@@ -3,7 +3,7 @@
 //! A SEQUENCE is kept as the list of its fields: a `record::Form` names them in the order of the ASN.1, and
 //! `record::Record` of it is the type, with its text, its reader and its comparison. In the list stand
 //!
-//! - `due::Due`, `optional::Optional` and `default_false::DefaultFalse`, whose types say all;
+//! - `due::Required`, `optional::Optional` and `default_false::DefaultFalse`, whose types say all;
 //! - `judged::Judged`, with a rule that looks at the earlier fields, and `chosen::Chosen`, whose type goes by them;
 //! - `Optional<refused::Refused<K>>`, a field that may not stand at all.
 //!
@@ -20,7 +20,6 @@
 
 pub mod chosen;
 pub mod default_false;
-pub mod due;
 pub mod either;
 pub mod field_list;
 pub mod fields;
@@ -30,6 +29,7 @@ pub mod optional;
 pub mod parts;
 pub mod record;
 pub mod refused;
+pub mod required;
 pub mod ruled;
 pub mod sequence;
 pub mod tagged;

@@ -4,7 +4,7 @@ ghost use Rattle.x690.specs.DerTexts.{texts_of};
 ghost use Rattle.x690.specs.Layouts.{universal};
 ghost use Rattle.x690.specs.TypeTerms.{EndOfFields, SequenceType};
 ghost use Rattle.x690.specs.Values.{Same, Sequence, values_of};
-ghost use Rattle.x690_laws.proofs.ClosedTypes.{sequence_closed};
+ghost use Rattle.x690_laws.proofs.TypesClosed.{sequence_closed};
 ghost use Rattle.asn_fields.specs.Apart.{apart};
 ghost use Rattle.asn_fields.specs.ApartLaws.{record_one_text};
 

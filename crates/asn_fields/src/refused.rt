@@ -8,9 +8,9 @@ ghost use Rattle.x690.specs.Layouts.{universal};
 ghost use Rattle.x690.specs.Premises.{HonestReason};
 ghost use Rattle.x690.specs.TypeTerms.{RefusedType};
 ghost use Rattle.x690.specs.Values.{Leaf};
-ghost use Rattle.x690_laws.proofs.OneTexts.{leaf_one_text};
+ghost use Rattle.x690_laws.proofs.TextsTellApart.{leaf_one_text};
 ghost use Rattle.ber_pull.specs.View.{standing, AsksNoMemory, SameSource, Repeats, Keeps, ReadsFail, Onward, Uses};
-ghost use Rattle.x690_laws.proofs.ClosedTypes.{refused_closed};
+ghost use Rattle.x690_laws.proofs.TypesClosed.{refused_closed};
 ghost use Rattle.asn_fields.specs.Fields.{AnswersGiven};
 
 use asn_elements::der_text::DerText;

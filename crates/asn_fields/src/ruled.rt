@@ -3,7 +3,7 @@ ghost use Rattle.std.specs.Prelude.{◌≡◌, ◌↔◌, IsTrue, List, None, []
 ghost use Rattle.x690.specs.Premises.{FairRule, HonestRule};
 ghost use Rattle.x690.specs.TypeTerms.{Rule, RuledType};
 ghost use Rattle.x690.specs.Values.{Same, Value};
-ghost use Rattle.x690_laws.proofs.ClosedTypes.{ruled_closed};
+ghost use Rattle.x690_laws.proofs.TypesClosed.{ruled_closed};
 
 use asn_elements::der_text::{DerText, same_text};
 use asn_elements::element::Element;

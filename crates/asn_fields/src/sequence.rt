@@ -1,6 +1,6 @@
 //! SEQUENCEs read by the list of their fields, in the order of the ASN.1 (X.690 8.9).
 //!
-//! `(Due<Oid>, Optional<Any>)` are the fields of `SEQUENCE { algorithm OBJECT IDENTIFIER, parameters ANY OPTIONAL }`;
+//! `(Required<Oid>, Optional<Any>)` are the fields of `SEQUENCE { algorithm OBJECT IDENTIFIER, parameters ANY OPTIONAL }`;
 //! more of them are pairs in pairs, `(A, (B, C))`. What may stand in such a list is passed on here.
 ghost use Rattle.std.specs.Prelude.{◌≡◌, ◌*◌, ◌^◌, ◌≤◌, IfOk, IsSome, None, OnOk, length, true};
 ghost use Rattle.x690.specs.DerTexts.{texts_of};
@@ -10,11 +10,11 @@ ghost use Rattle.ber_pull.specs.View.{standing, SameSource, Repeats, Keeps, Read
 ghost use Rattle.asn_fields.specs.Fields.{AnswersSequence};
 
 pub use crate::default_false::DefaultFalse;
-pub use crate::due::Due;
 pub use crate::field_list::{Fields, FieldsText, FirstFields};
 use crate::fields::{begin, end};
 pub use crate::kept::Kept;
 pub use crate::optional::Optional;
+pub use crate::required::Required;
 use asn_elements::tags::universal_tag;
 use ber_pull::pull::Pull;
 use std::alloc::Global;

@@ -1,14 +1,14 @@
 //! Explicit tags (X.690 8.14).
-ghost use Rattle.x690_laws.proofs.OneTexts.{single_one_text};
+ghost use Rattle.x690_laws.proofs.TextsTellApart.{single_one_text};
 ghost use Rattle.std.specs.Prelude.{◌≡◌, ◌↔◌, ◌+◌, ◌<◌, ◌^◌, ◌∷◌, [], IsTrue, length, slice_get};
 ghost use Rattle.tlv_core.specs.Sinks.{count, Puts};
 ghost use Rattle.x690.specs.DerTexts.{der};
 ghost use Rattle.x690.specs.Layouts.{context_specific};
-ghost use Rattle.x690.specs.TypeTerms.{EndOfFields, Required, SequenceType};
+ghost use Rattle.x690.specs.TypeTerms.{EndOfFields, Required as RequiredType, SequenceType};
 ghost use Rattle.x690.specs.Values.{Same, Sequence, values_of};
-ghost use Rattle.x690_laws.proofs.ClosedTypes.{sequence_closed};
+ghost use Rattle.x690_laws.proofs.TypesClosed.{sequence_closed};
 
-use crate::due::Due;
+use crate::required::Required;
 use crate::sequence::read_sequence_as;
 use asn_elements::der_text::{DerText, same_text};
 use asn_elements::element::Element;
@@ -94,9 +94,9 @@ impl<const N: u8, T: DerText> DerText for Tagged<N, T> {
 }
 
 impl<const N: u8, T: Element> Element for Tagged<N, T> {
-    ghost type_term = { SequenceType (context_specific N) (Required T.type_term EndOfFields) };
+    ghost type_term = { SequenceType (context_specific N) (RequiredType T.type_term EndOfFields) };
 
-    ghost closed = { sequence_closed (context_specific N) (Required T.type_term EndOfFields) };
+    ghost closed = { sequence_closed (context_specific N) (RequiredType T.type_term EndOfFields) };
 
     #[tactic(auto, unfolding(x690::specs::TypeTerms::fits_tag))]
     fn fits(tag: Tag) -> bool {
@@ -104,7 +104,7 @@ impl<const N: u8, T: Element> Element for Tagged<N, T> {
     }
 
     fn read<R: Source>(alloc: Global, pull: &mut Pull<'_, R>) -> Result<Tagged<N, T>, ReadError> {
-        let Due(inner) = read_sequence_as(alloc, pull, context_tag(u32::from(N)))?;
+        let Required(inner) = read_sequence_as(alloc, pull, context_tag(u32::from(N)))?;
         Ok(Tagged { inner })
     }
 }

@@ -114,7 +114,7 @@ fn fields_may_end(fields: &'static Fields) -> bool
 {
     match fields {
         Fields::End => true,
-        Fields::Due(..) => false,
+        Fields::Required(..) => false,
         Fields::Optional(_, _, behind) => fields_may_end(behind),
     }
 }

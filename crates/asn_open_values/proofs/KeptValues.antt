@@ -4,8 +4,8 @@ use Rattle.std.specs.Prelude.{IsTrue, ◌↔◌}
 use Rattle.x690.specs.DerTexts.{der}
 use Rattle.x690.specs.Layouts.{universal}
 use Rattle.x690.specs.Values.{Leaf, Same}
-use Rattle.x690_laws.proofs.OneValue.{same_of}
-use Rattle.x690_laws.proofs.Texts.{canonical}
+use Rattle.x690_laws.proofs.ValuesOfTrees.{same_of}
+use Rattle.x690_laws.proofs.TextsAsLayouts.{canonical}
 use Rattle.asn_open_values.specs.KeptValues.{identifier_kept, text_kept}
 use Rattle.asn_open_values.specs.OpenValues.{open_value_of}
 use Rattle.asn_open_values.specs.TextValues.{open_value}

@@ -16,8 +16,8 @@ use Rattle.x690.specs.ReadHeaders.{ElementStands, Ended, next_tag, primitive_con
 use Rattle.x690.specs.Reading.{Done, Fail, Reading, require, ◌>>=◌}
 use Rattle.x690.specs.Reads.{Said}
 use Rattle.x690.specs.Values.{Leaf, Value, values_of}
-use Rattle.x690_laws.proofs.HeaderSound.{next_took}
-use Rattle.x690_laws.proofs.ShortTexts.{read_texts}
+use Rattle.x690_laws.proofs.ReadingHeadersSound.{next_took}
+use Rattle.x690_laws.proofs.LengthsOfReadTexts.{read_texts}
 use Rattle.ber_pull.specs.Calls.{read_primitive}
 use Rattle.ber_pull.specs.Hears.{Hears, heard, heard_error}
 use Rattle.ber_pull.specs.Standing.{Standing, enclosing, failed_with}
@@ -27,7 +27,7 @@ use Rattle.ber_pull.specs.declared.state.Given.{Given}
 use Rattle.ber_pull.proofs.Hearing.{hears_as, hears_done, hears_error, hears_fail, hears_given, hears_memory, hears_then, hears_then_memory}
 use Rattle.asn_open_values.specs.OpenTexts.{AnswersText, AnswersTexts, container, form_of, read_given_container, read_given_contents, read_given_octets, read_given_open}
 use Rattle.asn_elements.specs.Reading.{kind_of, read_given_leaf}
-use Rattle.asn_elements.specs.declared.leaf_reading.Kind.{Kind}
+use Rattle.asn_elements.specs.declared.leaf_reading.SimpleType.{SimpleType}
 use Rattle.asn_open_values.specs.declared.open_form.OpenForm.{OpenForm}
 use Rattle.asn_open_values.specs.declared.open_form.OpenForm.TheVariants as coded
 use Rattle.asn_elements.proofs.ReaderAnswers.{fine_still, given_still, refused_by, unmoved_answers}
@@ -207,7 +207,7 @@ octets_by deep s g tag form e f is h =
     ∙ (ap (λ t. read_given_octets t s g) e ∙ plain_is deep s g (ap form_of (sym is) ∙ (h ∙ ap open_form e)) f)
 
 pub leaf_by : (deep : ℕ) (s : Standing) (g : Given) (tag : Tag) (form : OpenForm) → tag ≡ g.tag
-    → ((kind : Kind) × (form ≡ coded.Leaf kind)) ⊎ (form ≡ coded.Identifier) → form_of form ≡ open_form tag
+    → ((kind : SimpleType) × (form ≡ coded.Leaf kind)) ⊎ (form ≡ coded.Identifier) → form_of form ≡ open_form tag
     → read_given_contents form tag s g ≡ read_given_open (suc deep) s g
 leaf_by deep s g tag form e (inl (kind, is)) h =
     ap (λ z. read_given_contents z tag s g) is

@@ -19,12 +19,12 @@ use Rattle.x690.specs.Takes.{Takes}
 use Rattle.x690.specs.TypeTerms.{Distinct, OpenType}
 use Rattle.x690.specs.Values.{Leaf, Same, Sequence, SetOf, Value, value_tag}
 use Rattle.x690_laws.proofs.GrowthBounds.{growth}
-use Rattle.x690_laws.proofs.HeaderLengths.{definite_length, identifier_some, indefinite_length}
-use Rattle.x690_laws.proofs.Judging.{complete}
-use Rattle.x690_laws.proofs.Refit.{text_spells}
-use Rattle.x690_laws.proofs.Sound.{Laid, same_tag_is}
-use Rattle.x690_laws.proofs.Soundness.{open_took}
-use Rattle.x690_laws.proofs.Texts.{canonical}
+use Rattle.x690_laws.proofs.LengthsOfHeaders.{definite_length, identifier_some, indefinite_length}
+use Rattle.x690_laws.proofs.ReadingOfElements.{complete}
+use Rattle.x690_laws.proofs.TextsSpell.{text_spells}
+use Rattle.x690_laws.proofs.ReadingLayoutsSound.{Laid, same_tag_is}
+use Rattle.x690_laws.proofs.ReadingSound.{open_took}
+use Rattle.x690_laws.proofs.TextsAsLayouts.{canonical}
 use Rattle.ber_pull.specs.Hears.{Hears}
 use Rattle.ber_pull.specs.Standing.{IsGiven, Standing, enclosing}
 use Rattle.ber_pull.specs.View.{Unmoved}

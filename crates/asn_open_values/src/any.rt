@@ -4,12 +4,12 @@
 //! and their elements in order where they are constructed. An open value is kept as its DER text, so that writing and
 //! comparing it is a matter of octets; an OBJECT IDENTIFIER by its contents alone.
 ghost use Rattle.std.proofs.Common.{ap, sym, ◌∙◌};
-ghost use Rattle.x690_laws.proofs.OneValue.{same_of};
+ghost use Rattle.x690_laws.proofs.ValuesOfTrees.{same_of};
 ghost use Rattle.std.specs.Prelude.{◌≡◌, ◌↔◌, IsTrue};
 ghost use Rattle.std.specs.Option.{option_map};
 ghost use Rattle.x690.specs.DerTexts.{der};
 ghost use Rattle.x690.specs.TypeTerms.{OpenType};
-ghost use Rattle.x690_laws.proofs.ClosedTypes.{open_closed};
+ghost use Rattle.x690_laws.proofs.TypesClosed.{open_closed};
 ghost use Rattle.x690.specs.Values.{Same};
 ghost use Rattle.asn_open_values.specs.TextValues.{identifier_in, open_value};
 ghost use Rattle.asn_open_values.specs.KeptValues.{identifier_kept, text_kept};

@@ -3,13 +3,13 @@ ghost use Rattle.std.specs.Prelude.{◌≡◌};
 ghost use Rattle.x690.specs.OpenValues as forms;
 ghost use Rattle.asn_open_values.specs.OpenTexts.{form_of};
 
-use asn_elements::leaf_reading::Kind;
+use asn_elements::leaf_reading::SimpleType;
 use tlv_core::tag::{Class, Tag};
 
 /// What an open value is read as.
 #[derive(Clone, Copy)]
 pub enum OpenForm {
-    Leaf(Kind),
+    Leaf(SimpleType),
     /// An OBJECT IDENTIFIER.
     Identifier,
     Sequence,
@@ -28,13 +28,13 @@ pub fn open_form(tag: Tag) -> OpenForm
         return OpenForm::Plain;
     }
     match tag.number() {
-        1 => OpenForm::Leaf(Kind::Boolean),
-        2 | 10 => OpenForm::Leaf(Kind::Integer),
-        3 => OpenForm::Leaf(Kind::BitString),
-        4 | 7 | 18..=28 | 30 => OpenForm::Leaf(Kind::OctetString),
-        5 => OpenForm::Leaf(Kind::Null),
+        1 => OpenForm::Leaf(SimpleType::Boolean),
+        2 | 10 => OpenForm::Leaf(SimpleType::Integer),
+        3 => OpenForm::Leaf(SimpleType::BitString),
+        4 | 7 | 18..=28 | 30 => OpenForm::Leaf(SimpleType::OctetString),
+        5 => OpenForm::Leaf(SimpleType::Null),
         6 => OpenForm::Identifier,
-        12 => OpenForm::Leaf(Kind::Utf8String),
+        12 => OpenForm::Leaf(SimpleType::Utf8String),
         16 => OpenForm::Sequence,
         17 => OpenForm::SetOf,
         _ => OpenForm::Refused,

@@ -9,7 +9,7 @@ use Rattle.x690.specs.HeaderFaults.{EndsHere}
 use Rattle.x690.specs.ReadHeaders.{ContainerEnds, ElementStands, LengthForm, Next, in_container, next_tag, primitive_contents}
 use Rattle.x690.specs.Reading.{Done, Took, run}
 use Rattle.x690.specs.Reads.{Refused, Said}
-use Rattle.x690_laws.proofs.SingleSteps.{next_steps, primitive_steps}
+use Rattle.x690_laws.proofs.ReadingSteps.{next_steps, primitive_steps}
 use Rattle.ber_pull.specs.Calls.{read_entering, read_next, read_primitive}
 use Rattle.ber_pull.specs.Hears.{Hears, TakesFrom, heard_error, next_at}
 use Rattle.ber_pull.specs.Standing.{Standing, after_next, closing, container_of, enclosing, enclosing_of, opening, place, used, without_first}

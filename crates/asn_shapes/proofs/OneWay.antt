@@ -16,16 +16,16 @@ use Rattle.x690.specs.Stops.{StopsBehind}
 use Rattle.x690.specs.Takes.{Proper, Takes}
 use Rattle.x690.specs.TypeTerms.{ChoiceType, ContainingType, Default, DefinedByType, EndOfFields, Fields, LeafType, OpenType, Optional, RefusedType, Required, RuledType, SequenceOfType, SequenceType, SetOfType, TypeTerm, fits_tag}
 use Rattle.x690.specs.Values.{Leaf, Same, Value, leaf_at}
-use Rattle.x690_laws.proofs.ContentsFaulting.{proper_inside}
-use Rattle.x690_laws.proofs.Exactly.{exact, taken_is_behind}
-use Rattle.x690_laws.proofs.HeaderFaulting.{stands_run}
-use Rattle.x690_laws.proofs.HeaderGives.{done_on}
-use Rattle.x690_laws.proofs.Judging.{complete, complete_with, each_refl}
-use Rattle.x690_laws.proofs.Members.{opened_on}
-use Rattle.x690_laws.proofs.OneValue.{each_snoc, leaf_at_same}
-use Rattle.x690_laws.proofs.Refit.{begins_fits}
-use Rattle.x690_laws.proofs.Sames.{same_sym, same_trans}
-use Rattle.x690_laws.proofs.Soundness.{type_took}
+use Rattle.x690_laws.proofs.FaultsOfContents.{proper_inside}
+use Rattle.x690_laws.proofs.FaultsExact.{exact, taken_is_behind}
+use Rattle.x690_laws.proofs.FaultsOfHeaders.{stands_run}
+use Rattle.x690_laws.proofs.ReadingOfHeaders.{done_on}
+use Rattle.x690_laws.proofs.ReadingOfElements.{complete, complete_with, each_refl}
+use Rattle.x690_laws.proofs.ReadingMembers.{opened_on}
+use Rattle.x690_laws.proofs.ValuesOfTrees.{each_snoc, leaf_at_same}
+use Rattle.x690_laws.proofs.TextsSpell.{begins_fits}
+use Rattle.x690_laws.proofs.ValuesSame.{same_sym, same_trans}
+use Rattle.x690_laws.proofs.ReadingSound.{type_took}
 use Rattle.asn_shapes.specs.Blames.{Blames, BlamesField, BlamesHere, BlamesMember, PassesOver}
 use Rattle.asn_shapes.specs.WayLaws.{Along, OneWay}
 use Rattle.asn_shapes.specs.Ways.{Way}

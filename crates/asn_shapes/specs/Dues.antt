@@ -5,7 +5,7 @@ use Rattle.x690.specs.TypeTerms as types
 use Rattle.x690.specs.TypeTerms.{TypeTerm, fits_tag}
 use Rattle.asn_shapes.specs.declared.due.Standing.{Standing}
 use Rattle.asn_shapes.specs.declared.due.Standing.TheVariants as code
-use Rattle.asn_shapes.specs.declared.shape.Fields.{Due', End, Fields, Optional'}
+use Rattle.asn_shapes.specs.declared.shape.Fields.{Required', End, Fields, Optional'}
 use Rattle.asn_shapes.specs.Terms.{fields_of, term_of}
 
 pub data Due : Type 0 where
@@ -37,7 +37,7 @@ may_end (types.Default own contents type fields) = may_end fields
 -- the field that the element belongs to, or the one that is due, as it stands in the type
 abbrev pub standing_in : Fields → Tag → Standing
 standing_in End tag = code.Extra
-standing_in (Due' name p shape q fields) tag =
+standing_in (Required' name p shape q fields) tag =
     elim (fits_tag (term_of shape) tag) [
       | true ↦ code.Field name (record { ref_ptr = p.ref_ptr; now = shape }) (record { ref_ptr = q.ref_ptr; now = fields })
       | false ↦ code.Wrong name (record { ref_ptr = p.ref_ptr; now = shape })
@@ -56,7 +56,7 @@ standing_of code.Extra = IsExtra
 -- the name of the field that the element belongs to, or of the one that is due
 abbrev pub name_due_in : Fields → Tag → Option (List ℕ)
 name_due_in End tag = None
-name_due_in (Due' name p shape q fields) tag = Some name.now
+name_due_in (Required' name p shape q fields) tag = Some name.now
 name_due_in (Optional' name p shape q fields) tag =
     elim (fits_tag (term_of shape) tag) [ true ↦ Some name.now | false ↦ name_due_in fields tag ]
 

@@ -1,6 +1,6 @@
 -- What is private in a type, and where that stands in the documents of each kind.
 use Rattle.std.specs.Prelude.{List, [], map, suc, ℕ, ◌++◌, ◌∷◌}
-use Rattle.asn_shapes.specs.declared.shape.Fields.{Due', End, Fields, Optional'}
+use Rattle.asn_shapes.specs.declared.shape.Fields.{Required', End, Fields, Optional'}
 use Rattle.asn_shapes.specs.declared.shape.Shape.{Choice', Containing', DefinedBy', Leaf, ListOf', Named', Open, Private', Refused, Sequence', SetOf', Shape}
 use Rattle.asn_shapes.specs.Ways.{Way}
 
@@ -26,7 +26,7 @@ abbrev mutual
   -- of the fields of a SEQUENCE from the one of this number on
   pub private_fields : ℕ → Fields → List Way
   private_fields number End = []
-  private_fields number (Due' name p shape q fields) =
+  private_fields number (Required' name p shape q fields) =
       behind_step number (private_ways shape) ++ private_fields (suc number) fields
   private_fields number (Optional' name p shape q fields) =
       behind_step number (private_ways shape) ++ private_fields (suc number) fields

@@ -12,7 +12,7 @@ use Rattle.asn_shapes.specs.declared.shape.Contents.TheVariants as leaves
 use Rattle.asn_shapes.specs.declared.shape.ShapeTag.{ShapeTag}
 use Rattle.asn_shapes.specs.declared.shape.ShapeTag.TheVariants.{Universal, Context}
 use Rattle.asn_shapes.specs.declared.shape.Shape.{Shape, Leaf, Open, ListOf', SetOf', Sequence', Containing', Refused, DefinedBy', Choice', Named', Private'}
-use Rattle.asn_shapes.specs.declared.shape.Fields.{Fields, End, Due', Optional'}
+use Rattle.asn_shapes.specs.declared.shape.Fields.{Fields, End, Required', Optional'}
 
 abbrev pub tag_of : ShapeTag → Tag
 tag_of (Universal number) = universal number
@@ -45,7 +45,7 @@ abbrev mutual
 
   pub fields_of : Fields → types.Fields
   fields_of End = types.EndOfFields
-  fields_of (Due' name p shape q fields) = types.Required (term_of shape) (fields_of fields)
+  fields_of (Required' name p shape q fields) = types.Required (term_of shape) (fields_of fields)
   fields_of (Optional' name p shape q fields) = types.Optional (term_of shape) (fields_of fields)
 
 abbrev mutual

@@ -3,7 +3,7 @@ ghost use Rattle.std.specs.Prelude.{[], ◌≡◌};
 ghost use Rattle.asn_shapes.specs.Secrets as secrets;
 ghost use Rattle.asn_shapes.specs.Secrets.{private_ways};
 ghost use Rattle.asn_shapes.specs.Terms.{bare, term_of};
-ghost use Rattle.pkix_types.specs.DocumentTypes as types;
+ghost use Rattle.pkix_definitions.specs.DocumentTypes as types;
 
 use crate::keys::{
     ASYMMETRIC_KEY_PACKAGE, EC_PRIVATE_KEY, ENCRYPTED_PRIVATE_KEY_INFO, ONE_ASYMMETRIC_KEY,

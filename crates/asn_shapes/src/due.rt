@@ -25,7 +25,7 @@ pub fn stands_as(fields: &'static Fields, tag: Tag) -> Standing
 {
     match fields {
         Fields::End => Standing::Extra,
-        Fields::Due(name, shape, behind) => {
+        Fields::Required(name, shape, behind) => {
             if shape.fits(tag) {
                 Standing::Field(name, shape, behind)
             } else {

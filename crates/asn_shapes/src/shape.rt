@@ -73,7 +73,7 @@ pub enum Shape {
 pub enum Fields {
     End,
     /// A field that has to stand.
-    Due(&'static str, &'static Shape, &'static Fields),
+    Required(&'static str, &'static Shape, &'static Fields),
     /// One that may be absent, as OPTIONAL or by its DEFAULT.
     Optional(&'static str, &'static Shape, &'static Fields),
 }
@@ -85,7 +85,7 @@ macro_rules! fields {
         Fields::Optional($name, &$shape, &fields!($($behind)*))
     };
     ($name:literal: $shape:expr, $($behind:tt)*) => {
-        Fields::Due($name, &$shape, &fields!($($behind)*))
+        Fields::Required($name, &$shape, &fields!($($behind)*))
     };
 }
 

@@ -7,20 +7,19 @@
 //! reads one by that list and `parts` writes it; `fields` reads one field by field.
 //!
 //! This crate is the table of contents: what stands here is proved in `asn_elements` (the traits and the leaves),
-//! `asn_fields`, `asn_containers` and `asn_open_values`, each of which says what. `tests/rows/values.tsv` has
+//! `asn_fields`, `asn_lists` and `asn_open_values`, each of which says what. `tests/rows/values.tsv` has
 //! the rows of all four.
 //!
 //! Proved of each type: `put` writes the text, `size` is its length, `octet` its octets, `der_text` the whole, and the
 //! members of a `SetOf` ascend as 11.6 has it, equal ones kept. A reader answers what the plain reading of its type
 //! (`x690`) gives for the octets taken: a value that is the same up to the order in SET OF, or the first fault; a
 //! failed read only where that octet was needed; where memory ran out, no octet taken that wasn't. By the laws of
-//! `x690_laws` a value that was read is spelled by exactly those octets, and no spelling is refused. `from_content`,
+//! `x690_laws` a value that was read is spelled by exactly those octets, and no spelling is refused. `from_contents`,
 //! `from_slice` and `from_items` refuse exactly what they name. `same` is proved to be the same value, a SET OF as a
 //! multiset. An `Implicit<N, T>` has the text of `T` under the tag [N] in place of its own (8.14.3), and is read as the
 //! plain reading of `T`'s type under that tag says; exactly elements of that tag are of it.
 #![tactic(auto)]
 
-pub use asn_containers::{list, list_of_some, set_of};
 pub use asn_elements::{
     bits, boolean, boxed, build, der_text, element, framing, implicit, integer, leaf_reading, null,
     object_identifier, octets, tags, text,
@@ -28,4 +27,5 @@ pub use asn_elements::{
 pub use asn_fields::{
     chosen, either, field_list, fields, judged, parts, record, refused, ruled, sequence, tagged,
 };
+pub use asn_lists::{list, list_of_some, set_of};
 pub use asn_open_values::any;

@@ -2,7 +2,7 @@
 use Rattle.std.proofs.Common.{◌≡◌, ◌∙◌, Bool, List, ap, false, inl, inr, refl, subst, sym, ℕ}
 use Rattle.x690.specs.Values.{Value}
 use Rattle.pk_documents.specs.declared.document.Document.{Document}
-use Rattle.pk_same.specs.declared.same.Form.{Form}
+use Rattle.pk_same.specs.declared.same.Style.{Style}
 use Rattle.pk_commands.specs.Comparisons.{Answers, AnswersDocument, AnswersQuestion, ComparedAs, ComparedFailed, IsTold, has_first_failed, has_second_failed, said_name}
 use Rattle.pk_commands.specs.declared.comparison.Compared.{Compared}
 use Rattle.pk_commands.specs.declared.comparison.Compared.TheVariants.{FirstFailed, Memory, SecondFailed, Told, WriteFailed}
@@ -10,7 +10,7 @@ use Rattle.pk_commands.specs.declared.comparison.Comparison.{Comparison}
 use Rattle.pk_commands.specs.declared.comparison.Question.TheVariants as questions
 
 -- the names as they are said
-pub answers_document : (value_of : Document → Value) (comparison : Comparison) (form : Form)
+pub answers_document : (value_of : Document → Value) (comparison : Comparison) (form : Style)
     (name other said other_said first second : List ℕ) (status : ℕ) (text : List ℕ)
     → comparison.question ≡ questions.Document form
     → said ≡ said_name comparison.question name → other_said ≡ said_name comparison.question other

@@ -9,8 +9,8 @@ use Rattle.pk_documents.specs.declared.document.Document.{Document}
 use Rattle.pk_documents.specs.declared.kind.Kind.{Kind}
 use Rattle.pk_documents.specs.declared.kind.Kind.TheVariants as kinds
 use Rattle.pk_same.specs.Written.{IsWritten}
-use Rattle.pk_same.specs.declared.same.Form.{Form}
-use Rattle.pk_same.specs.declared.same.Form.TheVariants.{Json, Text}
+use Rattle.pk_same.specs.declared.same.Style.{Style}
+use Rattle.pk_same.specs.declared.same.Style.TheVariants.{Json, Text}
 use Rattle.pk_same.specs.declared.sameness.Sameness.{Sameness}
 use Rattle.pk_same.specs.declared.sameness.Sameness.TheVariants as documents
 use Rattle.pk_same_key.specs.KeySameness.{AreCompared, AreRefusedKeys}
@@ -62,7 +62,7 @@ note_by documents.Same kind = false
 note_by documents.Another kind = is_key kind
 note_by (documents.Refused fault other) kind = false
 
-abbrev pub has_note : Form → Sameness → Kind → Bool
+abbrev pub has_note : Style → Sameness → Kind → Bool
 has_note Text sameness kind = note_by sameness kind
 has_note Json sameness kind = false
 
@@ -89,7 +89,7 @@ IsNote true value_of limits kind name other first second note =
     × (note ≡ key_note answer line)
 
 -- What two documents are to each other, with the note.
-abbrev pub AnswersDocument : (Document → Value) → Form → Limits → Kind → List ℕ → List ℕ → List ℕ → List ℕ → ℕ
+abbrev pub AnswersDocument : (Document → Value) → Style → Limits → Kind → List ℕ → List ℕ → List ℕ → List ℕ → ℕ
     → List ℕ → Type 0
 AnswersDocument value_of form limits kind name other first second status text =
     (sameness : Sameness) × (told : List ℕ) × (note : List ℕ)

@@ -4,7 +4,7 @@ ghost use Rattle.std.specs.Io.KnownBytes.{Keeps};
 ghost use Rattle.asn_documents.specs.WrittenValues.{WritesText};
 ghost use Rattle.pk_commands.specs.KnownOctets.{known_length};
 
-use asn_documents::document::write_octets;
+use asn_documents::value::write_octets;
 use std::alloc::{AllocError, Global};
 use std::marker::{Brand, PhantomData};
 use tlv_core::sink::WriteError;

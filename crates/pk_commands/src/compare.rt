@@ -6,10 +6,10 @@ ghost use Rattle.std.specs.Io.KnownBytes.{Keeps};
 use crate::comparison::{Compared, Comparison, PairNames, Question};
 use crate::input::read_all;
 use crate::name::{file_name, told_name};
-use asn_documents::document::write_octets;
+use asn_documents::value::write_octets;
 use pk_documents::document::{Document, Valued};
 use pk_documents::kind::Kind;
-use pk_same::same::{Form, same_text};
+use pk_same::same::{Style, same_text};
 use pk_same::sameness::Sameness;
 use pk_same::text::Names;
 use pk_same_key::same_key::same_key_text;
@@ -152,8 +152,8 @@ fn said_name(alloc: Global, question: Question, name: &[u8]) -> Result<String, A
     ensures { IfOk result (λ text. string_bytes text ≡ said_name question name.now) }
 {
     match question {
-        Question::Document(Form::Json) => file_name(alloc, name),
-        Question::Document(Form::Text) | Question::Key => told_name(alloc, name),
+        Question::Document(Style::Json) => file_name(alloc, name),
+        Question::Document(Style::Text) | Question::Key => told_name(alloc, name),
     }
 }
 
@@ -165,7 +165,7 @@ fn document_answer(
     kind: Kind,
     limits: Limits,
     names: Names<'_>,
-    form: Form,
+    form: Style,
 ) -> Result<(String, u8), AllocError>
     ensures { IfOk result (λ it. AnswersDocument ⟦<Document as Valued>⟧.value form limits kind
         names.entry.first.now names.entry.second.now first.now second.now it.1
@@ -199,12 +199,12 @@ fn note_text(
 }
 
 /// Whether behind what is told of two documents stands whether they hold the same private key.
-fn has_note(form: Form, sameness: Sameness, kind: Kind) -> bool
+fn has_note(form: Style, sameness: Sameness, kind: Kind) -> bool
     ensures { result ≡ has_note form sameness kind }
 {
     match form {
-        Form::Text => note_by(sameness, kind),
-        Form::Json => false,
+        Style::Text => note_by(sameness, kind),
+        Style::Json => false,
     }
 }
 

@@ -3,14 +3,14 @@ ghost use Rattle.std.specs.Prelude.{◌≡◌};
 ghost use Rattle.pk_commands.specs.Comparisons.{compared_status};
 
 use pk_documents::kind::Kind;
-use pk_same::same::Form;
+use pk_same::same::Style;
 use tlv_core::limits::Limits;
 
 /// What is asked of two documents.
 #[derive(Clone, Copy, Debug, PartialEq, Eq)]
 pub enum Question {
     /// Whether they are the same document, and what differs.
-    Document(Form),
+    Document(Style),
     /// Whether they hold the same private key.
     Key,
 }

@@ -11,7 +11,7 @@ use crate::outcome::{Outcome, outcome_text, outcome_words, status};
 use crate::reported::error_line;
 use crate::run::run;
 use crate::task::{Action, Task};
-use asn_documents::document::write_octets;
+use asn_documents::value::write_octets;
 use pk_documents::document::{Document, Valued};
 use std::alloc::{AllocError, Global};
 use tlv_core::target::{Target, ToWrite};

@@ -14,7 +14,7 @@ use crate::opener::Opener;
 use crate::outcome::{Outcome, outcome_text};
 use crate::run::{run, written};
 use crate::task::Task;
-use asn_documents::document::write_octets;
+use asn_documents::value::write_octets;
 use pk_documents::document::{Document, Valued};
 use std::alloc::Global;
 use std::io::Write;

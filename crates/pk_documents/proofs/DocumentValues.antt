@@ -1,11 +1,11 @@
 -- Documents of one kind by their values.
 use Rattle.std.proofs.Common.{◌≡◌, ◌↔◌, Bool, IsTrue, subst, sym}
 use Rattle.x690.specs.Values.{Same, Value}
-use Rattle.pk_containers.specs.contracts.key_package.KeyPackageDerText.TheImpl as package_text
-use Rattle.pk_containers.specs.contracts.one_asymmetric_key.OneAsymmetricKeyDerText.TheImpl as key_text
-use Rattle.pk_keys.specs.contracts.ec_private_key.EcPrivateKeyDerText.TheImpl as ec_text
-use Rattle.pk_keys.specs.contracts.encrypted_key.EncryptedKeyDerText.TheImpl as encrypted_text
-use Rattle.pk_requests.specs.contracts.request.CertificationRequestDerText.TheImpl as request_text
+use Rattle.pkcs8.specs.contracts.key_package.KeyPackageDerText.TheImpl as package_text
+use Rattle.pkcs8.specs.contracts.one_asymmetric_key.OneAsymmetricKeyDerText.TheImpl as key_text
+use Rattle.private_keys.specs.contracts.ec_private_key.EcPrivateKeyDerText.TheImpl as ec_text
+use Rattle.pkcs8.specs.contracts.encrypted_key.EncryptedKeyDerText.TheImpl as encrypted_text
+use Rattle.pkcs10.specs.contracts.request.CertificationRequestDerText.TheImpl as request_text
 use Rattle.pkix_values.specs.contracts.public_key.SubjectPublicKeyInfoDerText.TheImpl as public_text
 use Rattle.pk_documents.specs.Documents.{value_by}
 use Rattle.pk_documents.specs.declared.document.Document.{Document}

@@ -9,10 +9,10 @@ use Rattle.x690.specs.Layouts.{Constructed, Primitive, RawTree, member_trees, tr
 use Rattle.x690.specs.Lists.{Each}
 use Rattle.x690.specs.TypeTerms.{ChoiceType, ContainingType, Default, DefinedByType, EndOfFields, Fields, LeafType, OpenType, Optional, RefusedType, Required, Rule, RuledType, SequenceOfType, SequenceType, SetOfType, TypeTerm, fits_tag}
 use Rattle.x690.specs.Values.{Value}
-use Rattle.x690_laws.proofs.DocumentAnswers.{one_answer}
-use Rattle.x690_laws.proofs.PrefixFree.{tree_alone}
-use Rattle.x690_laws.proofs.Refit.{begins_fits}
-use Rattle.pkix_types.specs.DocumentTypes.{AlgorithmIdentifier, AsymmetricKeyPackage, CertificationRequest, CertificationRequestInfo, ECPrivateKey, EncryptedPrivateKeyInfo, OneAsymmetricKey, SubjectPublicKeyInfo}
+use Rattle.x690_laws.proofs.AnswersOfDocuments.{one_answer}
+use Rattle.x690_laws.proofs.LayoutsApart.{tree_alone}
+use Rattle.x690_laws.proofs.TextsSpell.{begins_fits}
+use Rattle.pkix_definitions.specs.DocumentTypes.{AlgorithmIdentifier, AsymmetricKeyPackage, CertificationRequest, CertificationRequestInfo, ECPrivateKey, EncryptedPrivateKeyInfo, OneAsymmetricKey, SubjectPublicKeyInfo}
 use Rattle.pk_documents.specs.Kinds.{KindsAreApart, type_of}
 use Rattle.pk_documents.specs.declared.kind.Kind.{Kind}
 use Rattle.pk_documents.specs.declared.kind.Kind.TheVariants.{Ec, Encrypted, Key, Package, Public, Request}

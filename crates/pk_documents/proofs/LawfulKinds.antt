@@ -1,5 +1,5 @@
 -- The type of each kind is as the laws ask.
-use Rattle.pkix_types.proofs.LawfulTypes.{ec_key, encrypted_key, key, key_package, public_key_info, request}
+use Rattle.pkix_definitions.proofs.LawfulTypes.{ec_key, encrypted_key, key, key_package, public_key_info, request}
 use Rattle.pk_documents.specs.Kinds.{KindsAreLawful}
 use Rattle.pk_documents.specs.declared.kind.Kind.TheVariants.{Ec, Encrypted, Key, Package, Public, Request}
 

@@ -3,8 +3,8 @@ use Rattle.std.proofs.Common.{◌≡◌, ◌∷◌, List, [], ap, drop, refl, sl
 use Rattle.std.specs.Option.{option_map_or}
 use Rattle.x690.specs.Lists.{Each}
 use Rattle.x690.specs.Values.{Same, Value, sequence_members}
-use Rattle.x690_laws.proofs.OneValue.{leaf_at_same, members_same}
-use Rattle.x690_laws.proofs.Texts.{same_der}
+use Rattle.x690_laws.proofs.ValuesOfTrees.{leaf_at_same, members_same}
+use Rattle.x690_laws.proofs.TextsAsLayouts.{same_der}
 use Rattle.pk_documents.specs.RequestParts.{part_of, text_at}
 use Rattle.pk_documents.specs.declared.request_part.Part.{Part}
 use Rattle.pk_documents.specs.declared.request_part.Part.TheVariants.{Algorithm, Info, Key, Signature}

@@ -1,10 +1,10 @@
 -- The kind and the value of a document.
 use Rattle.x690.specs.Values.{Value}
-use Rattle.pk_containers.specs.declared.key_package.KeyPackage.{KeyPackage}
-use Rattle.pk_containers.specs.declared.one_asymmetric_key.OneAsymmetricKey.{OneAsymmetricKey}
-use Rattle.pk_keys.specs.declared.ec_private_key.EcPrivateKey.{EcPrivateKey}
-use Rattle.pk_keys.specs.declared.encrypted_key.EncryptedKey.{EncryptedKey}
-use Rattle.pk_requests.specs.declared.request.CertificationRequest.{CertificationRequest}
+use Rattle.pkcs8.specs.declared.key_package.KeyPackage.{KeyPackage}
+use Rattle.pkcs8.specs.declared.one_asymmetric_key.OneAsymmetricKey.{OneAsymmetricKey}
+use Rattle.private_keys.specs.declared.ec_private_key.EcPrivateKey.{EcPrivateKey}
+use Rattle.pkcs8.specs.declared.encrypted_key.EncryptedKey.{EncryptedKey}
+use Rattle.pkcs10.specs.declared.request.CertificationRequest.{CertificationRequest}
 use Rattle.pkix_values.specs.declared.public_key.SubjectPublicKeyInfo.{SubjectPublicKeyInfo}
 use Rattle.pk_documents.specs.declared.document.Document.{Document}
 use Rattle.pk_documents.specs.declared.document.Document.TheVariants as documents

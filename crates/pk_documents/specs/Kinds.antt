@@ -4,7 +4,7 @@ use Rattle.tlv_core.specs.Limits.{Limits}
 use Rattle.x690.specs.Answers.{Spelled, answer}
 use Rattle.x690.specs.Premises.{Lawful}
 use Rattle.x690.specs.TypeTerms.{TypeTerm}
-use Rattle.pkix_types.specs.DocumentTypes.{AsymmetricKeyPackage, CertificationRequest, ECPrivateKey, EncryptedPrivateKeyInfo, OneAsymmetricKey, SubjectPublicKeyInfo}
+use Rattle.pkix_definitions.specs.DocumentTypes.{AsymmetricKeyPackage, CertificationRequest, ECPrivateKey, EncryptedPrivateKeyInfo, OneAsymmetricKey, SubjectPublicKeyInfo}
 use Rattle.pk_documents.specs.declared.kind.Kind.{Kind}
 use Rattle.pk_documents.specs.declared.kind.Kind.TheVariants.{Ec, Encrypted, Key, Package, Public, Request}
 

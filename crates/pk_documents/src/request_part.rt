@@ -4,9 +4,9 @@ ghost use Rattle.asn_documents.specs.WrittenValues.{WritesText};
 ghost use Rattle.pk_documents.specs.RequestParts.{part_of};
 
 use crate::signed_part::write_signed_part;
-use asn_documents::document::{write_octets, write_value};
+use asn_documents::value::{write_octets, write_value};
 use asn_values::der_text::DerText;
-use pk_requests::request::CertificationRequest;
+use pkcs10::request::CertificationRequest;
 use tlv_core::sink::WriteError;
 use tlv_core::target::Target;
 

@@ -2,12 +2,12 @@
 ghost use Rattle.std.specs.Prelude.{◌≡◌, false};
 ghost use Rattle.x690.specs.DerTexts.{der};
 ghost use Rattle.asn_documents.specs.WrittenValues.{WritesText};
-ghost use Rattle.pk_requests.specs.Requests.{request_info_of};
+ghost use Rattle.pkcs10.specs.Requests.{request_info_of};
 
-use asn_documents::document::write_value;
+use asn_documents::value::write_value;
 use asn_values::der_text::DerText;
-use pk_requests::info::CertificationRequestInfo;
-use pk_requests::request::CertificationRequest;
+use pkcs10::info::CertificationRequestInfo;
+use pkcs10::request::CertificationRequest;
 use tlv_core::sink::WriteError;
 use tlv_core::target::Target;
 

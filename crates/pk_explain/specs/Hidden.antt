@@ -8,7 +8,7 @@ use Rattle.asn_names.specs.declared.element.Parting.{Parting}
 use Rattle.asn_names.specs.declared.element.Parting.TheVariants.{Missing, Nowhere, Outermost, Stopped, Unplaced}
 use Rattle.asn_names.specs.declared.element.Step.{Step}
 use Rattle.asn_names.specs.declared.element.Step.TheVariants as steps
-use Rattle.asn_shapes.specs.declared.shape.Fields.{Due', End, Fields, Optional'}
+use Rattle.asn_shapes.specs.declared.shape.Fields.{Required', End, Fields, Optional'}
 use Rattle.asn_shapes.specs.declared.shape.Shape.{Choice', Containing', DefinedBy', Leaf, ListOf', Named', Open, Private', Refused as RefusedType, Sequence', SetOf', Shape}
 use Rattle.tlv_core.specs.declared.reason.Reason.{Reason}
 use Rattle.tlv_core.specs.declared.reason.Reason.TheVariants as reasons
@@ -37,7 +37,7 @@ abbrev mutual
   -- whether one of the fields that may stand next is
   pub fields_hide : Fields → Bool
   fields_hide End = false
-  fields_hide (Due' name p shape q fields) = may_hide shape
+  fields_hide (Required' name p shape q fields) = may_hide shape
   fields_hide (Optional' name p shape q fields) = may_hide shape || fields_hide fields
 
 abbrev pub level_hides : Level → Bool

@@ -1,6 +1,6 @@
 -- How many octets keys have, by the contents octets of the object identifier of their algorithm or of their curve.
 use Rattle.std.specs.Prelude.{List, None, Option, Some, ℕ}
-use Rattle.pkix_types.specs.Identifiers.{curve_lengths, length_under, rfc8410_lengths}
+use Rattle.pkix_definitions.specs.Identifiers.{curve_lengths, length_under, rfc8410_lengths}
 use Rattle.pk_explain.specs.declared.keys.KeySizes.{KeySizes}
 
 -- of a curve the private key alone has a single number of octets (RFC 5915 section 3): a point may be compressed

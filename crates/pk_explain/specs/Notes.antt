@@ -4,7 +4,7 @@ use Rattle.std.specs.List.{list_any}
 use Rattle.std.specs.Option.{is_some, option_or}
 use Rattle.x690.specs.Lists.{one_of, same_octets}
 use Rattle.asn_names.specs.declared.element.Step.{Step}
-use Rattle.pkix_types.specs.Identifiers.{curve_lengths, ec_public_key, extension_request, length_under}
+use Rattle.pkix_definitions.specs.Identifiers.{curve_lengths, ec_public_key, extension_request, length_under}
 use Rattle.pk_explain.specs.Public.{is_field}
 use Rattle.pk_explain.specs.declared.notes.Context.{Context}
 use Rattle.pk_reports.specs.declared.report.Answer.{Answer}

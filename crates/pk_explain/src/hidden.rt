@@ -133,7 +133,7 @@ fn fields_hide(fields: &'static Fields) -> bool
 {
     match fields {
         Fields::End => false,
-        Fields::Due(_, shape, _) => shape_hides(shape),
+        Fields::Required(_, shape, _) => shape_hides(shape),
         Fields::Optional(_, shape, behind) => shape_hides(shape) || fields_hide(behind),
     }
 }

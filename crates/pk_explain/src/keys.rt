@@ -1,7 +1,7 @@
 //! How many octets keys have (RFC 7748, RFC 8032, RFC 5915 section 3).
 ghost use Rattle.std.specs.Prelude.{◌≡◌, None};
 ghost use Rattle.std.specs.Option.{option_or};
-ghost use Rattle.pkix_types.specs.Identifiers.{curve_lengths, length_under, rfc8410_lengths};
+ghost use Rattle.pkix_definitions.specs.Identifiers.{curve_lengths, length_under, rfc8410_lengths};
 ghost use Rattle.x690.specs.Lists.{same_octets};
 ghost use Rattle.pk_explain.specs.Contents.{contents_in};
 ghost use Rattle.pk_explain.specs.KeyOctets.{bits_octets, deeper_key_octets, last_sizes, less, octets_inside, private_octets, private_size, public_size, said_sizes, short_octets, sizes_at, sizes_inside};

@@ -1,7 +1,7 @@
 //! What other standards forbid in an accepted document, by its lines.
 ghost use Rattle.std.specs.Prelude.{◌≡◌, ◌≤◌, IfOk, OnOk, length, option_and_then, slice_get};
 ghost use Rattle.std.specs.Option.{option_map};
-ghost use Rattle.pkix_types.specs.Identifiers.{ec_public_key, length_under};
+ghost use Rattle.pkix_definitions.specs.Identifiers.{ec_public_key, length_under};
 ghost use Rattle.x690.specs.Lists.{same_octets};
 ghost use Rattle.pk_explain.specs.Notes.{add_note, arcs_of, are_same, context_behind, context_start, curve_behind, is_attribute, is_curve_named, is_point, is_public_key, is_repeated, is_same_field, is_same_identifier, is_same_step, is_single_valued, members_of, ml_dsa_lengths, ml_kem_lengths, most_notes, named, nist_encapsulation, nist_signature, notes_on, parameters, public_octets, remark_if, remark_on, remark_on_algorithm, remark_on_bits, remark_on_key, remark_on_repeat, remark_on_values, remark_once_more, slh_dsa_sha2_lengths, slh_dsa_shake_lengths};
 

@@ -204,7 +204,7 @@ fn identifier_value(alloc: Global, rule: Rule, contents: &[u8]) -> Result<Value,
     if is_guarded(rule) {
         return Ok(size_alone(contents));
     }
-    match Oid::from_content(alloc, contents) {
+    match Oid::from_contents(alloc, contents) {
         Ok(id) => {
             let mut arcs = String::new(alloc);
             push_oid(&mut arcs, &id)?;

@@ -1,7 +1,7 @@
 -- Tags and types in words.
 use Rattle.std.specs.Prelude.{List, [], codes, cond, decimal, length, ℕ, ◌++◌, ◌==◌}
 use Rattle.tlv_core.specs.Identifier.{Tag}
-use Rattle.asn_shapes.specs.declared.shape.Fields.{Due', End, Fields, Optional'}
+use Rattle.asn_shapes.specs.declared.shape.Fields.{Required', End, Fields, Optional'}
 use Rattle.asn_shapes.specs.declared.shape.Shape.{Choice', Containing', DefinedBy', Leaf, ListOf', Named', Open, Private', Refused, Sequence', SetOf', Shape}
 use Rattle.asn_shapes.specs.declared.shape.ShapeTag.{ShapeTag}
 use Rattle.asn_shapes.specs.declared.shape.ShapeTag.TheVariants.{Context, Universal}
@@ -73,5 +73,5 @@ field_said name shape = cond (length name == 0) (shape_said shape) (name ++ code
 -- the fields one of which may stand first
 abbrev pub fields_said : Fields → List ℕ
 fields_said End = codes "nothing more"
-fields_said (Due' name p shape q fields) = field_said name.now shape
+fields_said (Required' name p shape q fields) = field_said name.now shape
 fields_said (Optional' name p shape q fields) = field_said name.now shape ++ codes " or " ++ fields_said fields

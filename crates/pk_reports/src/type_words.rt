@@ -129,7 +129,7 @@ pub(crate) fn push_fields(text: &mut String, fields: &Fields) -> Result<(), Allo
 {
     match fields {
         Fields::End => text.push_str("nothing more"),
-        Fields::Due(name, shape, _) => push_field(text, name, shape),
+        Fields::Required(name, shape, _) => push_field(text, name, shape),
         Fields::Optional(name, shape, behind) => {
             push_field(text, name, shape)?;
             text.push_str(" or ")?;

@@ -12,7 +12,7 @@ use Rattle.pk_same.specs.Sameness.{AreApart, AreRefused, AreSame, IsAccepted, Is
 use Rattle.pk_same.specs.Written.{IsCompared, IsWritten, refused_written}
 use Rattle.pk_same.specs.declared.reading.Reading.{Reading}
 use Rattle.pk_same.specs.declared.reading.Reading.TheVariants.{Accepted, Refused as RefusedReading}
-use Rattle.pk_same.specs.declared.same.Form.{Form}
+use Rattle.pk_same.specs.declared.same.Style.{Style}
 use Rattle.pk_same.specs.declared.sameness.Sameness.{Sameness}
 use Rattle.pk_same.specs.declared.sameness.Sameness.TheVariants.{Another, Refused, Same}
 
@@ -57,7 +57,7 @@ accepted l T octets (Accepted encoding) a none = a
 accepted l T octets (RefusedReading fault) r none = absurd cc
 
 -- of two documents that are accepted
-pub compared_written : (form : Form) (l : Limits) (kind : Kind) (name other_name first second one other text : List ℕ)
+pub compared_written : (form : Style) (l : Limits) (kind : Kind) (name other_name first second one other text : List ℕ)
     (sameness : Sameness) → IsAccepted l (type_of kind) first one → IsAccepted l (type_of kind) second other
     → IsCompared form l kind version (word_of kind) name other_name one other text sameness
     → IsWritten form l kind name other_name first second text sameness
@@ -67,14 +67,14 @@ compared_written form l kind name other_name first second one other text Another
     (are_apart l (type_of kind) first second one other a b c.0, (one, other, a, b, c.1))
 compared_written form l kind name other_name first second one other text (Refused fault fault') a b c = absurd c
 
-written_as : (form : Form) (l : Limits) (kind : Kind) (name other_name first second text : List ℕ)
+written_as : (form : Style) (l : Limits) (kind : Kind) (name other_name first second text : List ℕ)
     (fault other : Option Fault) → AreRefused l (type_of kind) first second fault other
     → text ≡ refused_written form version (word_of kind) name other_name fault other
     → IsWritten form l kind name other_name first second text (Refused fault other)
 written_as form l kind name other_name first second text fault other r e = (r, e)
 
 -- of two of which one is refused, or both
-pub refused_both_written : (form : Form) (l : Limits) (kind : Kind)
+pub refused_both_written : (form : Style) (l : Limits) (kind : Kind)
     (name other_name first second text : List ℕ) (fault other : Option Fault) (sameness : Sameness)
     → AreRefused l (type_of kind) first second fault other
     → text ≡ refused_written form version (word_of kind) name other_name fault other
@@ -84,7 +84,7 @@ refused_both_written form l kind name other_name first second text fault other s
     (written_as form l kind name other_name first second text fault other r e)
 
 -- the same by what was handed on
-pub compared_said : (form : Form) (l : Limits) (kind : Kind)
+pub compared_said : (form : Style) (l : Limits) (kind : Kind)
     (name other_name first second one other program word text : List ℕ) (sameness : Sameness)
     → program ≡ version → word ≡ word_of kind
     → IsAccepted l (type_of kind) first one → IsAccepted l (type_of kind) second other
@@ -95,7 +95,7 @@ compared_said form l kind name other_name first second one other program word te
     (subst (λ z. IsCompared form l kind version z name other_name one other text sameness) w
     (subst (λ z. IsCompared form l kind z word name other_name one other text sameness) p c))
 
-pub refused_said : (form : Form) (l : Limits) (kind : Kind)
+pub refused_said : (form : Style) (l : Limits) (kind : Kind)
     (name other_name first second program word text : List ℕ) (fault other : Option Fault) (sameness : Sameness)
     → program ≡ version → word ≡ word_of kind → AreRefused l (type_of kind) first second fault other
     → text ≡ refused_written form program word name other_name fault other
@@ -109,7 +109,7 @@ refused_said form l kind name other_name first second program word text fault ot
 -- ---- the same of what a call answers
 
 pub compared_result : {W E : Type 0} (text_of : W → List ℕ) (answer_of : W → Sameness) (result : Result W E)
-    (form : Form) (l : Limits) (kind : Kind) (name other_name first second one other program word : List ℕ)
+    (form : Style) (l : Limits) (kind : Kind) (name other_name first second one other program word : List ℕ)
     → program ≡ version → word ≡ word_of kind
     → IsAccepted l (type_of kind) first one → IsAccepted l (type_of kind) second other
     → IfOk result
@@ -121,7 +121,7 @@ compared_result text_of answer_of (Err error) form l kind name other_name first 
     tt
 
 pub refused_result : {W E : Type 0} (text_of : W → List ℕ) (answer_of : W → Sameness) (result : Result W E)
-    (form : Form) (l : Limits) (kind : Kind) (name other_name first second program word : List ℕ)
+    (form : Style) (l : Limits) (kind : Kind) (name other_name first second program word : List ℕ)
     (fault other : Option Fault)
     → program ≡ version → word ≡ word_of kind → AreRefused l (type_of kind) first second fault other
     → IfOk result (λ it. text_of it ≡ refused_written form program word name other_name fault other)

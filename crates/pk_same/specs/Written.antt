@@ -17,21 +17,21 @@ use Rattle.pk_same.specs.Sameness.{IsAccepted, IsSameness}
 use Rattle.pk_same.specs.Texts.{another_text, refused_text, same_line}
 use Rattle.pk_same.specs.Told.{Words, said_of}
 use Rattle.pk_same.specs.Walks.{differences}
-use Rattle.pk_same.specs.declared.same.Form.{Form}
-use Rattle.pk_same.specs.declared.same.Form.TheVariants.{Json, Text}
+use Rattle.pk_same.specs.declared.same.Style.{Style}
+use Rattle.pk_same.specs.declared.same.Style.TheVariants.{Json, Text}
 use Rattle.pk_same.specs.declared.sameness.Sameness.{Sameness}
 use Rattle.pk_same.specs.declared.sameness.Sameness.TheVariants.{Another, Refused, Same}
 
-abbrev pub same_written : Form → List ℕ → List ℕ → List ℕ → List ℕ → List ℕ
+abbrev pub same_written : Style → List ℕ → List ℕ → List ℕ → List ℕ → List ℕ
 same_written Text program kind name other_name = same_line
 same_written Json program kind name other_name = print (same_object program kind name other_name) ++ line_feed
 
-abbrev pub refused_written : Form → List ℕ → List ℕ → List ℕ → List ℕ → Option Fault → Option Fault → List ℕ
+abbrev pub refused_written : Style → List ℕ → List ℕ → List ℕ → List ℕ → Option Fault → Option Fault → List ℕ
 refused_written Text program kind name other_name fault other = refused_text name other_name fault other
 refused_written Json program kind name other_name fault other =
     print (refused_object program kind name other_name fault other) ++ line_feed
 
-abbrev pub another_written : Form → List ℕ → List ℕ → List ℕ → List ℕ → List Words → ℕ → List ℕ
+abbrev pub another_written : Style → List ℕ → List ℕ → List ℕ → List ℕ → List Words → ℕ → List ℕ
 another_written Text program kind name other_name words more = another_text name other_name words more
 another_written Json program kind name other_name words more =
     print (another_object program kind name other_name words more) ++ line_feed
@@ -52,13 +52,13 @@ pub record AreTold (limits : Limits) (kind : Kind) (encoding other : List ℕ) (
   pub first : AreTheFirst report.kind.type_name.now encoding other report.lines.items other_report.lines.items words more
 
 -- A text of two DER encodings that aren't equal.
-abbrev pub IsTold : Form → Limits → Kind → List ℕ → List ℕ → List ℕ → List ℕ → List ℕ → List ℕ → List ℕ → Type 0
+abbrev pub IsTold : Style → Limits → Kind → List ℕ → List ℕ → List ℕ → List ℕ → List ℕ → List ℕ → List ℕ → Type 0
 IsTold form limits kind program word name other_name encoding other text =
     (words : List Words) × (more : ℕ) × AreTold limits kind encoding other words more
     × (text ≡ another_written form program word name other_name words more)
 
 -- The text and the answer for two documents by their DER encodings.
-abbrev pub IsCompared : Form → Limits → Kind → List ℕ → List ℕ → List ℕ → List ℕ → List ℕ → List ℕ → List ℕ → Sameness
+abbrev pub IsCompared : Style → Limits → Kind → List ℕ → List ℕ → List ℕ → List ℕ → List ℕ → List ℕ → List ℕ → Sameness
     → Type 0
 IsCompared form limits kind program word name other_name encoding other text Same =
     (encoding ≡ other) × (text ≡ same_written form program word name other_name)
@@ -67,7 +67,7 @@ IsCompared form limits kind program word name other_name encoding other text Ano
 IsCompared form limits kind program word name other_name encoding other text (Refused fault fault') = ⊥
 
 -- The text that goes with an answer.
-abbrev pub IsText : Form → Limits → Kind → List ℕ → List ℕ → List ℕ → List ℕ → List ℕ → Sameness → Type 0
+abbrev pub IsText : Style → Limits → Kind → List ℕ → List ℕ → List ℕ → List ℕ → List ℕ → Sameness → Type 0
 IsText form limits kind name other_name first second text Same =
     text ≡ same_written form version (word_of kind) name other_name
 IsText form limits kind name other_name first second text Another =
@@ -80,7 +80,7 @@ IsText form limits kind name other_name first second text (Refused fault other) 
 
 -- The answer is what the two are to each other; the text says it, and of two that aren't the same what differs between
 -- their DER encodings.
-abbrev pub IsWritten : Form → Limits → Kind → List ℕ → List ℕ → List ℕ → List ℕ → List ℕ → Sameness → Type 0
+abbrev pub IsWritten : Style → Limits → Kind → List ℕ → List ℕ → List ℕ → List ℕ → List ℕ → Sameness → Type 0
 IsWritten form limits kind name other_name first second text sameness =
     IsSameness limits (type_of kind) first second sameness
     × IsText form limits kind name other_name first second text sameness

@@ -19,7 +19,7 @@ use tlv_core::limits::Limits;
 
 /// How the answer is written.
 #[derive(Clone, Copy, Debug, PartialEq, Eq)]
-pub enum Form {
+pub enum Style {
     /// In lines.
     Text,
     /// As one object of JSON.
@@ -37,7 +37,7 @@ pub fn same_text(
     kind: Kind,
     limits: Limits,
     names: Names<'_>,
-    form: Form,
+    form: Style,
 ) -> Result<(String, Sameness), AllocError>
     ensures { IfOk result (λ written. IsWritten form limits kind names.entry.first.now
         names.entry.second.now first.now second.now (string_bytes written.0) written.1) }
@@ -76,7 +76,7 @@ fn word_of(kind: Kind) -> &'static str
 fn refused(
     alloc: Global,
     heading: Heading<'_>,
-    form: Form,
+    form: Style,
     fault: Option<Fault>,
     other: Option<Fault>,
 ) -> Result<(String, Sameness), AllocError>
@@ -86,8 +86,8 @@ fn refused(
     ensures sameness { IfOk result (λ written. written.1 ≡ Sameness.Refused fault other) }
 {
     let text = match form {
-        Form::Text => refused_text(alloc, heading.names, fault, other)?,
-        Form::Json => refused_json(alloc, heading, fault, other)?,
+        Style::Text => refused_text(alloc, heading.names, fault, other)?,
+        Style::Json => refused_json(alloc, heading, fault, other)?,
     };
     Ok((text, Sameness::Refused(fault, other)))
 }
@@ -100,7 +100,7 @@ fn compared(
     kind: Kind,
     limits: Limits,
     heading: Heading<'_>,
-    form: Form,
+    form: Style,
 ) -> Result<(String, Sameness), AllocError>
     ensures { IfOk result (λ written. IsCompared form limits kind
         heading.entry.version.now heading.entry.kind.now
@@ -115,21 +115,21 @@ fn compared(
     Ok((text, Sameness::Another))
 }
 
-fn same_written(alloc: Global, heading: Heading<'_>, form: Form) -> Result<String, AllocError>
+fn same_written(alloc: Global, heading: Heading<'_>, form: Style) -> Result<String, AllocError>
     ensures { IfOk result (λ text. string_bytes text
         ≡ same_written form heading.entry.version.now heading.entry.kind.now
         heading.entry.names.first.now heading.entry.names.second.now) }
 {
     match form {
-        Form::Text => same_line(alloc),
-        Form::Json => same_json(alloc, heading),
+        Style::Text => same_line(alloc),
+        Style::Json => same_json(alloc, heading),
     }
 }
 
 fn another_written(
     alloc: Global,
     heading: Heading<'_>,
-    form: Form,
+    form: Style,
     told: &[Told],
     more: u64,
 ) -> Result<String, AllocError>
@@ -139,8 +139,8 @@ fn another_written(
         (map words_of told.now) more) }
 {
     match form {
-        Form::Text => another_text(alloc, heading.names, told, more),
-        Form::Json => another_json(alloc, heading, told, more),
+        Style::Text => another_text(alloc, heading.names, told, more),
+        Style::Json => another_json(alloc, heading, told, more),
     }
 }
 

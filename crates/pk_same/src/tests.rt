@@ -1,6 +1,6 @@
 //! Pairs of documents by OpenSSL 3.0 (`genpkey`, `ec`, `pkcs8`, `req`) and of `examples/`, and what they are to each
 //! other. The fields and the values were worked out by hand from what `openssl asn1parse` says of each.
-use crate::same::{Form, Sameness, same_text};
+use crate::same::{Sameness, Style, same_text};
 use crate::text::Names;
 use pk_documents::kind::Kind;
 use std::test::Fail;
@@ -201,7 +201,7 @@ fn pairs(rt: HostRuntime) -> Result<(), Fail> {
             *kind,
             limits,
             names,
-            Form::Text,
+            Style::Text,
         )?;
         assert_eq!(rt; text.as_str(), *lines);
         assert!(rt; lines.starts_with(word(sameness)));

@@ -3,17 +3,17 @@ use Rattle.std.specs.Prelude.{List, None, Option, Some, [], slice_get, ℕ}
 use Rattle.asn_elements.specs.Leaves.{integer_of, octets_of}
 use Rattle.asn_elements.specs.declared.integer.Int.{Int}
 use Rattle.asn_fields.specs.declared.either.Either.TheVariants.{First, Second}
-use Rattle.pkix_types.specs.Identifiers.{ec_public_key}
+use Rattle.pkix_definitions.specs.Identifiers.{ec_public_key}
 use Rattle.pkix_values.specs.Algorithms.{algorithm_of, parameters_of}
-use Rattle.pk_keys.specs.CurveKeys.{curve_key_of}
-use Rattle.pk_keys.specs.EcParts.{ec_curve_of, ec_key_of}
-use Rattle.pk_keys.specs.RsaParts.{rsa_numbers_of}
-use Rattle.pk_keys.specs.declared.ec_private_key.EcPrivateKey.{EcPrivateKey}
-use Rattle.pk_keys.specs.declared.rsa_private_key.RsaPrivateKey.{RsaPrivateKey}
-use Rattle.pk_containers.specs.AsymmetricKeys.{key_algorithm_of, private_key_of}
-use Rattle.pk_containers.specs.Keys.{curve_octets, identifier_of}
-use Rattle.pk_containers.specs.Seen.{AnyKey}
-use Rattle.pk_containers.specs.declared.one_asymmetric_key.OneAsymmetricKey.{OneAsymmetricKey}
+use Rattle.private_keys.specs.CurveKeys.{curve_key_of}
+use Rattle.private_keys.specs.EcParts.{ec_curve_of, ec_key_of}
+use Rattle.private_keys.specs.RsaParts.{rsa_numbers_of}
+use Rattle.private_keys.specs.declared.ec_private_key.EcPrivateKey.{EcPrivateKey}
+use Rattle.private_keys.specs.declared.rsa_private_key.RsaPrivateKey.{RsaPrivateKey}
+use Rattle.pkcs8.specs.AsymmetricKeys.{key_algorithm_of, private_key_of}
+use Rattle.pkcs8.specs.Keys.{curve_octets, identifier_of}
+use Rattle.pkcs8.specs.Seen.{AnyKey}
+use Rattle.pkcs8.specs.declared.one_asymmetric_key.OneAsymmetricKey.{OneAsymmetricKey}
 use Rattle.pk_documents.specs.declared.document.Document.{Document}
 use Rattle.pk_documents.specs.declared.document.Document.TheVariants as documents
 use Rattle.pk_same_key.specs.declared.parts.KeyParts.{KeyParts}

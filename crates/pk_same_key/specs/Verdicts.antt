@@ -2,7 +2,7 @@
 use Rattle.std.specs.Prelude.{Bool, List, None, Option, Some, [], codes, cond, length, ℕ, ◌&&◌, ◌++◌, ◌==◌, ◌||◌}
 use Rattle.std.specs.Str.{bytes_eq}
 use Rattle.asn_shapes.specs.Identifiers.{Row, usual}
-use Rattle.pkix_types.specs.Identifiers.{ec_public_key}
+use Rattle.pkix_definitions.specs.Identifiers.{ec_public_key}
 use Rattle.pk_same_key.specs.Parts.{Carried, Parts, Rsa, Scalar}
 use Rattle.pk_same_key.specs.declared.verdict.KeySameness.{KeySameness}
 use Rattle.pk_same_key.specs.declared.verdict.KeySameness.TheVariants.{Another, NotCompared, Same}

@@ -2,18 +2,18 @@
 ghost use Rattle.std.specs.Prelude.{[], ◌≡◌, ◌∷◌};
 ghost use Rattle.std.specs.Option.{option_map};
 ghost use Rattle.asn_elements.specs.Leaves.{integer_of};
-ghost use Rattle.pkix_types.specs.Identifiers.{ec_public_key};
+ghost use Rattle.pkix_definitions.specs.Identifiers.{ec_public_key};
 ghost use Rattle.pkix_values.specs.Algorithms.{parameters_of};
-ghost use Rattle.pk_containers.specs.Keys.{curve_octets, identifier_of};
+ghost use Rattle.pkcs8.specs.Keys.{curve_octets, identifier_of};
 ghost use Rattle.pk_same_key.specs.Parts.{asymmetric_parts, document_parts, ec_parts, number_octets, parts_seen, rsa_parts};
 
 use asn_values::integer::Int;
-use pk_containers::one_asymmetric_key::OneAsymmetricKey;
-use pk_containers::private_key::PrivateKey;
 use pk_documents::document::Document;
-use pk_keys::ec_private_key::EcPrivateKey;
-use pk_keys::rsa_private_key::RsaPrivateKey;
+use pkcs8::one_asymmetric_key::OneAsymmetricKey;
+use pkcs8::private_key::PrivateKey;
 use pkix_values::algorithm::AlgorithmIdentifier;
+use private_keys::ec_private_key::EcPrivateKey;
+use private_keys::rsa_private_key::RsaPrivateKey;
 use tlv_core::oid::Oid;
 
 /// What makes a private key.
@@ -42,7 +42,7 @@ fn asymmetric_parts(key: &OneAsymmetricKey) -> KeyParts<'_>
     ensures { parts_seen result ≡ asymmetric_parts key.now }
 {
     let algorithm = key.algorithm();
-    let own = algorithm.algorithm().content();
+    let own = algorithm.algorithm().contents();
     match key.private_key() {
         PrivateKey::Ec(ec) => KeyParts::Scalar(own, curve_of(algorithm), ec.key().octets()),
         PrivateKey::Curve(curve) => KeyParts::Scalar(own, &[], curve.key().octets()),
@@ -66,7 +66,7 @@ fn contents_of<'a>(curve: Option<&'a Oid>) -> &'a [u8]
     ensures { result.now ≡ curve_octets (option_map (λ r. r.now) curve.entry) }
 {
     match curve {
-        Some(curve) => curve.content(),
+        Some(curve) => curve.contents(),
         None => &[],
     }
 }
@@ -99,7 +99,7 @@ fn number_octets<'a>(number: Option<&'a Int>) -> &'a [u8]
     ensures { result.now ≡ number_octets (option_map (λ r. r.now) number.entry) }
 {
     match number {
-        Some(number) => number.content(),
+        Some(number) => number.contents(),
         None => &[],
     }
 }

@@ -4,9 +4,9 @@ use Rattle.std.proofs.lemmas.Bool.{false≢true}
 use Rattle.std.specs.Option.{option_map}
 use Rattle.std.proofs.lemmas.List.{length-map}
 use Rattle.std.proofs.lemmas.Option.{none-some, same_Some}
-use Rattle.asn_containers.specs.Containers.{list_items, set_items}
-use Rattle.asn_containers.specs.declared.list.List.{List as SequenceOf}
-use Rattle.asn_containers.specs.declared.set_of.SetOf.{SetOf}
+use Rattle.asn_lists.specs.Containers.{list_items, set_items}
+use Rattle.asn_lists.specs.declared.list.List.{List as SequenceOf}
+use Rattle.asn_lists.specs.declared.set_of.SetOf.{SetOf}
 use Rattle.asn_elements.specs.declared.der_text.DerText.{Ghosts}
 use Rattle.asn_fields.specs.declared.either.Either.{Either}
 use Rattle.asn_fields.specs.declared.either.Either.TheVariants.{First, Second}

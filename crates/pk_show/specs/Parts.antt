@@ -2,8 +2,8 @@
 use Rattle.std.specs.Prelude.{List, map, ℕ}
 use Rattle.x690.specs.DerTexts.{der}
 use Rattle.asn_elements.specs.declared.der_text.DerText.{Ghosts}
-use Rattle.asn_containers.specs.Containers.{list_items, set_items}
-use Rattle.asn_containers.specs.declared.list.List.{List as SequenceOf}
+use Rattle.asn_lists.specs.Containers.{list_items, set_items}
+use Rattle.asn_lists.specs.declared.list.List.{List as SequenceOf}
 use Rattle.asn_fields.specs.declared.either.Either.{Either}
 use Rattle.asn_fields.specs.declared.either.Either.TheVariants.{First, Second}
 use Rattle.asn_open_values.specs.declared.any.Any.{Any}
@@ -13,8 +13,8 @@ use Rattle.pkix_values.specs.declared.extension.Extension.{Extension}
 use Rattle.pkix_values.specs.declared.name.Name.{Name}
 use Rattle.pkix_values.specs.declared.name.NameItem.{NameItem}
 use Rattle.pkix_values.specs.declared.set_of_some.SetOfSome.{SetOfSome}
-use Rattle.pk_keys.specs.contracts.rsa_private_key.RsaPrivateKeyDerText.TheImpl as rsa_text
-use Rattle.pk_keys.specs.declared.rsa_private_key.RsaPrivateKey.{RsaPrivateKey}
+use Rattle.private_keys.specs.contracts.rsa_private_key.RsaPrivateKeyDerText.TheImpl as rsa_text
+use Rattle.private_keys.specs.declared.rsa_private_key.RsaPrivateKey.{RsaPrivateKey}
 
 -- the values of an attribute of a request, in the order of their texts, by their members
 abbrev pub values_in : {t : Ghosts Extension} {u : Ghosts (SequenceOf Extension t)} {v : Ghosts Any}

@@ -2,7 +2,7 @@
 use Rattle.std.specs.Prelude.{List, None, Option, Some, codes, cond, decimal, flat_map, length, ℕ, ◌++◌}
 use Rattle.std.specs.Option.{option_map}
 use Rattle.tlv_core.specs.Texts.{oid_text}
-use Rattle.asn_containers.specs.Containers.{list_items, set_items}
+use Rattle.asn_lists.specs.Containers.{list_items, set_items}
 use Rattle.asn_fields.specs.declared.either.Either.{Either}
 use Rattle.asn_fields.specs.declared.either.Either.TheVariants.{First, Second}
 use Rattle.asn_elements.specs.Leaves.{octets_of}
@@ -20,20 +20,20 @@ use Rattle.pkix_values.specs.declared.name.Name.{Name}
 use Rattle.pkix_values.specs.declared.name.NameItem.{NameItem}
 use Rattle.pkix_values.specs.declared.public_key.SubjectPublicKeyInfo.{SubjectPublicKeyInfo}
 use Rattle.pkix_values.specs.declared.request_attribute.RequestAttribute.{RequestAttribute}
-use Rattle.pk_keys.specs.CurveKeys.{curve_key_of}
-use Rattle.pk_keys.specs.EcParts.{ec_curve_of, ec_key_of, ec_public_key_of}
-use Rattle.pk_keys.specs.EncryptedKeys.{encrypted_data_of, encryption_algorithm_of}
-use Rattle.pk_keys.specs.declared.ec_private_key.EcPrivateKey.{EcPrivateKey}
-use Rattle.pk_keys.specs.declared.encrypted_key.EncryptedKey.{EncryptedKey}
-use Rattle.pk_containers.specs.AsymmetricKeys.{key_algorithm_of, key_attributes_of, key_version_of, private_key_of, public_key_of}
-use Rattle.pk_containers.specs.KeyPackages.{keys_of}
-use Rattle.pk_containers.specs.Seen.{AnyKey}
-use Rattle.pk_containers.specs.declared.key_package.KeyPackage.{KeyPackage}
-use Rattle.pk_containers.specs.declared.one_asymmetric_key.OneAsymmetricKey.{OneAsymmetricKey}
-use Rattle.pk_requests.specs.Infos.{request_attributes_of, subject_key_of, subject_of}
-use Rattle.pk_requests.specs.Requests.{request_info_of, signature_algorithm_of, signature_of}
-use Rattle.pk_requests.specs.declared.info.CertificationRequestInfo.{CertificationRequestInfo}
-use Rattle.pk_requests.specs.declared.request.CertificationRequest.{CertificationRequest}
+use Rattle.private_keys.specs.CurveKeys.{curve_key_of}
+use Rattle.private_keys.specs.EcParts.{ec_curve_of, ec_key_of, ec_public_key_of}
+use Rattle.pkcs8.specs.EncryptedKeys.{encrypted_data_of, encryption_algorithm_of}
+use Rattle.private_keys.specs.declared.ec_private_key.EcPrivateKey.{EcPrivateKey}
+use Rattle.pkcs8.specs.declared.encrypted_key.EncryptedKey.{EncryptedKey}
+use Rattle.pkcs8.specs.AsymmetricKeys.{key_algorithm_of, key_attributes_of, key_version_of, private_key_of, public_key_of}
+use Rattle.pkcs8.specs.KeyPackages.{keys_of}
+use Rattle.pkcs8.specs.Seen.{AnyKey}
+use Rattle.pkcs8.specs.declared.key_package.KeyPackage.{KeyPackage}
+use Rattle.pkcs8.specs.declared.one_asymmetric_key.OneAsymmetricKey.{OneAsymmetricKey}
+use Rattle.pkcs10.specs.Infos.{request_attributes_of, subject_key_of, subject_of}
+use Rattle.pkcs10.specs.Requests.{request_info_of, signature_algorithm_of, signature_of}
+use Rattle.pkcs10.specs.declared.info.CertificationRequestInfo.{CertificationRequestInfo}
+use Rattle.pkcs10.specs.declared.request.CertificationRequest.{CertificationRequest}
 use Rattle.pk_documents.specs.declared.document.Document.{Document}
 use Rattle.pk_documents.specs.declared.document.Document.TheVariants as documents
 use Rattle.pk_show.specs.Lines.{any_text, bits_said, line, octets_line, optional, parameters_text}

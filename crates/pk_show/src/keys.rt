@@ -1,6 +1,6 @@
 //! Keys, and what they are for.
 ghost use Rattle.std.specs.Prelude.{◌≡◌, ◌++◌, OnOk, string_bytes};
-ghost use Rattle.pk_containers.specs.Seen.{key_seen};
+ghost use Rattle.pkcs8.specs.Seen.{key_seen};
 ghost use Rattle.pk_show.specs.Shown.{algorithm_lines, ec_lines, encrypted_lines, key_lines, package_lines, private_key_lines, public_key_lines};
 
 use crate::attributes::push_attributes;
@@ -10,13 +10,13 @@ use crate::lines::{
 };
 use crate::shown::Shown;
 use asn_values::der_text::DerText;
-use pk_containers::key_package::KeyPackage;
-use pk_containers::one_asymmetric_key::OneAsymmetricKey;
-use pk_containers::private_key::PrivateKey;
-use pk_keys::ec_private_key::EcPrivateKey;
-use pk_keys::encrypted_key::EncryptedKey;
+use pkcs8::encrypted_key::EncryptedKey;
+use pkcs8::key_package::KeyPackage;
+use pkcs8::one_asymmetric_key::OneAsymmetricKey;
+use pkcs8::private_key::PrivateKey;
 use pkix_values::algorithm::AlgorithmIdentifier;
 use pkix_values::public_key::SubjectPublicKeyInfo;
+use private_keys::ec_private_key::EcPrivateKey;
 use std::alloc::{AllocError, Global};
 
 /// The lines of an algorithm and its parameters, by these labels.

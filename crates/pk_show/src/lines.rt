@@ -1,7 +1,7 @@
 //! Lines: a label, what is said, and a line feed.
 ghost use Rattle.std.specs.Prelude.{◌≡◌, ◌++◌, OnOk, codes, decimal, flat_map, string_bytes};
 ghost use Rattle.std.specs.Option.{option_map};
-ghost use Rattle.asn_containers.specs.Containers.{list_items, set_items};
+ghost use Rattle.asn_lists.specs.Containers.{list_items, set_items};
 ghost use Rattle.pk_show.specs.Lines.{any_text, bits_said, line, octets_line, optional, parameters_text};
 ghost use Rattle.tlv_core.specs.Texts.{oid_text};
 

@@ -1,6 +1,6 @@
 //! Certification requests.
 ghost use Rattle.std.specs.Prelude.{◌≡◌, ◌++◌, OnOk, flat_map, map, string_bytes};
-ghost use Rattle.asn_containers.specs.Containers.{list_items};
+ghost use Rattle.asn_lists.specs.Containers.{list_items};
 ghost use Rattle.pk_show.specs.Parts.{rdn_items};
 ghost use Rattle.pk_show.specs.Shown.{info_lines, item_line, rdn_lines, request_lines, subject_lines};
 
@@ -9,8 +9,8 @@ use crate::keys::{push_algorithm, push_public_key};
 use crate::lines::{push_any_line, push_bits_line, push_number_line, push_set};
 use crate::shown::Shown;
 use asn_values::list::List;
-use pk_requests::info::CertificationRequestInfo;
-use pk_requests::request::CertificationRequest;
+use pkcs10::info::CertificationRequestInfo;
+use pkcs10::request::CertificationRequest;
 use pkix_values::name::{Name, NameItem, Rdn};
 use std::alloc::{AllocError, Global};
 use tlv_core::text::push_oid;

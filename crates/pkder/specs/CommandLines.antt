@@ -33,7 +33,7 @@ use Rattle.pk_commands.specs.declared.comparison.Comparison.{Comparison}
 use Rattle.pk_commands.specs.declared.comparison.Question.{Question}
 use Rattle.pk_commands.specs.declared.comparison.Question.TheVariants.{Document, Key}
 use Rattle.pk_commands.specs.declared.task.Task.{Task}
-use Rattle.pk_same.specs.declared.same.Form.TheVariants.{Json, Text as TextForm}
+use Rattle.pk_same.specs.declared.same.Style.TheVariants.{Json, Text as TextForm}
 
 -- ---- the options: their names, and what stands for one that isn't given
 

@@ -6,7 +6,7 @@ ghost use Rattle.pk_commands.specs.Files.{status_of_came};
 use crate::line::Order;
 use crate::new_file::{NewFile, Unmade};
 use crate::{complain, finish};
-use asn_documents::document::write_octets;
+use asn_documents::value::write_octets;
 use pk_commands::file_system::FileSystem;
 use pk_commands::files::{Came, came_status};
 use pk_commands::name::told_name;

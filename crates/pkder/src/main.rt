@@ -22,7 +22,7 @@ mod pair;
 mod refusal;
 mod terminal;
 
-use asn_documents::document::write_octets;
+use asn_documents::value::write_octets;
 use compare::compare;
 use convert::convert;
 use documents::judge;

@@ -8,7 +8,7 @@ use crate::refusal::{BadValue, advice_for_kind};
 use clap::ArgMatches;
 use pk_commands::comparison::{Comparison, Question};
 use pk_documents::kind::Kind;
-use pk_same::same::Form;
+use pk_same::same::Style;
 
 /// Two documents to compare.
 #[derive(Debug, Drop)]
@@ -68,7 +68,7 @@ fn read_question<'a>(options: &ArgMatches<'a>) -> Result<Question, BadValue<'a>>
 {
     let json = is_flagged(options, "json");
     if !is_flagged(options, "key") {
-        return Ok(Question::Document(if json { Form::Json } else { Form::Text }));
+        return Ok(Question::Document(if json { Style::Json } else { Style::Text }));
     }
     if json {
         return Err(BadValue {

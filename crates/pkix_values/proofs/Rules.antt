@@ -2,10 +2,10 @@
 use Rattle.std.proofs.Common.{◌≡◌, ◌∙◌, Bool, true, false, List, [], ◌∷◌, Option, Some, None, ℕ, refl, not, sym, ◌||◌}
 use Rattle.std.specs.Option.{is_some, option_map}
 use Rattle.tlv_core.specs.declared.reason.Reason.TheVariants.{KeyLength, Parameters}
-use Rattle.pkix_types.specs.Identifiers.{rfc8410_algorithms}
+use Rattle.pkix_definitions.specs.Identifiers.{rfc8410_algorithms}
 use Rattle.x690.specs.Layouts.{universal}
 use Rattle.x690.specs.Lists.{one_of}
-use Rattle.pkix_types.specs.Rules.{else_refused, key_bits_rule, parameters_rule}
+use Rattle.pkix_definitions.specs.Rules.{else_refused, key_bits_rule, parameters_rule}
 use Rattle.x690.specs.Values.{Leaf, Sequence, Value, leaf_at, values_of}
 use Rattle.asn_fields.specs.FieldReadings.{with_field}
 use Rattle.pkix_values.specs.Values.{key_fits}

@@ -1,7 +1,7 @@
 -- The test on octets.
 use Rattle.std.proofs.Common.{◌≡◌, ◌↔◌, IsTrue, Bool, List, ℕ, true, subst}
 use Rattle.x690.specs.Lists.{same_octets}
-use Rattle.x690_laws.proofs.Soundness.{equal_octets, octets_equal}
+use Rattle.x690_laws.proofs.ReadingSound.{equal_octets, octets_equal}
 use Rattle.asn_elements.proofs.ReaderAnswers.{both_ways}
 
 pub octets_test : (b : Bool) (xs ys : List ℕ) → (IsTrue b ↔ (xs ≡ ys)) → b ≡ same_octets xs ys

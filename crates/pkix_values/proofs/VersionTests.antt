@@ -7,9 +7,9 @@ use Rattle.tlv_core.specs.declared.reason.Reason.TheVariants.{Version}
 use Rattle.x690.specs.DerTexts.{der, der_element}
 use Rattle.x690.specs.Layouts.{universal}
 use Rattle.x690.specs.Lists.{one_of}
-use Rattle.pkix_types.specs.Rules.{else_refused, version_rule}
+use Rattle.pkix_definitions.specs.Rules.{else_refused, version_rule}
 use Rattle.x690.specs.Values.{Leaf, Same, Value}
-use Rattle.pkix_types.proofs.Fairs.{fair_version}
+use Rattle.pkix_definitions.proofs.Fairs.{fair_version}
 use Rattle.pkix_values.specs.Versions.{one_octets, versions}
 
 -- those that documents have

@@ -1,6 +1,6 @@
 -- What clauses see of an Attribute, by the names of its fields (RFC 2986 section 4.1).
 use Rattle.std.specs.Prelude.{List, ℕ}
-use Rattle.asn_containers.specs.declared.set_of.SetOf.{SetOf}
+use Rattle.asn_lists.specs.declared.set_of.SetOf.{SetOf}
 use Rattle.asn_open_values.specs.contracts.any.AnyDerText.TheImpl as any_text
 use Rattle.asn_open_values.specs.declared.any.Any.{Any}
 use Rattle.pkix_values.specs.declared.attribute.Attribute.{Attribute}

@@ -1,9 +1,9 @@
 -- The rules of the types give reasons of their own.
 use Rattle.std.specs.Prelude.{[], ◌∷◌}
-use Rattle.pkix_types.specs.DocumentTypes.{AlgorithmIdentifier, SubjectPublicKeyInfo}
+use Rattle.pkix_definitions.specs.DocumentTypes.{AlgorithmIdentifier, SubjectPublicKeyInfo}
 use Rattle.x690.specs.Premises.{Honest, HonestRule}
-use Rattle.pkix_types.specs.Rules.{key_bits_rule, parameters_rule}
-use Rattle.pkix_types.proofs.LawfulTypes.{algorithm, public_key_info}
+use Rattle.pkix_definitions.specs.Rules.{key_bits_rule, parameters_rule}
+use Rattle.pkix_definitions.proofs.LawfulTypes.{algorithm, public_key_info}
 
 pub honest_parameters : HonestRule parameters_rule
 unfolding Honest AlgorithmIdentifier

@@ -1,6 +1,6 @@
 -- What clauses see of a Name, by the names of its parts (RFC 5280 section 4.1.2.4).
 use Rattle.std.specs.Prelude.{List, ℕ}
-use Rattle.asn_containers.specs.declared.list.List.{List as SequenceOf}
+use Rattle.asn_lists.specs.declared.list.List.{List as SequenceOf}
 use Rattle.asn_open_values.specs.declared.any.Any.{Any}
 use Rattle.pkix_values.specs.contracts.name.NameItem as item
 use Rattle.pkix_values.specs.contracts.name.NameItemDerText.TheImpl as item_text

@@ -1,9 +1,9 @@
 -- What clauses see of an attribute of a request (RFC 2986 section 4.1, RFC 2985 section 5.4.2).
 use Rattle.std.specs.Prelude.{List, Option, ℕ}
 use Rattle.std.specs.Option.{option_map}
-use Rattle.asn_containers.specs.contracts.list.ListDerText.TheImpl as list_text
-use Rattle.asn_containers.specs.declared.list.List.{List as SequenceOf}
-use Rattle.asn_containers.specs.declared.set_of.SetOf.{SetOf}
+use Rattle.asn_lists.specs.contracts.list.ListDerText.TheImpl as list_text
+use Rattle.asn_lists.specs.declared.list.List.{List as SequenceOf}
+use Rattle.asn_lists.specs.declared.set_of.SetOf.{SetOf}
 use Rattle.asn_elements.specs.declared.der_text.DerText.{Ghosts}
 use Rattle.asn_fields.specs.declared.either.Either.{Either}
 use Rattle.asn_open_values.specs.contracts.any.AnyDerText.TheImpl as any_text

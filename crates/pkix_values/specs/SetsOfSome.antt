@@ -1,5 +1,5 @@
 -- What clauses see of a SET OF with at least one member.
-use Rattle.asn_containers.specs.declared.set_of.SetOf.{SetOf}
+use Rattle.asn_lists.specs.declared.set_of.SetOf.{SetOf}
 use Rattle.asn_elements.specs.declared.der_text.DerText.{Ghosts}
 use Rattle.pkix_values.specs.declared.set_of_some.SetOfSome.{SetOfSome}
 

@@ -1,8 +1,8 @@
 -- What clauses see of public keys.
 use Rattle.std.specs.Prelude.{Bool, List, length, not, ℕ, ◌&&◌, ◌-◌, ◌||◌}
-use Rattle.pkix_types.specs.Identifiers.{length_under, rfc8410_algorithms, rfc8410_lengths}
+use Rattle.pkix_definitions.specs.Identifiers.{length_under, rfc8410_algorithms, rfc8410_lengths}
 use Rattle.x690.specs.Lists.{one_of}
-use Rattle.pkix_types.specs.Rules.{has_length, no_unused}
+use Rattle.pkix_definitions.specs.Rules.{has_length, no_unused}
 
 -- the contents of a BIT STRING are those of a public key under the algorithm: under one of RFC 8410's of the table's
 -- length, without unused bits

@@ -2,13 +2,13 @@
 ghost use Rattle.std.proofs.lemmas.Bool.{ltb-true};
 ghost use Rattle.std.specs.Prelude.{◌≡◌, ◌↔◌, ◌∷◌, IsTrue, [], None, refl, true};
 ghost use Rattle.std.specs.Option.{option_map};
-ghost use Rattle.pkix_types.specs.DocumentTypes.{AlgorithmIdentifier as AlgorithmIdentifierType};
-ghost use Rattle.pkix_types.proofs.ClosedTypes.{algorithm_closed};
-ghost use Rattle.pkix_types.specs.Identifiers.{rfc8410_algorithms};
+ghost use Rattle.pkix_definitions.specs.DocumentTypes.{AlgorithmIdentifier as AlgorithmIdentifierType};
+ghost use Rattle.pkix_definitions.proofs.ClosedTypes.{algorithm_closed};
+ghost use Rattle.pkix_definitions.specs.Identifiers.{rfc8410_algorithms};
 ghost use Rattle.x690.specs.Lists.{one_of};
-ghost use Rattle.pkix_types.specs.Rules.{parameters_rule};
+ghost use Rattle.pkix_definitions.specs.Rules.{parameters_rule};
 ghost use Rattle.x690.specs.Values.{Same, leaf_at};
-ghost use Rattle.pkix_types.proofs.Fairs.{fair_parameters};
+ghost use Rattle.pkix_definitions.proofs.Fairs.{fair_parameters};
 ghost use Rattle.pkix_values.specs.Forms.{honest_parameters};
 
 use crate::identifiers::public_key_length;
@@ -17,7 +17,7 @@ use asn_values::der_text::DerText;
 use asn_values::element::Element;
 use asn_values::record::{Form, Record};
 use asn_values::ruled::{Ruled, Rules};
-use asn_values::sequence::{Due, Optional};
+use asn_values::sequence::{Optional, Required};
 use ber_pull::pull::Pull;
 use std::alloc::Global;
 use tlv_core::fault::ReadError;
@@ -33,7 +33,7 @@ use tlv_core::target::Target;
 pub struct AlgorithmForm;
 
 impl Form for AlgorithmForm {
-    type Fields = (Due<Oid>, Optional<Any>);
+    type Fields = (Required<Oid>, Optional<Any>);
 
     ghost parted = { refl };
 
@@ -50,7 +50,7 @@ impl Rules<Record<AlgorithmForm>> for AlgorithmForm {
     ghost alone = { λ earlier. refl };
 
     fn judge(value: &Record<AlgorithmForm>) -> Option<Reason> {
-        let (Due(algorithm), Optional(parameters)) = value.fields();
+        let (Required(algorithm), Optional(parameters)) = value.fields();
         if parameters.is_some() && public_key_length(algorithm).is_some() {
             Some(Reason::Parameters)
         } else {
@@ -123,7 +123,7 @@ impl DerText for AlgorithmIdentifier {
     }
 }
 
-#[tactic(auto, unfolding(pkix_types::specs::DocumentTypes::AlgorithmIdentifier))]
+#[tactic(auto, unfolding(pkix_definitions::specs::DocumentTypes::AlgorithmIdentifier))]
 impl Element for AlgorithmIdentifier {
     ghost type_term = { AlgorithmIdentifierType };
 

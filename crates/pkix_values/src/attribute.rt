@@ -1,17 +1,17 @@
 //! Attribute of RFC 2986 section 4.1.
 ghost use Rattle.std.proofs.lemmas.Bool.{ltb-true};
-ghost use Rattle.asn_containers.specs.Containers.{set_items};
+ghost use Rattle.asn_lists.specs.Containers.{set_items};
 ghost use Rattle.std.specs.Prelude.{◌≡◌, ◌↔◌, ◌<◌, IsTrue, length, refl};
-ghost use Rattle.pkix_types.specs.DocumentTypes.{Attribute as AttributeType};
+ghost use Rattle.pkix_definitions.specs.DocumentTypes.{Attribute as AttributeType};
 ghost use Rattle.x690.specs.Values.{Same};
-ghost use Rattle.pkix_types.proofs.ClosedTypes.{attribute_closed};
+ghost use Rattle.pkix_definitions.proofs.ClosedTypes.{attribute_closed};
 
 use crate::set_of_some::SetOfSome;
 use asn_values::any::Any;
 use asn_values::der_text::DerText;
 use asn_values::element::Element;
 use asn_values::record::{Form, Record};
-use asn_values::sequence::Due;
+use asn_values::sequence::Required;
 use asn_values::set_of::SetOf;
 use ber_pull::pull::Pull;
 use std::alloc::Global;
@@ -27,7 +27,7 @@ use tlv_core::target::Target;
 pub struct AttributeForm;
 
 impl Form for AttributeForm {
-    type Fields = (Due<Oid>, Due<SetOfSome<Any>>);
+    type Fields = (Required<Oid>, Required<SetOfSome<Any>>);
 
     ghost parted = { refl };
 
@@ -83,7 +83,7 @@ impl DerText for Attribute {
     }
 }
 
-#[tactic(auto, unfolding(pkix_types::specs::DocumentTypes::Attribute))]
+#[tactic(auto, unfolding(pkix_definitions::specs::DocumentTypes::Attribute))]
 impl Element for Attribute {
     ghost type_term = { AttributeType };
 

@@ -1,15 +1,15 @@
 //! Extension of RFC 5280 section 4.1.
 ghost use Rattle.std.proofs.lemmas.Bool.{ltb-true};
 ghost use Rattle.std.specs.Prelude.{◌≡◌, ◌↔◌, IsTrue, refl};
-ghost use Rattle.pkix_types.specs.DocumentTypes.{Extension as ExtensionType};
+ghost use Rattle.pkix_definitions.specs.DocumentTypes.{Extension as ExtensionType};
 ghost use Rattle.x690.specs.Values.{Same};
-ghost use Rattle.pkix_types.proofs.ClosedTypes.{extension_closed};
+ghost use Rattle.pkix_definitions.proofs.ClosedTypes.{extension_closed};
 
 use asn_values::der_text::DerText;
 use asn_values::element::Element;
 use asn_values::octets::Octets;
 use asn_values::record::{Form, Record};
-use asn_values::sequence::{DefaultFalse, Due};
+use asn_values::sequence::{DefaultFalse, Required};
 use ber_pull::pull::Pull;
 use std::alloc::Global;
 use tlv_core::fault::ReadError;
@@ -24,7 +24,7 @@ use tlv_core::target::Target;
 pub struct ExtensionForm;
 
 impl Form for ExtensionForm {
-    type Fields = (Due<Oid>, (DefaultFalse, Due<Octets>));
+    type Fields = (Required<Oid>, (DefaultFalse, Required<Octets>));
 
     ghost parted = { refl };
 
@@ -86,7 +86,7 @@ impl DerText for Extension {
     }
 }
 
-#[tactic(auto, unfolding(pkix_types::specs::DocumentTypes::Extension))]
+#[tactic(auto, unfolding(pkix_definitions::specs::DocumentTypes::Extension))]
 impl Element for Extension {
     ghost type_term = { ExtensionType };
 

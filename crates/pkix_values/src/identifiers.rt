@@ -1,7 +1,7 @@
 //! The object identifiers that the types name, by their contents (X.690 8.19).
 ghost use Rattle.std.specs.Prelude.{◌≡◌, ◌∷◌, []};
 ghost use Rattle.std.specs.Option.{is_some};
-ghost use Rattle.pkix_types.specs.Identifiers.{extension_request, length_under, rfc8410_algorithms, rfc8410_lengths};
+ghost use Rattle.pkix_definitions.specs.Identifiers.{extension_request, length_under, rfc8410_algorithms, rfc8410_lengths};
 ghost use Rattle.x690.specs.Lists.{one_of, same_octets};
 
 use tlv_core::oid::Oid;
@@ -11,7 +11,7 @@ use tlv_core::oid::Oid;
 pub fn has_contents(id: &Oid, contents: &[u8]) -> bool
     ensures { result ≡ same_octets id.now contents.now }
 {
-    id.content() == contents
+    id.contents() == contents
 }
 
 /// The number of octets of a public key under an algorithm of RFC 8410 (RFC 7748 section 5, RFC 8032 sections 5.1.5,

@@ -1,9 +1,9 @@
 //! Names of RFC 5280 section 4.1.2.4.
 ghost use Rattle.std.proofs.lemmas.Bool.{ltb-true};
 ghost use Rattle.std.specs.Prelude.{◌≡◌, ◌↔◌, IsTrue, refl};
-ghost use Rattle.pkix_types.specs.DocumentTypes.{Name as NameType, NameItem as NameItemType};
+ghost use Rattle.pkix_definitions.specs.DocumentTypes.{Name as NameType, NameItem as NameItemType};
 ghost use Rattle.x690.specs.Values.{Same};
-ghost use Rattle.pkix_types.proofs.ClosedTypes.{name_closed, name_item_closed};
+ghost use Rattle.pkix_definitions.proofs.ClosedTypes.{name_closed, name_item_closed};
 
 use crate::set_of_some::SetOfSome;
 use asn_values::any::Any;
@@ -11,7 +11,7 @@ use asn_values::der_text::DerText;
 use asn_values::element::Element;
 use asn_values::list::List;
 use asn_values::record::{Form, Record};
-use asn_values::sequence::Due;
+use asn_values::sequence::Required;
 use ber_pull::pull::Pull;
 use std::alloc::Global;
 use tlv_core::fault::ReadError;
@@ -26,7 +26,7 @@ use tlv_core::target::Target;
 pub struct NameItemForm;
 
 impl Form for NameItemForm {
-    type Fields = (Due<Oid>, Due<Any>);
+    type Fields = (Required<Oid>, Required<Any>);
 
     ghost parted = { refl };
 
@@ -81,7 +81,7 @@ impl DerText for NameItem {
     }
 }
 
-#[tactic(auto, unfolding(pkix_types::specs::DocumentTypes::NameItem))]
+#[tactic(auto, unfolding(pkix_definitions::specs::DocumentTypes::NameItem))]
 impl Element for NameItem {
     ghost type_term = { NameItemType };
 
@@ -145,7 +145,7 @@ impl DerText for Name {
     }
 }
 
-#[tactic(auto, unfolding(pkix_types::specs::DocumentTypes::Name, pkix_types::specs::DocumentTypes::NameItem))]
+#[tactic(auto, unfolding(pkix_definitions::specs::DocumentTypes::Name, pkix_definitions::specs::DocumentTypes::NameItem))]
 impl Element for Name {
     ghost type_term = { NameType };
 

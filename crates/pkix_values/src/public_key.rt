@@ -1,12 +1,12 @@
 //! SubjectPublicKeyInfo of RFC 5280 section 4.1.2.7.
 ghost use Rattle.std.proofs.lemmas.Bool.{ltb-true};
 ghost use Rattle.std.specs.Prelude.{◌≡◌, ◌↔◌, ◌∷◌, IsTrue, [], refl, true};
-ghost use Rattle.pkix_types.specs.DocumentTypes.{SubjectPublicKeyInfo as SubjectPublicKeyInfoType};
-ghost use Rattle.pkix_types.specs.Rules.{key_bits_rule};
+ghost use Rattle.pkix_definitions.specs.DocumentTypes.{SubjectPublicKeyInfo as SubjectPublicKeyInfoType};
+ghost use Rattle.pkix_definitions.specs.Rules.{key_bits_rule};
 ghost use Rattle.x690.specs.Values.{Same};
-ghost use Rattle.pkix_types.proofs.Fairs.{fair_key_bits};
+ghost use Rattle.pkix_definitions.proofs.Fairs.{fair_key_bits};
 ghost use Rattle.asn_elements.specs.Leaves.{bit_string_of};
-ghost use Rattle.pkix_types.proofs.ClosedTypes.{public_key_closed};
+ghost use Rattle.pkix_definitions.proofs.ClosedTypes.{public_key_closed};
 ghost use Rattle.pkix_values.specs.Forms.{honest_key_bits};
 ghost use Rattle.pkix_values.specs.Values.{key_fits};
 
@@ -17,7 +17,7 @@ use asn_values::der_text::DerText;
 use asn_values::element::Element;
 use asn_values::judged::{FieldRules, Judged};
 use asn_values::record::{Form, Record};
-use asn_values::sequence::Due;
+use asn_values::sequence::Required;
 use ber_pull::pull::Pull;
 use std::alloc::Global;
 use tlv_core::fault::ReadError;
@@ -33,7 +33,7 @@ use tlv_core::target::Target;
 pub struct PublicKeyForm;
 
 impl Form for PublicKeyForm {
-    type Fields = Judged<Due<AlgorithmIdentifier>, Bits, PublicKeyForm>;
+    type Fields = Judged<Required<AlgorithmIdentifier>, Bits, PublicKeyForm>;
 
     ghost parted = { refl };
 
@@ -41,14 +41,14 @@ impl Form for PublicKeyForm {
 }
 
 /// Under the algorithms of RFC 8410 a key has the length that goes with the algorithm, and no unused bits.
-impl<T: NamesAlgorithm> FieldRules<Due<T>, Bits> for PublicKeyForm {
+impl<T: NamesAlgorithm> FieldRules<Required<T>, Bits> for PublicKeyForm {
     ghost rule = { key_bits_rule (0 ∷ 0 ∷ []) };
 
     ghost fair = { fair_key_bits (0 ∷ 0 ∷ []) };
 
     ghost honest = { honest_key_bits };
 
-    fn judge(earlier: &Due<T>, field: &Bits) -> Option<Reason> {
+    fn judge(earlier: &Required<T>, field: &Bits) -> Option<Reason> {
         if is_key_of(earlier.0.algorithm(), field) {
             None
         } else {
@@ -119,7 +119,7 @@ impl DerText for SubjectPublicKeyInfo {
     }
 }
 
-#[tactic(auto, unfolding(pkix_types::specs::DocumentTypes::SubjectPublicKeyInfo))]
+#[tactic(auto, unfolding(pkix_definitions::specs::DocumentTypes::SubjectPublicKeyInfo))]
 impl Element for SubjectPublicKeyInfo {
     ghost type_term = { SubjectPublicKeyInfoType };
 

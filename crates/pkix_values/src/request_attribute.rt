@@ -2,11 +2,11 @@
 ghost use Rattle.std.proofs.lemmas.Bool.{ltb-true};
 ghost use Rattle.std.specs.Prelude.{◌≡◌, ◌↔◌, ◌∷◌, IsTrue, [], not, refl};
 ghost use Rattle.std.specs.Option.{is_some, option_map};
-ghost use Rattle.pkix_types.specs.DocumentTypes.{RequestAttribute as RequestAttributeType};
-ghost use Rattle.pkix_types.specs.Identifiers.{extension_request};
+ghost use Rattle.pkix_definitions.specs.DocumentTypes.{RequestAttribute as RequestAttributeType};
+ghost use Rattle.pkix_definitions.specs.Identifiers.{extension_request};
 ghost use Rattle.x690.specs.Lists.{one_of};
 ghost use Rattle.x690.specs.Values.{Same};
-ghost use Rattle.pkix_types.proofs.ClosedTypes.{request_attribute_closed};
+ghost use Rattle.pkix_definitions.proofs.ClosedTypes.{request_attribute_closed};
 ghost use Rattle.pkix_values.specs.Eithers.{sets_alike};
 
 use crate::extension::Extension;
@@ -19,7 +19,7 @@ use asn_values::either::Either;
 use asn_values::element::Element;
 use asn_values::list::List;
 use asn_values::record::{Form, Record};
-use asn_values::sequence::Due;
+use asn_values::sequence::Required;
 use asn_values::set_of::SetOf;
 use ber_pull::pull::Pull;
 use std::alloc::Global;
@@ -34,7 +34,8 @@ use tlv_core::target::Target;
 #[derive(Drop)]
 pub struct RequestAttributeForm;
 
-impl<X: Element, Y: Element> Choice<Due<Oid>, SetOfSome<X>, SetOfSome<Y>> for RequestAttributeForm {
+impl<X: Element, Y: Element> Choice<Required<Oid>, SetOfSome<X>, SetOfSome<Y>>
+    for RequestAttributeForm {
     ghost path = { 0 ∷ [] };
 
     ghost octets = { extension_request ∷ [] };
@@ -42,14 +43,14 @@ impl<X: Element, Y: Element> Choice<Due<Oid>, SetOfSome<X>, SetOfSome<Y>> for Re
     ghost alike = { sets_alike Y.type_term X.type_term };
 
     #[tactic(auto, unfolding(x690::specs::Values::leaf_at))]
-    fn is_first(earlier: &Due<Oid>) -> bool {
+    fn is_first(earlier: &Required<Oid>) -> bool {
         is_extension_request(&earlier.0)
     }
 }
 
 impl Form for RequestAttributeForm {
     type Fields = Chosen<
-        Due<Oid>,
+        Required<Oid>,
         SetOfSome<List<Extension>>,
         SetOfSome<Any>,
         RequestAttributeForm,
@@ -127,7 +128,7 @@ impl DerText for RequestAttribute {
     }
 }
 
-#[tactic(auto, unfolding(pkix_types::specs::DocumentTypes::RequestAttribute, x690::specs::TypeTerms::fits_tag))]
+#[tactic(auto, unfolding(pkix_definitions::specs::DocumentTypes::RequestAttribute, x690::specs::TypeTerms::fits_tag))]
 impl Element for RequestAttribute {
     ghost type_term = { RequestAttributeType };
 

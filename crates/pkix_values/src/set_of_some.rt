@@ -3,8 +3,8 @@ ghost use Rattle.std.specs.Prelude.{◌≡◌, ◌↔◌, ◌<◌, IsTrue, lengt
 ghost use Rattle.x690.specs.UniversalTypes.{set_of_some};
 ghost use Rattle.x690.specs.Layouts.{universal};
 ghost use Rattle.x690.specs.Values.{Same, SetOf as SetValue, values_of};
-ghost use Rattle.asn_containers.specs.Containers.{set_items};
-ghost use Rattle.x690_laws.proofs.ClosedTypes.{set_of_closed};
+ghost use Rattle.asn_lists.specs.Containers.{set_items};
+ghost use Rattle.x690_laws.proofs.TypesClosed.{set_of_closed};
 
 use asn_values::der_text::DerText;
 use asn_values::element::Element;

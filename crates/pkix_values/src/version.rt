@@ -1,13 +1,13 @@
 //! Versions of documents (RFC 5958 section 2, RFC 5915 section 3, RFC 2986 section 4.1).
-ghost use Rattle.x690_laws.proofs.OneTexts.{leaf_one_text};
+ghost use Rattle.x690_laws.proofs.TextsTellApart.{leaf_one_text};
 ghost use Rattle.std.specs.Prelude.{◌≡◌, ◌↔◌, ◌≤◌, ◌<◌, ◌∷◌, IfSome, IsTrue, [], true};
 ghost use Rattle.std.specs.Option.{is_some};
 ghost use Rattle.x690.specs.DerTexts.{der};
-ghost use Rattle.pkix_types.specs.DocumentTypes.{version};
+ghost use Rattle.pkix_definitions.specs.DocumentTypes.{version};
 ghost use Rattle.x690.specs.Layouts.{universal};
 ghost use Rattle.x690.specs.Lists.{one_of};
 ghost use Rattle.x690.specs.Values.{Leaf};
-ghost use Rattle.pkix_types.proofs.ClosedTypes.{version_closed};
+ghost use Rattle.pkix_definitions.proofs.ClosedTypes.{version_closed};
 ghost use Rattle.pkix_values.specs.Versions.{versions};
 
 use asn_values::der_text::DerText;
@@ -121,7 +121,7 @@ impl<const LEAST: u8, const MOST: u8> Element for Version<LEAST, MOST> {
     ) -> Result<Version<LEAST, MOST>, ReadError> {
         let at = pull.at();
         let integer = Int::read(alloc, pull)?;
-        let Some(number) = number_of::<LEAST, MOST>(integer.content()) else {
+        let Some(number) = number_of::<LEAST, MOST>(integer.contents()) else {
             return Err(pull.refuse(at, Reason::Version, None));
         };
         Ok(Version { number })

@@ -4,9 +4,9 @@ use Rattle.tlv_core.specs.declared.reason.Reason.{Reason}
 use Rattle.tlv_core.specs.declared.reason.Reason.TheVariants.{Extra, KeyLength, LeftOut, VersionRule}
 use Rattle.x690.specs.Lists.{one_of}
 use Rattle.x690.specs.Premises.{FairRule, HonestReason, HonestRule}
-use Rattle.pkix_types.specs.Rules.{else_refused}
+use Rattle.pkix_definitions.specs.Rules.{else_refused}
 use Rattle.x690.specs.Values.{Value, leaf_at, leaf_contents}
-use Rattle.pkix_types.proofs.RuleLaws.{fair_leaves, honest_else}
+use Rattle.pkix_definitions.proofs.RuleLaws.{fair_leaves, honest_else}
 
 -- there are no octets where the flag isn't TRUE
 abbrev pub flag_rule : List Value → Value → Option Reason

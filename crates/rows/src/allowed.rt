@@ -15,7 +15,7 @@ use asn_values::judged::FieldRules;
 use asn_values::octets::Octets;
 use asn_values::record::{Form, Record};
 use asn_values::refused::{Refusal, Refused};
-use asn_values::sequence::{Due, Optional};
+use asn_values::sequence::{Optional, Required};
 use asn_values::tags::{context_tag, universal_tag};
 use tlv_core::reason::Reason;
 use tlv_core::tag::Tag;
@@ -25,7 +25,7 @@ use tlv_core::tag::Tag;
 pub struct AllowedForm;
 
 /// number, sealed.
-type NumberAndSealed = (Due<Int>, Optional<Refused<Sealed>>);
+type NumberAndSealed = (Required<Int>, Optional<Refused<Sealed>>);
 
 impl Form for AllowedForm {
     type Fields = OptionalDependent<
@@ -85,7 +85,7 @@ impl Defines<NumberAndSealed> for BehindZero {
 
     #[tactic(auto, unfolding(x690::specs::Values::leaf_at))]
     fn is_first(earlier: &NumberAndSealed) -> bool {
-        match earlier.0.0.content() {
+        match earlier.0.0.contents() {
             [0] => true,
             _ => false,
         }
@@ -105,7 +105,7 @@ impl FieldRules<NumberAndSealed, Octets> for AsLong {
 
     #[tactic(auto, unfolding(x690::specs::Values::leaf_at))]
     fn judge(earlier: &NumberAndSealed, field: &Octets) -> Option<Reason> {
-        if earlier.0.0.content().len() == field.octets().len() {
+        if earlier.0.0.contents().len() == field.octets().len() {
             None
         } else {
             Some(Reason::KeyLength)

@@ -10,7 +10,7 @@ use asn_values::boolean::Bool;
 use asn_values::integer::Int;
 use asn_values::octets::Octets;
 use asn_values::record::{Form, Record};
-use asn_values::sequence::Due;
+use asn_values::sequence::Required;
 
 /// OCTET STRING (CONTAINING INTEGER).
 pub type ContainedInteger = Containing<Int>;
@@ -26,7 +26,7 @@ pub type ContainedLetter = Containing<Letter>;
 pub struct LetterForm;
 
 impl Form for LetterForm {
-    type Fields = JudgedInside<Due<Bool>, Octets, FlaggedForm>;
+    type Fields = JudgedInside<Required<Bool>, Octets, FlaggedForm>;
 
     ghost parted = { refl };
 

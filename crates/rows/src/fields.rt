@@ -1,7 +1,7 @@
 //! What field readers answer, in a line.
 use crate::answer::Answer;
 use crate::line::Line;
-use asn_documents::document::read_value;
+use asn_documents::value::read_value;
 use asn_values::der_text::same_text;
 use asn_values::element::Element;
 use std::alloc::{AllocError, Global};

@@ -3,11 +3,11 @@ use crate::fields::Described;
 use crate::fields_of_types::describe_bits;
 use crate::line::Line;
 use asn_values::der_text::DerText;
-use pk_keys::curve_key::CurveKey;
-use pk_keys::ec_private_key::EcPrivateKey;
-use pk_keys::encrypted_key::EncryptedKey;
-use pk_keys::other_prime_info::OtherPrimeInfo;
-use pk_keys::rsa_private_key::RsaPrivateKey;
+use pkcs8::encrypted_key::EncryptedKey;
+use private_keys::curve_key::CurveKey;
+use private_keys::ec_private_key::EcPrivateKey;
+use private_keys::other_prime_info::OtherPrimeInfo;
+use private_keys::rsa_private_key::RsaPrivateKey;
 use std::alloc::AllocError;
 
 impl Described for EcPrivateKey {
@@ -18,7 +18,7 @@ impl Described for EcPrivateKey {
     fn describe(&self, line: &mut Line) -> Result<(), AllocError> {
         line.octets("key", self.key().octets())?;
         match self.curve() {
-            Some(curve) => line.octets("curve", curve.content())?,
+            Some(curve) => line.octets("curve", curve.contents())?,
             None => line.part("no curve")?,
         }
         match self.public_key() {
@@ -58,9 +58,9 @@ impl Described for OtherPrimeInfo {
     }
 
     fn describe(&self, line: &mut Line) -> Result<(), AllocError> {
-        line.octets("prime", self.prime().content())?;
-        line.octets("exponent", self.exponent().content())?;
-        line.octets("coefficient", self.coefficient().content())
+        line.octets("prime", self.prime().contents())?;
+        line.octets("exponent", self.exponent().contents())?;
+        line.octets("coefficient", self.coefficient().contents())
     }
 }
 
@@ -73,7 +73,7 @@ impl Described for RsaPrivateKey {
         line.number("version", usize::from(self.version()))?;
         for i in 0..9 {
             match self.number(i) {
-                Some(number) => line.octets("number", number.content())?,
+                Some(number) => line.octets("number", number.contents())?,
                 None => line.part("no number")?,
             }
         }

@@ -8,8 +8,8 @@ use asn_values::implicit::Implicit;
 use asn_values::integer::Int;
 use asn_values::set_of::SetOf;
 use asn_values::text::Text;
-use pk_requests::info::CertificationRequestInfo;
-use pk_requests::request::CertificationRequest;
+use pkcs10::info::CertificationRequestInfo;
+use pkcs10::request::CertificationRequest;
 use pkix_values::algorithm::AlgorithmIdentifier;
 use pkix_values::attribute::Attribute;
 use pkix_values::extension::Extension;
@@ -58,7 +58,7 @@ impl Described for Any {
 
     fn describe(&self, line: &mut Line) -> Result<(), AllocError> {
         match self.oid() {
-            Some(id) => line.octets("identifier", id.content()),
+            Some(id) => line.octets("identifier", id.contents()),
             None => line.part("no identifier"),
         }
     }
@@ -80,7 +80,7 @@ impl Described for AlgorithmIdentifier {
     }
 
     fn describe(&self, line: &mut Line) -> Result<(), AllocError> {
-        line.octets("algorithm", self.algorithm().content())?;
+        line.octets("algorithm", self.algorithm().contents())?;
         match self.parameters() {
             Some(parameters) => line.value("parameters", parameters),
             None => line.part("no parameters"),
@@ -94,7 +94,7 @@ impl Described for NameItem {
     }
 
     fn describe(&self, line: &mut Line) -> Result<(), AllocError> {
-        line.octets("type", self.id().content())?;
+        line.octets("type", self.id().contents())?;
         line.value("value", self.value())
     }
 }
@@ -157,7 +157,7 @@ impl Described for Attribute {
     }
 
     fn describe(&self, line: &mut Line) -> Result<(), AllocError> {
-        line.octets("type", self.id().content())?;
+        line.octets("type", self.id().contents())?;
         line.number("values", self.values().len())
     }
 }
@@ -168,7 +168,7 @@ impl Described for Extension {
     }
 
     fn describe(&self, line: &mut Line) -> Result<(), AllocError> {
-        line.octets("extension", self.id().content())?;
+        line.octets("extension", self.id().contents())?;
         line.part(if self.critical() {
             "critical"
         } else {
@@ -184,7 +184,7 @@ impl Described for RequestAttribute {
     }
 
     fn describe(&self, line: &mut Line) -> Result<(), AllocError> {
-        line.octets("type", self.id().content())?;
+        line.octets("type", self.id().contents())?;
         match self.plain() {
             Some(values) => line.number("plain values", values.len())?,
             None => line.part("not plain")?,
@@ -222,7 +222,7 @@ impl Described for CertificationRequestInfo {
         line.number("attributes", attributes.len())?;
         for i in 0..attributes.len() {
             if let Some(attribute) = attributes.get(i) {
-                line.octets("type", attribute.id().content())?;
+                line.octets("type", attribute.id().contents())?;
             }
         }
         Ok(())

@@ -7,7 +7,7 @@ use asn_values::boolean::Bool;
 use asn_values::judged::{FieldRules, Judged};
 use asn_values::octets::Octets;
 use asn_values::record::{Form, Record};
-use asn_values::sequence::Due;
+use asn_values::sequence::Required;
 use tlv_core::reason::Reason;
 
 /// flag, octets.
@@ -15,14 +15,14 @@ use tlv_core::reason::Reason;
 pub struct FlaggedForm;
 
 impl Form for FlaggedForm {
-    type Fields = Judged<Due<Bool>, Octets, FlaggedForm>;
+    type Fields = Judged<Required<Bool>, Octets, FlaggedForm>;
 
     ghost parted = { refl };
 
     ghost few = { ltb-true _ _ refl };
 }
 
-impl FieldRules<Due<Bool>, Octets> for FlaggedForm {
+impl FieldRules<Required<Bool>, Octets> for FlaggedForm {
     ghost rule = { flag_rule };
 
     ghost fair = { fair_flag };
@@ -30,7 +30,7 @@ impl FieldRules<Due<Bool>, Octets> for FlaggedForm {
     ghost honest = { honest_flag };
 
     #[tactic(auto, unfolding(x690::specs::Values::leaf_at))]
-    fn judge(earlier: &Due<Bool>, field: &Octets) -> Option<Reason> {
+    fn judge(earlier: &Required<Bool>, field: &Octets) -> Option<Reason> {
         if earlier.0.value() || field.octets().is_empty() {
             None
         } else {

@@ -10,20 +10,20 @@ pub fn made(alloc: Global, words: &mut SplitWhitespace<'_>) -> Result<Vec<u8>, A
     let arcs = arcs_of(alloc, words)?;
     let oid = Oid::from_arcs(alloc, &arcs)?;
     check_arcs(&oid, &arcs)?;
-    let again = Oid::from_content(alloc, oid.content())?;
+    let again = Oid::from_contents(alloc, oid.contents())?;
     check_arcs(&again, &arcs)?;
     if !again.same(&oid) {
         return Err(Answer::Wrong("answers differ: in the contents"));
     }
     let mut line = Line::new(alloc);
-    line.hex_or_dash(oid.content())?;
+    line.hex_or_dash(oid.contents())?;
     Ok(line.ended()?)
 }
 
 /// The arcs of the object identifier with these contents, which it keeps.
 pub fn read(alloc: Global, octets: &[u8]) -> Result<Vec<u8>, Answer> {
-    let oid = Oid::from_content(alloc, octets)?;
-    if oid.content() != octets {
+    let oid = Oid::from_contents(alloc, octets)?;
+    if oid.contents() != octets {
         return Err(Answer::Wrong("answers differ: in the contents"));
     }
     let mut line = Line::with(alloc, ".");
@@ -45,7 +45,7 @@ pub fn compared(
 ) -> Result<Vec<u8>, Answer> {
     let arcs = arcs_of(alloc, words)?;
     let due = Oid::from_arcs(alloc, &arcs)?;
-    let found = Oid::from_content(alloc, octets)?;
+    let found = Oid::from_contents(alloc, octets)?;
     let mut line = Line::new(alloc);
     line.part(if found.same(&due) {
         "same"

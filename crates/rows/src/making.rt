@@ -13,7 +13,7 @@ use std::alloc::{AllocError, Global};
 /// SET OF an OCTET STRING for each part of them.
 pub fn made(alloc: Global, name: &str, octets: &[u8], is_checked: bool) -> Answer {
     match name {
-        "integer" => told(alloc, Int::from_content(alloc, octets), is_checked),
+        "integer" => told(alloc, Int::from_contents(alloc, octets), is_checked),
         "octet-string" => told(alloc, Octets::from_slice(alloc, octets), is_checked),
         "integer-set" => told(alloc, integers(alloc, octets), is_checked),
         "octet-string-set" => told(alloc, strings(alloc, octets), is_checked),
@@ -32,7 +32,7 @@ fn told<T: DerText>(alloc: Global, value: Result<T, BuildError>, is_checked: boo
 fn integers(alloc: Global, octets: &[u8]) -> Result<SetOf<Int>, BuildError> {
     let mut items = Vec::new(alloc);
     for octet in octets {
-        items.push(Int::from_content(alloc, &[*octet])?)?;
+        items.push(Int::from_contents(alloc, &[*octet])?)?;
     }
     SetOf::from_items(alloc, items)
 }

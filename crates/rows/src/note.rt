@@ -7,7 +7,7 @@ use asn_values::integer::Int;
 use asn_values::list_of_some::ListOfSome;
 use asn_values::octets::Octets;
 use asn_values::record::{Form, Record};
-use asn_values::sequence::{Due, Optional};
+use asn_values::sequence::{Optional, Required};
 use tlv_core::oid::Oid;
 
 /// number, subject, lines.
@@ -15,7 +15,7 @@ use tlv_core::oid::Oid;
 pub struct NoteForm;
 
 impl Form for NoteForm {
-    type Fields = (Due<Int>, (Optional<Oid>, Due<ListOfSome<Octets>>));
+    type Fields = (Required<Int>, (Optional<Oid>, Required<ListOfSome<Octets>>));
 
     ghost parted = { refl };
 

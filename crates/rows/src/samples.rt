@@ -4,7 +4,7 @@ ghost use Rattle.std.specs.Prelude.{refl};
 
 use asn_values::integer::Int;
 use asn_values::record::{Form, Record};
-use asn_values::sequence::Due;
+use asn_values::sequence::Required;
 use asn_values::set_of::SetOf;
 use tlv_core::oid::Oid;
 
@@ -13,7 +13,7 @@ use tlv_core::oid::Oid;
 pub struct SampleForm;
 
 impl Form for SampleForm {
-    type Fields = (Due<Oid>, Due<SetOf<Int>>);
+    type Fields = (Required<Oid>, Required<SetOf<Int>>);
 
     ghost parted = { refl };
 

@@ -4,7 +4,7 @@ use crate::line::Line;
 use crate::reading::{Reading, Told};
 use asn_values::boolean::Bool;
 use asn_values::integer::Int;
-use asn_values::sequence::{DefaultFalse, Due, FirstFields, Optional, read_sequence};
+use asn_values::sequence::{DefaultFalse, FirstFields, Optional, Required, read_sequence};
 use ber_pull::pull::Pull;
 use std::alloc::{AllocError, Global};
 use std::marker::PhantomData;
@@ -22,7 +22,7 @@ pub trait IntegerAndBoolean: FirstFields {
     fn boolean(&self) -> Option<bool>;
 }
 
-impl IntegerAndBoolean for (Due<Int>, Due<Bool>) {
+impl IntegerAndBoolean for (Required<Int>, Required<Bool>) {
     fn integer(&self) -> &Int {
         &self.0.0
     }
@@ -32,7 +32,7 @@ impl IntegerAndBoolean for (Due<Int>, Due<Bool>) {
     }
 }
 
-impl IntegerAndBoolean for (Due<Int>, Optional<Bool>) {
+impl IntegerAndBoolean for (Required<Int>, Optional<Bool>) {
     fn integer(&self) -> &Int {
         &self.0.0
     }
@@ -45,7 +45,7 @@ impl IntegerAndBoolean for (Due<Int>, Optional<Bool>) {
     }
 }
 
-impl IntegerAndBoolean for (Due<Int>, DefaultFalse) {
+impl IntegerAndBoolean for (Required<Int>, DefaultFalse) {
     fn integer(&self) -> &Int {
         &self.0.0
     }
@@ -84,7 +84,7 @@ fn sequence<R: Source, F: FirstFields>(
 
 fn line_of<F: IntegerAndBoolean>(alloc: Global, fields: &F) -> Result<Vec<u8>, AllocError> {
     let mut line = Line::new(alloc);
-    line.octets("integer", fields.integer().content())?;
+    line.octets("integer", fields.integer().contents())?;
     match fields.boolean() {
         Some(true) => line.part("boolean true")?,
         Some(false) => line.part("boolean false")?,

@@ -23,17 +23,13 @@ use asn_values::integer::Int;
 use asn_values::list::List;
 use asn_values::null::Null;
 use asn_values::octets::Octets;
-use asn_values::sequence::{DefaultFalse, Due, Optional};
+use asn_values::sequence::{DefaultFalse, Optional, Required};
 use asn_values::set_of::SetOf;
 use asn_values::tagged::Tagged;
 use asn_values::text::Text;
-use pk_keys::curve_key::CurveKey;
-use pk_keys::ec_private_key::EcPrivateKey;
-use pk_keys::encrypted_key::EncryptedKey;
-use pk_keys::other_prime_info::OtherPrimeInfo;
-use pk_keys::rsa_private_key::RsaPrivateKey;
-use pk_requests::info::CertificationRequestInfo;
-use pk_requests::request::CertificationRequest;
+use pkcs8::encrypted_key::EncryptedKey;
+use pkcs10::info::CertificationRequestInfo;
+use pkcs10::request::CertificationRequest;
 use pkix_values::algorithm::AlgorithmIdentifier;
 use pkix_values::attribute::Attribute;
 use pkix_values::extension::Extension;
@@ -42,6 +38,10 @@ use pkix_values::public_key::SubjectPublicKeyInfo;
 use pkix_values::request_attribute::RequestAttribute;
 use pkix_values::set_of_some::SetOfSome;
 use pkix_values::version::Version;
+use private_keys::curve_key::CurveKey;
+use private_keys::ec_private_key::EcPrivateKey;
+use private_keys::other_prime_info::OtherPrimeInfo;
+use private_keys::rsa_private_key::RsaPrivateKey;
 use std::alloc::Global;
 use tlv_core::oid::Oid;
 
@@ -111,9 +111,11 @@ fn of_own_type(alloc: Global, task: &Task<'_>) -> Answer {
         "contained-integer" => plain::<ContainedInteger>(alloc, task),
         "contained-twice" => plain::<ContainedTwice>(alloc, task),
         "contained-letter" => plain::<ContainedLetter>(alloc, task),
-        "integer-and-boolean" => read_fields::<(Due<Int>, Due<Bool>)>(alloc, task),
-        "integer-and-optional-boolean" => read_fields::<(Due<Int>, Optional<Bool>)>(alloc, task),
-        "integer-and-boolean-or-false" => read_fields::<(Due<Int>, DefaultFalse)>(alloc, task),
+        "integer-and-boolean" => read_fields::<(Required<Int>, Required<Bool>)>(alloc, task),
+        "integer-and-optional-boolean" => read_fields::<(Required<Int>, Optional<Bool>)>(
+            alloc, task,
+        ),
+        "integer-and-boolean-or-false" => read_fields::<(Required<Int>, DefaultFalse)>(alloc, task),
         _ => of_plain_type(alloc, task),
     }
 }

@@ -39,7 +39,7 @@ impl<T: Drop> From<AllocFailed<T>> for OidError {
 /// An object identifier: the octets of its contents. Its arcs are told from them by a walk.
 #[derive(Drop)]
 pub struct Oid {
-    content: Vec<u8>,
+    contents: Vec<u8>,
 }
 
 impl Model for Oid {
@@ -48,9 +48,9 @@ impl Model for Oid {
 
     ghost Value = { List ℕ };
 
-    ghost view = { λ oid. oid.content.items };
+    ghost view = { λ oid. oid.contents.items };
 
-    ghost invariant = { λ oid. IsObjectIdentifier oid.content.items };
+    ghost invariant = { λ oid. IsObjectIdentifier oid.contents.items };
 }
 
 /// The arcs of an object identifier behind the first two: a place to go on from, so that all are told in one walk.
@@ -89,41 +89,41 @@ impl Oid {
         let Some(first) = leading_subidentifier(arcs) else {
             return Err(OidError::Bad);
         };
-        let mut content = Vec::new(alloc);
-        push_subidentifier(&mut content, first)?;
+        let mut contents = Vec::new(alloc);
+        push_subidentifier(&mut contents, first)?;
         for arc in &arcs[2..] {
-            push_subidentifier(&mut content, *arc)?;
+            push_subidentifier(&mut contents, *arc)?;
         }
-        Ok(Oid { content })
+        Ok(Oid { contents })
     }
 
     /// The object identifier with these contents. `Bad` where there is none.
-    pub fn from_content(alloc: Global, octets: &[u8]) -> Result<Oid, OidError>
+    pub fn from_contents(alloc: Global, octets: &[u8]) -> Result<Oid, OidError>
         ensures made { IfOk result (λ oid. (oid ≡ octets.now) × IsObjectIdentifier oid) }
         ensures bad { (result ≡ Err Bad) ↔ (IsObjectIdentifier octets.now → ⊥) }
     {
         if !is_object_identifier(octets) {
             return Err(OidError::Bad);
         }
-        let content = octets.to_vec(alloc)?;
-        Ok(Oid { content })
+        let contents = octets.to_vec(alloc)?;
+        Ok(Oid { contents })
     }
 
     /// The object identifier with these contents, which were judged before: no memory is taken.
-    pub fn from_checked(content: Vec<u8>) -> Oid
-        requires { IsObjectIdentifier content.items }
-        ensures { result ≡ content.items }
+    pub fn from_checked(contents: Vec<u8>) -> Oid
+        requires { IsObjectIdentifier contents.items }
+        ensures { result ≡ contents.items }
     {
-        Oid { content }
+        Oid { contents }
     }
 
     /// The octets of the contents.
-    pub fn content(&self) -> &[u8]
+    pub fn contents(&self) -> &[u8]
         ensures value { result.now ≡ self.now }
         ensures is { IsObjectIdentifier self.now }
         ensures short { length self.now < 2 ^ 63 }
     {
-        &self.content
+        &self.contents
     }
 
     /// The first two arcs, which one subidentifier tells, and the place of the later ones. To walk all arcs takes time
@@ -133,7 +133,7 @@ impl Oid {
             → (arcs ≡ result.0 ∷ result.1 ∷ drop 2 arcs) × StillToCome (drop 2 arcs) result.2 }
         ensures is { IsObjectIdentifier self.now }
     {
-        let (first, second, rest) = leading_arcs(self.content());
+        let (first, second, rest) = leading_arcs(self.contents());
         (first, second, LaterArcs { rest })
     }
 
@@ -143,7 +143,7 @@ impl Oid {
             → result ≡ length arcs }
         ensures is { IsObjectIdentifier self.now }
     {
-        let (_, _, rest) = leading_arcs(self.content());
+        let (_, _, rest) = leading_arcs(self.contents());
         let (passed, _) = pass_arcs(rest, usize::MAX);
         2 + passed
     }
@@ -154,7 +154,7 @@ impl Oid {
             → result ≡ slice_get arcs i }
         ensures is { IsObjectIdentifier self.now }
     {
-        let (first, second, later) = leading_arcs(self.content());
+        let (first, second, later) = leading_arcs(self.contents());
         if i == 0 {
             return Some(first);
         }
@@ -170,7 +170,7 @@ impl Oid {
     pub fn same(&self, other: &Oid) -> bool
         ensures { IsTrue result ↔ (self.now ≡ other.now) }
     {
-        self.content == other.content
+        self.contents == other.contents
     }
 }
 

@@ -3,9 +3,9 @@ use Rattle.std.proofs.Common.{◌≡◌, ℕ, ◌+◌, ◌*◌, ◌<◌, ◌≤�
 use Rattle.std.proofs.lemmas.List.{length-append}
 use Rattle.tlv_core.specs.Identifier.{Tag, identifier}
 use Rattle.tlv_core.specs.Length.{SpellsLength, shortest_length}
-use Rattle.x690_laws.proofs.ContentLengths.{frame, framed_length, joined_append}
-use Rattle.x690_laws.proofs.Growing.{Framed, Growing, grows}
-use Rattle.x690_laws.proofs.HeaderLengths.{definite_length, element_length, identifier_form, identifier_some, indefinite_length, shortest_against, shortest_one, shortest_within, spelled_cases, spelled_some}
+use Rattle.x690_laws.proofs.LengthsOfContents.{frame, framed_length, joined_append}
+use Rattle.x690_laws.proofs.GrowthByType.{Framed, Growing, grows}
+use Rattle.x690_laws.proofs.LengthsOfHeaders.{definite_length, element_length, identifier_form, identifier_some, indefinite_length, shortest_against, shortest_one, shortest_within, spelled_cases, spelled_some}
 use Rattle.x690.specs.Contents.{BitString, LeafContents, Segmented, all_segments, segments}
 use Rattle.x690.specs.DerTexts.{der, der_element}
 use Rattle.x690.specs.Fitting.{Fits}

@@ -7,7 +7,7 @@ use Rattle.x690.specs.UniversalTypes.{integer, sequence, ◌⨾◌}
 use Rattle.x690.specs.Layouts.{context_specific, universal}
 use Rattle.x690.specs.StringTypes.{string_types}
 use Rattle.x690.specs.TypeTerms.{ChoiceType, EndOfFields, LeafType, OpenType, Optional, Required, SequenceOfType, TypeTerm}
-use Rattle.x690_laws.proofs.Computed.{computed}
+use Rattle.x690_laws.proofs.AnswersComputed.{computed}
 use Rattle.x690_laws.specs.Examples.{hex, IsDer, refused, usual}
 
 -- an INTEGER, or a list of INTEGERs

@@ -4,7 +4,7 @@ use Rattle.tlv_core.specs.declared.reason.Reason.TheVariants.{BadBits, BadBoolea
 use Rattle.x690.specs.Answers.{Spelled, answer}
 use Rattle.x690.specs.UniversalTypes.{explicit, object_identifier}
 use Rattle.x690.specs.TypeTerms.{OpenType}
-use Rattle.x690_laws.proofs.Computed.{computed}
+use Rattle.x690_laws.proofs.AnswersComputed.{computed}
 use Rattle.x690_laws.specs.Examples.{hex, IsDer, refused, usual}
 
 a_constructed_utf8_string : answer usual OpenType (hex (codes "2c070401c30402a921"))

@@ -10,7 +10,7 @@ use Rattle.asn_fields.specs.Insides.{BeginsBefore}
 use Rattle.asn_fields.proofs.FieldTags.{field_tagged_behind, stands_there}
 use Rattle.asn_fields.proofs.ShortFields.{field_short_behind}
 use Rattle.asn_fields.proofs.FieldAnswers.{with_error}
-use Rattle.x690_laws.proofs.Judging.{each_refl}
+use Rattle.x690_laws.proofs.ReadingOfElements.{each_refl}
 use Rattle.asn_contained.proofs.Dependents.{there_as}
 use Rattle.asn_contained.proofs.dependent.optional_dependent.Goals as goal
 

@@ -4,7 +4,7 @@ use Rattle.tlv_core.specs.declared.reason.Reason.TheVariants.{Missing, WrongTag}
 use Rattle.x690.specs.DerTexts.{der}
 use Rattle.x690.specs.Points.{fault}
 use Rattle.x690.specs.Values.{value_tag}
-use Rattle.x690_laws.proofs.Judging.{each_refl}
+use Rattle.x690_laws.proofs.ReadingOfElements.{each_refl}
 use Rattle.asn_fields.specs.Insides.{BeginsBefore}
 use Rattle.ber_pull.specs.Hears.{next_at}
 use Rattle.ber_pull.specs.declared.state.Given.{Given}

@@ -1,4 +1,4 @@
-use Rattle.x690_laws.proofs.Texts.{canonical}
+use Rattle.x690_laws.proofs.TextsAsLayouts.{canonical}
 use Rattle.asn_elements.proofs.der_text.same_text.Goals as goal
 
 pub returns : goal.returns

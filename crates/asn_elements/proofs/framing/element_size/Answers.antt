@@ -1,5 +1,5 @@
 use Rattle.std.proofs.Common.{arith, ap, false, length}
-use Rattle.x690_laws.proofs.Lengths.{header_form}
+use Rattle.x690_laws.proofs.LengthsOfTexts.{header_form}
 use Rattle.asn_elements.proofs.framing.element_size.Goals as goal
 
 pub returns-in-Some : goal.returns-in-Some

@@ -1,7 +1,7 @@
 use Rattle.std.proofs.Common.{rules, sym, ap, ◌∙◌, refl, length, slice_get, false}
 use Rattle.std.proofs.lemmas.Option.{slice_get_read, slice_get_past}
 use Rattle.tlv_core.specs.Header.{der_header}
-use Rattle.x690_laws.proofs.Lengths.{der_leaf}
+use Rattle.x690_laws.proofs.LengthsOfTexts.{der_leaf}
 use Rattle.asn_elements.proofs.HeaderOctets.{get_framed, get_header}
 use Rattle.asn_elements.proofs.leaf.leaf_octet.Goals as goal
 

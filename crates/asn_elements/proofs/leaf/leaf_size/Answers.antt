@@ -1,7 +1,7 @@
 use Rattle.std.proofs.Common.{arith, ap, false, length}
 use Rattle.std.proofs.lemmas.List.{length-append}
 use Rattle.tlv_core.specs.Header.{der_header}
-use Rattle.x690_laws.proofs.Lengths.{der_leaf}
+use Rattle.x690_laws.proofs.LengthsOfTexts.{der_leaf}
 use Rattle.asn_elements.proofs.leaf.leaf_size.Goals as goal
 
 pub returns : goal.returns

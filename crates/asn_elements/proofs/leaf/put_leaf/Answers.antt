@@ -1,5 +1,5 @@
 use Rattle.std.proofs.Common.{rules}
-use Rattle.x690_laws.proofs.Lengths.{der_leaf}
+use Rattle.x690_laws.proofs.LengthsOfTexts.{der_leaf}
 use Rattle.asn_elements.proofs.Putting.{contents_room, framed_put, framed_stop, header_room}
 use Rattle.asn_elements.proofs.leaf.put_leaf.Goals as goal
 

@@ -2,7 +2,7 @@ use Rattle.std.proofs.Common.{rules}
 use Rattle.x690.specs.Contents.{ObjectIdentifier}
 use Rattle.x690.specs.TypeTerms.{LeafType}
 use Rattle.x690.specs.Values.{Leaf}
-use Rattle.x690_laws.proofs.Sames.{equivalence}
+use Rattle.x690_laws.proofs.ValuesSame.{equivalence}
 use Rattle.ber_pull.proofs.Hearing.{hears_as, hears_on}
 use Rattle.asn_elements.specs.Reading.{read_given, read_given_leaf}
 use Rattle.asn_elements.proofs.ReaderAnswers.{fine_still, given_still, unmoved_answers, value_err}

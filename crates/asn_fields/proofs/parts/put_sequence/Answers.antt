@@ -1,7 +1,7 @@
 use Rattle.std.proofs.Common.{rules, ◌++◌, ◌∙◌, ap, sym, true}
 use Rattle.tlv_core.specs.Header.{der_header}
 use Rattle.x690.specs.DerTexts.{texts_of}
-use Rattle.x690_laws.proofs.Lengths.{der_row}
+use Rattle.x690_laws.proofs.LengthsOfTexts.{der_row}
 use Rattle.asn_elements.proofs.Putting.{contents_room, framed_put, framed_stop, header_room}
 use Rattle.asn_fields.proofs.parts.put_sequence.Goals as goal
 

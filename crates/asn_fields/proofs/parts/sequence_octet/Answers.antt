@@ -1,7 +1,7 @@
 use Rattle.std.proofs.Common.{◌≡◌, ◌+◌, ◌∙◌, ap, length, slice_get, subst, sym, true, Some}
 use Rattle.tlv_core.specs.Header.{der_header}
 use Rattle.x690.specs.DerTexts.{texts_of}
-use Rattle.x690_laws.proofs.Lengths.{der_row}
+use Rattle.x690_laws.proofs.LengthsOfTexts.{der_row}
 use Rattle.asn_elements.proofs.HeaderOctets.{get_framed, get_header}
 use Rattle.asn_fields.proofs.parts.sequence_octet.Goals as goal
 

@@ -2,7 +2,7 @@ use Rattle.std.proofs.Common.{arith, ap, length, true}
 use Rattle.std.proofs.lemmas.List.{length-append}
 use Rattle.tlv_core.specs.Header.{der_header}
 use Rattle.x690.specs.DerTexts.{texts_of}
-use Rattle.x690_laws.proofs.Lengths.{der_row}
+use Rattle.x690_laws.proofs.LengthsOfTexts.{der_row}
 use Rattle.asn_fields.proofs.parts.sequence_size.Goals as goal
 
 pub returns : goal.returns

@@ -8,7 +8,7 @@ use Rattle.x690.specs.ReadContents.{read_open}
 use Rattle.x690.specs.Reading.{Done}
 use Rattle.x690.specs.Reads.{Said}
 use Rattle.x690.specs.Values.{values_of}
-use Rattle.x690_laws.proofs.Lengths.{der_row}
+use Rattle.x690_laws.proofs.LengthsOfTexts.{der_row}
 use Rattle.ber_pull.specs.Hears.{next_at}
 use Rattle.ber_pull.specs.Standing.{after_next, IsGiven, place}
 use Rattle.ber_pull.specs.View.{Answers}

@@ -1,7 +1,7 @@
 use Rattle.std.proofs.Common.{rules}
 use Rattle.x690.specs.Values.{Leaf}
 use Rattle.asn_open_values.specs.OpenTexts.{read_given_contents}
-use Rattle.x690_laws.proofs.Lengths.{der_leaf}
+use Rattle.x690_laws.proofs.LengthsOfTexts.{der_leaf}
 use Rattle.asn_open_values.proofs.OpenReadings.{text_put}
 use Rattle.asn_open_values.proofs.open_value.append_leaf.Goals as goal
 

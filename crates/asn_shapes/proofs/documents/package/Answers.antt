@@ -1,5 +1,5 @@
 use Rattle.std.proofs.Common.{refl}
-use Rattle.pkix_types.specs.DocumentTypes.{AlgorithmIdentifier, AsymmetricKeyPackage, Attribute, ECPrivateKey, OneAsymmetricKey, OtherPrimeInfo, RSAPrivateKey}
+use Rattle.pkix_definitions.specs.DocumentTypes.{AlgorithmIdentifier, AsymmetricKeyPackage, Attribute, ECPrivateKey, OneAsymmetricKey, OtherPrimeInfo, RSAPrivateKey}
 use Rattle.asn_shapes.proofs.documents.package.Goals as goal
 
 pub returns-clause-type_term : goal.returns-clause-type_term

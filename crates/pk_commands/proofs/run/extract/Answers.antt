@@ -5,7 +5,7 @@ use Rattle.asn_documents.proofs.WholeInputs.{unread_whole}
 use Rattle.pk_documents.specs.Kinds.{type_of}
 use Rattle.pk_documents.specs.RequestParts.{part_of}
 use Rattle.pk_documents.specs.declared.kind.Kind.TheVariants.{Request}
-use Rattle.pk_requests.specs.contracts.request.CertificationRequestDerText.TheImpl as request_text
+use Rattle.pkcs10.specs.contracts.request.CertificationRequestDerText.TheImpl as request_text
 use Rattle.pk_documents.proofs.LawfulKinds.{kinds_are_lawful}
 use Rattle.pk_documents.proofs.RequestParts.{part_same}
 use Rattle.pk_commands.specs.Replies.{DueOfValue, Unreadable}

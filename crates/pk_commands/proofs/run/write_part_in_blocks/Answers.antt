@@ -1,7 +1,7 @@
 use Rattle.std.proofs.Common.{ap, le_of_eq, subst, sym}
 use Rattle.asn_documents.specs.WrittenValues.{WritesText}
 use Rattle.pk_documents.specs.RequestParts.{part_of}
-use Rattle.pk_requests.specs.contracts.request.CertificationRequestDerText.TheImpl as request_text
+use Rattle.pkcs10.specs.contracts.request.CertificationRequestDerText.TheImpl as request_text
 use Rattle.pk_commands.specs.BlockTargets.{has_failed_under, held, target_of}
 use Rattle.pk_commands.specs.KnownOctets.{known_length}
 use Rattle.pk_commands.proofs.BlockTargets.{at_last, none_waits}

@@ -3,8 +3,8 @@ use Rattle.x690.specs.DerTexts.{der}
 use Rattle.x690.specs.Values.{leaf_at}
 use Rattle.asn_documents.specs.WrittenValues.{WritesText}
 use Rattle.asn_elements.specs.Leaves.{bit_string_of}
-use Rattle.pk_requests.specs.Infos.{subject_key_of}
-use Rattle.pk_requests.specs.contracts.request.CertificationRequestDerText.TheImpl as request_text
+use Rattle.pkcs10.specs.Infos.{subject_key_of}
+use Rattle.pkcs10.specs.contracts.request.CertificationRequestDerText.TheImpl as request_text
 use Rattle.pkix_values.specs.contracts.public_key.SubjectPublicKeyInfoDerText.TheImpl as public_text
 use Rattle.pk_documents.specs.RequestParts.{part_of}
 use Rattle.pk_documents.proofs.request_part.write_part.Goals as goal

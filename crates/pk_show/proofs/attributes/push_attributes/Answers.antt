@@ -1,7 +1,7 @@
 use Rattle.std.proofs.Common.{Bor, Option, ◌∙◌, ◌++◌, ap, codes, decimal, flat_map, string_bytes, sym}
 use Rattle.std.specs.Option.{option_map}
-use Rattle.asn_containers.specs.Containers.{set_items}
-use Rattle.asn_containers.specs.declared.set_of.SetOf.{SetOf}
+use Rattle.asn_lists.specs.Containers.{set_items}
+use Rattle.asn_lists.specs.declared.set_of.SetOf.{SetOf}
 use Rattle.pk_show.specs.Lines.{line}
 use Rattle.pk_show.specs.Shown.{attributes_lines}
 use Rattle.pk_show.proofs.Behind.{in_words, past}

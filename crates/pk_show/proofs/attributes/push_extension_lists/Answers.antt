@@ -1,5 +1,5 @@
 use Rattle.std.proofs.Common.{◌∙◌, ◌++◌, ap, append-nil, append_assoc, arith, codes, decimal, flat_map, length, string_bytes, sym}
-use Rattle.asn_containers.specs.Containers.{list_items, set_items}
+use Rattle.asn_lists.specs.Containers.{list_items, set_items}
 use Rattle.pk_show.specs.Lines.{line}
 use Rattle.pk_show.specs.Shown.{extension_line, extensions_lines}
 use Rattle.pk_show.proofs.Members.{all_parts, is_member, next_part}

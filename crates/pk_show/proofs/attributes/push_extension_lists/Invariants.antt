@@ -1,5 +1,5 @@
 use Rattle.std.proofs.Common.{◌≡◌, ◌++◌, flat_map, map, string_bytes, take}
-use Rattle.asn_containers.specs.Containers.{list_items, set_items}
+use Rattle.asn_lists.specs.Containers.{list_items, set_items}
 use Rattle.pk_show.specs.Shown.{extensions_lines}
 use Rattle.pk_show.proofs.attributes.push_extension_lists.Given as goal
 

@@ -1,7 +1,7 @@
 use Rattle.std.proofs.Common.{◌∙◌, ◌++◌, [], ◌∷◌, ap, flat_map, length, string_bytes, sym}
 use Rattle.x690.specs.Lists.{one_of}
-use Rattle.pkix_types.specs.Identifiers.{extension_request}
-use Rattle.asn_containers.specs.Containers.{set_items}
+use Rattle.pkix_definitions.specs.Identifiers.{extension_request}
+use Rattle.asn_lists.specs.Containers.{set_items}
 use Rattle.pkix_values.specs.RequestAttributes.{request_attribute_type_of, request_attribute_values_of}
 use Rattle.pk_show.specs.Shown.{attribute_line, request_attribute_lines, value_line}
 use Rattle.pk_show.proofs.Behind.{in_words}

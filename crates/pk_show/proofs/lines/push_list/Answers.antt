@@ -1,5 +1,5 @@
 use Rattle.std.proofs.Common.{◌∙◌, ◌++◌, ap, append-nil, arith, string_bytes, sym}
-use Rattle.asn_containers.specs.Containers.{list_items}
+use Rattle.asn_lists.specs.Containers.{list_items}
 use Rattle.pk_show.proofs.Members.{all_members, is_member, next_member}
 use Rattle.pk_show.proofs.lines.push_list.Goals as goal
 

@@ -1,5 +1,5 @@
 use Rattle.std.proofs.Common.{◌≡◌, ◌++◌, flat_map, string_bytes, take}
-use Rattle.asn_containers.specs.Containers.{list_items}
+use Rattle.asn_lists.specs.Containers.{list_items}
 use Rattle.pk_show.proofs.lines.push_list.Given as goal
 
 abbrev pub invariant-loop-i : goal.invariant-loop-i

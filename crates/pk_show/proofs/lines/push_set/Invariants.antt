@@ -1,5 +1,5 @@
 use Rattle.std.proofs.Common.{◌≡◌, ◌++◌, flat_map, string_bytes, take}
-use Rattle.asn_containers.specs.Containers.{set_items}
+use Rattle.asn_lists.specs.Containers.{set_items}
 use Rattle.pk_show.proofs.lines.push_set.Given as goal
 
 abbrev pub invariant-loop-i : goal.invariant-loop-i

@@ -1,6 +1,6 @@
 use Rattle.std.proofs.Common.{◌++◌, ap, ap₂, codes, string_bytes}
 use Rattle.std.specs.Option.{option_map}
-use Rattle.asn_containers.specs.Containers.{set_items}
+use Rattle.asn_lists.specs.Containers.{set_items}
 use Rattle.pk_show.specs.Shown.{attributes_lines, info_lines, public_key_lines, request_attribute_lines, subject_lines}
 use Rattle.pk_show.proofs.Behind.{further, in_words, past}
 use Rattle.pk_show.proofs.requests.push_info.Goals as goal

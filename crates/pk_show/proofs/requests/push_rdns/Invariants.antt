@@ -1,5 +1,5 @@
 use Rattle.std.proofs.Common.{◌≡◌, ◌++◌, flat_map, map, string_bytes, take}
-use Rattle.asn_containers.specs.Containers.{list_items}
+use Rattle.asn_lists.specs.Containers.{list_items}
 use Rattle.pk_show.specs.Parts.{rdn_items}
 use Rattle.pk_show.specs.Shown.{rdn_lines}
 use Rattle.pk_show.proofs.requests.push_rdns.Given as goal

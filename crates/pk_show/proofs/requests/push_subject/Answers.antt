@@ -1,7 +1,7 @@
 use Rattle.std.proofs.Common.{◌∙◌, ◌++◌, ap, append_assoc, codes, decimal, flat_map, length, map, string_bytes, sym}
 use Rattle.std.proofs.lemmas.List.{length-map}
 use Rattle.std.proofs.lemmas.Result.{IfOk-equal}
-use Rattle.asn_containers.specs.Containers.{list_items}
+use Rattle.asn_lists.specs.Containers.{list_items}
 use Rattle.pk_show.specs.Lines.{line}
 use Rattle.pk_show.specs.Parts.{rdn_items}
 use Rattle.pk_show.specs.Shown.{rdn_lines, subject_lines}

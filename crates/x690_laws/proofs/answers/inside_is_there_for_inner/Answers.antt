@@ -1,4 +1,4 @@
-use Rattle.x690_laws.proofs.DocumentAnswers.{inside_of_answers}
+use Rattle.x690_laws.proofs.AnswersOfDocuments.{inside_of_answers}
 use Rattle.x690_laws.proofs.answers.inside_is_there_for_inner.Goals as goal
 
 pub returns : goal.returns

@@ -1,4 +1,4 @@
-use Rattle.x690_laws.proofs.DocumentAnswers.{needed_octets}
+use Rattle.x690_laws.proofs.AnswersOfDocuments.{needed_octets}
 use Rattle.x690_laws.proofs.answers.octets_that_are_not_needed_change_nothing.Goals as goal
 
 pub returns : goal.returns

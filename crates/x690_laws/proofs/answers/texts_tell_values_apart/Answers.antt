@@ -1,4 +1,4 @@
-use Rattle.x690_laws.proofs.DocumentAnswers.{texts_tell_values}
+use Rattle.x690_laws.proofs.AnswersOfDocuments.{texts_tell_values}
 use Rattle.x690_laws.proofs.answers.texts_tell_values_apart.Goals as goal
 
 pub returns : goal.returns

@@ -1,4 +1,4 @@
-use Rattle.x690_laws.proofs.DocumentAnswers.{one_answer}
+use Rattle.x690_laws.proofs.AnswersOfDocuments.{one_answer}
 use Rattle.x690_laws.proofs.answers.there_is_one_answer.Goals as goal
 
 pub returns : goal.returns

@@ -1,4 +1,4 @@
-use Rattle.x690_laws.proofs.Exactly.{one_fault}
+use Rattle.x690_laws.proofs.FaultsExact.{one_fault}
 use Rattle.x690_laws.proofs.faults.there_is_one_fault.Goals as goal
 
 pub returns : goal.returns

@@ -1,5 +1,5 @@
-use Rattle.x690_laws.proofs.ShortestLengths.{shortest_least}
-use Rattle.x690_laws.proofs.Trees.{shortest_len}
+use Rattle.x690_laws.proofs.LengthsShortest.{shortest_least}
+use Rattle.x690_laws.proofs.TextsAsTrees.{shortest_len}
 use Rattle.x690_laws.proofs.layouts.a_length_is_spelled_shortest.Goals as goal
 
 pub returns : goal.returns

@@ -1,4 +1,4 @@
-use Rattle.x690_laws.proofs.SingleSteps.{primitive_steps}
+use Rattle.x690_laws.proofs.ReadingSteps.{primitive_steps}
 use Rattle.x690_laws.proofs.steps.what_is_read_of_a_primitive_element_stands.Goals as goal
 
 pub returns : goal.returns

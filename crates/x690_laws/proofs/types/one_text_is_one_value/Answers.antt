@@ -1,4 +1,4 @@
-use Rattle.x690_laws.proofs.Refit.{one_text}
+use Rattle.x690_laws.proofs.TextsSpell.{one_text}
 use Rattle.x690_laws.proofs.types.one_text_is_one_value.Goals as goal
 
 pub returns : goal.returns

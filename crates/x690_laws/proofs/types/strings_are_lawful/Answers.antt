@@ -1,4 +1,4 @@
-use Rattle.x690_laws.proofs.LawfulStrings.{strings_are_lawful}
+use Rattle.x690_laws.proofs.TypesOfStrings.{strings_are_lawful}
 use Rattle.x690_laws.proofs.types.strings_are_lawful.Goals as goal
 
 pub returns : goal.returns

@@ -1,4 +1,4 @@
-use Rattle.x690_laws.proofs.Sames.{equivalence}
+use Rattle.x690_laws.proofs.ValuesSame.{equivalence}
 use Rattle.x690_laws.proofs.values.same_is_an_equivalence.Goals as goal
 
 pub returns : goal.returns

@@ -1,6 +1,6 @@
 use Rattle.std.proofs.Common.{IsTrue, false, rules, true, ◌≡◌, ◌↔◌, ◌∙◌}
-use Rattle.x690_laws.proofs.Sound.{same_tag_is}
-use Rattle.x690_laws.proofs.Soundness.{equal_tag}
+use Rattle.x690_laws.proofs.ReadingLayoutsSound.{same_tag_is}
+use Rattle.x690_laws.proofs.ReadingSound.{equal_tag}
 use Rattle.asn_elements.proofs.text.Text.same.Goals as goal
 
 pub returns-then-is_same_tag : goal.returns-then-is_same_tag

@@ -7,7 +7,7 @@ use Rattle.x690.specs.Reads.{Heard}
 use Rattle.x690.specs.StringTypes.{string_types}
 use Rattle.x690.specs.TypeTerms.{fits_tag}
 use Rattle.x690.specs.Values.{Leaf, Value}
-use Rattle.x690_laws.proofs.Sames.{equivalence}
+use Rattle.x690_laws.proofs.ValuesSame.{equivalence}
 use Rattle.ber_pull.specs.View.{Answers, Unmoved, standing}
 use Rattle.ber_pull.specs.declared.pull.Pull.{Pull}
 use Rattle.ber_pull.specs.declared.state.Given.{Given}

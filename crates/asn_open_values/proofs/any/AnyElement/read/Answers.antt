@@ -12,7 +12,7 @@ use Rattle.asn_open_values.specs.OpenValues.{open_value_of}
 use Rattle.asn_elements.specs.Reading.{read_given, read_given_leaf}
 use Rattle.asn_elements.proofs.ReaderAnswers.{fine_still, given_still, none_by, some_given, unmoved_answers, value_err}
 use Rattle.asn_open_values.proofs.TextValues.{begun, identifier_again, identifier_is, no_identifier, open_is, open_read, SaysAgain}
-use Rattle.x690_laws.proofs.Sound.{same_tag_is}
+use Rattle.x690_laws.proofs.ReadingLayoutsSound.{same_tag_is}
 use Rattle.asn_open_values.proofs.any.AnyElement.read.Goals as goal
 
 pub returns-in_err-oid-clause-reads : goal.returns-in_err-oid-clause-reads

@@ -1,5 +1,5 @@
 use Rattle.std.proofs.Common.{◌∙◌, ◌++◌, ap, flat_map, length, map, string_bytes, sym}
-use Rattle.asn_containers.specs.Containers.{list_items, set_items}
+use Rattle.asn_lists.specs.Containers.{list_items, set_items}
 use Rattle.pkix_values.specs.RequestAttributes.{request_attribute_type_of, request_attribute_values_of}
 use Rattle.pk_show.specs.Shown.{attribute_line, extensions_lines, request_attribute_lines}
 use Rattle.pk_show.proofs.Behind.{in_words}

@@ -1,7 +1,7 @@
 use Rattle.std.proofs.Common.{◌∙◌, ◌++◌, ap, ap₂, codes, decimal, string_bytes}
 use Rattle.std.specs.Option.{option_map}
-use Rattle.asn_containers.specs.Containers.{set_items}
-use Rattle.pk_containers.specs.Seen.{key_seen}
+use Rattle.asn_lists.specs.Containers.{set_items}
+use Rattle.pkcs8.specs.Seen.{key_seen}
 use Rattle.pk_show.specs.Lines.{bits_said, line, optional}
 use Rattle.pk_show.specs.Shown.{algorithm_lines, attribute_lines, attributes_lines, key_lines, private_key_lines}
 use Rattle.pk_show.proofs.Behind.{further, in_words, past}

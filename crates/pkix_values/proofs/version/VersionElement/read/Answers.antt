@@ -1,7 +1,7 @@
 use Rattle.std.proofs.Common.{rules, ap, subst, sym, ◌≡◌, ◌∙◌}
 use Rattle.tlv_core.specs.declared.fault.ReadError.TheVariants as errors
 use Rattle.tlv_core.specs.declared.reason.Reason.TheVariants.{Version}
-use Rattle.pkix_types.specs.DocumentTypes.{version}
+use Rattle.pkix_definitions.specs.DocumentTypes.{version}
 use Rattle.x690.specs.Layouts.{universal}
 use Rattle.x690.specs.Points.{fault}
 use Rattle.x690.specs.Values.{Leaf, Same}
@@ -24,7 +24,7 @@ pub returns-in_default-clause-reads : goal.returns-in_default-clause-reads
 returns-in_default-clause-reads g c = λ given fine is.
     let allowed = versions g.row.LEAST g.row.MOST in
     let r = c.in_ok-integer.ensures.reads given fine is in
-    let same = subst (λ o. Same r.0 (Leaf (universal 2) o)) (sym c.content.ensures.value) r.1 in
+    let same = subst (λ o. Same r.0 (Leaf (universal 2) o)) (sym c.contents.ensures.value) r.1 in
     let first = c.refuse.ensures.first (search rules) in
     let at : c.at-at.result ≡ given.at = c.at-at.ensures.value ∙ place_given c.args.pull.now.state given is in
     refused_by
@@ -32,15 +32,15 @@ returns-in_default-clause-reads g c = λ given fine is.
     (fault given.at Version) c.refuse.result
     (first.0 ∙ ap (λ p. errors.Fault (fault p Version)) at) first.1 c.refuse.ensures.same
     (ruled _ _ _ _ _ _ _ _ _ _ _ _ _ _ _ _ r.2
-    (rule_refuses _ _ _ _ _ _ (version_refused allowed c.content.result.now r.0 same c.in_default.ensures.listed)))
+    (rule_refuses _ _ _ _ _ _ (version_refused allowed c.contents.result.now r.0 same c.in_default.ensures.listed)))
 
 pub returns-clause-reads : goal.returns-clause-reads
 returns-clause-reads g c = λ given fine is.
     let allowed = versions g.row.LEAST g.row.MOST in
     let r = c.in_ok-integer.ensures.reads given fine is in
-    let same = subst (λ o. Same r.0 (Leaf (universal 2) o)) (sym c.content.ensures.value) r.1 in (
+    let same = subst (λ o. Same r.0 (Leaf (universal 2) o)) (sym c.contents.ensures.value) r.1 in (
       r.0,
       subst (λ o. Same r.0 (Leaf (universal 2) o)) c.in-Some.ensures.is same,
       ruled _ _ _ _ _ _ _ _ _ _ _ _ _ _ _ _ r.2
-          (rule_holds _ _ _ _ _ (version_holds allowed c.content.result.now r.0 same c.in-Some.ensures.listed)),
+          (rule_holds _ _ _ _ _ (version_holds allowed c.contents.result.now r.0 same c.in-Some.ensures.listed)),
     )

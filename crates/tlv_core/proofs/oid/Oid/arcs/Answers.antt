@@ -3,8 +3,8 @@ use Rattle.tlv_core.specs.ObjectIdentifier.{IsObjectIdentifier, ObjectIdentifier
 use Rattle.tlv_core.proofs.oid.Oid.arcs.Goals as goal
 
 pub leading_arcs-first-requires : goal.leading_arcs-first-requires
-leading_arcs-first-requires c = subst (λ s. IsObjectIdentifier s) (sym c.content.ensures.value) c.content.ensures.is
+leading_arcs-first-requires c = subst (λ s. IsObjectIdentifier s) (sym c.contents.ensures.value) c.contents.ensures.is
 
 pub returns-clause-all : goal.returns-clause-all
 returns-clause-all c = λ arcs h.
-    c.leading_arcs-first.ensures.all arcs (subst (λ s. ObjectIdentifierOctets arcs s) (sym c.content.ensures.value) h)
+    c.leading_arcs-first.ensures.all arcs (subst (λ s. ObjectIdentifierOctets arcs s) (sym c.contents.ensures.value) h)

@@ -1,0 +1,13 @@
+use Rattle.std.proofs.Common.{rules}
+use Rattle.asn_fields.proofs.FieldAnswers.{with_error}
+use Rattle.asn_fields.proofs.BegunSequence.{after_due, stopped_at_due}
+use Rattle.asn_fields.proofs.required.RequiredFields.read.Goals as goal
+
+pub returns-in_err-field-clause-reads : goal.returns-in_err-field-clause-reads
+returns-in_err-field-clause-reads g c = λ k s whole finish rest ws a.
+    with_error _ _ c.from_residual.result c.in_err-field.field-0.0 (search rules)
+    (stopped_at_due a _ _ _ c.in_err-field.ensures.reads)
+
+pub returns-clause-reads : goal.returns-clause-reads
+returns-clause-reads g c =
+    λ k s whole finish rest ws a. after_due a _ c.in_ok-field.ensures.reads c.in_ok-field.ensures.stands

@@ -1,0 +1,10 @@
+use Rattle.std.proofs.Common.{◌≡◌, ◌+◌, ◌++◌, drop, length, map}
+use Rattle.x690.specs.DerTexts.{texts_of}
+use Rattle.asn_elements.specs.Members.{starts_from}
+use Rattle.asn_lists.proofs.row.starts_of.Given as goal
+
+abbrev pub invariant-loop-item : goal.invariant-loop-item
+invariant-loop-item g l =
+    let values = map g.T.DerText.value l.items in
+    (l.content + length (texts_of (drop l.item-index values)) ≡ length (texts_of values))
+    × (l.starts.items ++ starts_from l.content (drop l.item-index values) ≡ starts_from 0 values)

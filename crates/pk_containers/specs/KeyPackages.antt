@@ -1,9 +1,0 @@
--- What clauses see of an AsymmetricKeyPackage (RFC 5958 section 2).
-use Rattle.asn_containers.specs.declared.list.List.{List}
-use Rattle.pk_containers.specs.contracts.one_asymmetric_key.OneAsymmetricKeyDerText.TheImpl as key_text
-use Rattle.pk_containers.specs.declared.key_package.KeyPackage.{KeyPackage}
-use Rattle.pk_containers.specs.declared.one_asymmetric_key.OneAsymmetricKey.{OneAsymmetricKey}
-
--- its keys, in order
-abbrev pub keys_of : KeyPackage → List OneAsymmetricKey key_text.ghosts
-keys_of it = it.0.items

@@ -1,4 +1,0 @@
-pub mod AsymmetricKeys
-pub mod KeyPackages
-pub mod Keys
-pub mod Seen

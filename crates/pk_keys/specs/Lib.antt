@@ -1,7 +1,0 @@
-pub mod CurveKeys
-pub mod EcKeys
-pub mod EcParts
-pub mod EncryptedKeys
-pub mod OtherPrimes
-pub mod RsaKeys
-pub mod RsaParts

@@ -1,0 +1,5 @@
+pub mod AsymmetricKeys
+pub mod EncryptedKeys
+pub mod KeyPackages
+pub mod Keys
+pub mod Seen

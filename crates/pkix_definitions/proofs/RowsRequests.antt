@@ -1,0 +1,85 @@
+-- Requests, names and public keys, with the answers to them.
+use Rattle.std.proofs.Common.{◌≡◌, codes, refl}
+use Rattle.tlv_core.specs.declared.reason.Reason.TheVariants.{BadText, EmptySet, KeyLength, Parameters}
+use Rattle.x690.specs.Answers.{Spelled, answer}
+use Rattle.pkix_definitions.specs.DocumentTypes.{CertificationRequest, Name, SubjectPublicKeyInfo}
+use Rattle.pkix_definitions.proofs.Computed.{computed}
+use Rattle.x690_laws.specs.Examples.{hex, IsDer, refused, usual}
+
+a_request_with_no_attributes_in_its_set : IsDer usual CertificationRequest
+    (hex (codes "307f30330201003000302a300506032b6570032100aaaaaaaaaaaaaaaaaaaaaaaaaaaaaaaaaaaaaaaaaaaaaaaaaaaaaaaaaaaaaaaaa000300506032b6570034100bbbbbbbbbbbbbbbbbbbbbbbbbbbbbbbbbbbbbbbbbbbbbbbbbbbbbbbbbbbbbbbbbbbbbbbbbbbbbbbbbbbbbbbbbbbbbbbbbbbbbbbbbbbbbbbbbbbbbbbbbbbbbbbb"))
+unfolding computed
+a_request_with_no_attributes_in_its_set = refl
+
+a_request_without_attributes : IsDer usual CertificationRequest
+    (hex (codes "307d30310201003000302a300506032b6570032100aaaaaaaaaaaaaaaaaaaaaaaaaaaaaaaaaaaaaaaaaaaaaaaaaaaaaaaaaaaaaaaa300506032b6570034100bbbbbbbbbbbbbbbbbbbbbbbbbbbbbbbbbbbbbbbbbbbbbbbbbbbbbbbbbbbbbbbbbbbbbbbbbbbbbbbbbbbbbbbbbbbbbbbbbbbbbbbbbbbbbbbbbbbbbbbbbbbbbbbb"))
+unfolding computed
+a_request_without_attributes = refl
+
+an_explicit_false_is_left_out : answer usual CertificationRequest
+    (hex (codes "30819e30520201003000302a300506032b6570032100aaaaaaaaaaaaaaaaaaaaaaaaaaaaaaaaaaaaaaaaaaaaaaaaaaaaaaaaaaaaaaaaa01f301d06092a864886f70d01090e3110300e300c0603551d1301010004023000300506032b6570034100bbbbbbbbbbbbbbbbbbbbbbbbbbbbbbbbbbbbbbbbbbbbbbbbbbbbbbbbbbbbbbbbbbbbbbbbbbbbbbbbbbbbbbbbbbbbbbbbbbbbbbbbbbbbbbbbbbbbbbbbbbbbbbbb"))
+    ≡ Spelled
+    (hex (codes "30819b304f0201003000302a300506032b6570032100aaaaaaaaaaaaaaaaaaaaaaaaaaaaaaaaaaaaaaaaaaaaaaaaaaaaaaaaaaaaaaaaa01c301a06092a864886f70d01090e310d300b30090603551d1304023000300506032b6570034100bbbbbbbbbbbbbbbbbbbbbbbbbbbbbbbbbbbbbbbbbbbbbbbbbbbbbbbbbbbbbbbbbbbbbbbbbbbbbbbbbbbbbbbbbbbbbbbbbbbbbbbbbbbbbbbbbbbbbbbbbbbbbbbb"))
+    161
+unfolding computed
+an_explicit_false_is_left_out = refl
+
+an_empty_relative_name : answer usual CertificationRequest
+    (hex (codes "308181303502010030023100302a300506032b6570032100aaaaaaaaaaaaaaaaaaaaaaaaaaaaaaaaaaaaaaaaaaaaaaaaaaaaaaaaaaaaaaaaa000300506032b6570034100bbbbbbbbbbbbbbbbbbbbbbbbbbbbbbbbbbbbbbbbbbbbbbbbbbbbbbbbbbbbbbbbbbbbbbbbbbbbbbbbbbbbbbbbbbbbbbbbbbbbbbbbbbbbbbbbbbbbbbbbbbbbbbbb"))
+    ≡ refused 10 EmptySet
+unfolding computed
+an_empty_relative_name = refl
+
+a_name_that_is_not_utf8 : answer usual CertificationRequest
+    (hex (codes "30818c3040020100300d310b300906035504030c02c328302a300506032b6570032100aaaaaaaaaaaaaaaaaaaaaaaaaaaaaaaaaaaaaaaaaaaaaaaaaaaaaaaaaaaaaaaaa000300506032b6570034100bbbbbbbbbbbbbbbbbbbbbbbbbbbbbbbbbbbbbbbbbbbbbbbbbbbbbbbbbbbbbbbbbbbbbbbbbbbbbbbbbbbbbbbbbbbbbbbbbbbbbbbbbbbbbbbbbbbbbbbbbbbbbbbb"))
+    ≡ refused 19 BadText
+unfolding computed
+a_name_that_is_not_utf8 = refl
+
+an_ed25519_public_key : IsDer usual SubjectPublicKeyInfo
+    (hex (codes "302a300506032b6570032100aaaaaaaaaaaaaaaaaaaaaaaaaaaaaaaaaaaaaaaaaaaaaaaaaaaaaaaaaaaaaaaa"))
+unfolding computed
+an_ed25519_public_key = refl
+
+an_ed25519_public_key_that_is_too_short : answer usual SubjectPublicKeyInfo
+    (hex (codes "3029300506032b6570032000aaaaaaaaaaaaaaaaaaaaaaaaaaaaaaaaaaaaaaaaaaaaaaaaaaaaaaaaaaaaaa"))
+    ≡ refused 9 KeyLength
+unfolding computed
+an_ed25519_public_key_that_is_too_short = refl
+
+an_ed25519_public_key_with_unused_bits : answer usual SubjectPublicKeyInfo
+    (hex (codes "302a300506032b6570032101aaaaaaaaaaaaaaaaaaaaaaaaaaaaaaaaaaaaaaaaaaaaaaaaaaaaaaaaaaaaaaaa"))
+    ≡ refused 9 KeyLength
+unfolding computed
+an_ed25519_public_key_with_unused_bits = refl
+
+null_parameters_in_a_public_key : answer usual SubjectPublicKeyInfo
+    (hex (codes "302c300706032b65700500032100aaaaaaaaaaaaaaaaaaaaaaaaaaaaaaaaaaaaaaaaaaaaaaaaaaaaaaaaaaaaaaaa"))
+    ≡ refused 2 Parameters
+unfolding computed
+null_parameters_in_a_public_key = refl
+
+a_request_with_an_empty_list_of_extensions : IsDer usual CertificationRequest
+    (hex (codes "30819030440201003000302a300506032b6570032100aaaaaaaaaaaaaaaaaaaaaaaaaaaaaaaaaaaaaaaaaaaaaaaaaaaaaaaaaaaaaaaaa011300f06092a864886f70d01090e31023000300506032b6570034100bbbbbbbbbbbbbbbbbbbbbbbbbbbbbbbbbbbbbbbbbbbbbbbbbbbbbbbbbbbbbbbbbbbbbbbbbbbbbbbbbbbbbbbbbbbbbbbbbbbbbbbbbbbbbbbbbbbbbbbbbbbbbbbb"))
+unfolding computed
+a_request_with_an_empty_list_of_extensions = refl
+
+a_request_with_no_list_of_extensions : answer usual CertificationRequest
+    (hex (codes "30818e30420201003000302a300506032b6570032100aaaaaaaaaaaaaaaaaaaaaaaaaaaaaaaaaaaaaaaaaaaaaaaaaaaaaaaaaaaaaaaaa00f300d06092a864886f70d01090e3100300506032b6570034100bbbbbbbbbbbbbbbbbbbbbbbbbbbbbbbbbbbbbbbbbbbbbbbbbbbbbbbbbbbbbbbbbbbbbbbbbbbbbbbbbbbbbbbbbbbbbbbbbbbbbbbbbbbbbbbbbbbbbbbbbbbbbbbb"))
+    ≡ refused 69 EmptySet
+unfolding computed
+a_request_with_no_list_of_extensions = refl
+
+an_attribute_of_a_request_without_values : answer usual CertificationRequest
+    (hex (codes "30818e30420201003000302a300506032b6570032100aaaaaaaaaaaaaaaaaaaaaaaaaaaaaaaaaaaaaaaaaaaaaaaaaaaaaaaaaaaaaaaaa00f300d06092a864886f70d0109073100300506032b6570034100bbbbbbbbbbbbbbbbbbbbbbbbbbbbbbbbbbbbbbbbbbbbbbbbbbbbbbbbbbbbbbbbbbbbbbbbbbbbbbbbbbbbbbbbbbbbbbbbbbbbbbbbbbbbbbbbbbbbbbbbbbbbbbbb"))
+    ≡ refused 69 EmptySet
+unfolding computed
+an_attribute_of_a_request_without_values = refl
+
+an_empty_name : IsDer usual Name (hex (codes "3000"))
+unfolding computed
+an_empty_name = refl
+
+a_name_with_an_empty_part : answer usual Name (hex (codes "30023100")) ≡ refused 2 EmptySet
+unfolding computed
+a_name_with_an_empty_part = refl

@@ -1,0 +1,52 @@
+-- Keys and requests that other tools have made, for this purpose alone: their DER text is what the tools wrote.
+use Rattle.std.proofs.Common.{◌≡◌, codes, refl}
+use Rattle.tlv_core.specs.declared.reason.Reason.TheVariants.{KeyLength}
+use Rattle.x690.specs.Answers.{answer}
+use Rattle.pkix_definitions.specs.DocumentTypes.{CertificationRequest, ECPrivateKey, OneAsymmetricKey}
+use Rattle.pkix_definitions.proofs.Computed.{computed}
+use Rattle.x690_laws.specs.Examples.{hex, IsDer, refused_inside, usual}
+
+-- openssl genpkey -algorithm EC -pkeyopt ec_paramgen_curve:P-256 | openssl pkcs8 -topk8 -nocrypt -outform DER
+an_openssl_key_on_p256 : IsDer usual OneAsymmetricKey
+    (hex (codes "308187020100301306072a8648ce3d020106082a8648ce3d030107046d306b0201010420e48c65fe4d95215be81b65f3f2bf4f76a6f3e1c18dfa524d0ba60b0842dbab14a144034200044ae4b025185d23e891f29ed88a8e62ddfeea10dbcf2ff8371c0ba71a772f8221849739aff295aa00ded95a7ea5956c68b941a999935c1c52e2cbe5894a716203"))
+unfolding computed
+an_openssl_key_on_p256 = refl
+
+-- the same key, by openssl ec -outform DER
+an_openssl_ec_key : IsDer usual ECPrivateKey
+    (hex (codes "30770201010420e48c65fe4d95215be81b65f3f2bf4f76a6f3e1c18dfa524d0ba60b0842dbab14a00a06082a8648ce3d030107a144034200044ae4b025185d23e891f29ed88a8e62ddfeea10dbcf2ff8371c0ba71a772f8221849739aff295aa00ded95a7ea5956c68b941a999935c1c52e2cbe5894a716203"))
+unfolding computed
+an_openssl_ec_key = refl
+
+-- openssl req -new with that key, -subj "/C=NL/O=Example/CN=example.org", -addext subjectAltName and a
+-- critical basicConstraints
+an_openssl_request : IsDer usual CertificationRequest
+    (hex (codes "308201263081ce0201003035310b3009060355040613024e4c3110300e060355040a0c074578616d706c653114301206035504030c0b6578616d706c652e6f72673059301306072a8648ce3d020106082a8648ce3d030107034200044ae4b025185d23e891f29ed88a8e62ddfeea10dbcf2ff8371c0ba71a772f8221849739aff295aa00ded95a7ea5956c68b941a999935c1c52e2cbe5894a716203a037303506092a864886f70d01090e3128302630160603551d11040f300d820b6578616d706c652e6f7267300c0603551d130101ff04023000300a06082a8648ce3d0403020347003044022041b0c09463150db8bdf696b034e6508cc1c2d9b59045bffae03b82c067be0e2b0220261e39a0fad20227848d22c69ba6a2a46dda28180e20144575a3b796199d1fe3"))
+unfolding computed
+an_openssl_request = refl
+
+-- openssl genpkey -algorithm RSA -pkeyopt rsa_keygen_bits:512 | openssl pkcs8 -topk8 -nocrypt -outform DER
+an_openssl_rsa_key : IsDer usual OneAsymmetricKey
+    (hex (codes "30820156020100300d06092a864886f70d0101010500048201403082013c020100024100aa59e4ba8a82080a021d7a90d52a8ac8dd11ff93a56ab6a8393f121ebf3160827f6ac3d226087e7a6a644f2b7b581d5d9d1591186d53af51e684f7bfb49358bb02030100010241009309b49c2f21bdbea5c4bc1e7760991a7777299b4f94a4c4df64c94730d075f3c54ee1e1bf36ad19ccdf7b06e6906611707cfda2d860d93fdd403a951d7c0381022100d6f95eead5316476859013bb48699f4ad5e568bb5e48eeffd76fab694a78ede3022100cadc7424883b1400cebd191fbef901c6a5ab8cd4b9010a893468c92e8461e149022049c80ac0b46d205ae15a62bb4b8e1cc2d588c81a4eb0df7e6595891239222a1b022100850535eb56a156a688ea1a7564a6a77178e51abdca6a525c51cf7c4c526654710221008c9bd5460adb6f22233eddb5dc5cd4dadad86a9e4f52f0994e884937fab32df0"))
+unfolding computed
+an_openssl_rsa_key = refl
+
+-- certtool --generate-privkey --key-type ed25519 --outder
+a_gnutls_ed25519_key : IsDer usual OneAsymmetricKey
+    (hex (codes "302e020100300506032b657004220420e5417aa7bd56d21ce4e31b26abe335062e0a5df80375c8b3d951e7ced914d2b5"))
+unfolding computed
+a_gnutls_ed25519_key = refl
+
+-- certtool 3.7.9 writes 49 octets where RFC 5915 section 3 asks for 48: certtool --generate-privkey --key-type ecdsa
+-- --curve secp384r1 --pkcs8 --outder
+a_gnutls_key_on_p384_with_an_octet_too_many : answer usual OneAsymmetricKey
+    (hex (codes "3081c0020100301006072a8648ce3d020106052b810400220481a83081a50201010431009d53f38b22209c86fc99c5fb6cd49f6ad11f437fe56a0aac80194e2a21e9437baf9c7050bae2c6e6e62fc87105511845a00706052b81040022a164036200040e84cc26d926d15fe418e242d9dc0e438a5c80aaeb94876827530634758a75ed69619e3c0172550983536e03638ee8ecb95f8ac6916801b8577de805289bd0729701511dc99de8cc4696efe0022508bfa0b49fdd9b3721a8d42b560e4fd907c1"))
+    ≡ refused_inside 24 0 KeyLength
+unfolding computed
+a_gnutls_key_on_p384_with_an_octet_too_many = refl
+
+-- certtool --generate-request --outder, with an Ed25519 key and extensions
+a_gnutls_request : IsDer usual CertificationRequest
+    (hex (codes "3081fc3081af0201003035310b3009060355040613024e4c3110300e060355040a13074578616d706c65311430120603550403130b6578616d706c652e6f7267302a300506032b6570032100ee3a354d74bf17d9ea5a7ab66dedf9473a073f7853df4a46462b63816f1983f4a047304506092a864886f70d01090e3138303630160603551d11040f300d820b6578616d706c652e6f7267300c0603551d130101ff04023000300e0603551d0f0101ff040403020780300506032b65700341008ef2038f084928302b839fa2c6e8da6aada00d02e63d01a5de5ba96e1f692518fb029ab046358a13a3be0e8f06ed8661894da7846b694ee3106f3bdffeb72309"))
+unfolding computed
+a_gnutls_request = refl

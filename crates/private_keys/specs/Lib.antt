@@ -1,0 +1,6 @@
+pub mod CurveKeys
+pub mod EcKeys
+pub mod EcParts
+pub mod OtherPrimes
+pub mod RsaKeys
+pub mod RsaParts

@@ -1,0 +1,164 @@
+//! The INTEGERs of an RSAPrivateKey (RFC 8017 A.1.2), two by two.
+//!
+//! Each group of them is a type of its own, so that what stands above rests on one group and not on eight fields.
+ghost use Rattle.std.specs.Prelude.{◌≡◌, ◌++◌, ◌∷◌, [], IfSome, slice_get};
+ghost use Rattle.std.specs.Option.{option_map};
+ghost use Rattle.x690.specs.TypeTerms.{Required as RequiredType};
+ghost use Rattle.x690.specs.UniversalTypes.{integer};
+ghost use Rattle.x690.specs.Values.{leaf_at};
+ghost use Rattle.asn_elements.specs.Leaves.{integer_of};
+ghost use Rattle.private_keys.specs.RsaKeys.{numbers_of};
+
+use asn_values::fields::Next;
+use asn_values::integer::Int;
+use asn_values::sequence::{Fields, FieldsText, Required};
+use ber_pull::pull::Pull;
+use std::alloc::Global;
+use tlv_core::fault::ReadError;
+use tlv_core::sink::{Sink, WriteError};
+use tlv_core::source::Source;
+use tlv_core::target::Target;
+
+/// Two INTEGERs.
+#[derive(Drop)]
+pub struct Two(pub (Required<Int>, Required<Int>));
+
+impl FieldsText for Two {
+    ghost types = { λ rest. RequiredType integer (RequiredType integer rest) };
+
+    ghost most = { 2 };
+
+    ghost values = { λ two. ⟦<(Required<Int>, Required<Int>) as FieldsText>⟧.values two.0 };
+
+    ghost known = { λ two. ⟦<(Required<Int>, Required<Int>) as FieldsText>⟧.known two.0 };
+
+    ghost begins = { λ x. ⟦<(Required<Int>, Required<Int>) as FieldsText>⟧.begins x.0 };
+
+    ghost tells = { λ x y. ⟦<(Required<Int>, Required<Int>) as FieldsText>⟧.tells x.0 y.0 };
+
+    fn size(&self) -> u64 {
+        self.0.size()
+    }
+
+    fn put<W: Target>(&self, sink: &mut Sink<'_, W>) -> Result<(), WriteError> {
+        self.0.put(sink)
+    }
+
+    fn octet(&self, i: u64) -> Option<u8> {
+        self.0.octet(i)
+    }
+}
+
+impl Fields for Two {
+    fn read<R: Source>(
+        alloc: Global,
+        pull: &mut Pull<'_, R>,
+        next: &mut Next,
+    ) -> Result<Two, ReadError> {
+        Ok(Two(<(Required<Int>, Required<Int>) as Fields>::read(alloc, pull, next)?))
+    }
+}
+
+/// Four INTEGERs.
+#[derive(Drop)]
+pub struct Four(pub (Two, Two));
+
+impl FieldsText for Four {
+    ghost types = { λ rest.
+        RequiredType integer (RequiredType integer (RequiredType integer (RequiredType integer rest))) };
+
+    ghost most = { 4 };
+
+    ghost values = { λ four. ⟦<(Two, Two) as FieldsText>⟧.values four.0 };
+
+    ghost known = { λ four. ⟦<(Two, Two) as FieldsText>⟧.known four.0 };
+
+    ghost begins = { λ x. ⟦<(Two, Two) as FieldsText>⟧.begins x.0 };
+
+    ghost tells = { λ x y. ⟦<(Two, Two) as FieldsText>⟧.tells x.0 y.0 };
+
+    fn size(&self) -> u64 {
+        self.0.size()
+    }
+
+    fn put<W: Target>(&self, sink: &mut Sink<'_, W>) -> Result<(), WriteError> {
+        self.0.put(sink)
+    }
+
+    fn octet(&self, i: u64) -> Option<u8> {
+        self.0.octet(i)
+    }
+}
+
+impl Fields for Four {
+    fn read<R: Source>(
+        alloc: Global,
+        pull: &mut Pull<'_, R>,
+        next: &mut Next,
+    ) -> Result<Four, ReadError> {
+        Ok(Four(<(Two, Two) as Fields>::read(alloc, pull, next)?))
+    }
+}
+
+/// modulus, publicExponent, privateExponent, prime1; prime2, exponent1, exponent2, coefficient.
+#[derive(Drop)]
+pub struct Numbers(pub (Four, Four));
+
+impl Numbers {
+    /// The number at this place, counted from 0.
+    #[tactic(auto, unfolding(x690::specs::Values::leaf_at))]
+    pub fn get(&self, i: usize) -> Option<&Int>
+        ensures value { option_map (λ r. r.now) result ≡ slice_get (numbers_of self.now) i }
+        ensures stands { IfSome result (λ r.
+            leaf_at (i ∷ []) (⟦<Numbers as FieldsText>⟧.values self.now) ≡ integer_of r.now) }
+    {
+        let (Four((first, second)), Four((third, fourth))) = &self.0;
+        match i {
+            0 => Some(&first.0.0.0),
+            1 => Some(&first.0.1.0),
+            2 => Some(&second.0.0.0),
+            3 => Some(&second.0.1.0),
+            4 => Some(&third.0.0.0),
+            5 => Some(&third.0.1.0),
+            6 => Some(&fourth.0.0.0),
+            7 => Some(&fourth.0.1.0),
+            _ => None,
+        }
+    }
+}
+
+impl FieldsText for Numbers {
+    ghost types = { λ rest. ⟦<Four as FieldsText>⟧.types (⟦<Four as FieldsText>⟧.types rest) };
+
+    ghost most = { 8 };
+
+    ghost values = { λ numbers. ⟦<(Four, Four) as FieldsText>⟧.values numbers.0 };
+
+    ghost known = { λ numbers. ⟦<(Four, Four) as FieldsText>⟧.known numbers.0 };
+
+    ghost begins = { λ x. ⟦<(Four, Four) as FieldsText>⟧.begins x.0 };
+
+    ghost tells = { λ x y. ⟦<(Four, Four) as FieldsText>⟧.tells x.0 y.0 };
+
+    fn size(&self) -> u64 {
+        self.0.size()
+    }
+
+    fn put<W: Target>(&self, sink: &mut Sink<'_, W>) -> Result<(), WriteError> {
+        self.0.put(sink)
+    }
+
+    fn octet(&self, i: u64) -> Option<u8> {
+        self.0.octet(i)
+    }
+}
+
+impl Fields for Numbers {
+    fn read<R: Source>(
+        alloc: Global,
+        pull: &mut Pull<'_, R>,
+        next: &mut Next,
+    ) -> Result<Numbers, ReadError> {
+        Ok(Numbers(<(Four, Four) as Fields>::read(alloc, pull, next)?))
+    }
+}
