@@ -81,7 +81,7 @@ def parts(program=build.PROGRAM):
                             ["python3", "tools/what_to_read.py", "--check"],
                             ["python3", "tools/shape_names.py"], ["python3", "tools/identifier_names.py"],
                             ["python3", "tools/advice_words.py"], ["python3", "tools/report_schema.py"],
-                            ["python3", "tools/about.py"]],
+                            ["python3", "tools/about.py"], ["python3", "tools/structure.py"]],
         "lint": lambda: [["python3", "tools/lint.py"]],
         "proofs": lambda: [PROOFS],
         "edits": lambda: [EDITS],

@@ -1,0 +1,143 @@
+#!/usr/bin/env python3
+"""structure.py [NAME]: how much of the code only hands on, says the same again, or has a name that another thing has.
+
+Each count has a limit; one above it fails. A limit goes down with its count, and never up. With a NAME it lists what
+that count counts. The last line is 'structure: N passed, M failed'."""
+import collections
+import glob
+import os
+import re
+import sys
+
+TOP = os.path.dirname(os.path.dirname(os.path.realpath(__file__)))
+FRAME = ("same_source", "keeps", "read", "onward")
+# A function from its name to its body, or to its end where it has none.
+SIGNATURE = re.compile(r"(?ms)^ *(?:pub(?:\(crate\))? )?fn (\w+)(?:(?!\bfn ).)*?(?=\n *\{\n|;\n)")
+# What is no part of the product: it answers rows of tests.
+OTHERS = ("rows",)
+# As many of each count as there may be.
+LIMITS = {"handing": 61, "handing_lines": 1139, "same": 35, "frames": 59, "request": 316, "key": 877, "newtypes": 13,
+          "forms": 13, "crates": 28, "names": 8}
+
+
+def crates():
+    """The crates of the product."""
+    with open(f"{TOP}/crates.txt", encoding="utf-8") as it:
+        return [name for name in re.findall(r"(?m)^(\w+)", it.read()) if name not in OTHERS]
+
+
+def sources(crate):
+    """The sources of a crate by their paths, those of its tests left out."""
+    for path in sorted(glob.glob(f"{TOP}/crates/{crate}/src/**/*.rt", recursive=True)):
+        if os.path.basename(path) != "tests.rt":
+            with open(path, encoding="utf-8") as it:
+                yield os.path.relpath(path, TOP), it.read()
+
+
+def block_at(text, place):
+    """The text between the brace that opens at or behind a place and the one that closes it."""
+    begin = text.index("{", place)
+    depth = 0
+    for at in range(begin, len(text)):
+        depth += {"{": 1, "}": -1}.get(text[at], 0)
+        if depth == 0:
+            return text[begin + 1 : at]
+    return text[begin + 1 :]
+
+
+def functions_in(block):
+    """The functions of a block: the name of each and its body. Clauses in braces stand before the body."""
+    for found in re.finditer(r"(?m)^    (?:pub(?:\(crate\))? )?fn (\w+)", block):
+        end = re.compile(r"(?m)^    \}$|^    .*\}$").search(block, found.start())
+        lines = block[found.start() : end.end() if end else len(block)].split("\n")
+        bodies = [at for at, line in enumerate(lines) if line.endswith("{") and not line.lstrip().startswith("ensures")]
+        if bodies:
+            yield found[1], " ".join(it.strip() for it in lines[bodies[0] + 1 : -1])
+
+
+def hands_on(name, body):
+    """Whether a body is one expression, which calls the function of the same name of something else."""
+    return ";" not in body and bool(re.search(rf"(?:\.|::){name}\(", body))
+
+
+def handing():
+    """The impls of traits whose functions only hand on, with their lines."""
+    for crate in crates():
+        for path, text in sources(crate):
+            for found in re.finditer(r"(?m)^impl\b[^{;]*\bfor\b[^{;]*\{", text):
+                block = block_at(text, found.end() - 1)
+                own = list(functions_in(block))
+                if own and all(hands_on(*it) for it in own):
+                    yield f"{path}: {' '.join(found[0][:-1].split())}", block.count("\n") + 1
+
+
+def same_by_hand():
+    """The functions `same` that have a body of their own."""
+    for crate in crates():
+        for path, text in sources(crate):
+            for found in re.finditer(r"(?m)^    (?:pub )?fn same\(&self[^;{]*", text):
+                yield f"{path}:{text.count(chr(10), 0, found.start()) + 1}"
+
+
+def frames():
+    """The functions that have each clause of the frame beside the others."""
+    for crate in crates():
+        for path, text in sources(crate):
+            for found in SIGNATURE.finditer(text):
+                if {*FRAME} <= {*re.findall(r"\bensures (\w+) \{", found[0])}:
+                    yield f"{path}: {found[1]}"
+
+
+def lines_of(crate, *names):
+    """The lines of these files, a number each."""
+    for name in names:
+        with open(f"{TOP}/crates/{crate}/src/{name}.rt", encoding="utf-8") as it:
+            yield f"crates/{crate}/src/{name}.rt", len(it.read().splitlines())
+
+
+def matching(pattern):
+    for crate in crates():
+        for path, text in sources(crate):
+            yield from (f"{path}: {it[0]}" for it in re.finditer(pattern, text))
+
+
+def shared_names():
+    """The public types and traits whose name another one has."""
+    places = collections.defaultdict(list)
+    for crate in crates():
+        for path, text in sources(crate):
+            for name in re.findall(r"(?m)^pub (?:struct|enum|trait|type) (\w+)", text):
+                places[name].append(path)
+    return [f"{name}: {', '.join(found)}" for name, found in sorted(places.items()) if len(found) > 1]
+
+
+def counts():
+    """What each count counts, and how many that are."""
+    hands = list(handing())
+    request = list(lines_of("pkcs10", "request", "info", "info_fields"))
+    key = list(lines_of("pkcs8", "one_asymmetric_key", "key_fields", "key_body", "key_head", "key_identifiers",
+                        "private_key", "public_key"))
+    told = {"handing": hands, "same": list(same_by_hand()), "frames": list(frames()), "crates": crates(),
+            "newtypes": list(matching(r"(?m)^pub struct \w+(?:<.*>)?\((?:Ruled<)?Record<.*")),
+            "forms": list(matching(r"(?m)^impl Form for .*")), "names": shared_names()}
+    found = {name: (len(it), [str(one) for one in it]) for name, it in told.items()}
+    for name, it in {"handing_lines": hands, "request": request, "key": key}.items():
+        found[name] = sum(lines for _, lines in it), [f"{lines} {what}" for what, lines in it]
+    return found
+
+
+def main(words):
+    found = counts()
+    if words:
+        print("\n".join(found[words[0]][1]))
+        return 0
+    failed = 0
+    for name, limit in LIMITS.items():
+        failed += found[name][0] > limit
+        print(f"{name}: {found[name][0]}, at most {limit}")
+    print(f"structure: {len(LIMITS) - failed} passed, {failed} failed")
+    return 1 if failed else 0
+
+
+if __name__ == "__main__":
+    sys.exit(main(sys.argv[1:]))
