@@ -6,7 +6,7 @@ ghost use Rattle.x690.specs.DerTexts.{der};
 ghost use Rattle.x690.specs.Layouts.{universal};
 ghost use Rattle.x690.specs.TypeTerms.{ContainingType, no_rule};
 ghost use Rattle.x690.specs.Values.{Leaf, Same};
-ghost use Rattle.ber_pull.specs.View.{standing, SameSource, Repeats, Keeps, ReadsFail, Onward, Uses};
+ghost use Rattle.ber_pull.specs.View.{standing, Repeats, Uses, Frame};
 ghost use Rattle.asn_contained.specs.ClosedTypes.{containing_closed};
 ghost use Rattle.asn_contained.specs.Contained.{AnswersContained};
 
@@ -36,14 +36,11 @@ pub fn read_contained<R: Source, T: Element>(
     own: Tag,
 ) -> Result<T, ReadError>
     requires { (standing pull.old).error ≡ None → IsSome (standing pull.old).given }
-    ensures same_source { SameSource pull.old pull.new }
+    ensures frame { Frame pull.old pull.new result }
     ensures repeats { Repeats pull.old pull.new result }
     ensures reads { AnswersContained pull.old pull.new own T.type_term T.value result }
     ensures short { IfOk result (λ x. length (der (T.value x)) < 2 ^ 32) }
     ensures stands { OnOk result (Uses pull.old pull.new) }
-    ensures keeps { Keeps pull.new result }
-    ensures read { ReadsFail pull.old pull.new result }
-    ensures onward { Onward pull.old pull.new }
 {
     let at = expect_tag(pull, own)?;
     let limits = pull.limits();

@@ -8,7 +8,7 @@ ghost use Rattle.tlv_core.specs.Sinks.{count, Puts};
 ghost use Rattle.x690.specs.DerTexts.{der, texts_of};
 ghost use Rattle.x690.specs.TypeTerms.{Required, TypeTerm, fits_tag};
 ghost use Rattle.x690.specs.Values.{Value, value_tag};
-ghost use Rattle.ber_pull.specs.View.{standing, AsksNoMemory, SameSource, Keeps, ReadsFail, Onward, Unmoved, Uses};
+ghost use Rattle.ber_pull.specs.View.{standing, AsksNoMemory, Unmoved, Uses, Frame};
 ghost use Rattle.asn_fields.specs.Apart.{may_begin};
 ghost use Rattle.asn_fields.specs.Fields.{IsInside, LeavesWithin, StaysInside, stands_next};
 ghost use Rattle.asn_contained.specs.Dependents.{AnswersBehind, RequiredBehind, OneTextBehind, OptionalBehind, TakesBehind, suits_where_there};
@@ -53,14 +53,11 @@ pub trait DependentElement<A: FieldsText>: Sized + Drop {
         earlier: &A,
     ) -> Result<Self, ReadError>
         requires { (standing pull.old).error ≡ None → IsSome (standing pull.old).given }
-        ensures same_source { SameSource pull.old pull.new }
+        ensures frame { Frame pull.old pull.new result }
         ensures reads { AnswersBehind pull.old pull.new type_term
             (A.values earlier.now) Self.value result }
         ensures suits { IfOk result (λ x. Self.suits (A.values earlier.now) x ≡ true) }
-        ensures stands { OnOk result (Uses pull.old pull.new) }
-        ensures keeps { Keeps pull.new result }
-        ensures read { ReadsFail pull.old pull.new result }
-        ensures onward { Onward pull.old pull.new };
+        ensures stands { OnOk result (Uses pull.old pull.new) };
 
     /// The length of its text, in octets.
     fn size(&self) -> u64
@@ -127,7 +124,7 @@ fn take_dependent<R: Source, A: FieldsText, F: DependentElement<A>>(
 ) -> Result<F, ReadError>
     requires fine { (standing pull.old).error ≡ None }
     requires inside { IsInside pull.old next }
-    ensures same_source { SameSource pull.old pull.new }
+    ensures frame { Frame pull.old pull.new result }
     ensures reads { TakesBehind pull.old pull.new next F.type_term
         (A.values earlier.now) F.value result }
     ensures suits { IfOk result (λ field. F.suits (A.values earlier.now) field ≡ true) }
@@ -135,9 +132,6 @@ fn take_dependent<R: Source, A: FieldsText, F: DependentElement<A>>(
     ensures begins { IfOk result (λ field.
         may_begin F.type_term (value_tag (F.value field)) ≡ true) }
     ensures stands { OnOk result (LeavesWithin pull.old pull.new next) }
-    ensures keeps { Keeps pull.new result }
-    ensures read { ReadsFail pull.old pull.new result }
-    ensures onward { Onward pull.old pull.new }
     ensures memory { stands_next F.type_term next ≡ false → AsksNoMemory pull.old result }
 {
     let fits = match next.tag {
@@ -162,7 +156,7 @@ pub fn due_dependent<R: Source, A: FieldsText, F: DependentElement<A>>(
 ) -> Result<F, ReadError>
     requires fine { (standing pull.old).error ≡ None }
     requires inside { IsInside pull.old next.old }
-    ensures same_source { SameSource pull.old pull.new }
+    ensures frame { Frame pull.old pull.new result }
     ensures reads { RequiredBehind pull.old pull.new next.old next.new F.type_term
         (A.values earlier.now) F.value result }
     ensures suits { IfOk result (λ field. F.suits (A.values earlier.now) field ≡ true) }
@@ -170,9 +164,6 @@ pub fn due_dependent<R: Source, A: FieldsText, F: DependentElement<A>>(
     ensures begins { IfOk result (λ field.
         may_begin F.type_term (value_tag (F.value field)) ≡ true) }
     ensures stands { OnOk result (StaysInside pull.old pull.new next.old next.new) }
-    ensures keeps { Keeps pull.new result }
-    ensures read { ReadsFail pull.old pull.new result }
-    ensures onward { Onward pull.old pull.new }
     ensures memory { stands_next F.type_term next.old ≡ false → AsksNoMemory pull.old result }
 {
     let field = take_dependent::<R, A, F>(alloc, pull, *next, earlier)?;
@@ -191,7 +182,7 @@ pub fn optional_dependent<R: Source, A: FieldsText, F: DependentElement<A>>(
 ) -> Result<Option<F>, ReadError>
     requires fine { (standing pull.old).error ≡ None }
     requires inside { IsInside pull.old next.old }
-    ensures same_source { SameSource pull.old pull.new }
+    ensures frame { Frame pull.old pull.new result }
     ensures reads { OptionalBehind pull.old pull.new next.old next.new F.type_term
         (A.values earlier.now) F.value result }
     ensures suits { IfOk result (λ field. suits_where_there (F.suits (A.values earlier.now)) field
@@ -200,9 +191,6 @@ pub fn optional_dependent<R: Source, A: FieldsText, F: DependentElement<A>>(
     ensures begins { IfOk result (λ field. IfSome field
         (λ f. may_begin F.type_term (value_tag (F.value f)) ≡ true)) }
     ensures stands { OnOk result (StaysInside pull.old pull.new next.old next.new) }
-    ensures keeps { Keeps pull.new result }
-    ensures read { ReadsFail pull.old pull.new result }
-    ensures onward { Onward pull.old pull.new }
     ensures absent { stands_next F.type_term next.old ≡ false
         → (result ≡ Ok None) × Unmoved pull.old pull.new × (next.new ≡ next.old) }
 {

@@ -2,7 +2,7 @@
 ghost use Rattle.std.specs.Prelude.{◌≡◌, None, Some, IsSome, OnOk};
 ghost use Rattle.x690.specs.TypeTerms.{TypeTerm, fits_tag};
 ghost use Rattle.x690.specs.ReadTypes.{IsClosed};
-ghost use Rattle.ber_pull.specs.View.{standing, SameSource, Repeats, Keeps, ReadsFail, Onward, Uses};
+ghost use Rattle.ber_pull.specs.View.{standing, Repeats, Uses, Frame};
 ghost use Rattle.ber_pull.specs.declared.state.Given.{Given};
 ghost use Rattle.asn_elements.specs.Reading.{AnswersValue, read_given};
 
@@ -27,16 +27,13 @@ pub trait Element: DerText {
     /// answer. On an error the reader has failed with it.
     fn read<R: Source>(alloc: Global, pull: &mut Pull<'_, R>) -> Result<Self, ReadError>
         requires { (standing pull.old).error ≡ None → IsSome (standing pull.old).given }
-        ensures same_source { SameSource pull.old pull.new }
+        ensures frame { Frame pull.old pull.new result }
         ensures repeats { Repeats pull.old pull.new result }
         ensures reads { (g : Given) → (standing pull.old).error ≡ None
             → (standing pull.old).given ≡ Some g
             → AnswersValue pull.old pull.new
             (read_given type_term (standing pull.old) g) Self.value result }
-        ensures stands { OnOk result (Uses pull.old pull.new) }
-        ensures keeps { Keeps pull.new result }
-        ensures read { ReadsFail pull.old pull.new result }
-        ensures onward { Onward pull.old pull.new };
+        ensures stands { OnOk result (Uses pull.old pull.new) };
 
     /// It doesn't look at the earlier fields of a container.
     ghost closed: { IsClosed type_term };

@@ -7,7 +7,7 @@ ghost use Rattle.x690.specs.Layouts.{context_specific, same_tag};
 ghost use Rattle.x690.specs.TypeTerms.{TypeTerm, fits_tag};
 ghost use Rattle.x690.specs.Values.{Same, Value};
 ghost use Rattle.x690.specs.ReadTypes.{IsClosed};
-ghost use Rattle.ber_pull.specs.View.{standing, SameSource, Repeats, Keeps, ReadsFail, Onward, Uses};
+ghost use Rattle.ber_pull.specs.View.{standing, Repeats, Uses, Frame};
 ghost use Rattle.ber_pull.specs.declared.state.Given.{Given};
 ghost use Rattle.asn_elements.specs.Reading.{AnswersValue, read_given};
 
@@ -60,16 +60,13 @@ pub trait ImplicitElement: ImplicitText {
         tag: Tag,
     ) -> Result<Self, ReadError>
         requires { (standing pull.old).error ≡ None → IsSome (standing pull.old).given }
-        ensures same_source { SameSource pull.old pull.new }
+        ensures frame { Frame pull.old pull.new result }
         ensures repeats { Repeats pull.old pull.new result }
         ensures reads { (g : Given) → (standing pull.old).error ≡ None
             → (standing pull.old).given ≡ Some g
             → AnswersValue pull.old pull.new (read_given (type_as tag) (standing pull.old) g)
             (Self.value_as tag) result }
-        ensures stands { OnOk result (Uses pull.old pull.new) }
-        ensures keeps { Keeps pull.new result }
-        ensures read { ReadsFail pull.old pull.new result }
-        ensures onward { Onward pull.old pull.new };
+        ensures stands { OnOk result (Uses pull.old pull.new) };
 
     /// Exactly elements of its tag are of it.
     ghost fits_own: { (own tag : Identified) → fits_tag (type_as own) tag ≡ same_tag own tag };

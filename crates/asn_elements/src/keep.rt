@@ -2,7 +2,7 @@
 ghost use Rattle.std.specs.Prelude.{◌≡◌, ◌++◌, ◌∷◌, [], None, IfErr, OnOk};
 ghost use Rattle.tlv_core.specs.declared.fault.ReadError.TheVariants.{Memory};
 ghost use Rattle.ber_pull.specs.Standing.{failed_with};
-ghost use Rattle.ber_pull.specs.View.{standing, source, SameSource, Keeps, ReadsFail, Onward};
+ghost use Rattle.ber_pull.specs.View.{standing, source, Frame};
 
 use ber_pull::pull::Pull;
 use tlv_core::fault::ReadError;
@@ -15,15 +15,12 @@ pub fn keep<R: Source, T: Drop>(
     item: T,
 ) -> Result<(), ReadError>
     requires { (standing pull.old).error ≡ None }
-    ensures same_source { SameSource pull.old pull.new }
+    ensures frame { Frame pull.old pull.new result }
     ensures kept { OnOk result (items.new.items ≡ items.old.items ++ item ∷ []) }
     ensures still { OnOk result (pull.new ≡ pull.old) }
     ensures unchanged { IfErr result (λ _. items.new.items ≡ items.old.items) }
     ensures stops { IfErr result (λ e. (e ≡ Memory) × (source pull.new ≡ source pull.old)
         × (standing pull.new ≡ failed_with e (standing pull.old))) }
-    ensures keeps { Keeps pull.new result }
-    ensures read { ReadsFail pull.old pull.new result }
-    ensures onward { Onward pull.old pull.new }
 {
     match items.push(item) {
         Ok(()) => Ok(()),

@@ -10,7 +10,7 @@ ghost use Rattle.x690.specs.Reading.{Done, Reading, require};
 ghost use Rattle.x690.specs.TypeTerms.{LeafType};
 ghost use Rattle.x690.specs.Values.{Leaf, Value};
 ghost use Rattle.ber_pull.specs.Hears.{heard, heard_error};
-ghost use Rattle.ber_pull.specs.View.{standing, AsksNoMemory, SameSource, Repeats, Keeps, ReadsFail, Onward, Answers, Uses, Unmoved};
+ghost use Rattle.ber_pull.specs.View.{standing, AsksNoMemory, Repeats, Answers, Uses, Unmoved, Frame};
 ghost use Rattle.ber_pull.specs.declared.state.Given.{Given};
 ghost use Rattle.asn_elements.specs.BitStrings.{IsDerBits};
 ghost use Rattle.asn_elements.specs.Reading.{AnswersValue, HasContents, kind_of, read_given, read_given_leaf, string_kind};
@@ -41,7 +41,7 @@ pub enum SimpleType {
 #[inline(always)]
 pub fn expect_tag<R: Source>(pull: &mut Pull<'_, R>, own: Tag) -> Result<u64, ReadError>
     requires { (standing pull.old).error ≡ None → IsSome (standing pull.old).given }
-    ensures same_source { SameSource pull.old pull.new }
+    ensures frame { Frame pull.old pull.new result }
     ensures repeats { Repeats pull.old pull.new result }
     ensures reads { (g : Given) → (standing pull.old).error ≡ None
         → (standing pull.old).given ≡ Some g
@@ -57,10 +57,7 @@ pub fn expect_tag<R: Source>(pull: &mut Pull<'_, R>, own: Tag) -> Result<u64, Re
         → IfOk result (λ at. (at ≡ g.at) × (same_tag own g.tag ≡ true)) }
     ensures same { OnOk result (Unmoved pull.old pull.new) }
     ensures fine { OnOk result ((standing pull.old).error ≡ None) }
-    ensures keeps { Keeps pull.new result }
-    ensures read { ReadsFail pull.old pull.new result }
     ensures memory { AsksNoMemory pull.old result }
-    ensures onward { Onward pull.old pull.new }
 {
     let at = pull.at();
     let Some((tag, _)) = pull.next_tag()? else {
@@ -144,7 +141,7 @@ fn read_primitive_leaf<R: Source>(
     requires primitive { (g : Given) → (standing pull.old).given ≡ Some g → g.constructed ≡ true
         → reading.segment_tag (kind_of kind) ≡ None }
     requires given { (standing pull.old).error ≡ None → IsSome (standing pull.old).given }
-    ensures same_source { SameSource pull.old pull.new }
+    ensures frame { Frame pull.old pull.new result }
     ensures repeats { Repeats pull.old pull.new result }
     ensures reads { (own : Identified) (g : Given) → (standing pull.old).error ≡ None
         → (standing pull.old).given ≡ Some g
@@ -152,9 +149,6 @@ fn read_primitive_leaf<R: Source>(
         (heard (λ _. Leaf own contents.new.items) result) }
     ensures contents { OnOk result (HasContents kind contents.new.items) }
     ensures stands { OnOk result (Uses pull.old pull.new) }
-    ensures keeps { Keeps pull.new result }
-    ensures read { ReadsFail pull.old pull.new result }
-    ensures onward { Onward pull.old pull.new }
 {
     let at = pull.at();
     pull.primitive_into(contents)?;
@@ -168,7 +162,7 @@ fn read_primitive_leaf<R: Source>(
 /// The DER contents of the BIT STRING that is given: the number of unused bits, and the octets.
 fn read_bits_leaf<R: Source>(alloc: Global, pull: &mut Pull<'_, R>) -> Result<Vec<u8>, ReadError>
     requires { (standing pull.old).error ≡ None → IsSome (standing pull.old).given }
-    ensures same_source { SameSource pull.old pull.new }
+    ensures frame { Frame pull.old pull.new result }
     ensures repeats { Repeats pull.old pull.new result }
     ensures reads { (own : Identified) (g : Given) → (standing pull.old).error ≡ None
         → (standing pull.old).given ≡ Some g
@@ -177,9 +171,6 @@ fn read_bits_leaf<R: Source>(alloc: Global, pull: &mut Pull<'_, R>) -> Result<Ve
     ensures some { IfOk result (λ v. 0 < length v.items) }
     ensures bits { IfOk result (λ v. IsDerBits v.items) }
     ensures stands { OnOk result (Uses pull.old pull.new) }
-    ensures keeps { Keeps pull.new result }
-    ensures read { ReadsFail pull.old pull.new result }
-    ensures onward { Onward pull.old pull.new }
 {
     let (unused, mut octets) = pull.bits(alloc)?;
     match octets.insert(0, unused) {
@@ -196,7 +187,7 @@ fn read_octets_leaf<R: Source>(
     contents: &mut Vec<u8>,
 ) -> Result<(), ReadError>
     requires { (standing pull.old).error ≡ None → IsSome (standing pull.old).given }
-    ensures same_source { SameSource pull.old pull.new }
+    ensures frame { Frame pull.old pull.new result }
     ensures repeats { Repeats pull.old pull.new result }
     ensures reads { (own : Identified) (g : Given) → (standing pull.old).error ≡ None
         → (standing pull.old).given ≡ Some g
@@ -206,9 +197,6 @@ fn read_octets_leaf<R: Source>(
     ensures contents { OnOk result (reading.is_contents (string_kind utf8) contents.new.items
         ≡ true) }
     ensures stands { OnOk result (Uses pull.old pull.new) }
-    ensures keeps { Keeps pull.new result }
-    ensures read { ReadsFail pull.old pull.new result }
-    ensures onward { Onward pull.old pull.new }
 {
     let at = pull.at();
     pull.octets_into(alloc, contents)?;
@@ -227,7 +215,7 @@ pub fn read_leaf_into<R: Source>(
     contents: &mut Vec<u8>,
 ) -> Result<(), ReadError>
     requires { (standing pull.old).error ≡ None → IsSome (standing pull.old).given }
-    ensures same_source { SameSource pull.old pull.new }
+    ensures frame { Frame pull.old pull.new result }
     ensures repeats { Repeats pull.old pull.new result }
     ensures reads { (own : Identified) (g : Given) → (standing pull.old).error ≡ None
         → (standing pull.old).given ≡ Some g
@@ -235,9 +223,6 @@ pub fn read_leaf_into<R: Source>(
         (heard (λ _. Leaf own contents.new.items) result) }
     ensures contents { OnOk result (HasContents kind contents.new.items) }
     ensures stands { OnOk result (Uses pull.old pull.new) }
-    ensures keeps { Keeps pull.new result }
-    ensures read { ReadsFail pull.old pull.new result }
-    ensures onward { Onward pull.old pull.new }
 {
     if pull.is_primitive() {
         return read_primitive_leaf(pull, kind, contents);
@@ -260,7 +245,7 @@ pub fn read_leaf<R: Source>(
     kind: SimpleType,
 ) -> Result<Vec<u8>, ReadError>
     requires { (standing pull.old).error ≡ None → IsSome (standing pull.old).given }
-    ensures same_source { SameSource pull.old pull.new }
+    ensures frame { Frame pull.old pull.new result }
     ensures repeats { Repeats pull.old pull.new result }
     ensures reads { (own : Identified) (g : Given) → (standing pull.old).error ≡ None
         → (standing pull.old).given ≡ Some g
@@ -268,9 +253,6 @@ pub fn read_leaf<R: Source>(
         (heard (λ v. Leaf own v.items) result) }
     ensures contents { IfOk result (λ v. HasContents kind v.items) }
     ensures stands { OnOk result (Uses pull.old pull.new) }
-    ensures keeps { Keeps pull.new result }
-    ensures read { ReadsFail pull.old pull.new result }
-    ensures onward { Onward pull.old pull.new }
 {
     let mut contents = Vec::new(alloc);
     read_leaf_into(alloc, pull, kind, &mut contents)?;
@@ -285,7 +267,7 @@ pub fn read_leaf_as<R: Source>(
     kind: SimpleType,
 ) -> Result<Vec<u8>, ReadError>
     requires { (standing pull.old).error ≡ None → IsSome (standing pull.old).given }
-    ensures same_source { SameSource pull.old pull.new }
+    ensures frame { Frame pull.old pull.new result }
     ensures repeats { Repeats pull.old pull.new result }
     ensures reads { (g : Given) → (standing pull.old).error ≡ None
         → (standing pull.old).given ≡ Some g
@@ -294,9 +276,6 @@ pub fn read_leaf_as<R: Source>(
         (λ v. Leaf own v.items) result }
     ensures contents { IfOk result (λ v. HasContents kind v.items) }
     ensures stands { OnOk result (Uses pull.old pull.new) }
-    ensures keeps { Keeps pull.new result }
-    ensures read { ReadsFail pull.old pull.new result }
-    ensures onward { Onward pull.old pull.new }
 {
     expect_tag(pull, own)?;
     let contents = read_leaf(alloc, pull, kind)?;

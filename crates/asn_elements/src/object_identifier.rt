@@ -9,7 +9,7 @@ ghost use Rattle.x690.specs.Layouts.{universal};
 ghost use Rattle.x690.specs.TypeTerms.{LeafType};
 ghost use Rattle.x690.specs.Values.{Leaf};
 ghost use Rattle.ber_pull.specs.Hears.{heard};
-ghost use Rattle.ber_pull.specs.View.{standing, SameSource, Repeats, Keeps, ReadsFail, Onward, Answers, Uses};
+ghost use Rattle.ber_pull.specs.View.{standing, Repeats, Answers, Uses, Frame};
 ghost use Rattle.ber_pull.specs.declared.state.Given.{Given};
 ghost use Rattle.asn_elements.specs.Reading.{AnswersValue, read_given, read_given_leaf};
 
@@ -49,16 +49,13 @@ impl DerText for Oid {
 /// The object identifier that is given, whatever its tag.
 pub fn read_identifier<R: Source>(alloc: Global, pull: &mut Pull<'_, R>) -> Result<Oid, ReadError>
     requires { (standing pull.old).error ≡ None → IsSome (standing pull.old).given }
-    ensures same_source { SameSource pull.old pull.new }
+    ensures frame { Frame pull.old pull.new result }
     ensures repeats { Repeats pull.old pull.new result }
     ensures reads { (own : Identified) (g : Given) → (standing pull.old).error ≡ None
         → (standing pull.old).given ≡ Some g
         → Answers pull.old pull.new (read_given_leaf ObjectIdentifier own (standing pull.old) g)
         (heard (λ oid. Leaf own oid) result) }
     ensures stands { OnOk result (Uses pull.old pull.new) }
-    ensures keeps { Keeps pull.new result }
-    ensures read { ReadsFail pull.old pull.new result }
-    ensures onward { Onward pull.old pull.new }
 {
     let mut contents = Vec::new(alloc);
     read_identifier_into(pull, &mut contents)?;
@@ -71,7 +68,7 @@ pub fn read_identifier_into<R: Source>(
     contents: &mut Vec<u8>,
 ) -> Result<(), ReadError>
     requires { (standing pull.old).error ≡ None → IsSome (standing pull.old).given }
-    ensures same_source { SameSource pull.old pull.new }
+    ensures frame { Frame pull.old pull.new result }
     ensures repeats { Repeats pull.old pull.new result }
     ensures reads { (own : Identified) (g : Given) → (standing pull.old).error ≡ None
         → (standing pull.old).given ≡ Some g
@@ -79,9 +76,6 @@ pub fn read_identifier_into<R: Source>(
         (heard (λ _. Leaf own contents.new.items) result) }
     ensures contents { OnOk result (IsObjectIdentifier contents.new.items) }
     ensures stands { OnOk result (Uses pull.old pull.new) }
-    ensures keeps { Keeps pull.new result }
-    ensures read { ReadsFail pull.old pull.new result }
-    ensures onward { Onward pull.old pull.new }
 {
     let at = pull.at();
     pull.primitive_into(contents)?;
@@ -98,7 +92,7 @@ fn read_identifier_as<R: Source>(
     own: Tag,
 ) -> Result<Oid, ReadError>
     requires { (standing pull.old).error ≡ None → IsSome (standing pull.old).given }
-    ensures same_source { SameSource pull.old pull.new }
+    ensures frame { Frame pull.old pull.new result }
     ensures repeats { Repeats pull.old pull.new result }
     ensures reads { (g : Given) → (standing pull.old).error ≡ None
         → (standing pull.old).given ≡ Some g
@@ -106,9 +100,6 @@ fn read_identifier_as<R: Source>(
         (read_given (LeafType own ObjectIdentifier) (standing pull.old) g)
         (λ oid. Leaf own oid) result }
     ensures stands { OnOk result (Uses pull.old pull.new) }
-    ensures keeps { Keeps pull.new result }
-    ensures read { ReadsFail pull.old pull.new result }
-    ensures onward { Onward pull.old pull.new }
 {
     expect_tag(pull, own)?;
     let oid = read_identifier(alloc, pull)?;

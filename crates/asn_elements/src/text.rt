@@ -11,7 +11,7 @@ ghost use Rattle.x690.specs.StringTypes.{string_types};
 ghost use Rattle.x690.specs.TypeTerms.{fits_tag};
 ghost use Rattle.x690.specs.Values.{Leaf, Value};
 ghost use Rattle.ber_pull.specs.Hears.{heard_error};
-ghost use Rattle.ber_pull.specs.View.{standing, SameSource, Repeats, Keeps, ReadsFail, Onward, Answers, Unmoved};
+ghost use Rattle.ber_pull.specs.View.{standing, Repeats, Answers, Unmoved, Frame};
 ghost use Rattle.ber_pull.specs.declared.state.Given.{Given};
 ghost use Rattle.asn_elements.specs.Reading.{kind_of, string_kind};
 
@@ -89,7 +89,7 @@ fn kind_by_tag(tag: Tag) -> SimpleType
 /// The tag of the element that is given, which has to be that of a character string or time: else `WrongTag`.
 fn expect_string<R: Source>(pull: &mut Pull<'_, R>) -> Result<Tag, ReadError>
     requires { (standing pull.old).error ≡ None → IsSome (standing pull.old).given }
-    ensures same_source { SameSource pull.old pull.new }
+    ensures frame { Frame pull.old pull.new result }
     ensures repeats { Repeats pull.old pull.new result }
     ensures stops { (g : Given) → (standing pull.old).error ≡ None
         → (standing pull.old).given ≡ Some g
@@ -101,9 +101,6 @@ fn expect_string<R: Source>(pull: &mut Pull<'_, R>) -> Result<Tag, ReadError>
     ensures string { IfOk result (λ tag. fits_tag string_types tag ≡ true) }
     ensures same { OnOk result (Unmoved pull.old pull.new) }
     ensures fine { OnOk result ((standing pull.old).error ≡ None) }
-    ensures keeps { Keeps pull.new result }
-    ensures read { ReadsFail pull.old pull.new result }
-    ensures onward { Onward pull.old pull.new }
 {
     let at = pull.at();
     let Some((tag, _)) = pull.next_tag()? else {

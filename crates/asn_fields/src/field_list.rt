@@ -5,7 +5,7 @@ ghost use Rattle.tlv_core.specs.Sinks.{count, Puts};
 ghost use Rattle.x690.specs.DerTexts.{texts_of};
 ghost use Rattle.x690.specs.TypeTerms.{Fields as FieldTypes};
 ghost use Rattle.x690.specs.Values.{Value};
-ghost use Rattle.ber_pull.specs.View.{standing, SameSource, Keeps, ReadsFail, Onward};
+ghost use Rattle.ber_pull.specs.View.{standing, Frame};
 ghost use Rattle.asn_fields.specs.Fields.{IsInside, StaysInside};
 ghost use Rattle.asn_fields.specs.Apart.{BeginsAsTyped, Tells};
 ghost use Rattle.asn_fields.specs.BegunSequence.{ReadsFields, ReadsFirst};
@@ -65,16 +65,13 @@ pub trait Fields: FieldsText {
     ) -> Result<Self, ReadError>
         requires fine { (standing pull.old).error ≡ None }
         requires inside { IsInside pull.old next.old }
-        ensures same_source { SameSource pull.old pull.new }
+        ensures frame { Frame pull.old pull.new result }
         ensures reads { ReadsFields pull.old pull.new next.old next.new Self.types Self.values
             result }
         ensures short { IfOk result (λ fields. length (texts_of (Self.values fields))
             ≤ Self.most * 2 ^ 32) }
         ensures known { IfOk result (λ fields. Self.known fields ≡ true) }
-        ensures stands { OnOk result (StaysInside pull.old pull.new next.old next.new) }
-        ensures keeps { Keeps pull.new result }
-        ensures read { ReadsFail pull.old pull.new result }
-        ensures onward { Onward pull.old pull.new };
+        ensures stands { OnOk result (StaysInside pull.old pull.new next.old next.new) };
 }
 
 /// The first fields of a SEQUENCE: those before a field are known where it is read.
@@ -87,16 +84,13 @@ pub trait FirstFields: FieldsText {
     ) -> Result<Self, ReadError>
         requires fine { (standing pull.old).error ≡ None }
         requires inside { IsInside pull.old next.old }
-        ensures same_source { SameSource pull.old pull.new }
+        ensures frame { Frame pull.old pull.new result }
         ensures reads { ReadsFirst pull.old pull.new next.old next.new Self.types Self.values
             result }
         ensures short { IfOk result (λ fields. length (texts_of (Self.values fields))
             ≤ Self.most * 2 ^ 32) }
         ensures known { IfOk result (λ fields. Self.known fields ≡ true) }
-        ensures stands { OnOk result (StaysInside pull.old pull.new next.old next.new) }
-        ensures keeps { Keeps pull.new result }
-        ensures read { ReadsFail pull.old pull.new result }
-        ensures onward { Onward pull.old pull.new };
+        ensures stands { OnOk result (StaysInside pull.old pull.new next.old next.new) };
 }
 
 impl<A: FieldsText, B: FieldsText> FieldsText for (A, B) {

@@ -9,7 +9,7 @@ ghost use Rattle.std.specs.Prelude.{◌≡◌, ◌<◌, ◌^◌, IfOk, IfSome, I
 ghost use Rattle.x690.specs.DerTexts.{der};
 ghost use Rattle.asn_fields.specs.FieldReadings.{read_end};
 ghost use Rattle.ber_pull.specs.Hears.{heard};
-ghost use Rattle.ber_pull.specs.View.{standing, AsksNoMemory, SameSource, Repeats, Keeps, ReadsFail, Onward, Unmoved};
+ghost use Rattle.ber_pull.specs.View.{standing, AsksNoMemory, Repeats, Unmoved, Frame};
 ghost use Rattle.asn_fields.specs.Apart.{BeginsAs};
 ghost use Rattle.asn_fields.specs.Fields.{AnswersAhead, AnswersBegin, AnswersDue, AnswersInside, AnswersOptional, AnswersTake, IsInside, LeavesContainer, LeavesWithin, StandsAhead, StandsInto, StaysInside, next_of, stands_next};
 
@@ -34,12 +34,9 @@ pub struct Next {
 pub fn ahead<R: Source>(pull: &mut Pull<'_, R>) -> Result<Next, ReadError>
     requires fine { (standing pull.old).error ≡ None }
     requires used { (standing pull.old).given ≡ None }
-    ensures same_source { SameSource pull.old pull.new }
+    ensures frame { Frame pull.old pull.new result }
     ensures reads { AnswersAhead pull.old pull.new result }
     ensures stands { IfOk result (StandsAhead pull.old pull.new) }
-    ensures keeps { Keeps pull.new result }
-    ensures read { ReadsFail pull.old pull.new result }
-    ensures onward { Onward pull.old pull.new }
     ensures memory { AsksNoMemory pull.old result }
 {
     look_ahead(pull)
@@ -50,12 +47,9 @@ pub fn ahead<R: Source>(pull: &mut Pull<'_, R>) -> Result<Next, ReadError>
 fn look_ahead<R: Source>(pull: &mut Pull<'_, R>) -> Result<Next, ReadError>
     requires fine { (standing pull.old).error ≡ None }
     requires used { (standing pull.old).given ≡ None }
-    ensures same_source { SameSource pull.old pull.new }
+    ensures frame { Frame pull.old pull.new result }
     ensures reads { AnswersAhead pull.old pull.new result }
     ensures stands { IfOk result (StandsAhead pull.old pull.new) }
-    ensures keeps { Keeps pull.new result }
-    ensures read { ReadsFail pull.old pull.new result }
-    ensures onward { Onward pull.old pull.new }
     ensures memory { AsksNoMemory pull.old result }
 {
     let at = pull.at();
@@ -68,13 +62,10 @@ fn look_ahead<R: Source>(pull: &mut Pull<'_, R>) -> Result<Next, ReadError>
 /// Faults, at the identifier: `WrongTag`, those of `Pull::enter`; those of `Pull::next_tag`.
 pub fn begin<R: Source>(pull: &mut Pull<'_, R>, tag: Tag) -> Result<Next, ReadError>
     requires { (standing pull.old).error ≡ None → IsSome (standing pull.old).given }
-    ensures same_source { SameSource pull.old pull.new }
+    ensures frame { Frame pull.old pull.new result }
     ensures repeats { Repeats pull.old pull.new result }
     ensures reads { AnswersBegin pull.old pull.new tag result }
     ensures stands { IfOk result (StandsInto pull.old pull.new) }
-    ensures keeps { Keeps pull.new result }
-    ensures read { ReadsFail pull.old pull.new result }
-    ensures onward { Onward pull.old pull.new }
     ensures memory { AsksNoMemory pull.old result }
 {
     expect_tag(pull, tag)?;
@@ -94,14 +85,11 @@ pub fn take<R: Source, T: Element>(
 ) -> Result<T, ReadError>
     requires fine { (standing pull.old).error ≡ None }
     requires inside { IsInside pull.old next }
-    ensures same_source { SameSource pull.old pull.new }
+    ensures frame { Frame pull.old pull.new result }
     ensures reads { AnswersTake pull.old pull.new next T.type_term T.value result }
     ensures short { IfOk result (λ field. length (der (T.value field)) < 2 ^ 32) }
     ensures begins { IfOk result (λ field. BeginsAs T.type_term (T.value field)) }
     ensures stands { OnOk result (LeavesWithin pull.old pull.new next) }
-    ensures keeps { Keeps pull.new result }
-    ensures read { ReadsFail pull.old pull.new result }
-    ensures onward { Onward pull.old pull.new }
     ensures memory { stands_next T.type_term next ≡ false → AsksNoMemory pull.old result }
 {
     let fits = match next.tag {
@@ -124,14 +112,11 @@ pub fn due<R: Source, T: Element>(
 ) -> Result<T, ReadError>
     requires fine { (standing pull.old).error ≡ None }
     requires inside { IsInside pull.old next.old }
-    ensures same_source { SameSource pull.old pull.new }
+    ensures frame { Frame pull.old pull.new result }
     ensures reads { AnswersDue pull.old pull.new next.old next.new T.type_term T.value result }
     ensures short { IfOk result (λ field. length (der (T.value field)) < 2 ^ 32) }
     ensures begins { IfOk result (λ field. BeginsAs T.type_term (T.value field)) }
     ensures stands { OnOk result (StaysInside pull.old pull.new next.old next.new) }
-    ensures keeps { Keeps pull.new result }
-    ensures read { ReadsFail pull.old pull.new result }
-    ensures onward { Onward pull.old pull.new }
     ensures memory { stands_next T.type_term next.old ≡ false → AsksNoMemory pull.old result }
 {
     let field = take::<R, T>(alloc, pull, *next)?;
@@ -149,14 +134,11 @@ pub fn optional<R: Source, T: Element>(
 ) -> Result<Option<T>, ReadError>
     requires fine { (standing pull.old).error ≡ None }
     requires inside { IsInside pull.old next.old }
-    ensures same_source { SameSource pull.old pull.new }
+    ensures frame { Frame pull.old pull.new result }
     ensures reads { AnswersOptional pull.old pull.new next.old next.new T.type_term T.value result }
     ensures short { IfOk result (λ field. IfSome field (λ f. length (der (T.value f)) < 2 ^ 32)) }
     ensures begins { IfOk result (λ field. IfSome field (λ f. BeginsAs T.type_term (T.value f))) }
     ensures stands { OnOk result (StaysInside pull.old pull.new next.old next.new) }
-    ensures keeps { Keeps pull.new result }
-    ensures read { ReadsFail pull.old pull.new result }
-    ensures onward { Onward pull.old pull.new }
     ensures absent { stands_next T.type_term next.old ≡ false
         → (result ≡ Ok None) × Unmoved pull.old pull.new × (next.new ≡ next.old) }
 {
@@ -178,13 +160,10 @@ pub fn optional<R: Source, T: Element>(
 pub fn end<R: Source>(pull: &mut Pull<'_, R>, next: Next) -> Result<(), ReadError>
     requires fine { (standing pull.old).error ≡ None }
     requires inside { IsInside pull.old next }
-    ensures same_source { SameSource pull.old pull.new }
+    ensures frame { Frame pull.old pull.new result }
     ensures reads { AnswersInside pull.old pull.new next (λ _ _. read_end (next_of next))
         (heard (λ u. u) result) }
     ensures stands { OnOk result (LeavesContainer pull.old pull.new next) }
-    ensures keeps { Keeps pull.new result }
-    ensures read { ReadsFail pull.old pull.new result }
-    ensures onward { Onward pull.old pull.new }
     ensures memory { AsksNoMemory pull.old result }
 {
     if next.tag.is_some() {

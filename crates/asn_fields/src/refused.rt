@@ -9,7 +9,7 @@ ghost use Rattle.x690.specs.Premises.{HonestReason};
 ghost use Rattle.x690.specs.TypeTerms.{RefusedType};
 ghost use Rattle.x690.specs.Values.{Leaf};
 ghost use Rattle.x690_laws.proofs.TextsTellApart.{leaf_one_text};
-ghost use Rattle.ber_pull.specs.View.{standing, AsksNoMemory, SameSource, Repeats, Keeps, ReadsFail, Onward, Uses};
+ghost use Rattle.ber_pull.specs.View.{standing, AsksNoMemory, Repeats, Uses, Frame};
 ghost use Rattle.x690_laws.proofs.TypesClosed.{refused_closed};
 ghost use Rattle.asn_fields.specs.Fields.{AnswersGiven};
 
@@ -64,15 +64,12 @@ pub struct Refused<K: Refusal> {
 /// Faults, at the element: `WrongTag` where it has another tag, else the reason.
 pub fn read_refused<R: Source, K: Refusal>(pull: &mut Pull<'_, R>) -> Result<Never, ReadError>
     requires { (standing pull.old).error ≡ None → IsSome (standing pull.old).given }
-    ensures same_source { SameSource pull.old pull.new }
+    ensures frame { Frame pull.old pull.new result }
     ensures repeats { Repeats pull.old pull.new result }
     ensures reads { AnswersGiven pull.old pull.new (RefusedType K.own K.why)
         (λ never. Leaf (universal 5) []) result }
     ensures stands { OnOk result (Uses pull.old pull.new) }
-    ensures keeps { Keeps pull.new result }
-    ensures read { ReadsFail pull.old pull.new result }
     ensures memory { AsksNoMemory pull.old result }
-    ensures onward { Onward pull.old pull.new }
 {
     let at = expect_tag(pull, K::tag())?;
     Err(pull.refuse(at, K::reason(), None))

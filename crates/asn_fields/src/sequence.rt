@@ -6,7 +6,7 @@ ghost use Rattle.std.specs.Prelude.{◌≡◌, ◌*◌, ◌^◌, ◌≤◌, IfOk
 ghost use Rattle.x690.specs.DerTexts.{texts_of};
 ghost use Rattle.x690.specs.Layouts.{universal};
 ghost use Rattle.x690.specs.TypeTerms.{EndOfFields};
-ghost use Rattle.ber_pull.specs.View.{standing, SameSource, Repeats, Keeps, ReadsFail, Onward, Uses};
+ghost use Rattle.ber_pull.specs.View.{standing, Repeats, Uses, Frame};
 ghost use Rattle.asn_fields.specs.Fields.{AnswersSequence};
 
 pub use crate::default_false::DefaultFalse;
@@ -30,16 +30,13 @@ pub fn read_sequence<R: Source, F: FirstFields>(
     pull: &mut Pull<'_, R>,
 ) -> Result<F, ReadError>
     requires { (standing pull.old).error ≡ None → IsSome (standing pull.old).given }
-    ensures same_source { SameSource pull.old pull.new }
+    ensures frame { Frame pull.old pull.new result }
     ensures repeats { Repeats pull.old pull.new result }
     ensures reads { AnswersSequence pull.old pull.new (universal 16)
         (F.types EndOfFields) F.values result }
     ensures short { IfOk result (λ fields. length (texts_of (F.values fields)) ≤ F.most * 2 ^ 32) }
     ensures known { IfOk result (λ fields. F.known fields ≡ true) }
     ensures stands { OnOk result (Uses pull.old pull.new) }
-    ensures keeps { Keeps pull.new result }
-    ensures read { ReadsFail pull.old pull.new result }
-    ensures onward { Onward pull.old pull.new }
 {
     read_sequence_as(alloc, pull, universal_tag(16))
 }
@@ -53,15 +50,12 @@ pub fn read_sequence_as<R: Source, F: FirstFields>(
     tag: Tag,
 ) -> Result<F, ReadError>
     requires { (standing pull.old).error ≡ None → IsSome (standing pull.old).given }
-    ensures same_source { SameSource pull.old pull.new }
+    ensures frame { Frame pull.old pull.new result }
     ensures repeats { Repeats pull.old pull.new result }
     ensures reads { AnswersSequence pull.old pull.new tag (F.types EndOfFields) F.values result }
     ensures short { IfOk result (λ fields. length (texts_of (F.values fields)) ≤ F.most * 2 ^ 32) }
     ensures known { IfOk result (λ fields. F.known fields ≡ true) }
     ensures stands { OnOk result (Uses pull.old pull.new) }
-    ensures keeps { Keeps pull.new result }
-    ensures read { ReadsFail pull.old pull.new result }
-    ensures onward { Onward pull.old pull.new }
 {
     let mut next = begin(pull, tag)?;
     let fields = F::read_first(alloc, pull, &mut next)?;

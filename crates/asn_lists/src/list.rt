@@ -7,7 +7,7 @@ ghost use Rattle.x690_laws.proofs.TypesClosed.{sequence_of_closed};
 ghost use Rattle.x690.specs.DerTexts.{der};
 ghost use Rattle.x690.specs.Layouts.{universal};
 ghost use Rattle.x690.specs.TypeTerms.{SequenceOfType};
-ghost use Rattle.ber_pull.specs.View.{standing, SameSource, Repeats, Keeps, ReadsFail, Onward, Uses};
+ghost use Rattle.ber_pull.specs.View.{standing, Repeats, Uses, Frame};
 ghost use Rattle.ber_pull.specs.declared.state.Given.{Given};
 ghost use Rattle.asn_elements.specs.Reading.{AnswersValue, read_given};
 ghost use Rattle.x690.specs.Values.{Same, Sequence, values_of};
@@ -118,7 +118,7 @@ impl<T: Element> List<T> {
     /// would.
     pub fn read_some<R: Source>(alloc: Global, pull: &mut Pull<'_, R>) -> Result<List<T>, ReadError>
         requires { (standing pull.old).error ≡ None → IsSome (standing pull.old).given }
-        ensures same_source { SameSource pull.old pull.new }
+        ensures frame { Frame pull.old pull.new result }
         ensures repeats { Repeats pull.old pull.new result }
         ensures reads { (g : Given) → (standing pull.old).error ≡ None
             → (standing pull.old).given ≡ Some g
@@ -127,9 +127,6 @@ impl<T: Element> List<T> {
             (λ list. Sequence (universal 16) (values_of (map T.value (list_items list)))) result }
         ensures some { IfOk result (λ list. 0 < length (list_items list)) }
         ensures stands { OnOk result (Uses pull.old pull.new) }
-        ensures keeps { Keeps pull.new result }
-        ensures read { ReadsFail pull.old pull.new result }
-        ensures onward { Onward pull.old pull.new }
     {
         read_list(alloc, pull, universal_tag(16), 1)
     }
@@ -143,7 +140,7 @@ fn read_list<R: Source, T: Element>(
     least: usize,
 ) -> Result<List<T>, ReadError>
     requires { (standing pull.old).error ≡ None → IsSome (standing pull.old).given }
-    ensures same_source { SameSource pull.old pull.new }
+    ensures frame { Frame pull.old pull.new result }
     ensures repeats { Repeats pull.old pull.new result }
     ensures reads { (g : Given) → (standing pull.old).error ≡ None
         → (standing pull.old).given ≡ Some g
@@ -152,9 +149,6 @@ fn read_list<R: Source, T: Element>(
         (λ list. Sequence tag (values_of (map T.value (list_items list)))) result }
     ensures least { IfOk result (λ list. least ≤ length (list_items list)) }
     ensures stands { OnOk result (Uses pull.old pull.new) }
-    ensures keeps { Keeps pull.new result }
-    ensures read { ReadsFail pull.old pull.new result }
-    ensures onward { Onward pull.old pull.new }
 {
     expect_tag(pull, tag)?;
     let (items, at) = read_members(alloc, pull)?;

@@ -3,7 +3,7 @@ ghost use Rattle.std.specs.Prelude.{◌≡◌, ◌<◌, ◌^◌, None, Some, IfE
 ghost use Rattle.tlv_core.specs.declared.fault.ReadError.TheVariants.{Memory};
 ghost use Rattle.x690.specs.DerTexts.{texts_of};
 ghost use Rattle.ber_pull.specs.Standing.{failed_with};
-ghost use Rattle.ber_pull.specs.View.{standing, source, SameSource, Repeats, Keeps, ReadsFail, Onward, Uses};
+ghost use Rattle.ber_pull.specs.View.{standing, source, Repeats, Uses, Frame};
 ghost use Rattle.ber_pull.specs.declared.state.Given.{Given};
 ghost use Rattle.asn_elements.specs.Reading.{AnswersMembers, read_given_members};
 
@@ -22,7 +22,7 @@ pub fn read_members<R: Source, T: Element>(
     pull: &mut Pull<'_, R>,
 ) -> Result<(Vec<T>, u64), ReadError>
     requires { (standing pull.old).error ≡ None → IsSome (standing pull.old).given }
-    ensures same_source { SameSource pull.old pull.new }
+    ensures frame { Frame pull.old pull.new result }
     ensures repeats { Repeats pull.old pull.new result }
     ensures reads { (g : Given) → (standing pull.old).error ≡ None
         → (standing pull.old).given ≡ Some g
@@ -30,9 +30,6 @@ pub fn read_members<R: Source, T: Element>(
         (λ v. map T.value v.0.items) (λ v. v.1) result }
     ensures short { IfOk result (λ v. length (texts_of (map T.value v.0.items)) < 2 ^ 63) }
     ensures stands { OnOk result (Uses pull.old pull.new) }
-    ensures keeps { Keeps pull.new result }
-    ensures read { ReadsFail pull.old pull.new result }
-    ensures onward { Onward pull.old pull.new }
 {
     pull.enter()?;
     let mut items = Vec::new(alloc);
@@ -54,14 +51,11 @@ pub fn row_of<R: Source, T: DerText>(
 ) -> Result<Row<T>, ReadError>
     requires fine { (standing pull.old).error ≡ None }
     requires short { length (texts_of (map T.value items.items)) < 2 ^ 63 }
-    ensures same_source { SameSource pull.old pull.new }
+    ensures frame { Frame pull.old pull.new result }
     ensures made { IfOk result (λ row. row.items ≡ items) }
     ensures still { OnOk result (pull.new ≡ pull.old) }
     ensures stops { IfErr result (λ e. (e ≡ Memory) × (source pull.new ≡ source pull.old)
         × (standing pull.new ≡ failed_with e (standing pull.old))) }
-    ensures keeps { Keeps pull.new result }
-    ensures read { ReadsFail pull.old pull.new result }
-    ensures onward { Onward pull.old pull.new }
 {
     match Row::new(alloc, items) {
         Ok(row) => Ok(row),

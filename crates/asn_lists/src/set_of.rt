@@ -6,7 +6,7 @@ ghost use Rattle.x690_laws.proofs.TypesClosed.{set_of_closed};
 ghost use Rattle.x690.specs.DerTexts.{Ascends, der, texts_of};
 ghost use Rattle.x690.specs.Layouts.{universal};
 ghost use Rattle.x690.specs.TypeTerms.{SetOfType};
-ghost use Rattle.ber_pull.specs.View.{standing, source, SameSource, Repeats, Keeps, ReadsFail, Onward, Uses};
+ghost use Rattle.ber_pull.specs.View.{standing, source, Repeats, Uses, Frame};
 ghost use Rattle.ber_pull.specs.Standing.{failed_with};
 ghost use Rattle.ber_pull.specs.declared.state.Given.{Given};
 ghost use Rattle.tlv_core.specs.declared.fault.ReadError.TheVariants.{Memory};
@@ -164,7 +164,7 @@ impl<T: Element> SetOf<T> {
         pull: &mut Pull<'_, R>,
     ) -> Result<SetOf<T>, ReadError>
         requires { (standing pull.old).error ≡ None → IsSome (standing pull.old).given }
-        ensures same_source { SameSource pull.old pull.new }
+        ensures frame { Frame pull.old pull.new result }
         ensures repeats { Repeats pull.old pull.new result }
         ensures reads { (g : Given) → (standing pull.old).error ≡ None
             → (standing pull.old).given ≡ Some g
@@ -173,9 +173,6 @@ impl<T: Element> SetOf<T> {
             (λ set. SetValue (universal 17) (values_of (map T.value (set_items set)))) result }
         ensures some { IfOk result (λ set. 0 < length (set_items set)) }
         ensures stands { OnOk result (Uses pull.old pull.new) }
-        ensures keeps { Keeps pull.new result }
-        ensures read { ReadsFail pull.old pull.new result }
-        ensures onward { Onward pull.old pull.new }
     {
         SetOf::read_set(alloc, pull, universal_tag(17), 1)
     }
@@ -188,7 +185,7 @@ impl<T: Element> SetOf<T> {
         least: usize,
     ) -> Result<SetOf<T>, ReadError>
         requires { (standing pull.old).error ≡ None → IsSome (standing pull.old).given }
-        ensures same_source { SameSource pull.old pull.new }
+        ensures frame { Frame pull.old pull.new result }
         ensures repeats { Repeats pull.old pull.new result }
         ensures reads { (g : Given) → (standing pull.old).error ≡ None
             → (standing pull.old).given ≡ Some g
@@ -197,9 +194,6 @@ impl<T: Element> SetOf<T> {
             (λ set. SetValue tag (values_of (map T.value (set_items set)))) result }
         ensures least { IfOk result (λ set. least ≤ length (set_items set)) }
         ensures stands { OnOk result (Uses pull.old pull.new) }
-        ensures keeps { Keeps pull.new result }
-        ensures read { ReadsFail pull.old pull.new result }
-        ensures onward { Onward pull.old pull.new }
     {
         let at = expect_tag(pull, tag)?;
         let (items, _end) = read_members(alloc, pull)?;
@@ -220,15 +214,12 @@ fn put_in_order<R: Source, T: DerText>(
 ) -> Result<Vec<T>, ReadError>
     requires fine { (standing pull.old).error ≡ None }
     requires short { length (texts_of (map T.value items.items)) < 2 ^ 63 }
-    ensures same_source { SameSource pull.old pull.new }
+    ensures frame { Frame pull.old pull.new result }
     ensures same { IfOk result (λ sorted. IsPermutation items.items sorted.items) }
     ensures in_order { IfOk result (λ sorted. ascends (map der (map T.value sorted.items)) ≡ true) }
     ensures still { OnOk result (pull.new ≡ pull.old) }
     ensures stops { IfErr result (λ e. (e ≡ Memory) × (source pull.new ≡ source pull.old)
         × (standing pull.new ≡ failed_with e (standing pull.old))) }
-    ensures keeps { Keeps pull.new result }
-    ensures read { ReadsFail pull.old pull.new result }
-    ensures onward { Onward pull.old pull.new }
 {
     match in_order(alloc, items) {
         Ok(sorted) => Ok(sorted),

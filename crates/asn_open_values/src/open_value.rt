@@ -8,7 +8,7 @@ ghost use Rattle.x690.specs.ReadContents.{read_open};
 ghost use Rattle.x690.specs.Values.{Leaf, SetOf, Value, values_of};
 ghost use Rattle.ber_pull.specs.Hears.{heard};
 ghost use Rattle.ber_pull.specs.Standing.{enclosing, failed_with};
-ghost use Rattle.ber_pull.specs.View.{standing, source, SameSource, Repeats, Keeps, ReadsFail, Onward, Answers, Uses, Unmoved};
+ghost use Rattle.ber_pull.specs.View.{standing, source, Repeats, Answers, Uses, Unmoved, Frame};
 ghost use Rattle.ber_pull.specs.declared.state.Given.{Given};
 ghost use Rattle.asn_elements.specs.Framing.{framed};
 ghost use Rattle.asn_open_values.specs.declared.open_form.OpenForm.TheVariants.{Identifier};
@@ -57,15 +57,12 @@ fn append_element<R: Source>(
     contents: &[u8],
 ) -> Result<(), ReadError>
     requires { (standing pull.old).error ≡ None }
-    ensures same_source { SameSource pull.old pull.new }
+    ensures frame { Frame pull.old pull.new result }
     ensures put { OnOk result (text.new.items ≡ text.old.items
         ++ (der_header tag constructed (length contents.now) ++ contents.now)) }
     ensures still { OnOk result (pull.new ≡ pull.old) }
     ensures stops { IfErr result (λ e. (e ≡ Memory) × (source pull.new ≡ source pull.old)
         × (standing pull.new ≡ failed_with e (standing pull.old))) }
-    ensures keeps { Keeps pull.new result }
-    ensures read { ReadsFail pull.old pull.new result }
-    ensures onward { Onward pull.old pull.new }
 {
     match push_element(text, tag, constructed, contents) {
         Ok(()) => Ok(()),
@@ -83,16 +80,13 @@ fn read_contents<R: Source>(
     contents: &mut Vec<u8>,
 ) -> Result<(), ReadError>
     requires { (standing pull.old).error ≡ None → IsSome (standing pull.old).given }
-    ensures same_source { SameSource pull.old pull.new }
+    ensures frame { Frame pull.old pull.new result }
     ensures repeats { Repeats pull.old pull.new result }
     ensures reads { (own : Identified) (g : Given) → (standing pull.old).error ≡ None
         → (standing pull.old).given ≡ Some g
         → Answers pull.old pull.new (read_given_contents form own (standing pull.old) g)
         (heard (λ _. Leaf own contents.new.items) result) }
     ensures stands { OnOk result (Uses pull.old pull.new) }
-    ensures keeps { Keeps pull.new result }
-    ensures read { ReadsFail pull.old pull.new result }
-    ensures onward { Onward pull.old pull.new }
 {
     match form {
         OpenForm::Leaf(kind) => read_leaf_into(alloc, pull, kind, contents),
@@ -114,16 +108,13 @@ fn append_leaf<R: Source>(
     form: OpenForm,
 ) -> Result<(), ReadError>
     requires { (standing pull.old).error ≡ None → IsSome (standing pull.old).given }
-    ensures same_source { SameSource pull.old pull.new }
+    ensures frame { Frame pull.old pull.new result }
     ensures repeats { Repeats pull.old pull.new result }
     ensures reads { (g : Given) → (standing pull.old).error ≡ None
         → (standing pull.old).given ≡ Some g
         → AnswersText pull.old pull.new
         (read_given_contents form tag (standing pull.old) g) text.old.items text.new.items result }
     ensures stands { OnOk result (Uses pull.old pull.new) }
-    ensures keeps { Keeps pull.new result }
-    ensures read { ReadsFail pull.old pull.new result }
-    ensures onward { Onward pull.old pull.new }
 {
     read_contents(alloc, pull, form, room)?;
     append_element(pull, text, tag, false, room)
@@ -138,16 +129,13 @@ fn arranged<R: Source>(
 ) -> Result<Vec<u8>, ReadError>
     requires fine { (standing pull.old).error ≡ None }
     requires texts { (values : List Value) × StandIn values octets.items starts.now }
-    ensures same_source { SameSource pull.old pull.new }
+    ensures frame { Frame pull.old pull.new result }
     ensures is { IfOk result (λ contents. (values : List Value) (tag : Identified)
         → StandIn values octets.items starts.now
         → der (SetOf tag (values_of values)) ≡ framed tag contents.items) }
     ensures still { OnOk result (pull.new ≡ pull.old) }
     ensures stops { IfErr result (λ e. (e ≡ Memory) × (source pull.new ≡ source pull.old)
         × (standing pull.new ≡ failed_with e (standing pull.old))) }
-    ensures keeps { Keeps pull.new result }
-    ensures read { ReadsFail pull.old pull.new result }
-    ensures onward { Onward pull.old pull.new }
 {
     match in_order(alloc, octets, starts) {
         Ok(sorted) => Ok(sorted),
@@ -189,7 +177,7 @@ fn append_members<R: Source>(
 ) -> Result<(), ReadError>
     requires given { (standing pull.old).error ≡ None → IsSome (standing pull.old).given }
     requires none { starts.old.items ≡ [] }
-    ensures same_source { SameSource pull.old pull.new }
+    ensures frame { Frame pull.old pull.new result }
     ensures repeats { Repeats pull.old pull.new result }
     ensures reads { (deep : ℕ) (g : Given) → (standing pull.old).error ≡ None
         → (standing pull.old).given ≡ Some g
@@ -199,9 +187,6 @@ fn append_members<R: Source>(
     ensures texts { OnOk result ((values : List Value)
         × StandBehind is_set values text.old.items text.new.items starts.new.items) }
     ensures stands { OnOk result (Uses pull.old pull.new) }
-    ensures keeps { Keeps pull.new result }
-    ensures read { ReadsFail pull.old pull.new result }
-    ensures onward { Onward pull.old pull.new }
 {
     pull.enter()?;
     while let Some((tag, constructed)) = pull.next_tag()? {
@@ -225,7 +210,7 @@ fn append_set<R: Source>(
     tag: Tag,
 ) -> Result<(), ReadError>
     requires { (standing pull.old).error ≡ None → IsSome (standing pull.old).given }
-    ensures same_source { SameSource pull.old pull.new }
+    ensures frame { Frame pull.old pull.new result }
     ensures repeats { Repeats pull.old pull.new result }
     ensures reads { (deep : ℕ) (g : Given) → (standing pull.old).error ≡ None
         → (standing pull.old).given ≡ Some g
@@ -234,9 +219,6 @@ fn append_set<R: Source>(
         (read_given_container deep true tag (standing pull.old) g) text.old.items
         text.new.items result }
     ensures stands { OnOk result (Uses pull.old pull.new) }
-    ensures keeps { Keeps pull.new result }
-    ensures read { ReadsFail pull.old pull.new result }
-    ensures onward { Onward pull.old pull.new }
 {
     let mut octets = Vec::new(alloc);
     let mut starts = Vec::new(alloc);
@@ -256,7 +238,7 @@ fn append_sequence<R: Source>(
     tag: Tag,
 ) -> Result<(), ReadError>
     requires { (standing pull.old).error ≡ None → IsSome (standing pull.old).given }
-    ensures same_source { SameSource pull.old pull.new }
+    ensures frame { Frame pull.old pull.new result }
     ensures repeats { Repeats pull.old pull.new result }
     ensures reads { (deep : ℕ) (g : Given) → (standing pull.old).error ≡ None
         → (standing pull.old).given ≡ Some g
@@ -265,9 +247,6 @@ fn append_sequence<R: Source>(
         (read_given_container deep false tag (standing pull.old) g) text.old.items
         text.new.items result }
     ensures stands { OnOk result (Uses pull.old pull.new) }
-    ensures keeps { Keeps pull.new result }
-    ensures read { ReadsFail pull.old pull.new result }
-    ensures onward { Onward pull.old pull.new }
 {
     let start = text.len();
     let mut starts = Vec::new(alloc);
@@ -297,7 +276,7 @@ pub fn append_open<R: Source>(
 ) -> Result<(), ReadError>
     requires given { (standing pull.old).error ≡ None → IsSome (standing pull.old).given }
     requires next { (standing pull.old).error ≡ None → IsNext tag constructed (standing pull.old) }
-    ensures same_source { SameSource pull.old pull.new }
+    ensures frame { Frame pull.old pull.new result }
     ensures repeats { Repeats pull.old pull.new result }
     ensures reads { (deep : ℕ) (g : Given) → (standing pull.old).error ≡ None
         → (standing pull.old).given ≡ Some g
@@ -305,9 +284,6 @@ pub fn append_open<R: Source>(
         → AnswersText pull.old pull.new
         (read_given_open deep (standing pull.old) g) text.old.items text.new.items result }
     ensures stands { OnOk result (Uses pull.old pull.new) }
-    ensures keeps { Keeps pull.new result }
-    ensures read { ReadsFail pull.old pull.new result }
-    ensures onward { Onward pull.old pull.new }
 {
     let form = open_form(tag);
     match form {

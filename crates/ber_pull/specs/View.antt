@@ -69,6 +69,14 @@ pub record Onward {R : Type 0} {s : Ghosts R} (old new : Pull R s) : Type 0 wher
   pub same_limits : new.state.limits ≡ old.state.limits
   pub forward : old.state.taken ≤ new.state.taken
 
+-- The frame of a reader: what its call leaves as it was, whatever was read, and how it stands behind an error.
+pub record Frame {R : Type 0} {s : Ghosts R} {A : Type 0} (old new : Pull R s) (result : Result A ReadError) : Type 0
+  where
+    pub same_source : SameSource old new
+    pub keeps : Keeps new result
+    pub read : ReadsFail old new result
+    pub onward : Onward old new
+
 -- what the call answered is what this reading gives for the octets told, and what it took are the first of them
 abbrev pub Answers : {R : Type 0} {s : Ghosts R} {A : Type 0} → Pull R s → Pull R s → Reading A → Heard A → Type 0
 Answers old new p h = Hears p old.state.taken (told old) h new.state.taken (told new)

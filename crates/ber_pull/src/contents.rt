@@ -22,7 +22,7 @@ const SHORT: usize = 32;
 const MIDDLE: usize = 160;
 
 impl<R: Source> Pull<'_, R> {
-    ghost use Rattle.ber_pull.specs.View.{FailsThere, standing, SameSource, Repeats, Keeps, ReadsFail, Onward, Answers, Moves, Uses};
+    ghost use Rattle.ber_pull.specs.View.{FailsThere, standing, SameSource, Repeats, ReadsFail, Onward, Answers, Moves, Uses, Frame};
     ghost use Rattle.ber_pull.specs.Contents.{AddsPiece};
 
     /// The contents of the primitive element that `next_tag` gave.
@@ -30,7 +30,7 @@ impl<R: Source> Pull<'_, R> {
     /// Faults: `WrongForm` of a constructed element, `BadLength`, `PastEnd`, `TooLong` at the identifier; `Truncated`.
     pub fn primitive(&mut self, alloc: Global) -> Result<Vec<u8>, ReadError>
         requires { (standing self.old).error ≡ None → IsSome (standing self.old).given }
-        ensures same_source { SameSource self.old self.new }
+        ensures frame { Frame self.old self.new result }
         ensures repeats { Repeats self.old self.new result }
         ensures reads { (g : Given) → (standing self.old).error ≡ None
             → (standing self.old).given ≡ Some g
@@ -38,9 +38,6 @@ impl<R: Source> Pull<'_, R> {
             (heard (λ v. v.items) result) }
         ensures stands { OnOk result (Uses self.old self.new) }
         ensures fails { FailsThere self.old self.new result }
-        ensures keeps { Keeps self.new result }
-        ensures read { ReadsFail self.old self.new result }
-        ensures onward { Onward self.old self.new }
     {
         let mut octets = Vec::new(alloc);
         self.primitive_into(&mut octets)?;
@@ -52,7 +49,7 @@ impl<R: Source> Pull<'_, R> {
     #[inline(always)]
     pub fn primitive_into(&mut self, octets: &mut Vec<u8>) -> Result<(), ReadError>
         requires { (standing self.old).error ≡ None → IsSome (standing self.old).given }
-        ensures same_source { SameSource self.old self.new }
+        ensures frame { Frame self.old self.new result }
         ensures repeats { Repeats self.old self.new result }
         ensures reads { (g : Given) → (standing self.old).error ≡ None
             → (standing self.old).given ≡ Some g
@@ -60,9 +57,6 @@ impl<R: Source> Pull<'_, R> {
             (heard (λ _. octets.new.items) result) }
         ensures stands { OnOk result (Uses self.old self.new) }
         ensures fails { FailsThere self.old self.new result }
-        ensures keeps { Keeps self.new result }
-        ensures read { ReadsFail self.old self.new result }
-        ensures onward { Onward self.old self.new }
     {
         if let Some(error) = self.state.error() {
             return Err(error);
@@ -82,15 +76,12 @@ impl<R: Source> Pull<'_, R> {
         start: u32,
     ) -> Result<(), ReadError>
         requires { (standing self.old).error ≡ None }
-        ensures same_source { SameSource self.old self.new }
+        ensures frame { Frame self.old self.new result }
         ensures reads { Answers self.old self.new
             (primitive_contents (standing self.old).limits (enclosing (standing self.old)) start)
             (heard (λ _. octets.new.items) result) }
         ensures stands { OnOk result (Uses self.old self.new) }
         ensures fails { FailsThere self.old self.new result }
-        ensures keeps { Keeps self.new result }
-        ensures read { ReadsFail self.old self.new result }
-        ensures onward { Onward self.old self.new }
     {
         let count = self.definite_length(start)?;
         self.contents(octets, count)?;

@@ -23,7 +23,7 @@ pub enum LengthForm {
 }
 
 impl<R: Source> Pull<'_, R> {
-    ghost use Rattle.ber_pull.specs.View.{AsksNoMemory, FailsThere, standing, source, told, SameSource, Keeps, ReadsFail, Onward, Answers, Moves};
+    ghost use Rattle.ber_pull.specs.View.{AsksNoMemory, FailsThere, standing, source, told, SameSource, ReadsFail, Onward, Answers, Moves, Frame};
     ghost use Rattle.ber_pull.specs.Lengths.{AnswersClipped, IsClipped, IsWithin, form_of};
 
     /// The next octet of a header or of end-of-contents octets, which belongs to the identifier at `start`.
@@ -68,7 +68,7 @@ impl<R: Source> Pull<'_, R> {
     #[inline(never)]
     pub(crate) fn end_of_contents(&mut self, start: u32) -> Result<(), ReadError>
         requires { (standing self.old).error ≡ None }
-        ensures same_source { SameSource self.old self.new }
+        ensures frame { Frame self.old self.new result }
         ensures reads { Answers self.old self.new
             (read_end_of_contents (standing self.old).limits
             (enclosing (standing self.old)) start) (heard (λ _. ContainerEnds start) result) }
@@ -78,10 +78,7 @@ impl<R: Source> Pull<'_, R> {
             ≡ ending (moved (standing self.new).taken (standing self.old))) }
         ensures ends { OnOk result (is_over (standing self.new) ≡ true) }
         ensures fails { FailsThere self.old self.new result }
-        ensures keeps { Keeps self.new result }
-        ensures read { ReadsFail self.old self.new result }
         ensures memory { AsksNoMemory self.old result }
-        ensures onward { Onward self.old self.new }
     {
         if !self.state.is_indefinite() {
             return Err(self.stop(start, Reason::BadEnd));

@@ -30,7 +30,7 @@ pub struct Pull<'a, R: Source> {
 }
 
 impl<'a, R: Source> Pull<'a, R> {
-    ghost use Rattle.ber_pull.specs.View.{AsksNoMemory, FailsThere, standing, source, SameSource, Unmoved, Repeats, Keeps, ReadsFail, Onward, Answers, Opens};
+    ghost use Rattle.ber_pull.specs.View.{AsksNoMemory, FailsThere, standing, source, SameSource, Unmoved, Repeats, Answers, Opens, Frame};
     ghost use Rattle.ber_pull.specs.Lengths.{IsWithin, form_of};
 
     /// A reader at place 0, with no container open.
@@ -78,7 +78,7 @@ impl<'a, R: Source> Pull<'a, R> {
     /// Faults, at the identifier: `BadEnd`, `BadTag`, `TooDeep`, and `PastEnd`, `TooLong` or `Truncated` by its octets.
     #[inline(always)]
     pub fn next_tag(&mut self) -> Result<Option<(Tag, bool)>, ReadError>
-        ensures same_source { SameSource self.old self.new }
+        ensures frame { Frame self.old self.new result }
         ensures repeats { Repeats self.old self.new result }
         ensures reads { (standing self.old).error ≡ None
             → Answers self.old self.new (read_next (standing self.old))
@@ -104,10 +104,7 @@ impl<'a, R: Source> Pull<'a, R> {
             → IfOk result (λ next. IsSome next
             → (standing self.old).taken < (standing self.new).taken) }
         ensures fails { FailsThere self.old self.new result }
-        ensures keeps { Keeps self.new result }
-        ensures read { ReadsFail self.old self.new result }
         ensures memory { AsksNoMemory self.old result }
-        ensures onward { Onward self.old self.new }
     {
         if let Some(error) = self.state.error() {
             return Err(error);
@@ -143,7 +140,7 @@ impl<'a, R: Source> Pull<'a, R> {
     #[inline(always)]
     pub fn enter(&mut self) -> Result<(), ReadError>
         requires { (standing self.old).error ≡ None → IsSome (standing self.old).given }
-        ensures same_source { SameSource self.old self.new }
+        ensures frame { Frame self.old self.new result }
         ensures repeats { Repeats self.old self.new result }
         ensures reads { (g : Given) → (standing self.old).error ≡ None
             → (standing self.old).given ≡ Some g
@@ -152,10 +149,7 @@ impl<'a, R: Source> Pull<'a, R> {
         ensures stands { OnOk result (Opens self.old self.new) }
         ensures advances { OnOk result ((standing self.old).taken < (standing self.new).taken) }
         ensures fails { FailsThere self.old self.new result }
-        ensures keeps { Keeps self.new result }
-        ensures read { ReadsFail self.old self.new result }
         ensures memory { AsksNoMemory self.old result }
-        ensures onward { Onward self.old self.new }
     {
         if let Some(error) = self.state.error() {
             return Err(error);
@@ -175,7 +169,7 @@ impl<'a, R: Source> Pull<'a, R> {
     /// Faults, at the identifier that stands there: `Extra`, and those of `next_tag`.
     pub fn leave(&mut self) -> Result<(), ReadError>
         requires { (standing self.old).error ≡ None → (standing self.old).containers ≡ [] → ⊥ }
-        ensures same_source { SameSource self.old self.new }
+        ensures frame { Frame self.old self.new result }
         ensures repeats { Repeats self.old self.new result }
         ensures reads { (standing self.old).error ≡ None
             → Answers self.old self.new (read_leaving (standing self.old))
@@ -185,10 +179,7 @@ impl<'a, R: Source> Pull<'a, R> {
         ensures ended { (standing self.old).error ≡ None → IsAtEnd (standing self.old)
             → (result ≡ Ok tt) × (source self.new ≡ source self.old)
             × (standing self.new ≡ closing (standing self.old)) }
-        ensures keeps { Keeps self.new result }
-        ensures read { ReadsFail self.old self.new result }
         ensures memory { AsksNoMemory self.old result }
-        ensures onward { Onward self.old self.new }
     {
         if let Some(error) = self.state.error() {
             return Err(error);

@@ -102,7 +102,7 @@ fn clear_unused(mut octets: Vec<u8>, unused: u8) -> Vec<u8>
 }
 
 impl<R: Source> Pull<'_, R> {
-    ghost use Rattle.ber_pull.specs.View.{standing, SameSource, Repeats, Keeps, ReadsFail, Onward, Answers, Uses};
+    ghost use Rattle.ber_pull.specs.View.{standing, Repeats, Answers, Uses, Frame};
     ghost use Rattle.ber_pull.specs.Segments.{AddsSegment, AnswersJoined, Joins, Level, Stacked, Steps, read_one_segment, read_rest, segment_number};
 
     /// The octets of the string that `next_tag` gave, its segments joined. Segments have the tag of OCTET STRING.
@@ -110,16 +110,13 @@ impl<R: Source> Pull<'_, R> {
     /// Faults: those of `primitive`, and at a segment's identifier those of `next_tag`, `enter` and `WrongTag`.
     pub fn octets(&mut self, alloc: Global) -> Result<Vec<u8>, ReadError>
         requires { (standing self.old).error ≡ None → IsSome (standing self.old).given }
-        ensures same_source { SameSource self.old self.new }
+        ensures frame { Frame self.old self.new result }
         ensures repeats { Repeats self.old self.new result }
         ensures reads { (g : Given) → (standing self.old).error ≡ None
             → (standing self.old).given ≡ Some g
             → Answers self.old self.new (read_octets (standing self.old) g)
             (heard (λ v. v.items) result) }
         ensures stands { OnOk result (Uses self.old self.new) }
-        ensures keeps { Keeps self.new result }
-        ensures read { ReadsFail self.old self.new result }
-        ensures onward { Onward self.old self.new }
     {
         if let Some(error) = self.state.error() {
             return Err(error);
@@ -132,16 +129,13 @@ impl<R: Source> Pull<'_, R> {
     /// holds after an error isn't said.
     pub fn octets_into(&mut self, alloc: Global, octets: &mut Vec<u8>) -> Result<(), ReadError>
         requires { (standing self.old).error ≡ None → IsSome (standing self.old).given }
-        ensures same_source { SameSource self.old self.new }
+        ensures frame { Frame self.old self.new result }
         ensures repeats { Repeats self.old self.new result }
         ensures reads { (g : Given) → (standing self.old).error ≡ None
             → (standing self.old).given ≡ Some g
             → Answers self.old self.new (read_octets (standing self.old) g)
             (heard (λ _. octets.new.items) result) }
         ensures stands { OnOk result (Uses self.old self.new) }
-        ensures keeps { Keeps self.new result }
-        ensures read { ReadsFail self.old self.new result }
-        ensures onward { Onward self.old self.new }
     {
         if let Some(error) = self.state.error() {
             return Err(error);
@@ -162,16 +156,13 @@ impl<R: Source> Pull<'_, R> {
     /// Faults: those of `octets`, and `BadBits` at the identifier of a primitive segment.
     pub fn bits(&mut self, alloc: Global) -> Result<(u8, Vec<u8>), ReadError>
         requires { (standing self.old).error ≡ None → IsSome (standing self.old).given }
-        ensures same_source { SameSource self.old self.new }
+        ensures frame { Frame self.old self.new result }
         ensures repeats { Repeats self.old self.new result }
         ensures reads { (g : Given) → (standing self.old).error ≡ None
             → (standing self.old).given ≡ Some g
             → Answers self.old self.new (read_bits (standing self.old) g)
             (heard (λ v. (v.0, v.1.items)) result) }
         ensures stands { OnOk result (Uses self.old self.new) }
-        ensures keeps { Keeps self.new result }
-        ensures read { ReadsFail self.old self.new result }
-        ensures onward { Onward self.old self.new }
     {
         if let Some(error) = self.state.error() {
             return Err(error);
@@ -186,15 +177,12 @@ impl<R: Source> Pull<'_, R> {
     fn joined(&mut self, alloc: Global, is_bits: bool) -> Result<Joined, ReadError>
         requires live { (standing self.old).error ≡ None }
         requires given { IsSome (standing self.old).given }
-        ensures same_source { SameSource self.old self.new }
+        ensures frame { Frame self.old self.new result }
         ensures reads { (g : Given) → (standing self.old).given ≡ Some g
             → AnswersJoined self.old self.new
             (read_segments (segment_number is_bits) (standing self.old) g) result }
         ensures kind { IfOk result (λ joined. joined.is_bits ≡ is_bits) }
         ensures stands { OnOk result (Uses self.old self.new) }
-        ensures keeps { Keeps self.new result }
-        ensures read { ReadsFail self.old self.new result }
-        ensures onward { Onward self.old self.new }
     {
         let mut joined = Joined::new(alloc, is_bits);
         let given = self.state.given().unwrap();
@@ -216,7 +204,7 @@ impl<R: Source> Pull<'_, R> {
         requires unused { (standing self.old).given ≡ None }
         requires inside { 0 < length (standing self.old).containers }
         requires depth { length (standing self.old).containers ≤ (standing self.old).limits.depth }
-        ensures same_source { SameSource self.old self.new }
+        ensures frame { Frame self.old self.new result }
         ensures reads { (around : List Container) (v : Level) (vs : List Level) (s : List (List ℕ))
             → Stacked (standing self.old) around (v ∷ vs) (standing self.old).containers
             → Joins joined.old s
@@ -229,9 +217,6 @@ impl<R: Source> Pull<'_, R> {
         ensures falls { OnOk result (2 * (standing self.old).taken
             + length (standing self.new).containers < 2 * (standing self.new).taken
             + length (standing self.old).containers) }
-        ensures keeps { Keeps self.new result }
-        ensures read { ReadsFail self.old self.new result }
-        ensures onward { Onward self.old self.new }
     {
         let start = self.state.taken();
         let Some(next) = self.next_tag()? else {
@@ -254,16 +239,13 @@ impl<R: Source> Pull<'_, R> {
     #[inline(always)]
     fn segment(&mut self, alloc: Global, start: u32, joined: &mut Joined) -> Result<(), ReadError>
         requires live { (standing self.old).error ≡ None }
-        ensures same_source { SameSource self.old self.new }
+        ensures frame { Frame self.old self.new result }
         ensures reads { (s : List (List ℕ)) → Joins joined.old s
             → AddsSegment self.old self.new
             (read_one_segment (segment_number joined.old.is_bits) (standing self.old).limits
             (enclosing (standing self.old)) s start) joined.new result }
         ensures kind { joined.new.is_bits ≡ joined.old.is_bits }
         ensures stands { OnOk result (Uses self.old self.new) }
-        ensures keeps { Keeps self.new result }
-        ensures read { ReadsFail self.old self.new result }
-        ensures onward { Onward self.old self.new }
     {
         let mut contents = Vec::new(alloc);
         self.primitive_contents(&mut contents, start)?;

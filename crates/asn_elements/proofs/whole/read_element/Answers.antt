@@ -13,7 +13,7 @@ returns-in_err-next_tag-clause-reads g c =
     let heard = first_next l c.args.src.now c.new-pull.result c.next_tag.new.self
     (Err c.in_err-next_tag.field-0.0)
     c.new-pull.ensures.start c.new-pull.ensures.same c.in_err-next_tag.ensures.reads in
-    let same_limits = c.in_err-next_tag.ensures.onward.same_limits ∙ ap (λ w. w.limits) c.new-pull.ensures.start in
+    let same_limits = c.in_err-next_tag.ensures.frame.onward.same_limits ∙ ap (λ w. w.limits) c.new-pull.ensures.start in
     let still = ap (λ w. w.octets) same_limits in
     let inside = c.next_tag.new.self.within in
     let within : c.next_tag.new.self.state.taken ≤ l.octets = omega arith in
@@ -40,7 +40,7 @@ returns-in_err-value-clause-reads g c =
     let stands = given_next l c.new-pull.result c.next_tag.new.self c.in_ok-next_tag.field-0 t c.in-Some.is
     c.new-pull.ensures.start c.in_ok-next_tag.ensures.stands in
     let read = c.in_err-value.ensures.reads given (ap (λ w. w.error) stands) (ap (λ w. w.given) stands) in
-    let same_limits = c.in_err-value.ensures.onward.same_limits ∙ ap (λ w. w.limits) stands in
+    let same_limits = c.in_err-value.ensures.frame.onward.same_limits ∙ ap (λ w. w.limits) stands in
     let still = ap (λ w. w.octets) same_limits in
     let inside = c.read.new.pull.within in
     let within : c.read.new.pull.state.taken ≤ l.octets = omega arith in
@@ -81,7 +81,7 @@ returns-clause-short g c =
     let stands = given_next l c.new-pull.result c.next_tag.new.self c.in_ok-next_tag.field-0 t c.in-Some.is
     c.new-pull.ensures.start c.in_ok-next_tag.ensures.stands in
     let read = c.in_ok-value.ensures.reads given (ap (λ w. w.error) stands) (ap (λ w. w.given) stands) in
-    let same_limits = c.in_ok-value.ensures.onward.same_limits ∙ ap (λ w. w.limits) stands in
+    let same_limits = c.in_ok-value.ensures.frame.onward.same_limits ∙ ap (λ w. w.limits) stands in
     let fits = (subst (λ o. IfSome o (λ t. IsGiven t.0 c.next_tag.new.self.state))
     c.in-Some.is c.in_ok-next_tag.ensures.fits).octets_fit in
     let limits = ap (λ w. w.limits.octets) stands in

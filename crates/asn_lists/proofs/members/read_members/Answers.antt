@@ -42,7 +42,7 @@ loop-items-init g c =
             [],
             rw c.new-items.ensures.items tt,
             inside_start (read_type limits type []) c.args.pull.now c.enter.new.self given stands.0 is
-                (search rules) c.in_ok-enter.ensures.same_source stands.1 c.in_ok-enter.ensures.advances
+                (search rules) c.in_ok-enter.ensures.frame.same_source stands.1 c.in_ok-enter.ensures.advances
                 (c.in_ok-enter.ensures.reads given fine is),
           ),
     )
@@ -108,9 +108,9 @@ returns-in_err-keep-clause-reads g c = λ given fine is.
     (inside_here one p c.args.pull.now c.loop-items.pull before.0 i c.next_tag.new.self _ next) member in
     let more = inside_more one p c.args.pull.now c.loop-items.pull before.0 i c.next_tag.new.self c.read.new.pull
     (place c.loop-items.pull.state)
-    c.in-Some._next.0 c.in-Some._next.1 read.0 next c.in_ok-_next.ensures.same_source stands
-    (search rules) member c.in_ok-item.ensures.same_source c.in_ok-item.ensures.stands
-    (search rules) c.in_ok-item.ensures.onward.forward short below in
+    c.in-Some._next.0 c.in-Some._next.1 read.0 next c.in_ok-_next.ensures.frame.same_source stands
+    (search rules) member c.in_ok-item.ensures.frame.same_source c.in_ok-item.ensures.stands
+    (search rules) c.in_ok-item.ensures.frame.onward.forward short below in
     let stop = c.in_err-keep.ensures.stops in
     members_err c.args.pull.now c.keep.new.pull (read_given_members g.T.Element.type_term c.args.pull.now.state given)
     (λ v. map g.T.DerText.value v.0.items) (λ v. v.1) c.from_residual-in_err-keep.result c.in_err-keep.field-0.0
@@ -154,9 +154,9 @@ loop-items-preserved g c = (
       (inside_here one p c.args.pull.now c.loop-items.pull before.0 i c.next_tag.new.self _ next) member in
       let more = inside_more one p c.args.pull.now c.loop-items.pull before.0 i c.next_tag.new.self c.read.new.pull
       (place c.loop-items.pull.state)
-      c.in-Some._next.0 c.in-Some._next.1 read.0 next c.in_ok-_next.ensures.same_source stands
-      (search rules) member c.in_ok-item.ensures.same_source c.in_ok-item.ensures.stands
-      (search rules) c.in_ok-item.ensures.onward.forward short below in
+      c.in-Some._next.0 c.in-Some._next.1 read.0 next c.in_ok-_next.ensures.frame.same_source stands
+      (search rules) member c.in_ok-item.ensures.frame.same_source c.in_ok-item.ensures.stands
+      (search rules) c.in_ok-item.ensures.frame.onward.forward short below in
       let kept : map g.T.DerText.value c.keep.new.items.items
       ≡ map g.T.DerText.value c.loop-items.items.items ++ g.T.DerText.value c.in_ok-item.item ∷ [] = ap
       (map g.T.DerText.value) c.in_ok-keep.ensures.kept

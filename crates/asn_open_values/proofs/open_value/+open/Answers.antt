@@ -207,7 +207,7 @@ append_members-loop-tag-init g t c =
             [],
             (sym (append-nil _), λ _. c.requires.none),
             inside_start (λ inside. read_open deep limits inside) c.args.pull.now c.enter.new.self given stands.0 is
-                (search rules) c.in_ok-enter.ensures.same_source stands.1 c.in_ok-enter.ensures.advances
+                (search rules) c.in_ok-enter.ensures.frame.same_source stands.1 c.in_ok-enter.ensures.advances
                 (c.in_ok-enter.ensures.reads given fine is),
           ),
     )
@@ -258,9 +258,9 @@ append_members-returns-in_err-keep-clause-reads g t c = λ deep given fine is bo
     before.0 i c.in-Some.tag c.in-Some.constructed next stands bound in
     let read = c.in_ok-append_open.ensures.reads deep new-given (search rules) (ap (λ z. z.given) stands) room in
     let more = member_more deep c.args.pull.now c.loop-tag.pull c.next_tag.new.self c.append_open.new.pull given
-    before.0 i c.in-Some.tag c.in-Some.constructed next stands read.0 read.2 c.in_ok-tag.ensures.same_source
-    c.in_ok-append_open.ensures.same_source c.in_ok-append_open.ensures.stands
-    (search rules) c.in_ok-append_open.ensures.onward.forward (search rules) fits in
+    before.0 i c.in-Some.tag c.in-Some.constructed next stands read.0 read.2 c.in_ok-tag.ensures.frame.same_source
+    c.in_ok-append_open.ensures.frame.same_source c.in_ok-append_open.ensures.stands
+    (search rules) c.in_ok-append_open.ensures.frame.onward.forward (search rules) fits in
     let stop = c.in_err-keep.ensures.stops in
     texts_err c.args.pull.now c.keep.new.pull
     (read_given_open_members deep c.args.pull.now.state given)
@@ -302,9 +302,9 @@ append_members-loop-tag-preserved-in-Continue-branch-5 g t c = (
       before.0 i c.in-Some.tag c.in-Some.constructed next stands bound in
       let read = c.in_ok-append_open.ensures.reads deep new-given (search rules) (ap (λ z. z.given) stands) room in
       let more = member_more deep c.args.pull.now c.loop-tag.pull c.next_tag.new.self c.append_open.new.pull given
-      before.0 i c.in-Some.tag c.in-Some.constructed next stands read.0 read.2 c.in_ok-tag.ensures.same_source
-      c.in_ok-append_open.ensures.same_source c.in_ok-append_open.ensures.stands
-      (search rules) c.in_ok-append_open.ensures.onward.forward (search rules) fits in (
+      before.0 i c.in-Some.tag c.in-Some.constructed next stands read.0 read.2 c.in_ok-tag.ensures.frame.same_source
+      c.in_ok-append_open.ensures.frame.same_source c.in_ok-append_open.ensures.stands
+      (search rules) c.in_ok-append_open.ensures.frame.onward.forward (search rules) fits in (
         before.0 ++ read.0 ∷ [],
         behind_more _ _ _ _ _ _ before.0 read.0 c.len-start.result before.1 read.1 (λ _. c.in_ok-keep.ensures.kept)
             (search rules),
@@ -344,9 +344,9 @@ append_members-loop-tag-preserved g t c = (
       before.0 i c.in-Some.tag c.in-Some.constructed next stands bound in
       let read = c.in_ok-append_open.ensures.reads deep new-given (search rules) (ap (λ z. z.given) stands) room in
       let more = member_more deep c.args.pull.now c.loop-tag.pull c.next_tag.new.self c.append_open.new.pull given
-      before.0 i c.in-Some.tag c.in-Some.constructed next stands read.0 read.2 c.in_ok-tag.ensures.same_source
-      c.in_ok-append_open.ensures.same_source c.in_ok-append_open.ensures.stands
-      (search rules) c.in_ok-append_open.ensures.onward.forward (search rules) fits in (
+      before.0 i c.in-Some.tag c.in-Some.constructed next stands read.0 read.2 c.in_ok-tag.ensures.frame.same_source
+      c.in_ok-append_open.ensures.frame.same_source c.in_ok-append_open.ensures.stands
+      (search rules) c.in_ok-append_open.ensures.frame.onward.forward (search rules) fits in (
         before.0 ++ read.0 ∷ [],
         behind_more _ _ _ _ _ _ before.0 read.0 c.len-start.result before.1 read.1
             (λ yes. let no = sym yes ∙ c.if-is_set.false in cc) (search rules),

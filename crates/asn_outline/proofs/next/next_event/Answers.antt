@@ -37,7 +37,7 @@ returns-in-Err c =
     let r = c.requires.ready in
     next_errs c.args.document.now c.args.pull.now.state c.args.pull.now.src.now.now r c.in-Err.error
     c.next_tag.new.self.state.taken c.next_tag.new.self.src.now.now
-    (c.in-Err.ensures.reads r.reading.fine) (c.in-Err.ensures.read r.reading.fine)
+    (c.in-Err.ensures.reads r.reading.fine) (c.in-Err.ensures.frame.read r.reading.fine)
 
 pub header_at-header-requires : goal.header_at-header-requires
 header_at-header-requires c =
@@ -74,7 +74,7 @@ returns-in-Ok c =
     ∙ header_is c.args.document.now s c.args.pull.now.src.now.now r t.0 t.1 m.state m.src.now.now next mid further
     c.at-at.result c.args.depth at c.requires.depth))
     (begin_leads c.args.document.now s c.args.pull.now.src.now.now r t.0 t.1 m.state m.src.now.now next mid further
-    n.state n.src.now.now c.at.result opens.0 c.if-constructed.true reads (c.in-Ok.ensures.keeps.0) opens.1
+    n.state n.src.now.now c.at.result opens.0 c.if-constructed.true reads (c.in-Ok.ensures.frame.keeps.0) opens.1
     (place_is n.state c.at.result (ap (λ z. z.given) opens.1) c.at.ensures.value))
 
 pub returns-in-Err-enter : goal.returns-in-Err-enter
@@ -98,7 +98,7 @@ returns-in-Err-enter c =
     (enter_errs c.args.document.now s c.args.pull.now.src.now.now r t.0 t.1 m.state m.src.now.now next mid further
     c.in-Err-enter.error n.state.taken n.src.now.now c.if-constructed.true
     (c.in-Err-enter.ensures.reads (record { at = s.taken; tag = t.0; constructed = t.1 }) fine (ap (λ z. z.given) mid))
-    (c.in-Err-enter.ensures.read fine))
+    (c.in-Err-enter.ensures.frame.read fine))
 
 pub returns-in-Ok-primitive_into : goal.returns-in-Ok-primitive_into
 returns-in-Ok-primitive_into c =
@@ -127,7 +127,7 @@ returns-in-Ok-primitive_into c =
     c.primitive_into.new.octets.items n.state n.src.now.now c.saturating_sub-begin.result c.at-end.result
     c.if-constructed.false
     (c.in-Ok-primitive_into.ensures.reads (record { at = s.taken; tag = t.0; constructed = t.1 }) fine
-    (ap (λ z. z.given) mid)) (c.in-Ok-primitive_into.ensures.keeps.0) uses
+    (ap (λ z. z.given) mid)) (c.in-Ok-primitive_into.ensures.frame.keeps.0) uses
     (place_is n.state c.at-end.result (ap (λ z. z.given) uses) c.at-end.ensures.value) begins)
 
 pub returns-in-Err-primitive_into : goal.returns-in-Err-primitive_into
@@ -152,4 +152,4 @@ returns-in-Err-primitive_into c =
     c.in-Err-primitive_into.error n.state.taken n.src.now.now c.if-constructed.false
     (c.in-Err-primitive_into.ensures.reads (record { at = s.taken; tag = t.0; constructed = t.1 }) fine
     (ap (λ z. z.given) mid))
-    (c.in-Err-primitive_into.ensures.read fine))
+    (c.in-Err-primitive_into.ensures.frame.read fine))

@@ -32,7 +32,7 @@ returns-in-Some-clause-reads g c = λ fields given same fine is.
     let found = c.in_ok-value.ensures.reads given fine is in
     let refused : rule fields found.0 ≡ Some why =
     g.met.K.FieldRules.fair fields _ found.0 _ same found.1 ∙ sym c.judge.ensures ∙ c.in-Some.is in
-    let first = c.refuse.ensures.first c.in_ok-value.ensures.keeps.0 in
+    let first = c.refuse.ensures.first c.in_ok-value.ensures.frame.keeps.0 in
     let at : c.at-at.result ≡ given.at = c.at-at.ensures.value ∙ place_given old.state given is in
     refused_by (read_given_behind (RuledType rule T) fields old.state given) old c.read.new.pull c.refuse.new.self
     (fault given.at why) c.refuse.result

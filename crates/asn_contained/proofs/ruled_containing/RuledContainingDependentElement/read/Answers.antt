@@ -44,7 +44,7 @@ returns-in-Some-clause-reads g c = λ fields given same fine is.
     c.universal_tag.ensures found.2 in
     let refused : rule fields v ≡ Some why =
     g.met.K.FieldRules.fair fields _ v _ same found.1 ∙ sym c.judge.ensures ∙ c.in-Some.is in
-    let first = c.refuse.ensures.first c.in_ok-inner.ensures.keeps.0 in
+    let first = c.refuse.ensures.first c.in_ok-inner.ensures.frame.keeps.0 in
     let at : c.at-at.result ≡ given.at = c.at-at.ensures.value ∙ place_given old.state given is in
     refused_by
     (read_given_behind (ContainingType (universal 4) rule T) fields old.state given) old new c.refuse.new.self

@@ -42,7 +42,7 @@ returns-in_default-clause-reads g c = λ around v vs s stacked joins.
           (stack_ended c.args.self.now.state c.close.new.self around v vs c.args.self.now.state.containers
           (ap (λ w. w.limits) stands)
           (let e : c.close.new.self.taken ≡ c.next_tag.new.self.state.taken = ap (λ w. w.taken) c.close.ensures in
-          let f : c.args.self.now.state.taken ≤ c.next_tag.new.self.state.taken = c.in_ok-next.ensures.onward.forward in
+          let f : c.args.self.now.state.taken ≤ c.next_tag.new.self.state.taken = c.in_ok-next.ensures.frame.onward.forward in
           omega arith) stacked);
       joins = joins;
       reads =
@@ -90,7 +90,7 @@ returns-in_err-enter-clause-reads g c = λ around v vs s stacked joins.
     ∙ ap (λ w. after_next c.next_tag.new.self.state.taken w c.args.self.now.state) c.in-Some.is) c.if-constructed.true)
     (c.in_err-enter.ensures.reads
     (record { at = c.args.self.now.state.taken; tag = c.in-Some.next.0; constructed = c.in-Some.next.1 })
-    c.in_ok-next.ensures.keeps.0
+    c.in_ok-next.ensures.frame.keeps.0
     (ap (λ w. w.given)
     (c.in_ok-next.ensures.stands c.requires.unused
     ∙ ap (λ w. after_next c.next_tag.new.self.state.taken w c.args.self.now.state) c.in-Some.is))))))
@@ -108,7 +108,7 @@ returns-then-constructed-clause-reads g c = λ around v vs s stacked joins.
     ∙ ap (λ w. after_next c.next_tag.new.self.state.taken w c.args.self.now.state) c.in-Some.is) in
     let limits : c.enter.new.self.state.limits ≡ c.args.self.now.state.limits = ap (λ w. w.limits) stands in
     let further : c.args.self.now.state.taken < c.enter.new.self.state.taken =
-    omega (arith, c.in_ok-next.ensures.onward.forward, c.in_ok-enter.ensures.advances) in
+    omega (arith, c.in_ok-next.ensures.frame.onward.forward, c.in_ok-enter.ensures.advances) in
     let levels = level go.deep c.args.self.now.state.limits.octets (enclosing c.enter.new.self.state)
     ∷ level (suc go.deep) go.fuel v.around ∷ vs in
     record {
@@ -146,7 +146,7 @@ returns-then-constructed-clause-reads g c = λ around v vs s stacked joins.
           c.if-constructed.true)
           (c.in_ok-enter.ensures.reads
           (record { at = c.args.self.now.state.taken; tag = c.in-Some.next.0; constructed = c.in-Some.next.1 })
-          c.in_ok-next.ensures.keeps.0
+          c.in_ok-next.ensures.frame.keeps.0
           (ap (λ w. w.given)
           (c.in_ok-next.ensures.stands c.requires.unused
           ∙ ap (λ w. after_next c.next_tag.new.self.state.taken w c.args.self.now.state) c.in-Some.is)))));
@@ -187,7 +187,7 @@ returns-clause-reads g c = λ around v vs s stacked joins.
     ∙ ap (λ w. after_next c.next_tag.new.self.state.taken w c.args.self.now.state) c.in-Some.is) in
     let limits : c.segment.new.self.state.limits ≡ c.args.self.now.state.limits = ap (λ w. w.limits) stands in
     let further : c.args.self.now.state.taken < c.segment.new.self.state.taken = omega
-    (arith, c.in_ok-next.ensures.advances c.requires.unused (search rules), c.in_ok-segment.ensures.onward.forward) in
+    (arith, c.in_ok-next.ensures.advances c.requires.unused (search rules), c.in_ok-segment.ensures.frame.onward.forward) in
     let levels = level (suc go.deep) go.fuel v.around ∷ vs in
     record {
       levels = levels;
