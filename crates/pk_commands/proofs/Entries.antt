@@ -1,5 +1,5 @@
 -- What a run over named documents has come to, document after document.
-use Rattle.std.proofs.Common.{◌≡◌, ◌∙◌, ◌+◌, ◌≤◌, ◌++◌, List, [], ◌∷◌, Option, ap, append-nil, arith, length, length-append, max, refl, subst, sym, take, ℕ}
+use Rattle.std.proofs.Common.{◌≡◌, ◌∙◌, ◌+◌, ◌^◌, ◌≤◌, ◌++◌, List, [], ◌∷◌, Option, ap, append-nil, arith, inr, length, length-append, max, refl, subst, sym, take, ℕ}
 use Rattle.std.proofs.KnownBytes.{Appends-trans}
 use Rattle.std.proofs.Math.Seq.{take-append-add}
 use Rattle.std.proofs.lemmas.Grind.{flat_map-append}
@@ -9,10 +9,12 @@ use Rattle.std.specs.Io.KnownBytes.{Appends}
 use Rattle.std.specs.List.{fold}
 use Rattle.x690.specs.Values.{Value}
 use Rattle.pk_documents.specs.declared.document.Document.{Document}
-use Rattle.pk_commands.specs.Files.{AreSaid, Entry, FilesTold, IsSaid, Went, names_of, texts_of}
+use Rattle.pk_commands.specs.Files.{AreSaid, Entry, FilesTold, GivesUp, IsSaid, Went, names_of, texts_of}
 use Rattle.pk_commands.specs.NameLists.{NoneLeft, TakesNames}
 use Rattle.pk_commands.specs.declared.files.FilesEnd.TheVariants as ends
 use Rattle.pk_commands.specs.declared.names.NamesFault.{NamesFault}
+use Rattle.pk_commands.specs.declared.names.NamesFault.TheVariants.{TooMany}
+use Rattle.pk_commands.specs.declared.opener.Unopened.{Unopened as Why}
 use Rattle.pk_commands.specs.declared.task.Task.{Task}
 use Rattle.pk_commands.proofs.NameLists.{list_begins, list_ends, names_go_on}
 
@@ -27,28 +29,30 @@ texts_behind all it =
 names_behind_all : (all : List Entry) (it : Entry) → names_of (all ++ it ∷ []) ≡ names_of all ++ it.name ∷ []
 names_behind_all all it = map-append (λ e. e.name) all (it ∷ [])
 
-module _ (value_of : Document → Value) (told : List ℕ → Option (List ℕ)) (task : Task)
-    (list left : Option (List (List ℕ))) (old mid : Option (List ℕ)) (status out : ℕ) (all : List Entry)
-    (went : Went value_of told task list left old mid status out all) where
-  pub through : NoneLeft left → FilesTold value_of told task list old mid (ends.Through status)
+module _ (value_of : Document → Value) (told : List ℕ → Option (List ℕ))
+    (refuses : List ℕ → Why → Type 0) (task : Task) (list left : Option (List (List ℕ)))
+    (stops : NamesFault → Type 0) (old mid : Option (List ℕ)) (status out : ℕ) (all : List Entry)
+    (went : Went value_of told refuses task list left old mid status out all) where
+  pub through : NoneLeft left → FilesTold value_of told refuses task list stops old mid (ends.Through status)
   through none = (all, went.said, (list_ends list left (names_of all) went.named none, went.written, went.status_is))
 
-  pub no_name : (fault : NamesFault) → FilesTold value_of told task list old mid (ends.NoName fault)
-  no_name fault = (all, went.said, (list_begins list left (names_of all) went.named, went.written))
+  pub no_name : (fault : NamesFault) → GivesUp (AreSaid value_of told refuses task) stops list all fault
+      → FilesTold value_of told refuses task list stops old mid (ends.NoName fault)
+  no_name fault gives_up = (all, went.said, (list_begins list left (names_of all) went.named, went.written, gives_up))
 
-  pub no_memory_for : FilesTold value_of told task list old mid ends.Memory
+  pub no_memory_for : FilesTold value_of told refuses task list stops old mid ends.Memory
   no_memory_for = (all, went.said, (list_begins list left (names_of all) went.named, went.written))
 
   module _ (new : Option (List (List ℕ))) (last : Option (List ℕ)) (name text : List ℕ) (this : ℕ)
-      (said : IsSaid value_of told task name this text) (next : TakesNames left new (name ∷ [])) where
+      (said : IsSaid value_of told refuses task name this text) (next : TakesNames left new (name ∷ [])) where
     abbrev it : Entry
     it = record { name = name; status = this; text = text }
 
-    all_said : AreSaid value_of told task (all ++ it ∷ [])
+    all_said : AreSaid value_of told refuses task (all ++ it ∷ [])
     all_said =
-        All-append (λ e. IsSaid value_of told task e.name e.status e.text) all (it ∷ []) went.said
-        (All-cons (λ e. IsSaid value_of told task e.name e.status e.text) it [] said
-        (All-nil (λ e. IsSaid value_of told task e.name e.status e.text)))
+        All-append (λ e. IsSaid value_of told refuses task e.name e.status e.text) all (it ∷ []) went.said
+        (All-cons (λ e. IsSaid value_of told refuses task e.name e.status e.text) it [] said
+        (All-nil (λ e. IsSaid value_of told refuses task e.name e.status e.text)))
 
     all_named : TakesNames list new (names_of (all ++ it ∷ []))
     all_named =
@@ -57,9 +61,11 @@ module _ (value_of : Document → Value) (told : List ℕ → Option (List ℕ))
 
     pub goes_further : (status_new out_new : ℕ) → status_new ≡ max status this → out_new ≡ out + length text
         → Appends mid last text
-        → (more : List Entry) × Went value_of told task list new old last status_new out_new more
+        → (more : List Entry) × (length more ≡ length all + 1)
+        × Went value_of told refuses task list new old last status_new out_new more
     goes_further status_new out_new status_is out_is written = (
       all ++ it ∷ [],
+      length-append all (it ∷ []),
       record {
         said = all_said;
         named = all_named;
@@ -75,9 +81,26 @@ module _ (value_of : Document → Value) (told : List ℕ → Option (List ℕ))
       },
     )
 
+    -- the octets can't be counted with those of its text
+    pub uncounted : 2 ^ 64 ≤ out + length text
+        → FilesTold value_of told refuses task list stops old mid (ends.NoName TooMany)
+    uncounted many =
+        let length_is : length (texts_of (all ++ it ∷ [])) ≡ length (texts_of all) + length text =
+        ap length (texts_behind all it) ∙ length-append (texts_of all) text in
+        no_name TooMany
+        (inr (
+          refl,
+          inr (
+            it,
+            all_said,
+            list_begins list new (names_of (all ++ it ∷ [])) all_named,
+            omega (arith, many, went.counted, length_is),
+          ),
+        ))
+
     pub cut_short : (count written : ℕ) → count ≡ out + written → written ≤ length text
         → Appends mid last (take written text)
-        → FilesTold value_of told task list old last (ends.WriteFailed count)
+        → FilesTold value_of told refuses task list stops old last (ends.WriteFailed count)
     cut_short count written count_is few appended =
         let whole = texts_of (all ++ it ∷ []) in
         let count_of : count ≡ length (texts_of all) + written =
@@ -98,11 +121,11 @@ module _ (value_of : Document → Value) (told : List ℕ → Option (List ℕ))
         )
 
 -- nothing is done yet
-pub begins : (value_of : Document → Value) (told : List ℕ → Option (List ℕ)) (task : Task)
-    (list : Option (List (List ℕ))) (old : Option (List ℕ)) → TakesNames list list [] → Appends old old []
-    → Went value_of told task list list old old 0 0 []
-begins value_of told task list old named written = record {
-  said = All-nil (λ e. IsSaid value_of told task e.name e.status e.text);
+pub begins : (value_of : Document → Value) (told : List ℕ → Option (List ℕ)) (refuses : List ℕ → Why → Type 0)
+    (task : Task) (list : Option (List (List ℕ))) (old : Option (List ℕ)) → TakesNames list list [] → Appends old old []
+    → Went value_of told refuses task list list old old 0 0 []
+begins value_of told refuses task list old named written = record {
+  said = All-nil (λ e. IsSaid value_of told refuses task e.name e.status e.text);
   named = named;
   written = written;
   status_is = refl;

@@ -1,5 +1,6 @@
 -- What comes of a list of names, name after name.
-use Rattle.std.proofs.Common.{◌≡◌, ◌∙◌, ◌++◌, Bool, List, [], ◌∷◌, None, Option, Some, ap, append-nil, append_assoc, cond, false, length, refl, sym, true, ℕ, ◌==◌}
+use Rattle.std.proofs.Common.{◌≡◌, ◌∙◌, ◌++◌, All, Bool, List, [], ◌∷◌, None, Option, Some, ap, append-nil, append_assoc, cond, false, length, refl, sym, true, ℕ, ◌==◌}
+use Rattle.std.proofs.lemmas.List.Elements.{All-append, All-cons, All-nil}
 use Rattle.std.specs.Io.KnownBytes.{Consumes}
 use Rattle.pk_commands.specs.NameLists.{BeginsWith, IsListOf, NoneLeft, TakesNames, TakesNext, TakesOctet, known_names, names_behind}
 
@@ -53,6 +54,29 @@ none_behind None old new name none took h = tt
 none_behind (Some first) None new name none took h = absurd h
 none_behind (Some first) (Some old) new name none took h =
     h ∙ ap (names_behind name) took.0 ∙ ap (λ b. cond b [] (name ∷ [])) none
+
+-- ---- the octets of a name that isn't ended
+
+pub none_taken : (first : Option (List ℕ)) → Consumes first first []
+none_taken None = tt
+none_taken (Some first) = refl
+
+pub one_more_taken : (first old new : Option (List ℕ)) (name : List ℕ) (octet : ℕ) → Consumes first old name
+    → Consumes old new (octet ∷ []) → Consumes first new (name ++ octet ∷ [])
+one_more_taken None old new name octet h took = tt
+one_more_taken (Some first) None new name octet h took = absurd h
+one_more_taken (Some first) (Some old) None name octet h took = absurd took
+one_more_taken (Some first) (Some old) (Some new) name octet h took =
+    h ∙ ap (λ rest. name ++ rest) took ∙ sym (append_assoc name (octet ∷ []) new)
+
+pub none_ends : All (λ octet. (octet == 0) ≡ false) []
+none_ends = All-nil (λ octet. (octet == 0) ≡ false)
+
+pub one_more_unended : (name : List ℕ) (octet : ℕ) → All (λ one. (one == 0) ≡ false) name → (octet == 0) ≡ false
+    → All (λ one. (one == 0) ≡ false) (name ++ octet ∷ [])
+one_more_unended name octet h isnt =
+    All-append (λ one. (one == 0) ≡ false) name (octet ∷ []) h
+    (All-cons (λ one. (one == 0) ≡ false) octet [] isnt (All-nil (λ one. (one == 0) ≡ false)))
 
 -- ---- lists of names
 

@@ -6,6 +6,8 @@ use Rattle.x690.specs.Values.{Value}
 use Rattle.asn_documents.specs.WrittenValues.{WritesText}
 use Rattle.pk_documents.specs.declared.document.Document.{Document}
 use Rattle.pk_commands.specs.Files.{FilesTold, has_failed_write}
+use Rattle.pk_commands.specs.declared.names.NamesFault.{NamesFault}
+use Rattle.pk_commands.specs.declared.opener.Unopened.{Unopened as Why}
 use Rattle.pk_commands.specs.Outcomes.{line_of}
 use Rattle.pk_commands.specs.Replies.{Replied}
 use Rattle.pk_commands.specs.declared.files.FilesEnd.{FilesEnd}
@@ -65,12 +67,12 @@ abbrev pub FilesEndAs : FilesEnd → FilesEnd → Type 0
 FilesEndAs end last = (last ≡ end) ⊎ ((has_failed_write end ≡ false) × (last ≡ ends.WriteFailed 0))
 
 -- What is said of the documents is written, and then the writer is flushed.
-abbrev pub AnsweredFiles : (Document → Value) → (List ℕ → Option (List ℕ)) → Task → Option (List (List ℕ))
-    → Option (List ℕ) → Option (List ℕ) → FilesEnd → Type 0
-AnsweredFiles value_of told task list old new last =
+abbrev pub AnsweredFiles : (Document → Value) → (List ℕ → Option (List ℕ)) → (List ℕ → Why → Type 0) → Task
+    → Option (List (List ℕ)) → (NamesFault → Type 0) → Option (List ℕ) → Option (List ℕ) → FilesEnd → Type 0
+AnsweredFiles value_of told refuses task list stops old new last =
     (end : FilesEnd)
     × (out : Option (List ℕ))
-    × FilesTold value_of told task list old out end
+    × FilesTold value_of told refuses task list stops old out end
     × Keeps out new
     × FilesEndAs end last
 

@@ -1,5 +1,5 @@
 -- What a run over any number of named documents says, and how it ends.
-use Rattle.std.specs.Prelude.{All, Bool, List, Option, Some, [], codes, cond, false, length, map, max, take, true, ℕ, ◌++◌, ◌==◌, ◌≡◌, ◌≤◌}
+use Rattle.std.specs.Prelude.{All, Bool, List, Option, Some, [], codes, cond, false, length, map, max, take, true, ℕ, ◌++◌, ◌==◌, ◌≡◌, ◌≤◌, ◌+◌, ◌^◌, ◌∷◌, ◌⊎◌}
 use Rattle.std.specs.Io.KnownBytes.{Appends}
 use Rattle.std.specs.List.{flat_map, fold}
 use Rattle.x690.specs.Values.{Value}
@@ -14,6 +14,9 @@ use Rattle.pk_commands.specs.declared.files.Came.{Came}
 use Rattle.pk_commands.specs.declared.files.Came.TheVariants.{Ran, Unopened}
 use Rattle.pk_commands.specs.declared.files.FilesEnd.{FilesEnd}
 use Rattle.pk_commands.specs.declared.files.FilesEnd.TheVariants as ends
+use Rattle.pk_commands.specs.declared.names.NamesFault.{NamesFault}
+use Rattle.pk_commands.specs.declared.names.NamesFault.TheVariants.{TooMany}
+use Rattle.pk_commands.specs.declared.opener.Unopened.{Unopened as Why}
 use Rattle.pk_commands.specs.declared.outcome.Outcome.{Outcome}
 use Rattle.pk_commands.specs.declared.outcome.Outcome.TheVariants.{Done, NotDer, Fault, Explained, ReadFailed, WriteFailed, Memory}
 use Rattle.pk_commands.specs.declared.task.Action.{Action}
@@ -33,13 +36,13 @@ kept (WriteFailed count) = Memory
 kept Memory = Memory
 
 -- A run of the task over the document, of which these octets are told, ends so, and writes this; or it isn't opened.
-abbrev pub CameAs : (Document → Value) → Option (List ℕ) → Task → List ℕ → Came → List ℕ → Type 0
-CameAs value_of before task file (Ran outcome) written =
+abbrev pub CameAs : (Document → Value) → Option (List ℕ) → (Why → Type 0) → Task → List ℕ → Came → List ℕ → Type 0
+CameAs value_of before refuses task file (Ran outcome) written =
     (after : Option (List ℕ))
     × (end : Outcome)
     × Replied value_of task (Some file) end before after (Some []) (Some written)
     × (outcome ≡ kept end)
-CameAs value_of before task file (Unopened why) written = Unit {0}
+CameAs value_of before refuses task file (Unopened why) written = refuses why
 
 abbrev pub status_of_came : Came → ℕ
 status_of_came (Ran outcome) = status_of outcome
@@ -86,11 +89,12 @@ said_text action name file came written =
     (said_line action name file came (words_of_came came))
 
 -- This is what the task says of the document of a name, and its status.
-abbrev pub IsSaid : (Document → Value) → (List ℕ → Option (List ℕ)) → Task → List ℕ → ℕ → List ℕ → Type 0
-IsSaid value_of told task name status text =
+abbrev pub IsSaid : (Document → Value) → (List ℕ → Option (List ℕ)) → (List ℕ → Why → Type 0) → Task → List ℕ → ℕ
+    → List ℕ → Type 0
+IsSaid value_of told refuses task name status text =
     (came : Came)
     × (written : List ℕ)
-    × CameAs value_of (told name) task (file_name name) came written
+    × CameAs value_of (told name) (refuses name) task (file_name name) came written
     × (status ≡ status_of_came came)
     × (text ≡ said_text task.action name (file_name name) came written)
 
@@ -110,36 +114,59 @@ texts_of entries = flat_map (λ it. it.text) entries
 abbrev pub greatest : List Entry → ℕ
 greatest entries = fold (λ most it. max most it.status) 0 entries
 
-abbrev pub AreSaid : (Document → Value) → (List ℕ → Option (List ℕ)) → Task → List Entry → Type 0
-AreSaid value_of told task entries = All (λ it. IsSaid value_of told task it.name it.status it.text) entries
+abbrev pub AreSaid : (Document → Value) → (List ℕ → Option (List ℕ)) → (List ℕ → Why → Type 0) → Task → List Entry
+    → Type 0
+AreSaid value_of told refuses task entries =
+    All (λ it. IsSaid value_of told refuses task it.name it.status it.text) entries
 
 -- So far it has come: these documents of the list, of which all is out.
-pub record Went (value_of : Document → Value) (told : List ℕ → Option (List ℕ)) (task : Task)
-    (list left : Option (List (List ℕ))) (old new : Option (List ℕ)) (status out : ℕ) (entries : List Entry) : Type 0 where
-  pub said : AreSaid value_of told task entries
+pub record Went (value_of : Document → Value) (told : List ℕ → Option (List ℕ)) (refuses : List ℕ → Why → Type 0)
+    (task : Task) (list left : Option (List (List ℕ))) (old new : Option (List ℕ)) (status out : ℕ)
+    (entries : List Entry) : Type 0 where
+  pub said : AreSaid value_of told refuses task entries
   pub named : TakesNames list left (names_of entries)
   pub written : Appends old new (texts_of entries)
   pub status_is : status ≡ greatest entries
   pub counted : out ≡ length (texts_of entries)
 
+-- More can't be counted: the documents of the list, or the octets with the text of the next one.
+abbrev pub IsPastCounting : (List Entry → Type 0) → Option (List (List ℕ)) → List Entry → Type 0
+IsPastCounting are_said list entries =
+    (2 ^ 64 ≤ length entries + 1)
+    ⊎ ((next : Entry)
+    × are_said (entries ++ next ∷ [])
+    × BeginsWith list (names_of (entries ++ next ∷ []))
+    × (2 ^ 64 ≤ length (texts_of (entries ++ next ∷ []))))
+
+-- No more documents are gone through: the list doesn't give the next name, or more can't be counted.
+abbrev pub GivesUp : (List Entry → Type 0) → (NamesFault → Type 0) → Option (List (List ℕ)) → List Entry → NamesFault
+    → Type 0
+GivesUp are_said stops list entries fault =
+    stops fault ⊎ ((fault ≡ TooMany) × IsPastCounting are_said list entries)
+
 -- How it ends: behind the last document of the list, with the greatest status; or with the text of the last of these
--- documents, of which the first octets are out; or behind some.
-abbrev pub EndsBehind : List Entry → Option (List (List ℕ)) → Option (List ℕ) → Option (List ℕ) → FilesEnd → Type 0
-EndsBehind entries list old new (ends.Through status) =
+-- documents, of which the first octets are out; or behind some, since no more are gone through, or no memory is left.
+abbrev pub EndsBehind : (List Entry → Type 0) → (NamesFault → Type 0) → List Entry → Option (List (List ℕ))
+    → Option (List ℕ) → Option (List ℕ) → FilesEnd → Type 0
+EndsBehind are_said stops entries list old new (ends.Through status) =
     IsListOf list (names_of entries) × Appends old new (texts_of entries) × (status ≡ greatest entries)
-EndsBehind entries list old new (ends.WriteFailed count) =
+EndsBehind are_said stops entries list old new (ends.WriteFailed count) =
     BeginsWith list (names_of entries)
     × (count ≤ length (texts_of entries))
     × Appends old new (take count (texts_of entries))
-EndsBehind entries list old new (ends.NoName fault) =
-    BeginsWith list (names_of entries) × Appends old new (texts_of entries)
-EndsBehind entries list old new ends.Memory =
+EndsBehind are_said stops entries list old new (ends.NoName fault) =
+    BeginsWith list (names_of entries)
+    × Appends old new (texts_of entries)
+    × GivesUp are_said stops list entries fault
+EndsBehind are_said stops entries list old new ends.Memory =
     BeginsWith list (names_of entries) × Appends old new (texts_of entries)
 
-abbrev pub FilesTold : (Document → Value) → (List ℕ → Option (List ℕ)) → Task → Option (List (List ℕ))
-    → Option (List ℕ) → Option (List ℕ) → FilesEnd → Type 0
-FilesTold value_of told task list old new end =
-    (entries : List Entry) × AreSaid value_of told task entries × EndsBehind entries list old new end
+abbrev pub FilesTold : (Document → Value) → (List ℕ → Option (List ℕ)) → (List ℕ → Why → Type 0) → Task
+    → Option (List (List ℕ)) → (NamesFault → Type 0) → Option (List ℕ) → Option (List ℕ) → FilesEnd → Type 0
+FilesTold value_of told refuses task list stops old new end =
+    (entries : List Entry)
+    × AreSaid value_of told refuses task entries
+    × EndsBehind (AreSaid value_of told refuses task) stops entries list old new end
 
 abbrev pub has_failed_write : FilesEnd → Bool
 has_failed_write (ends.Through status) = false

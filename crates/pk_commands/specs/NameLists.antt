@@ -1,5 +1,5 @@
 -- The names of a list, one after another. What is left of it is told before a call and after it, where the list tells it.
-use Rattle.std.specs.Prelude.{List, None, Option, Some, [], codes, cond, length, map, ℕ, ◌++◌, ◌==◌, ◌≡◌, ◌∷◌}
+use Rattle.std.specs.Prelude.{All, Bool, List, None, Option, Some, [], codes, cond, false, length, map, true, ℕ, ◌++◌, ◌==◌, ◌≡◌, ◌∷◌}
 use Rattle.std.specs.Io.KnownBytes.{Consumes, IsAtEnd, Keeps}
 use Rattle.pk_commands.specs.declared.ended_names.EndedNames.{EndedNames}
 use Rattle.pk_commands.specs.declared.names.NamesFault.{NamesFault}
@@ -44,6 +44,18 @@ known_names name (Some octets) = Some (names_behind name octets)
 abbrev pub TakesOctet : Option (List ℕ) → Option (List ℕ) → Option ℕ → Type 0
 TakesOctet old new None = IsAtEnd old × Keeps old new
 TakesOctet old new (Some octet) = Consumes old new (octet ∷ [])
+
+-- The next name of a list that a source tells is longer than it may be: so many octets came, and none of them ends it.
+abbrev pub IsTooLong : Option (List ℕ) → Option (List ℕ) → Type 0
+IsTooLong old new =
+    (name : List ℕ) × Consumes old new name × (length name ≡ 65537) × All (λ octet. (octet == 0) ≡ false) name
+
+-- Why the next name of such a list doesn't come: its source has failed, or the name is too long, or there is no memory.
+abbrev pub StopsReading : Bool → Option (List ℕ) → Option (List ℕ) → NamesFault → Type 0
+StopsReading failed old new Read = failed ≡ true
+StopsReading failed old new TooLong = IsTooLong old new
+StopsReading failed old new TooMany = ⊥
+StopsReading failed old new Memory = Unit {0}
 
 -- why no more names come, in words
 abbrev pub fault_of : NamesFault → List ℕ

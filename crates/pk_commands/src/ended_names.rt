@@ -1,7 +1,8 @@
 //! Names that are ended by an octet 0, as `find -print0` writes them.
-ghost use Rattle.std.specs.Prelude.{◌≡◌, ◌<◌, ◌∷◌, ◌++◌, ℕ, IfOk, List, MatchResult, None, Option, Some, [], false};
+ghost use Rattle.std.specs.Prelude.{◌≡◌, ◌<◌, ◌∷◌, ◌++◌, ℕ, IfErr, IfOk, List, MatchResult, None, Option, Some, [], false, true};
 ghost use Rattle.std.specs.Io.KnownBytes.{Consumes, IsAtEnd};
 ghost use Rattle.pk_commands.specs.NameLists.{TakesOctet};
+ghost use Rattle.pk_commands.specs.declared.names.NamesFault.TheVariants.{Read};
 
 use crate::names::{Names, NamesFault};
 use std::alloc::Global;
@@ -28,9 +29,12 @@ impl<R: Source> EndedNames<R> {
 
 impl<R: Source> Names for EndedNames<R> {
     ghost use Rattle.std.specs.Prelude.{[]};
-    ghost use Rattle.pk_commands.specs.NameLists.{known_names, source_of};
+    ghost use Rattle.pk_commands.specs.NameLists.{StopsReading, known_names, source_of};
 
     ghost left = { λ list. known_names [] (R.remaining (source_of list)) };
+
+    ghost stops = { λ old new. StopsReading (R.has_failed (source_of new))
+        (R.remaining (source_of old)) (R.remaining (source_of new)) };
 
     fn next_name(&mut self, alloc: Global) -> Result<Option<Vec<u8>>, NamesFault> {
         let mut name = Vec::new(alloc);
@@ -52,7 +56,8 @@ impl<R: Source> Names for EndedNames<R> {
 
 /// The next octet, or `None` at the end.
 fn next_octet<R: Source>(src: &mut R) -> Result<Option<u8>, NamesFault>
-    ensures { IfOk result (TakesOctet (R.remaining src.old) (R.remaining src.new)) }
+    ensures octet { IfOk result (TakesOctet (R.remaining src.old) (R.remaining src.new)) }
+    ensures failed { IfErr result (λ fault. (fault ≡ Read) × (R.has_failed src.new ≡ true)) }
 {
     if src.failed() {
         return Err(NamesFault::Read);

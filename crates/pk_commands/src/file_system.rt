@@ -24,6 +24,9 @@ impl<R: Files> Opener for FileSystem<'_, R> {
 
     ghost told = { λ _ _. None };
 
+    // (which file a name has is the system's to say)
+    ghost refuses = { λ _ _ _. Unit {0} };
+
     fn open(&self, alloc: Global, name: &[u8]) -> Result<FromRead<BufReader<R::File>>, Unopened> {
         let Ok(path) = std::str::from_utf8(name) else {
             return Err(Unopened::NotUtf8);

@@ -1,5 +1,5 @@
 //! One task over any number of documents, which have names.
-ghost use Rattle.std.specs.Prelude.{◌≡◌, ◌++◌, ℕ, IfOk, List, MatchResult, OnOk, Option, false, string_bytes};
+ghost use Rattle.std.specs.Prelude.{◌≡◌, ◌+◌, ◌++◌, ℕ, IfOk, List, MatchResult, OnOk, Option, false, length, string_bytes};
 ghost use Rattle.pk_commands.specs.Files.{CameAs, Entry, FilesTold, IsSaid, Went, front_of, has_failed_write, kept, line_of_end, is_json, named_line, said_line, said_text, status_of_came, status_of_end, words_of_came};
 ghost use Rattle.pk_commands.specs.Names.{told_name};
 ghost use Rattle.pk_commands.specs.Outcomes.{line_of};
@@ -59,8 +59,9 @@ pub fn run_files<N: Names, O: Opener, W: Target>(
     task: &Task,
 ) -> FilesEnd
     requires writable { W.has_failed dst.old ≡ false }
-    ensures told { FilesTold ⟦<Document as Valued>⟧.value (O.told opener.now) task.now
-        (N.left names.old) (W.contents dst.old) (W.contents dst.new) result }
+    ensures told { FilesTold ⟦<Document as Valued>⟧.value (O.told opener.now) (O.refuses opener.now)
+        task.now (N.left names.old) (λ fault. (before after : N) × N.stops before after fault)
+        (W.contents dst.old) (W.contents dst.new) result }
     ensures failed { W.has_failed dst.new ≡ has_failed_write result }
 {
     let mut progress = Progress { status: 0, out: 0 };
@@ -84,13 +85,13 @@ fn next_file<N: Names, O: Opener, W: Target>(
 ) -> Result<Progress, FilesEnd>
     requires writable { W.has_failed dst.old ≡ false }
     ensures told { (all : List Entry) (list : Option (List (List ℕ))) (old : Option (List ℕ))
-        → Went ⟦<Document as Valued>⟧.value (O.told opener.now) task.now list (N.left names.old) old
-        (W.contents dst.old) progress.status progress.out all
-        → MatchResult result (λ further. (more : List Entry)
-        × Went ⟦<Document as Valued>⟧.value (O.told opener.now) task.now list (N.left names.new) old
-        (W.contents dst.new) further.status further.out more)
-        (FilesTold ⟦<Document as Valued>⟧.value (O.told opener.now) task.now list old
-        (W.contents dst.new)) }
+        → Went ⟦<Document as Valued>⟧.value (O.told opener.now) (O.refuses opener.now)
+        task.now list (N.left names.old) old (W.contents dst.old) progress.status progress.out all
+        → MatchResult result (λ further. (more : List Entry) × (length more ≡ length all + 1)
+        × Went ⟦<Document as Valued>⟧.value (O.told opener.now) (O.refuses opener.now)
+        task.now list (N.left names.new) old (W.contents dst.new) further.status further.out more)
+        (FilesTold ⟦<Document as Valued>⟧.value (O.told opener.now) (O.refuses opener.now) task.now
+        list (λ fault. (before after : N) × N.stops before after fault) old (W.contents dst.new)) }
     ensures failed { MatchResult result (λ _. W.has_failed dst.new ≡ false)
         (λ end. W.has_failed dst.new ≡ has_failed_write end) }
 {
@@ -121,8 +122,8 @@ fn said_of<O: Opener>(
     name: &[u8],
     task: &Task,
 ) -> Result<Said, AllocError>
-    ensures { IfOk result (λ said. IsSaid ⟦<Document as Valued>⟧.value (O.told opener.now) task.now
-        name.now said.status said.text.items) }
+    ensures { IfOk result (λ said. IsSaid ⟦<Document as Valued>⟧.value (O.told opener.now)
+        (O.refuses opener.now) task.now name.now said.status said.text.items) }
 {
     let file = file_name(alloc, name)?;
     let (came, written) = came_of(alloc, opener, name, task, file.as_str());
@@ -141,8 +142,8 @@ fn came_of<O: Opener>(
     task: &Task,
     file: &str,
 ) -> (Came, Vec<u8>)
-    ensures { CameAs ⟦<Document as Valued>⟧.value (O.told opener.now name.now) task.now file.now
-        result.0 result.1.items }
+    ensures { CameAs ⟦<Document as Valued>⟧.value (O.told opener.now name.now)
+        (O.refuses opener.now name.now) task.now file.now result.0 result.1.items }
 {
     match opener.open(alloc, name) {
         Ok(mut src) => {

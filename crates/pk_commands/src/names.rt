@@ -1,5 +1,5 @@
 //! Lists of names.
-ghost use Rattle.std.specs.Prelude.{◌≡◌, ℕ, IfOk, List, Option, map};
+ghost use Rattle.std.specs.Prelude.{◌≡◌, ℕ, IfErr, IfOk, List, Option, map};
 ghost use Rattle.std.specs.Option.{option_map};
 ghost use Rattle.pk_commands.specs.NameLists.{TakesNext, fault_of};
 
@@ -7,13 +7,19 @@ use std::alloc::Global;
 
 /// A list of names, which come one after another.
 pub trait Names {
+    ghost use Rattle.pk_commands.specs.declared.names.NamesFault.{NamesFault};
+
     /// The names that are left, where it tells them.
     ghost left: { Self → Option (List (List ℕ)) };
 
+    /// Why the next one doesn't come, before the call that says so and after it.
+    ghost stops: { Self → Self → NamesFault → Type 0 };
+
     /// The next name, or `None` behind the last one.
     fn next_name(&mut self, alloc: Global) -> Result<Option<Vec<u8>>, NamesFault>
-        ensures { IfOk result (λ next. TakesNext (left self.old) (left self.new)
-            (option_map (λ name. name.items) next)) };
+        ensures next { IfOk result (λ next. TakesNext (left self.old) (left self.new)
+            (option_map (λ name. name.items) next)) }
+        ensures stopped { IfErr result (stops self.old self.new) };
 }
 
 /// Why no more names come.
@@ -62,8 +68,11 @@ impl<'a> Words<'a> {
 impl Names for Words<'_> {
     ghost use Rattle.std.specs.Prelude.{Some};
     ghost use Rattle.pk_commands.specs.NameLists.{words_of};
+    ghost use Rattle.pk_commands.specs.declared.names.NamesFault.TheVariants.{Memory};
 
     ghost left = { λ list. Some (words_of list) };
+
+    ghost stops = { λ _ _ fault. fault ≡ Memory };
 
     fn next_name(&mut self, alloc: Global) -> Result<Option<Vec<u8>>, NamesFault> {
         let [word, behind @ ..] = self.words else {

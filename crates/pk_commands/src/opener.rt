@@ -1,5 +1,5 @@
 //! What opens documents by their names.
-ghost use Rattle.std.specs.Prelude.{◌≡◌, ℕ, IfOk, List, Option, false, string_bytes};
+ghost use Rattle.std.specs.Prelude.{◌≡◌, ℕ, IfErr, IfOk, List, Option, false, string_bytes};
 ghost use Rattle.pk_commands.specs.Openings.{why_of};
 
 use std::alloc::Global;
@@ -7,16 +7,22 @@ use tlv_core::source::Source;
 
 /// Opens documents by their names.
 pub trait Opener {
+    ghost use Rattle.pk_commands.specs.declared.opener.Unopened.{Unopened};
+
     type Document: Source + Drop;
 
     /// The octets that the document of a name tells, where it tells them.
     ghost told: { Self → List ℕ → Option (List ℕ) };
 
+    /// Why the document of a name isn't opened.
+    ghost refuses: { Self → List ℕ → Unopened → Type 0 };
+
     /// Opens the document of this name.
     fn open(&self, alloc: Global, name: &[u8]) -> Result<Self::Document, Unopened>
         ensures opened { IfOk result (λ source. Self.Document.remaining source
             ≡ told self.now name.now) }
-        ensures readable { IfOk result (λ source. Self.Document.has_failed source ≡ false) };
+        ensures readable { IfOk result (λ source. Self.Document.has_failed source ≡ false) }
+        ensures refused { IfErr result (refuses self.now name.now) };
 }
 
 /// Why a document isn't opened.

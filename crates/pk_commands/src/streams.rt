@@ -72,8 +72,9 @@ pub fn answer_files<N: Names, O: Opener, W: Write + Drop>(
     writer: W,
     task: &Task,
 ) -> (FilesEnd, W)
-    ensures { AnsweredFiles ⟦<Document as Valued>⟧.value (O.told opener.now) task.now
-        (N.left names.old) (W.contents writer) (W.contents result.1) result.0 }
+    ensures { AnsweredFiles ⟦<Document as Valued>⟧.value (O.told opener.now)
+        (O.refuses opener.now) task.now (N.left names.old)
+        (λ fault. (before after : N) × N.stops before after fault) (W.contents writer) (W.contents result.1) result.0 }
 {
     let mut dst = ToWrite::new(writer);
     let end = run_files(alloc, names, opener, &mut dst, task);

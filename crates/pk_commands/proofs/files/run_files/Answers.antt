@@ -1,7 +1,8 @@
-use Rattle.std.proofs.Common.{[]}
+use Rattle.std.proofs.Common.{[], arith, inl, inr, refl}
 use Rattle.std.proofs.KnownBytes.{Appends-nil}
 use Rattle.pk_documents.proofs.DocumentValues.{valued}
 use Rattle.pk_commands.specs.declared.names.NamesFault.TheVariants.{TooMany}
+use Rattle.pk_commands.specs.declared.names.NamesFault.{NamesFault}
 use Rattle.pk_commands.proofs.Entries.{begins, no_name}
 use Rattle.pk_commands.proofs.NameLists.{no_names}
 use Rattle.pk_commands.proofs.files.run_files.Goals as goal
@@ -13,8 +14,9 @@ loop-init g c =
     record {
       went = (
         [],
-        begins valued (g.O.Opener.told c.args.opener.now) c.args.task.now list contents (no_names list)
-            (Appends-nil contents),
+        refl,
+        begins valued (g.O.Opener.told c.args.opener.now) (g.O.Opener.refuses c.args.opener.now) c.args.task.now
+            list contents (no_names list) (Appends-nil contents),
       );
       live = c.requires.writable;
     }
@@ -25,20 +27,23 @@ next_file-requires g c = record { writable = c.loop.invariant.live }
 pub returns-in-Err-clause-told : goal.returns-in-Err-clause-told
 returns-in-Err-clause-told g c =
     let went = c.loop.invariant.went in
-    c.in-Err.ensures.told went.0 (g.N.Names.left c.args.names.now) (g.W.Target.contents c.args.dst.now) went.1
+    c.in-Err.ensures.told went.0 (g.N.Names.left c.args.names.now) (g.W.Target.contents c.args.dst.now) went.2
 
 pub loop-preserved : goal.loop-preserved
 loop-preserved g c =
     let went = c.loop.invariant.went in
+    let further =
+    c.in-Ok.ensures.told went.0 (g.N.Names.left c.args.names.now) (g.W.Target.contents c.args.dst.now) went.2 in
     record {
-      went =
-          c.in-Ok.ensures.told went.0 (g.N.Names.left c.args.names.now) (g.W.Target.contents c.args.dst.now) went.1;
+      went = (further.0, omega (arith, further.1, went.1), further.2);
       live = c.in-Ok.ensures.failed;
     }
 
 pub returns-clause-told : goal.returns-clause-told
 returns-clause-told g c =
     let went = c.loop.invariant.went in
-    no_name valued (g.O.Opener.told c.args.opener.now) c.args.task.now (g.N.Names.left c.args.names.now)
-    (g.N.Names.left c.loop.names) (g.W.Target.contents c.args.dst.now) (g.W.Target.contents c.loop.dst)
-    c.loop.progress.status c.loop.progress.out went.0 went.1 TooMany
+    let stops : NamesFault → Type 0 = λ fault. (before after : g.row.N.Denot) × g.N.Names.stops before after fault in
+    no_name valued (g.O.Opener.told c.args.opener.now) (g.O.Opener.refuses c.args.opener.now) c.args.task.now
+    (g.N.Names.left c.args.names.now) (g.N.Names.left c.loop.names) stops
+    (g.W.Target.contents c.args.dst.now) (g.W.Target.contents c.loop.dst)
+    c.loop.progress.status c.loop.progress.out went.0 went.2 TooMany (inr (refl, inl (omega (arith, went.1))))

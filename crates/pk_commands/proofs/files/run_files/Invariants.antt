@@ -1,4 +1,4 @@
-use Rattle.std.proofs.Common.{◌≡◌, List, false}
+use Rattle.std.proofs.Common.{◌≡◌, List, false, length}
 use Rattle.pk_documents.proofs.DocumentValues.{valued}
 use Rattle.pk_commands.specs.Files.{Entry, Went}
 use Rattle.pk_commands.proofs.files.run_files.Given as goal
@@ -7,7 +7,8 @@ abbrev pub invariant-loop : goal.invariant-loop
 invariant-loop g l = record {
   went :
       (all : List Entry)
-      × Went valued (g.O.Opener.told l.opener) l.task (g.N.Names.left l.initial.names)
+      × (length all ≡ l.counter)
+      × Went valued (g.O.Opener.told l.opener) (g.O.Opener.refuses l.opener) l.task (g.N.Names.left l.initial.names)
       (g.N.Names.left l.names) (g.W.Target.contents l.initial.dst) (g.W.Target.contents l.dst) l.progress.status
       l.progress.out all;
   live : g.W.Target.has_failed l.dst ≡ false;
