@@ -1,6 +1,6 @@
 -- Header octets, by what the tests of a reader say.
 use Rattle.ber_pull.specs.Hears.{Continues}
-use Rattle.std.proofs.Common.{◌≡◌, ℕ, ◌+◌, Bool, true, false, not, ◌==◌, ◌&&◌, nat_lt, nat_le, ◌<◌, ◌≤◌, ◌-◌, ◌*◌, ◌^◌, zero, suc, ◌⊎◌, inl, inr, IfSome, List, Option, Some, None, Result, Err, refl, sym, ◌∙◌, ap, arith, subst}
+use Rattle.std.proofs.Common.{◌≡◌, ℕ, ◌+◌, Bool, true, false, not, ◌==◌, ◌&&◌, cond, nat_lt, nat_le, ◌<◌, ◌≤◌, ◌-◌, ◌*◌, ◌^◌, zero, suc, ◌⊎◌, inl, inr, IfSome, List, Option, Some, None, Result, Err, refl, sym, ◌∙◌, ap, arith, subst}
 use Rattle.std.proofs.lemmas.Bool.Decides.{nat_tests}
 use Rattle.std.proofs.Math.Numerals.{add-one}
 use Rattle.std.proofs.Math.Nat.{pow-suc}
@@ -15,8 +15,10 @@ use Rattle.ber_pull.proofs.Hearing.{hears_done, hears_error, hears_fail, hears_f
 use Rattle.tlv_core.specs.declared.fault.ReadError.{ReadError}
 use Rattle.tlv_core.specs.declared.source.Source.{Ghosts}
 use Rattle.ber_pull.specs.Lengths.{AnswersClipped, IsClipped}
-use Rattle.ber_pull.specs.View.{Answers}
+use Rattle.ber_pull.specs.Standing.{Standing, enclosing, failure, has_room, no_room}
+use Rattle.ber_pull.specs.View.{Answers, answered}
 use Rattle.ber_pull.specs.declared.pull.Pull.{Pull}
+use Rattle.ber_pull.specs.declared.state.Halted.{Halted}
 
 -- a test and its opposite
 pub opposite : (r b : Bool) → r ≡ not b → r ≡ true → b ≡ false
@@ -43,6 +45,39 @@ pub octet_asked : (l : Limits) (e : Option ℕ) (p k : ℕ) (s : Option (List �
 unfolding header_octet
 octet_asked l e p k s h i u x y z =
     hears_where _ _ _ _ _ _ (hears_on _ _ _ _ _ _ _ _ (ap not x) (hears_on _ _ _ _ _ _ _ _ y z))
+
+-- An octet may be taken where one has room; else it is outside.
+
+both : (a b : Bool) → not a && b ≡ true → (a ≡ false) × (b ≡ true)
+both true b h = cc
+both false b h = (refl, h)
+
+past_next : (e : Option ℕ) (k : ℕ) → past_end e (k + 1) ≡ at_end e k
+past_next None k = refl
+past_next (Some e) k = grind (arith, nat_tests)
+
+within_next : (k l : ℕ) → nat_le (k + 1) l ≡ nat_lt k l
+within_next k l = grind (arith, nat_tests)
+
+pub octet_in_room : (s : Standing) (p : ℕ) (o : Option (List ℕ)) (h : Heard ℕ) (i : ℕ) (u : Option (List ℕ))
+    → has_room s 1 ≡ true → Hears (Ask Done) s.taken o h i u
+    → Hears (header_octet s.limits (enclosing s).nearest_end p) s.taken o h i u
+octet_in_room s p o h i u r x =
+    let fits = both _ _ r in
+    octet_asked _ _ _ _ _ _ _ _ (sym (past_next (enclosing s).nearest_end s.taken) ∙ fits.0)
+    (sym (within_next s.taken s.limits.octets) ∙ fits.1) x
+
+octet_outside : (l : Limits) (e : Option ℕ) (p k : ℕ) (s : Option (List ℕ)) (b c : Bool) → past_end e (k + 1) ≡ b
+    → nat_le (k + 1) l.octets ≡ c → not b && c ≡ false
+    → Hears (header_octet l e p) k s (Refused (fault p (cond b PastEnd TooLong))) k s
+octet_outside l e p k s true c x y h = octet_past_end _ _ _ _ _ (sym (past_next e k) ∙ x)
+octet_outside l e p k s false c x y h =
+    octet_past_limit _ _ _ _ _ (sym (past_next e k) ∙ x)
+    (sym (within_next k l.octets) ∙ y ∙ h)
+
+pub octet_no_room : (s : Standing) (p : ℕ) (o : Option (List ℕ)) → has_room s 1 ≡ false
+    → Hears (header_octet s.limits (enclosing s).nearest_end p) s.taken o (Refused (fault p (no_room s 1))) s.taken o
+octet_no_room s p o h = octet_outside _ _ _ _ _ _ _ refl refl h
 
 -- numbers past every place
 
@@ -95,6 +130,25 @@ fit_within l e p n m k s b b' c h h' =
     (hears_on _ _ _ _ _ _ _ _ (limit_clipped l.octets k n m b' c ∙ t)
     (subst (λ w. Hears (Done n) k s (Said w) k s) (sym same) (hears_done n k s))))
 
+fit_outside : (l : Limits) (e : Option ℕ) (p n m k : ℕ) (s : Option (List ℕ)) (b c : Bool)
+    → IfSome e (λ end. end < 2 ^ 32) → l.octets < 2 ^ 32 → IsClipped n m → past_end e (k + m) ≡ b
+    → nat_le (k + m) l.octets ≡ c → not b && c ≡ false
+    → Hears (fit_contents l e p n) k s (Refused (fault p (cond b PastEnd TooLong))) k s
+fit_outside l e p n m k s true c small small' clipped x y h = fit_past_end _ _ _ n m _ _ small clipped x
+fit_outside l e p n m k s false c small small' clipped x y h =
+    fit_past_limit _ _ _ n m _ _ small small' clipped x (y ∙ h)
+
+pub fit_no_room : (s : Standing) (p n m : ℕ) (o : Option (List ℕ)) → IfSome (enclosing s).nearest_end (λ end. end < 2 ^ 32)
+    → s.limits.octets < 2 ^ 32 → IsClipped n m → has_room s m ≡ false
+    → Hears (fit_contents s.limits (enclosing s).nearest_end p n) s.taken o (Refused (fault p (no_room s m))) s.taken o
+fit_no_room s p n m o small small' clipped h = fit_outside _ _ _ n m _ _ _ _ small small' clipped refl refl h
+
+pub fit_in_room : (s : Standing) (p n m : ℕ) (o : Option (List ℕ)) → IfSome (enclosing s).nearest_end (λ end. end < 2 ^ 32)
+    → s.limits.octets < 2 ^ 32 → IsClipped n m → has_room s m ≡ true → s.taken + m ≤ s.limits.octets
+    → Hears (fit_contents s.limits (enclosing s).nearest_end p n) s.taken o (Said m) s.taken o
+fit_in_room s p n m o small small' clipped r within =
+    fit_within _ _ _ n m _ _ small small' clipped (both _ _ r).0 within
+
 -- one octet more of a number of several
 pub big_endian_more : (l : Limits) (e : Option ℕ) (p left left' n x k j j' : ℕ) (q : ℕ) (s t t' : Option (List ℕ))
     → left ≡ suc left' → Continues (read_big_endian l e p q 0) k s (read_big_endian l e p left n) j t
@@ -122,10 +176,10 @@ unfolding read_big_endian
 big_endian_done l e p left n j t h =
     subst (λ w. Hears (read_big_endian l e p w n) j t (Said n) j t) (sym h) (hears_done n j t)
 
-pub clipped_error : {R : Type 0} {s : Ghosts R} (old new : Pull R s) (p : Reading ℕ) (r : Result ℕ ReadError)
-    (error : ReadError)
-    → r ≡ Err error → Answers old new p (heard_error error) → AnswersClipped old new p r
-clipped_error old new p r error h x = subst (λ w. AnswersClipped old new p w) (sym h) x
+pub clipped_halted : {R : Type 0} {s : Ghosts R} (old new : Pull R s) (p : Reading ℕ) (r : Result ℕ Halted)
+    (h : Halted)
+    → r ≡ Err h → Answers old new p (heard_error (failure new.state)) → AnswersClipped old new p (answered new r)
+clipped_halted old new p r h e x = subst (λ w. AnswersClipped old new p (answered new w)) (sym e) x
 
 -- what a high tag number is behind one of its octets, `n` standing before it
 abbrev behind_octet : Limits → Option ℕ → ℕ → ℕ → ℕ → ℕ → Reading ℕ

@@ -9,7 +9,12 @@ use Rattle.tlv_core.specs.declared.reason.Reason.TheVariants.{Truncated}
 use Rattle.x690.specs.Points.{fault}
 use Rattle.x690.specs.Reading.{Reading, Done, Fail, Where, Ask, ◌>>=◌, require, choose, run}
 use Rattle.x690.specs.Reads.{Heard, Said, Refused, ReadFailed, NoMemory, Reads}
+use Rattle.tlv_core.specs.declared.source.Source.{Ghosts}
 use Rattle.ber_pull.specs.Hears.{Gives, Hears, TakesFrom, heard, heard_error}
+use Rattle.ber_pull.specs.Standing.{failure}
+use Rattle.ber_pull.specs.View.{answered}
+use Rattle.ber_pull.specs.declared.pull.Pull.{Pull}
+use Rattle.ber_pull.specs.declared.state.Halted.{Halted}
 use Rattle.x690.proofs.Needs.{needs_first, needs_taken, needs_then, none_there}
 use Rattle.x690.proofs.Runs.{run_bind, halt_bind, taken}
 
@@ -297,3 +302,14 @@ one_octet (suc n) (x ∷ y ∷ room) h l z = absurd (omega arith)
 
 pub no_octet : (n : ℕ) (s t : Option (List ℕ)) (room : List ℕ) → n ≡ 0 → Consumes s t (take n room) → Consumes s t []
 no_octet n s t room e h = subst (λ k. Consumes s t (take k room)) e h
+
+-- an error that is kept in the state is heard as itself, whatever the value would be
+pub hears_halted : {R : Type 0} {s : Ghosts R} {T A : Type 0} (new : Pull R s) (p : Reading A) (g : T → A)
+    (r : Result T Halted) (h : Halted) (k i : ℕ) (o u : Option (List ℕ))
+    → r ≡ Err h → Hears p k o (heard_error (failure new.state)) i u → Hears p k o (heard g (answered new r)) i u
+hears_halted new p g r h k i o u e x = subst (λ w. Hears p k o (heard g (answered new w)) i u) (sym e) x
+
+-- the same error, said in another way
+pub hears_error_as : {A : Type 0} (p : Reading A) (e e' : ReadError) (k i : ℕ) (s u : Option (List ℕ)) → e ≡ e'
+    → Hears p k s (heard_error e') i u → Hears p k s (heard_error e) i u
+hears_error_as p e e' k i s u h x = subst (λ w. Hears p k s (heard_error w) i u) (sym h) x

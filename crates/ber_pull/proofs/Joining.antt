@@ -9,9 +9,11 @@ use Rattle.tlv_core.specs.declared.fault.ReadError.{ReadError}
 use Rattle.tlv_core.specs.declared.source.Source.{Ghosts}
 use Rattle.x690.specs.Reading.{Reading}
 use Rattle.ber_pull.specs.Hears.{heard_error}
-use Rattle.ber_pull.specs.View.{Answers}
+use Rattle.ber_pull.specs.Standing.{failure}
+use Rattle.ber_pull.specs.View.{Answers, answered}
 use Rattle.ber_pull.specs.declared.pull.Pull.{Pull}
 use Rattle.ber_pull.specs.declared.state.Container.{Container}
+use Rattle.ber_pull.specs.declared.state.Halted.{Halted}
 use Rattle.ber_pull.specs.declared.string.Joined.{Joined}
 
 join_more : (s : List (List ℕ)) (o : List ℕ) → join (s ++ (o ∷ [])) ≡ join s ++ o
@@ -73,10 +75,10 @@ pub bits_fit : (x n : ℕ) → x < 256 → x / n * n % 256 ≡ x / n * n
 bits_fit x n b = let small : x / n * n < 256 = omega (arith, div-mul-le_self x n) in mod-eq_of_lt small
 
 -- an error is the answer, whatever was joined
-pub added_error : {R : Type 0} {s : Ghosts R} (old new : Pull R s) (p : Reading (List (List ℕ))) (joined : Joined)
-    (r : Result (Unit {0}) ReadError) (e : ReadError)
-    → r ≡ Err e → Answers old new p (heard_error e) → AddsSegment old new p joined r
-added_error old new p joined r e h x = subst (λ w. AddsSegment old new p joined w) (sym h) x
+pub added_halted : {R : Type 0} {s : Ghosts R} (old new : Pull R s) (p : Reading (List (List ℕ))) (joined : Joined)
+    (r : Result (Unit {0}) Halted) (h : Halted)
+    → r ≡ Err h → Answers old new p (heard_error (failure new.state)) → AddsSegment old new p joined (answered new r)
+added_halted old new p joined r h e x = subst (λ w. AddsSegment old new p joined (answered new w)) (sym e) x
 
 pub joined_error : {R : Type 0} {s : Ghosts R} (old new : Pull R s) (p : Reading (List (List ℕ)))
     (r : Result Joined ReadError) (e : ReadError)

@@ -1,5 +1,5 @@
 -- What `next_tag` answers, by what its tests say.
-use Rattle.std.proofs.Common.{◌≡◌, ℕ, ◌/◌, ◌%◌, ◌<◌, ◌==◌, ◌&&◌, ◌||◌, Bool, true, false, not, nat_lt, nat_le, length, List, [], ◌∷◌, Option, Some, None, refl, sym, subst, arith}
+use Rattle.std.proofs.Common.{◌≡◌, ℕ, ◌/◌, ◌%◌, ◌<◌, ◌==◌, ◌&&◌, ◌||◌, Bool, true, false, not, nat_lt, nat_le, length, List, [], ◌∷◌, Option, Some, None, refl, sym, ◌∙◌, subst, arith}
 use Rattle.std.proofs.lemmas.Bool.Decides.{nat_tests}
 use Rattle.tlv_core.specs.Identifier.{Tag}
 use Rattle.tlv_core.specs.declared.reason.Reason.TheVariants.{BadTag, TooDeep}
@@ -9,7 +9,7 @@ use Rattle.x690.specs.Reading.{Done, Reading, choose, require, ◌>>=◌}
 use Rattle.x690.specs.Reads.{Heard, Refused, Said}
 use Rattle.ber_pull.specs.Calls.{read_end_of_contents, read_next}
 use Rattle.ber_pull.specs.Hears.{Hears, heard_error}
-use Rattle.ber_pull.specs.Standing.{Standing, enclosing, ending, first_of, innermost_in, is_over, is_over_in, moved, place, with_ended}
+use Rattle.ber_pull.specs.Standing.{Standing, enclosing, ending, first_of, innermost_in, is_done, is_over, is_over_in, moved, place, with_ended}
 use Rattle.ber_pull.specs.declared.state.Container.{Container}
 use Rattle.ber_pull.specs.declared.state.Container.TheVariants as open'
 use Rattle.ber_pull.specs.declared.state.Given.{Given}
@@ -46,11 +46,30 @@ unfolding read_next next_tag
 next_at_end s t h o e =
     rw h (hears_second _ _ _ _ _ _ _ _ o (hears_where _ _ _ _ _ _ (hears_first _ _ _ _ _ _ _ _ e (hears_done _ _ _))))
 
+done_by : (s : Standing) (t : Option (List ℕ)) (b c : Bool) → s.given ≡ None → is_over s ≡ b
+    → stands_at_end (enclosing s).innermost s.taken ≡ c → b || c ≡ true
+    → Hears (read_next s) s.taken t (Said (ContainerEnds (place s))) s.taken t
+done_by s t true c none x y h = next_over s t none x
+done_by s t false c none x y h = next_at_end s t none x (y ∙ h)
+
+pub next_done : (s : Standing) (t : Option (List ℕ)) → s.given ≡ None → is_done s ≡ true
+    → Hears (read_next s) s.taken t (Said (ContainerEnds (place s))) s.taken t
+next_done s t none h = done_by s t _ _ none refl refl h
+
 -- else the first octet is asked for
 pub record Asks (s : Standing) : Type 0 where
   pub none_given : s.given ≡ None
   pub not_over : is_over s ≡ false
   pub not_at_end : stands_at_end (enclosing s).innermost s.taken ≡ false
+
+neither : (a b : Bool) → a || b ≡ false → (a ≡ false) × (b ≡ false)
+neither true b h = cc
+neither false b h = (refl, h)
+
+pub asks_here : (s : Standing) → s.given ≡ None → is_done s ≡ false → Asks s
+asks_here s none more =
+    let neither_is = neither _ _ more in
+    record { none_given = none; not_over = neither_is.0; not_at_end = neither_is.1 }
 
 asked : (s : Standing) (t u : Option (List ℕ)) (h : Heard Next) (i : ℕ) → Asks s
     → Hears (header_octet s.limits (enclosing s).nearest_end s.taken >>= behind_first s) s.taken t h i u

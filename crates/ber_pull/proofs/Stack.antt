@@ -1,8 +1,9 @@
 -- The open containers, in an array with the innermost last, as a list with the innermost first.
-use Rattle.std.proofs.Common.{◌≡◌, ℕ, zero, suc, ◌+◌, ◌-◌, ◌<◌, ◌≤◌, List, [], ◌∷◌, length, take, set, get_or, reverse, refl, ap, ◌∙◌, arith, Option, Some}
+use Rattle.std.proofs.Common.{◌≡◌, ℕ, zero, suc, ◌+◌, ◌-◌, ◌<◌, ◌≤◌, List, [], ◌∷◌, length, take, set, get_or, reverse, refl, sym, ap, ◌∙◌, arith, Option, Some}
 use Rattle.ber_pull.specs.Standing.{first_of, with_ended}
 use Rattle.ber_pull.specs.declared.state.Container.{Container}
 use Rattle.ber_pull.specs.declared.state.Container.TheVariants.{Definite, Indefinite, Ended}
+use Rattle.std.proofs.Math.Seq.{take-length}
 use Rattle.std.proofs.lemmas.List.{length-take, length-reverse, reverse-append, take_more, take_more_set}
 
 pub depth_is : {A : Type 0} (n : ℕ) (xs : List A) → n ≤ length xs → length (reverse (take n xs)) ≡ n
@@ -26,6 +27,13 @@ pub reverse_last : {A : Type 0} (n : ℕ) (xs : List A) (d : A) → 0 < n → n 
 reverse_last n xs d p h =
     let e : n ≡ n - 1 + 1 = omega arith in
     ap (λ k. reverse (take k xs)) e ∙ reverse_more (n - 1) xs d (omega arith)
+
+-- the last of a whole list is the first of it in reverse
+pub first_is_last : (xs : List Container) (d : Container) → 0 < length xs
+    → first_of (reverse xs) ≡ Some (get_or xs (length xs - 1) d)
+first_is_last xs d h =
+    ap (λ w. first_of (reverse w)) (sym (take-length xs))
+    ∙ ap first_of (reverse_last (length xs) xs d h (omega arith))
 
 some_depth : (n : ℕ) (xs : List Container) (x : Container) → first_of (reverse (take n xs)) ≡ Some x → 0 < n
 some_depth zero xs x h = cc

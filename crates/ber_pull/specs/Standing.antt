@@ -1,12 +1,13 @@
 -- What a pull reader stands at.
-use Rattle.std.specs.Prelude.{Bool, List, None, Option, Some, [], false, length, nat_lt, not, true, ℕ, ◌+◌, ◌<◌, ◌||◌, ◌∷◌, ◌≤◌, IsSome, ◌≡◌, ◌↔◌}
+use Rattle.std.specs.Prelude.{Bool, List, None, Option, Some, [], cond, false, length, min, nat_le, nat_lt, not, true, ℕ, ◌+◌, ◌<◌, ◌&&◌, ◌||◌, ◌∷◌, ◌≤◌, IsSome, ◌≡◌, ◌↔◌}
 use Rattle.tlv_core.specs.Identifier.{IsTag, Tag}
 use Rattle.tlv_core.specs.Limits.{Limits}
 use Rattle.tlv_core.specs.declared.fault.Fault.{Fault}
 use Rattle.tlv_core.specs.declared.fault.ReadError.{ReadError}
 use Rattle.tlv_core.specs.declared.fault.ReadError.TheVariants as errors
-use Rattle.tlv_core.specs.declared.reason.Reason.TheVariants.{Inner}
-use Rattle.x690.specs.Points.{Enclosing, EndsAt, EndsWithZeros, Innermost, NoContainer, stands_at_end}
+use Rattle.tlv_core.specs.declared.reason.Reason.{Reason}
+use Rattle.tlv_core.specs.declared.reason.Reason.TheVariants.{Inner, PastEnd, TooLong}
+use Rattle.x690.specs.Points.{Enclosing, EndsAt, EndsWithZeros, Innermost, NoContainer, past_end, stands_at_end}
 use Rattle.x690.specs.ReadHeaders.{DefiniteLength, IndefiniteLength, LengthForm}
 use Rattle.ber_pull.specs.declared.state.Container.{Container}
 use Rattle.ber_pull.specs.declared.state.Container.TheVariants.{Definite, Ended, Indefinite}
@@ -88,9 +89,26 @@ is_over_in taken (Some c) = is_ended c
 abbrev pub is_over : Standing → Bool
 is_over s = is_over_in s.taken (first_of s.containers)
 
+-- no element begins here: its container is over, or this is its end
+abbrev pub is_done : Standing → Bool
+is_done s = is_over s || stands_at_end (enclosing s).innermost s.taken
+
 -- Nothing is left here, and no octet is needed to know it.
 abbrev pub IsAtEnd : Standing → Type 0
-IsAtEnd s = (s.given ≡ None) × (is_over s || stands_at_end (enclosing s).innermost s.taken ≡ true)
+IsAtEnd s = (s.given ≡ None) × (is_done s ≡ true)
+
+-- the first place that no octet may be taken from: the nearest end, or the limit where it comes first
+abbrev pub bound_of : ℕ → Option ℕ → ℕ
+bound_of limit None = limit
+bound_of limit (Some end) = min end limit
+
+-- so many octets more stay within the nearest container of definite length and within the limit
+abbrev pub has_room : Standing → ℕ → Bool
+has_room s n = not (past_end (enclosing s).nearest_end (s.taken + n)) && nat_le (s.taken + n) s.limits.octets
+
+-- what is wrong where they don't
+abbrev pub no_room : Standing → ℕ → Reason
+no_room s n = cond (past_end (enclosing s).nearest_end (s.taken + n)) PastEnd TooLong
 
 -- the octets up to this place are taken
 abbrev pub moved : ℕ → Standing → Standing
@@ -99,6 +117,10 @@ moved taken s = record s { taken = taken }
 -- it has failed
 abbrev pub failed_with : ReadError → Standing → Standing
 failed_with e s = record s { error = Some e }
+
+-- the error that it has failed with
+abbrev pub failure : Standing → ReadError
+failure s = elim s.error [ Some e ↦ e | None ↦ errors.Memory ]
 
 -- an identifier is given
 abbrev pub giving : ℕ → Tag → Bool → Standing → Standing

@@ -1,5 +1,5 @@
 -- What clauses see of a pull reader.
-use Rattle.std.specs.Prelude.{Bool, Err, List, MatchResult, None, IfErr, Option, Result, Some, false, true, ℕ, ◌≡◌, ◌≤◌}
+use Rattle.std.specs.Prelude.{Bool, Err, List, MatchResult, None, IfErr, Ok, Option, Result, Some, false, true, ℕ, ◌≡◌, ◌≤◌}
 use Rattle.tlv_core.specs.declared.fault.ReadError.{ReadError}
 use Rattle.tlv_core.specs.declared.fault.ReadError.TheVariants as errors
 use Rattle.tlv_core.specs.declared.source.Source.{Ghosts}
@@ -7,8 +7,9 @@ use Rattle.x690.specs.ReadHeaders.{LengthForm}
 use Rattle.x690.specs.Reading.{Reading}
 use Rattle.x690.specs.Reads.{Heard}
 use Rattle.ber_pull.specs.Hears.{Hears}
-use Rattle.ber_pull.specs.Standing.{Standing, failed_with, moved, opening, used}
+use Rattle.ber_pull.specs.Standing.{Standing, failed_with, failure, moved, opening, used}
 use Rattle.ber_pull.specs.declared.pull.Pull.{Pull}
+use Rattle.ber_pull.specs.declared.state.Halted.{Halted}
 
 -- where it stands
 abbrev pub standing : {R : Type 0} {s : Ghosts R} → Pull R s → Standing
@@ -37,6 +38,11 @@ Unmoved old new = (new.state ≡ old.state) × (new.src.now ≡ old.src.now)
 -- one that failed answers the same error again, and takes nothing
 abbrev pub Repeats : {R : Type 0} {s : Ghosts R} {A : Type 0} → Pull R s → Pull R s → Result A ReadError → Type 0
 Repeats old new result = (e : ReadError) → old.state.error ≡ Some e → (result ≡ Err e) × Unmoved old new
+
+-- what a call inside the reader answered: its error is the one that is kept
+abbrev pub answered : {R : Type 0} {s : Ghosts R} {A : Type 0} → Pull R s → Result A Halted → Result A ReadError
+answered new (Ok x) = Ok x
+answered new (Err halted) = Err (failure new.state)
 
 -- an error is kept, and `Ok` leaves none
 abbrev pub Keeps : {R : Type 0} {s : Ghosts R} {A : Type 0} → Pull R s → Result A ReadError → Type 0

@@ -7,6 +7,7 @@ ghost use Rattle.ber_pull.specs.declared.state.Given.{Given};
 ghost use Rattle.ber_pull.specs.Standing.{enclosing};
 
 use crate::pull::Pull;
+use crate::state::Halted;
 use std::alloc::Global;
 use tlv_core::fault::ReadError;
 use tlv_core::reason::Reason;
@@ -22,7 +23,7 @@ const SHORT: usize = 32;
 const MIDDLE: usize = 160;
 
 impl<R: Source> Pull<'_, R> {
-    ghost use Rattle.ber_pull.specs.View.{FailsThere, standing, SameSource, Repeats, ReadsFail, Onward, Answers, Moves, Uses, Frame};
+    ghost use Rattle.ber_pull.specs.View.{FailsThere, answered, standing, SameSource, Repeats, ReadsFail, Onward, Answers, Moves, Uses, Frame};
     ghost use Rattle.ber_pull.specs.Contents.{AddsPiece};
 
     /// The contents of the primitive element that `next_tag` gave.
@@ -58,14 +59,17 @@ impl<R: Source> Pull<'_, R> {
         ensures stands { OnOk result (Uses self.old self.new) }
         ensures fails { FailsThere self.old self.new result }
     {
-        if let Some(error) = self.state.error() {
-            return Err(error);
+        if self.state.has_failed() {
+            return Err(self.state.failure());
         }
         let given = self.state.given().unwrap();
         if given.constructed {
             return Err(self.stop(given.at, Reason::WrongForm));
         }
-        self.primitive_contents(octets, given.at)
+        match self.primitive_contents(octets, given.at) {
+            Ok(()) => Ok(()),
+            Err(Halted) => Err(self.state.failure()),
+        }
     }
 
     /// The length and the contents of the primitive element whose identifier at `start` is given.
@@ -74,14 +78,14 @@ impl<R: Source> Pull<'_, R> {
         &mut self,
         octets: &mut Vec<u8>,
         start: u32,
-    ) -> Result<(), ReadError>
+    ) -> Result<(), Halted>
         requires { (standing self.old).error ≡ None }
-        ensures frame { Frame self.old self.new result }
+        ensures frame { Frame self.old self.new (answered self.new result) }
         ensures reads { Answers self.old self.new
             (primitive_contents (standing self.old).limits (enclosing (standing self.old)) start)
-            (heard (λ _. octets.new.items) result) }
+            (heard (λ _. octets.new.items) (answered self.new result)) }
         ensures stands { OnOk result (Uses self.old self.new) }
-        ensures fails { FailsThere self.old self.new result }
+        ensures fails { FailsThere self.old self.new (answered self.new result) }
     {
         let count = self.definite_length(start)?;
         self.contents(octets, count)?;
@@ -90,21 +94,21 @@ impl<R: Source> Pull<'_, R> {
     }
 
     /// The next `count` octets, in place of what the vector holds.
-    fn contents(&mut self, octets: &mut Vec<u8>, count: u32) -> Result<(), ReadError>
+    fn contents(&mut self, octets: &mut Vec<u8>, count: u32) -> Result<(), Halted>
         requires live { (standing self.old).error ≡ None }
         requires within { (standing self.old).taken + count ≤ (standing self.old).limits.octets }
         ensures same_source { SameSource self.old self.new }
         ensures reads { Answers self.old self.new (next_octets count)
-            (heard (λ _. octets.new.items) result) }
-        ensures stands { Moves self.old self.new result }
-        ensures read { ReadsFail self.old self.new result }
+            (heard (λ _. octets.new.items) (answered self.new result)) }
+        ensures stands { Moves self.old self.new (answered self.new result) }
+        ensures read { ReadsFail self.old self.new (answered self.new result) }
         ensures onward { Onward self.old self.new }
     {
         let size = count as usize;
         octets.clear();
         // (of what a length only claims no more than a piece)
         if octets.reserve_exact(size.min(PIECE)).is_err() {
-            return Err(self.no_memory());
+            return Err(self.halt_without_memory());
         }
         while octets.len() < size {
             let left = size - octets.len();
@@ -114,14 +118,15 @@ impl<R: Source> Pull<'_, R> {
     }
 
     /// Some of the next `most` octets, at least one, behind those that came before.
-    fn piece(&mut self, octets: &mut Vec<u8>, most: usize) -> Result<(), ReadError>
+    fn piece(&mut self, octets: &mut Vec<u8>, most: usize) -> Result<(), Halted>
         requires live { (standing self.old).error ≡ None }
         requires some { 0 < most }
         requires within { (standing self.old).taken + most ≤ (standing self.old).limits.octets }
         ensures same_source { SameSource self.old self.new }
-        ensures adds { AddsPiece self.old self.new octets.old.items octets.new.items most result }
-        ensures stands { Moves self.old self.new result }
-        ensures read { ReadsFail self.old self.new result }
+        ensures adds { AddsPiece self.old self.new octets.old.items octets.new.items most
+            (answered self.new result) }
+        ensures stands { Moves self.old self.new (answered self.new result) }
+        ensures read { ReadsFail self.old self.new (answered self.new result) }
         ensures onward { Onward self.old self.new }
     {
         if most <= SHORT {
@@ -139,7 +144,7 @@ impl<R: Source> Pull<'_, R> {
 
     /// Some of the next octets, at least one and at most as many as the room, behind those that came before.
     #[inline(always)]
-    fn fill(&mut self, octets: &mut Vec<u8>, room: &mut [u8]) -> Result<(), ReadError>
+    fn fill(&mut self, octets: &mut Vec<u8>, room: &mut [u8]) -> Result<(), Halted>
         requires live { (standing self.old).error ≡ None }
         requires some { 0 < length room.old }
         requires short { length room.old ≤ 1024 }
@@ -147,29 +152,22 @@ impl<R: Source> Pull<'_, R> {
             ≤ (standing self.old).limits.octets }
         ensures same_source { SameSource self.old self.new }
         ensures adds { (most : ℕ) → length room.old ≤ most
-            → AddsPiece self.old self.new octets.old.items octets.new.items most result }
-        ensures stands { Moves self.old self.new result }
-        ensures read { ReadsFail self.old self.new result }
+            → AddsPiece self.old self.new octets.old.items octets.new.items most
+            (answered self.new result) }
+        ensures stands { Moves self.old self.new (answered self.new result) }
+        ensures read { ReadsFail self.old self.new (answered self.new result) }
         ensures onward { Onward self.old self.new }
     {
         match self.src.read(room) {
-            Ok(0) => {
-                let at = self.state.taken();
-                Err(self.stop(at, Reason::Truncated))
-            }
+            Ok(0) => Err(self.truncated()),
             Ok(count) => {
                 self.state.take(count as u32);
                 match octets.extend_from_slice(&room[..count]) {
                     Ok(()) => Ok(()),
-                    Err(_) => Err(self.no_memory()),
+                    Err(_) => Err(self.halt_without_memory()),
                 }
             }
-            Err(Failed) => {
-                let at = u64::from(self.state.taken());
-                let error = ReadError::Read { at };
-                self.state.fail(error);
-                Err(error)
-            }
+            Err(Failed) => Err(self.state.fail_reading()),
         }
     }
 }

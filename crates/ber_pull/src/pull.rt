@@ -7,10 +7,10 @@ ghost use Rattle.ber_pull.specs.Calls.{read_next, read_entering, read_leaving};
 ghost use Rattle.ber_pull.specs.Hears.{heard, next_at};
 ghost use Rattle.x690.specs.Points.{fault};
 ghost use Rattle.ber_pull.specs.declared.state.Given.{Given};
-ghost use Rattle.ber_pull.specs.Standing.{IsAtEnd, IsGiven, TellsInside, started, place, failed_with, gives_primitive, enclosing, after_next, closing, moved, opening};
+ghost use Rattle.ber_pull.specs.Standing.{IsAtEnd, IsGiven, TellsInside, started, place, failed_with, gives_primitive, enclosing, after_next, closing, is_done, moved, opening};
 
 use crate::header::{LengthForm, tag_of};
-use crate::state::{Container, State};
+use crate::state::{Container, Halted, State};
 use tlv_core::fault::{Fault, ReadError};
 use tlv_core::limits::Limits;
 use tlv_core::reason::Reason;
@@ -30,7 +30,7 @@ pub struct Pull<'a, R: Source> {
 }
 
 impl<'a, R: Source> Pull<'a, R> {
-    ghost use Rattle.ber_pull.specs.View.{AsksNoMemory, FailsThere, standing, source, SameSource, Unmoved, Repeats, Answers, Opens, Frame};
+    ghost use Rattle.ber_pull.specs.View.{AsksNoMemory, FailsThere, answered, standing, source, SameSource, Unmoved, Repeats, Answers, Opens, Frame};
     ghost use Rattle.ber_pull.specs.Lengths.{IsWithin, form_of};
 
     /// A reader at place 0, with no container open.
@@ -106,15 +106,39 @@ impl<'a, R: Source> Pull<'a, R> {
         ensures fails { FailsThere self.old self.new result }
         ensures memory { AsksNoMemory self.old result }
     {
-        if let Some(error) = self.state.error() {
-            return Err(error);
+        if self.state.has_failed() {
+            return Err(self.state.failure());
         }
         if let Some(given) = self.state.given() {
             return Ok(Some((given.tag, given.constructed)));
         }
-        if self.state.is_over() || self.state.is_at_end() {
+        if self.state.is_done() {
             return Ok(None);
         }
+        match self.identifier() {
+            Ok(next) => Ok(next),
+            Err(Halted) => Err(self.state.failure()),
+        }
+    }
+
+    /// The identifier octets that stand here, or the end-of-contents octets: `None`.
+    #[inline(always)]
+    fn identifier(&mut self) -> Result<Option<(Tag, bool)>, Halted>
+        requires live { (standing self.old).error ≡ None }
+        requires unused { (standing self.old).given ≡ None }
+        requires more { is_done (standing self.old) ≡ false }
+        ensures frame { Frame self.old self.new (answered self.new result) }
+        ensures reads { Answers self.old self.new (read_next (standing self.old))
+            (heard (next_at (place (standing self.old))) (answered self.new result)) }
+        ensures stands { IfOk result (λ next. standing self.new
+            ≡ after_next (standing self.new).taken next (standing self.old)) }
+        ensures ends { IfOk result (λ next. next ≡ None → IsAtEnd (standing self.new)) }
+        ensures fits { IfOk result (λ next. IfSome next (λ t. IsGiven t.0 (standing self.new))) }
+        ensures advances { IfOk result (λ next. IsSome next
+            → (standing self.old).taken < (standing self.new).taken) }
+        ensures fails { FailsThere self.old self.new (answered self.new result) }
+        ensures memory { AsksNoMemory self.old (answered self.new result) }
+    {
         let start = self.state.taken();
         let first = self.octet(start)?;
         if first == 0 {
@@ -122,11 +146,11 @@ impl<'a, R: Source> Pull<'a, R> {
             return Ok(None);
         }
         if first == 32 {
-            return Err(self.stop(start, Reason::BadTag));
+            return Err(self.halt(start, Reason::BadTag));
         }
         let number = self.tag_number(start, first)?;
         if self.state.is_deep() {
-            return Err(self.stop(start, Reason::TooDeep));
+            return Err(self.halt(start, Reason::TooDeep));
         }
         let tag = tag_of(first, number);
         let constructed = first % 64 >= 32;
@@ -151,17 +175,21 @@ impl<'a, R: Source> Pull<'a, R> {
         ensures fails { FailsThere self.old self.new result }
         ensures memory { AsksNoMemory self.old result }
     {
-        if let Some(error) = self.state.error() {
-            return Err(error);
+        if self.state.has_failed() {
+            return Err(self.state.failure());
         }
         let given = self.state.given().unwrap();
         if !given.constructed {
             return Err(self.stop(given.at, Reason::WrongForm));
         }
-        let form = self.length(given.at)?;
-        self.state.use_given();
-        self.open(form);
-        Ok(())
+        match self.length(given.at) {
+            Ok(form) => {
+                self.state.use_given();
+                self.open(form);
+                Ok(())
+            }
+            Err(Halted) => Err(self.state.failure()),
+        }
     }
 
     /// Closes the innermost container, which has nothing left.
@@ -181,8 +209,8 @@ impl<'a, R: Source> Pull<'a, R> {
             × (standing self.new ≡ closing (standing self.old)) }
         ensures memory { AsksNoMemory self.old result }
     {
-        if let Some(error) = self.state.error() {
-            return Err(error);
+        if self.state.has_failed() {
+            return Err(self.state.failure());
         }
         let at = self.at();
         if let Some(_) = self.next_tag()? {
@@ -244,6 +272,32 @@ impl<'a, R: Source> Pull<'a, R> {
         });
         self.state.fail(error);
         error
+    }
+
+    /// The same, where the error stays in the state.
+    #[cold]
+    pub(crate) fn halt(&mut self, at: u32, why: Reason) -> Halted
+        requires live { (standing self.old).error ≡ None }
+        requires why { why ≡ Inner → ⊥ }
+        ensures same_source { SameSource self.old self.new }
+        ensures same { source self.new ≡ source self.old }
+        ensures stands { standing self.new
+            ≡ failed_with (refused (fault at why)) (standing self.old) }
+    {
+        let _kept = self.stop(at, why);
+        Halted
+    }
+
+    /// A growth of memory was refused, and the error stays in the state.
+    #[cold]
+    pub(crate) fn halt_without_memory(&mut self) -> Halted
+        requires { (standing self.old).error ≡ None }
+        ensures same_source { SameSource self.old self.new }
+        ensures same { source self.new ≡ source self.old }
+        ensures stands { standing self.new ≡ failed_with Memory (standing self.old) }
+    {
+        let _kept = self.no_memory();
+        Halted
     }
 
     /// Opens a container of this length, whose contents begin here.

@@ -24,6 +24,10 @@ pub struct Given {
     pub constructed: bool,
 }
 
+/// The reader has failed: its state keeps the error.
+#[derive(Clone, Copy)]
+pub struct Halted;
+
 /// How many containers can be open at once.
 const MOST: usize = 64;
 
@@ -35,15 +39,17 @@ pub struct State {
     given: Option<Given>,
     containers: [Container; MOST],
     depth: usize,
+    /// The first place that no octet may be taken from: the nearest end, or the limit where it comes first.
+    bound: u32,
     error: Option<ReadError>,
 }
 
 impl Model for State {
-    ghost use Rattle.ber_pull.specs.Standing.{Standing};
+    ghost use Rattle.ber_pull.specs.Standing.{Standing, bound_of, first_of, nearest_end_in};
 
     ghost Value = { Standing };
 
-    ghost use Rattle.std.specs.Prelude.{take, reverse, length, IfSome, ◌≡◌, ◌<◌, ◌≤◌};
+    ghost use Rattle.std.specs.Prelude.{take, reverse, length, IfSome, ◌≡◌, ◌<◌, ◌≤◌, ◌^◌};
     ghost use Rattle.tlv_core.specs.Identifier.{IsTag};
 
     ghost view = { λ s. record {
@@ -58,13 +64,17 @@ impl Model for State {
     ghost invariant = { λ s. (s.depth ≤ s.limits.depth) × (s.limits.depth ≤ 64)
         × (s.taken ≤ s.limits.octets) × (s.limits.octets ≤ 2147483647)
         × IfSome s.given (λ g. (s.depth < s.limits.depth) × IsTag g.tag)
-        × (length s.containers ≡ 64) };
+        × (length s.containers ≡ 64)
+        × (s.bound
+        ≡ bound_of s.limits.octets (nearest_end_in (first_of (reverse (take s.depth s.containers)))))
+        × IfSome (nearest_end_in (first_of (reverse (take s.depth s.containers)))) (λ end. end < 2 ^ 32) };
 }
 
-ghost use Rattle.std.specs.Prelude.{◌≡◌, ◌<◌, ◌≤◌, ◌^◌, ◌+◌, IfSome, None, length, nat_lt, not};
-ghost use Rattle.ber_pull.specs.Standing.{started, failed_with, moved, used, giving, enclosing, first_of, is_over, ending, closing, with_container};
+ghost use Rattle.std.specs.Prelude.{◌≡◌, ◌<◌, ◌≤◌, ◌^◌, ◌+◌, IfSome, None, Some, false, is_some, length, nat_lt, not, reverse, true};
+ghost use Rattle.tlv_core.specs.declared.fault.ReadError.TheVariants.{Read};
+ghost use Rattle.ber_pull.specs.Standing.{started, failed_with, failure, moved, used, giving, enclosing, first_of, has_room, nearest_end_in, bound_of, is_done, ending, closing, with_container};
 ghost use Rattle.tlv_core.specs.Identifier.{IsTag};
-ghost use Rattle.x690.specs.Points.{at_end, ends_with_zeros, past_end, stands_at_end};
+ghost use Rattle.x690.specs.Points.{ends_with_zeros, past_end};
 
 impl State {
     pub fn new(limits: Limits) -> State
@@ -77,6 +87,7 @@ impl State {
             given: None,
             containers: [Container::Definite(0); MOST],
             depth: 0,
+            bound: limits.octets(),
             error: None,
         }
     }
@@ -102,11 +113,15 @@ impl State {
         self.taken
     }
 
-    /// No octet may be taken any more.
-    pub fn is_full(&self) -> bool
-        ensures { result ≡ not (nat_lt self.now.taken self.now.limits.octets) }
+    /// So many octets more stay within the nearest container of definite length and the limit.
+    pub fn has_room(&self, count: u64) -> bool
+        requires { count < 2 ^ 40 }
+        ensures value { result ≡ has_room self.now count }
+        ensures within { result ≡ true → self.now.taken + count ≤ self.now.limits.octets }
+        ensures small { IfSome (enclosing self.now).nearest_end (λ end. end < 2 ^ 32) }
+        ensures bound { self.now.limits.octets ≤ 2147483647 }
     {
-        self.taken >= self.limits.octets()
+        u64::from(self.taken) + count <= u64::from(self.bound)
     }
 
     /// So many octets more are taken.
@@ -121,6 +136,36 @@ impl State {
         ensures { self.new ≡ failed_with error self.old }
     {
         self.error = Some(error);
+    }
+
+    /// A read failed at the next octet.
+    #[cold]
+    pub fn fail_reading(&mut self) -> Halted
+        ensures { self.new ≡ failed_with (Read self.old.taken) self.old }
+    {
+        self.error = Some(ReadError::Read {
+            at: u64::from(self.taken),
+        });
+        Halted
+    }
+
+    pub fn has_failed(&self) -> bool
+        ensures value { result ≡ is_some self.now.error }
+        ensures failed { result ≡ true → self.now.error ≡ Some (failure self.now) }
+        ensures fine { result ≡ false → self.now.error ≡ None }
+    {
+        self.error.is_some()
+    }
+
+    /// The error that it has failed with.
+    #[cold]
+    pub fn failure(&self) -> ReadError
+        ensures { result ≡ failure self.now }
+    {
+        match self.error {
+            Some(error) => error,
+            None => ReadError::Memory,
+        }
     }
 
     /// The identifier that is given and not used yet.
@@ -165,10 +210,7 @@ impl State {
     fn innermost(&self) -> Option<Container>
         ensures { result ≡ first_of self.now.containers }
     {
-        if self.depth == 0 {
-            return None;
-        }
-        Some(self.containers[self.depth - 1])
+        innermost(&self.containers[..self.depth])
     }
 
     /// The end of the nearest container of definite length.
@@ -176,22 +218,7 @@ impl State {
         ensures value { result ≡ (enclosing self.now).nearest_end }
         ensures bound { IfSome result (λ end. end < 2 ^ 32) }
     {
-        match self.innermost() {
-            None => None,
-            Some(Container::Definite(end)) => Some(end),
-            Some(Container::Indefinite(around)) => around,
-            Some(Container::Ended(around)) => around,
-        }
-    }
-
-    /// The nearest container of definite length ends here.
-    pub fn is_at_nearest_end(&self) -> bool
-        ensures { result ≡ at_end (enclosing self.now).nearest_end self.now.taken }
-    {
-        match self.nearest_end() {
-            None => false,
-            Some(end) => end <= self.taken,
-        }
+        nearest_end(self.innermost())
     }
 
     /// A place is behind the end of the nearest container of definite length.
@@ -217,23 +244,14 @@ impl State {
     }
 
     /// No element and no end can stand here: the container's end is taken, or the outermost element is complete.
-    pub fn is_over(&self) -> bool
-        ensures { result ≡ is_over self.now }
+    pub fn is_done(&self) -> bool
+        ensures { result ≡ is_done self.now }
     {
         match self.innermost() {
             None => self.taken > 0,
-            Some(Container::Ended(_)) => true,
-            Some(_) => false,
-        }
-    }
-
-    /// The innermost container has definite length, and this is its end.
-    pub fn is_at_end(&self) -> bool
-        ensures { result ≡ stands_at_end (enclosing self.now).innermost self.now.taken }
-    {
-        match self.innermost() {
             Some(Container::Definite(end)) => end == self.taken,
-            _ => false,
+            Some(Container::Indefinite(_)) => false,
+            Some(Container::Ended(_)) => true,
         }
     }
 
@@ -250,6 +268,7 @@ impl State {
         requires used { self.old.given ≡ None }
         ensures { self.new ≡ with_container container self.old }
     {
+        self.bound = bound(self.limits, nearest_end(Some(container)));
         self.containers[self.depth] = container;
         self.depth += 1;
     }
@@ -260,6 +279,8 @@ impl State {
     {
         if self.depth > 0 {
             self.depth -= 1;
+            let around = innermost(&self.containers[..self.depth]);
+            self.bound = bound(self.limits, nearest_end(around));
         }
     }
 
@@ -270,5 +291,38 @@ impl State {
         if let Some(Container::Indefinite(around)) = self.innermost() {
             self.containers[self.depth - 1] = Container::Ended(around);
         }
+    }
+}
+
+/// The innermost of these open containers, which is the last of them.
+fn innermost(containers: &[Container]) -> Option<Container>
+    ensures { result ≡ first_of (reverse containers.now) }
+{
+    if containers.is_empty() {
+        return None;
+    }
+    Some(containers[containers.len() - 1])
+}
+
+/// The end of the nearest container of definite length.
+fn nearest_end(innermost: Option<Container>) -> Option<u32>
+    ensures value { result ≡ nearest_end_in innermost }
+    ensures bound { IfSome result (λ end. end < 2 ^ 32) }
+{
+    match innermost {
+        None => None,
+        Some(Container::Definite(end)) => Some(end),
+        Some(Container::Indefinite(around)) => around,
+        Some(Container::Ended(around)) => around,
+    }
+}
+
+/// The first place that no octet may be taken from.
+fn bound(limits: Limits, nearest_end: Option<u32>) -> u32
+    ensures { result ≡ bound_of limits.octets nearest_end }
+{
+    match nearest_end {
+        None => limits.octets(),
+        Some(end) => end.min(limits.octets()),
     }
 }

@@ -11,6 +11,7 @@ ghost use Rattle.ber_pull.specs.Standing.{among, enclosing};
 
 use crate::bits::{is_bit_segment, without_last_bits};
 use crate::pull::Pull;
+use crate::state::Halted;
 use std::alloc::{AllocError, Global};
 use tlv_core::fault::ReadError;
 use tlv_core::reason::Reason;
@@ -102,7 +103,7 @@ fn clear_unused(mut octets: Vec<u8>, unused: u8) -> Vec<u8>
 }
 
 impl<R: Source> Pull<'_, R> {
-    ghost use Rattle.ber_pull.specs.View.{standing, Repeats, Answers, Uses, Frame};
+    ghost use Rattle.ber_pull.specs.View.{answered, standing, Repeats, Answers, Uses, Frame};
     ghost use Rattle.ber_pull.specs.Segments.{AddsSegment, AnswersJoined, Joins, Level, Stacked, Steps, read_one_segment, read_rest, segment_number};
 
     /// The octets of the string that `next_tag` gave, its segments joined. Segments have the tag of OCTET STRING.
@@ -118,8 +119,8 @@ impl<R: Source> Pull<'_, R> {
             (heard (λ v. v.items) result) }
         ensures stands { OnOk result (Uses self.old self.new) }
     {
-        if let Some(error) = self.state.error() {
-            return Err(error);
+        if self.state.has_failed() {
+            return Err(self.state.failure());
         }
         let joined = self.joined(alloc, false)?;
         Ok(joined.octets)
@@ -137,8 +138,8 @@ impl<R: Source> Pull<'_, R> {
             (heard (λ _. octets.new.items) result) }
         ensures stands { OnOk result (Uses self.old self.new) }
     {
-        if let Some(error) = self.state.error() {
-            return Err(error);
+        if self.state.has_failed() {
+            return Err(self.state.failure());
         }
         let given = self.state.given().unwrap();
         if given.constructed {
@@ -146,8 +147,10 @@ impl<R: Source> Pull<'_, R> {
             *octets = joined;
             return Ok(());
         }
-        self.primitive_contents(octets, given.at)?;
-        Ok(())
+        match self.primitive_contents(octets, given.at) {
+            Ok(()) => Ok(()),
+            Err(Halted) => Err(self.state.failure()),
+        }
     }
 
     /// The number of unused bits of the BIT STRING that `next_tag` gave, and its octets, segments joined and unused
@@ -164,8 +167,8 @@ impl<R: Source> Pull<'_, R> {
             (heard (λ v. (v.0, v.1.items)) result) }
         ensures stands { OnOk result (Uses self.old self.new) }
     {
-        if let Some(error) = self.state.error() {
-            return Err(error);
+        if self.state.has_failed() {
+            return Err(self.state.failure());
         }
         let joined = self.joined(alloc, true)?;
         let unused = joined.unused;
@@ -187,8 +190,10 @@ impl<R: Source> Pull<'_, R> {
         let mut joined = Joined::new(alloc, is_bits);
         let given = self.state.given().unwrap();
         if !given.constructed {
-            self.segment(alloc, given.at, &mut joined)?;
-            return Ok(joined);
+            return match self.segment(alloc, given.at, &mut joined) {
+                Ok(()) => Ok(joined),
+                Err(Halted) => Err(self.state.failure()),
+            };
         }
         let outside = self.state.depth();
         self.enter()?;
@@ -231,30 +236,32 @@ impl<R: Source> Pull<'_, R> {
             self.enter()?;
             return Ok(());
         }
-        self.segment(alloc, start, joined)?;
-        Ok(())
+        match self.segment(alloc, start, joined) {
+            Ok(()) => Ok(()),
+            Err(Halted) => Err(self.state.failure()),
+        }
     }
 
     /// The primitive segment whose identifier at `start` was given.
     #[inline(always)]
-    fn segment(&mut self, alloc: Global, start: u32, joined: &mut Joined) -> Result<(), ReadError>
+    fn segment(&mut self, alloc: Global, start: u32, joined: &mut Joined) -> Result<(), Halted>
         requires live { (standing self.old).error ≡ None }
-        ensures frame { Frame self.old self.new result }
+        ensures frame { Frame self.old self.new (answered self.new result) }
         ensures reads { (s : List (List ℕ)) → Joins joined.old s
             → AddsSegment self.old self.new
             (read_one_segment (segment_number joined.old.is_bits) (standing self.old).limits
-            (enclosing (standing self.old)) s start) joined.new result }
+            (enclosing (standing self.old)) s start) joined.new (answered self.new result) }
         ensures kind { joined.new.is_bits ≡ joined.old.is_bits }
         ensures stands { OnOk result (Uses self.old self.new) }
     {
         let mut contents = Vec::new(alloc);
         self.primitive_contents(&mut contents, start)?;
         if !joined.may_follow(&contents) {
-            return Err(self.stop(start, Reason::BadBits));
+            return Err(self.halt(start, Reason::BadBits));
         }
         match joined.add(contents) {
             Ok(()) => Ok(()),
-            Err(_) => Err(self.no_memory()),
+            Err(_) => Err(self.halt_without_memory()),
         }
     }
 }

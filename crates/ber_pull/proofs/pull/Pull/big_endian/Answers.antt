@@ -2,12 +2,12 @@ use Rattle.std.proofs.Common.{rules, arith, ◌+◌, ◌-◌, ◌*◌, ap}
 use Rattle.x690.specs.ReadHeaders.{header_octet}
 use Rattle.ber_pull.specs.Standing.{enclosing}
 use Rattle.ber_pull.proofs.Hearing.{hears_as}
-use Rattle.ber_pull.proofs.Headers.{big_endian_done, big_endian_error, big_endian_more, clipped_error}
+use Rattle.ber_pull.proofs.Headers.{big_endian_done, big_endian_error, big_endian_more, clipped_halted}
 use Rattle.ber_pull.proofs.pull.Pull.big_endian.Goals as goal
 
 pub returns-in_err-octet-clause-reads : goal.returns-in_err-octet-clause-reads
 returns-in_err-octet-clause-reads g c =
-    clipped_error c.args.self.now c.octet.new.self _ c.from_residual.result c.in_err-octet.field-0.0 (search rules)
+    clipped_halted c.args.self.now c.octet.new.self _ c.from_residual.result c.in_err-octet.field-0.0 (search rules)
     (c.loop.invariant.reads.2.rest _ _ _
     (big_endian_error _ _ _ _ (c.args.count - (c.loop.counter + 1)) _ _ _ _ _ _ (omega arith)
     (hears_as _ _ _ _ _ _ _

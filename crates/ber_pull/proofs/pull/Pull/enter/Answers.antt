@@ -1,11 +1,11 @@
-use Rattle.std.proofs.Common.{rules, ◌≡◌, sym, ap, ◌∙◌}
+use Rattle.std.proofs.Common.{◌≡◌, sym, ap, ◌∙◌}
 use Rattle.tlv_core.specs.declared.fault.ReadError.TheVariants as errors
 use Rattle.tlv_core.specs.declared.reason.Reason.TheVariants.{WrongForm}
 use Rattle.x690.specs.Points.{fault}
 use Rattle.x690.specs.ReadHeaders.{read_length}
 use Rattle.ber_pull.specs.Lengths.{form_of}
 use Rattle.ber_pull.specs.Standing.{enclosing, opening, used}
-use Rattle.ber_pull.proofs.Hearing.{hears_as, hears_at, hears_err, hears_said, hears_stop, no_false, no_true}
+use Rattle.ber_pull.proofs.Hearing.{hears_as, hears_at, hears_error_as, hears_said, hears_stop, no_false, no_true}
 use Rattle.ber_pull.proofs.Containers.{enter_error, enter_opens, enter_primitive}
 use Rattle.ber_pull.proofs.pull.Pull.enter.Goals as goal
 
@@ -17,26 +17,26 @@ returns-then-not-given-clause-reads g c = λ given fine is.
     (ap g.R.Source.remaining c.stop.ensures.same)
     (enter_primitive _ _ _ _ (ap (λ w. w.constructed) (sym same) ∙ no_true _ c.if-not-given.true))
 
-pub returns-in_err-form-clause-reads : goal.returns-in_err-form-clause-reads
-returns-in_err-form-clause-reads g c = λ given fine is.
+pub returns-in-Err-clause-reads : goal.returns-in-Err-clause-reads
+returns-in-Err-clause-reads g c = λ given fine is.
     let same : c.unwrap-given.result ≡ given = cc in
-    hears_err _ _ c.from_residual.result c.in_err-form.field-0.0 _ _ _ _ (search rules)
+    hears_error_as _ _ _ _ _ _ _ c.failure-in-Err.ensures
     (enter_error c.args.self.now.state given _ _ _ _ _
     (ap (λ w. w.constructed) (sym same) ∙ no_false _ c.if-not-given.false)
     (hears_as _ _ _ _ _ _ _
     (ap (λ w. read_length c.args.self.now.state.limits (enclosing c.args.self.now.state).nearest_end w.at) same)
-    c.in_err-form.ensures.reads))
+    c.in-Err.ensures.reads))
 
-pub returns-clause-reads : goal.returns-clause-reads
-returns-clause-reads g c = λ given fine is.
+pub returns-in-Ok-clause-reads : goal.returns-in-Ok-clause-reads
+returns-in-Ok-clause-reads g c = λ given fine is.
     let same : c.unwrap-given.result ≡ given = cc in
     let stands = c.open.ensures.stands
-    ∙ ap (opening (form_of c.in_ok-form.form))
-    (c.use_given.ensures ∙ ap (used c.length.new.self.state.taken) c.in_ok-form.ensures.stands) in
+    ∙ ap (opening (form_of c.in-Ok.form))
+    (c.use_given.ensures ∙ ap (used c.length.new.self.state.taken) c.in-Ok.ensures.stands) in
     hears_at _ _ _ _ _ _ _ _ (ap (λ s. s.taken) stands) (ap g.R.Source.remaining c.open.ensures.same)
     (hears_said _ _ _ _ _ _ _ (ap enclosing (sym stands))
-    (enter_opens c.args.self.now.state given (form_of c.in_ok-form.form) _ _ _ _
+    (enter_opens c.args.self.now.state given (form_of c.in-Ok.form) _ _ _ _
     (ap (λ w. w.constructed) (sym same) ∙ no_false _ c.if-not-given.false)
     (hears_as _ _ _ _ _ _ _
     (ap (λ w. read_length c.args.self.now.state.limits (enclosing c.args.self.now.state).nearest_end w.at) same)
-    c.in_ok-form.ensures.reads)))
+    c.in-Ok.ensures.reads)))

@@ -4,14 +4,14 @@ use Rattle.x690.specs.Points.{fault}
 use Rattle.x690.specs.ReadHeaders.{header_octet, read_high_number}
 use Rattle.x690.specs.Reads.{Said}
 use Rattle.ber_pull.specs.Hears.{Hears}
-use Rattle.ber_pull.specs.Standing.{enclosing}
-use Rattle.ber_pull.proofs.Hearing.{hears_as, hears_err, hears_stop}
+use Rattle.ber_pull.specs.Standing.{enclosing, failure}
+use Rattle.ber_pull.proofs.Hearing.{hears_as, hears_halted, hears_stop}
 use Rattle.ber_pull.proofs.Headers.{digits_below, digits_more, high_error, no_first_zero, high_last, high_long, high_more, high_octet, high_small, high_zero}
 use Rattle.ber_pull.proofs.pull.Pull.high_tag_number.Goals as goal
 
 pub returns-in_err-octet-clause-reads : goal.returns-in_err-octet-clause-reads
 returns-in_err-octet-clause-reads g c =
-    hears_err _ _ c.from_residual.result c.in_err-octet.field-0.0 _ _ _ _ (search rules)
+    hears_halted c.octet.new.self _ _ c.from_residual.result c.in_err-octet.field-0.0 _ _ _ _ (search rules)
     (c.loop.invariant.reads.rest _ _ _ (high_error _ _ _ _ (4 - (c.loop.counter + 1)) _ _ _ _ _ _ (omega arith)
     (hears_as _ _ _ _ _ _ _
     (ap (λ s. header_octet s.limits (enclosing s).nearest_end c.args.start) c.loop.invariant.moves)
@@ -19,8 +19,8 @@ returns-in_err-octet-clause-reads g c =
 
 pub returns-then-octet-clause-reads : goal.returns-then-octet-clause-reads
 returns-then-octet-clause-reads g c =
-    hears_stop _ (fault c.args.start BadTag) _ _ _ _ _ _ _ c.stop.ensures.is (ap (λ s. s.taken) c.stop.ensures.stands)
-    (ap g.R.Source.remaining c.stop.ensures.same)
+    hears_stop _ (fault c.args.start BadTag) _ _ _ _ _ _ _ (ap failure c.halt.ensures.stands) (ap (λ s. s.taken) c.halt.ensures.stands)
+    (ap g.R.Source.remaining c.halt.ensures.same)
     (high_zero _ _ _ _ _ _ _ _ _ _
     (high_octet _ _ _ (4 - c.loop.counter) (4 - (c.loop.counter + 1)) c.loop.number c.in_ok-octet.octet _ _ _ _ _ _
     (omega arith) c.loop.invariant.reads
@@ -47,9 +47,9 @@ overflow_add-number-in-loop g c =
 pub returns-then-number-lt31-clause-reads : goal.returns-then-number-lt31-clause-reads
 returns-then-number-lt31-clause-reads g c =
     let small : c.loop.number * 128 + c.in_ok-octet.octet < 31 = let z = c.if-number-lt31.true in omega arith in
-    hears_stop _ (fault c.args.start BadTag) _ _ _ _ _ _ _ c.stop-then-number-lt31.ensures.is
-    (ap (λ s. s.taken) c.stop-then-number-lt31.ensures.stands)
-    (ap g.R.Source.remaining c.stop-then-number-lt31.ensures.same)
+    hears_stop _ (fault c.args.start BadTag) _ _ _ _ _ _ _ (ap failure c.halt-then-number-lt31.ensures.stands)
+    (ap (λ s. s.taken) c.halt-then-number-lt31.ensures.stands)
+    (ap g.R.Source.remaining c.halt-then-number-lt31.ensures.same)
     (high_small _ _ _ _ _ _ _ _ _ _
     (high_octet _ _ _ (4 - c.loop.counter) (4 - (c.loop.counter + 1)) c.loop.number c.in_ok-octet.octet _ _ _ _ _ _
     (omega arith) c.loop.invariant.reads
@@ -99,6 +99,6 @@ loop-preserved g c = record {
 
 pub returns-clause-reads : goal.returns-clause-reads
 returns-clause-reads g c =
-    hears_stop _ (fault c.args.start BadTag) _ _ _ _ _ _ _ c.stop-2.ensures.is
-    (ap (λ s. s.taken) c.stop-2.ensures.stands) (ap g.R.Source.remaining c.stop-2.ensures.same)
+    hears_stop _ (fault c.args.start BadTag) _ _ _ _ _ _ _ (ap failure c.halt-2.ensures.stands)
+    (ap (λ s. s.taken) c.halt-2.ensures.stands) (ap g.R.Source.remaining c.halt-2.ensures.same)
     (high_long _ _ _ _ _ _ _ _ _ (omega arith) c.loop.invariant.reads)

@@ -1,6 +1,6 @@
 use Rattle.std.proofs.Common.{rules, arith, ◌≡◌, ◌<◌, ◌≤◌, length, [], Ok, Err, refl, sym, ap, subst, ◌∙◌}
 use Rattle.ber_pull.specs.Standing.{enclosing, used}
-use Rattle.ber_pull.proofs.Hearing.{hears_as, no_false, no_true}
+use Rattle.ber_pull.proofs.Hearing.{hears_as, hears_error_as, no_false, no_true}
 use Rattle.std.proofs.Common.{◌∷◌}
 use Rattle.ber_pull.specs.Calls.{read_segments}
 use Rattle.ber_pull.specs.Segments.{Stacked, Steps, read_one_segment, read_rest, segment_number}
@@ -10,10 +10,10 @@ use Rattle.ber_pull.proofs.Strings.{around_left, segments_error, segments_into, 
 use Rattle.ber_pull.proofs.Walk.{continues_as, level}
 use Rattle.ber_pull.proofs.pull.Pull.joined.Goals as goal
 
-pub returns-in_err-segment-clause-reads : goal.returns-in_err-segment-clause-reads
-returns-in_err-segment-clause-reads g c = λ given is.
+pub returns-in-Err-clause-reads : goal.returns-in-Err-clause-reads
+returns-in-Err-clause-reads g c = λ given is.
     let same : c.unwrap-given.result ≡ given = cc in
-    joined_error c.args.self.now c.segment.new.self _ c.from_residual.result c.in_err-segment.field-0.0 (search rules)
+    hears_error_as _ _ _ _ _ _ _ c.failure.ensures
     (hears_as _ _ _ _ _ _ _
     (ap (λ b.
     read_one_segment (segment_number b) c.args.self.now.state.limits
@@ -23,12 +23,12 @@ returns-in_err-segment-clause-reads g c = λ given is.
     (enclosing c.args.self.now.state) [] w.at) same
     ∙ segments_one (segment_number c.args.is_bits) c.args.self.now.state given
     (ap (λ w. w.constructed) (sym same) ∙ no_true _ c.if-not-given.true))
-    (c.in_err-segment.ensures.reads [] c.new-joined.ensures.none))
+    (c.in-Err.ensures.reads [] c.new-joined.ensures.none))
 
-pub returns-then-not-given-clause-reads : goal.returns-then-not-given-clause-reads
-returns-then-not-given-clause-reads g c = λ given is.
+pub returns-in-Ok-clause-reads : goal.returns-in-Ok-clause-reads
+returns-in-Ok-clause-reads g c = λ given is.
     let same : c.unwrap-given.result ≡ given = cc in
-    let came = c.in_ok-segment.ensures.reads [] c.new-joined.ensures.none in (
+    let came = c.in-Ok.ensures.reads [] c.new-joined.ensures.none in (
       came.0,
       came.1,
       hears_as _ _ _ _ _ _ _
@@ -45,7 +45,7 @@ returns-then-not-given-clause-reads g c = λ given is.
 pub returns-in_err-enter-clause-reads : goal.returns-in_err-enter-clause-reads
 returns-in_err-enter-clause-reads g c = λ given is.
     let same : c.unwrap-given.result ≡ given = cc in
-    joined_error c.args.self.now c.enter.new.self _ c.from_residual-in_err-enter.result c.in_err-enter.field-0.0
+    joined_error c.args.self.now c.enter.new.self _ c.from_residual.result c.in_err-enter.field-0.0
     (search rules)
     (segments_error (segment_number c.args.is_bits) c.args.self.now.state given _ _ _ _ _
     (ap (λ w. w.constructed) (sym same) ∙ no_false _ c.if-not-given.false)

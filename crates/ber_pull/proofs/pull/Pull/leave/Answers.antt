@@ -16,13 +16,13 @@ returns-in_err-next_tag-clause-reads g c = λ fine.
     hears_err _ _ c.from_residual.result c.in_err-next_tag.field-0.0 _ _ _ _ (search rules)
     (leave_error _ _ _ _ _ _ (c.in_err-next_tag.ensures.reads fine))
 
-pub returns-in-Some-2-clause-reads : goal.returns-in-Some-2-clause-reads
-returns-in-Some-2-clause-reads g c = λ fine.
+pub returns-in-Some-clause-reads : goal.returns-in-Some-clause-reads
+returns-in-Some-clause-reads g c = λ fine.
     let next = subst
     (λ w.
     Hears (read_next c.args.self.now.state) c.args.self.now.state.taken (g.R.Source.remaining c.args.self.now.src.now)
     (Said (next_at (place c.args.self.now.state) w)) c.next_tag.new.self.state.taken
-    (g.R.Source.remaining c.next_tag.new.self.src.now)) c.in-Some-2.is
+    (g.R.Source.remaining c.next_tag.new.self.src.now)) c.in-Some.is
     (c.in_ok-next_tag.ensures.reads fine) in
     let first = c.refuse.ensures.first (search rules) in
     hears_stop _ (fault (place c.args.self.now.state) Extra) _ _ _ _ _ _ _
@@ -36,6 +36,6 @@ returns-clause-reads g c = λ fine.
     (λ w.
     Hears (read_next c.args.self.now.state) c.args.self.now.state.taken (g.R.Source.remaining c.args.self.now.src.now)
     (Said (next_at (place c.args.self.now.state) w)) c.next_tag.new.self.state.taken
-    (g.R.Source.remaining c.next_tag.new.self.src.now)) c.in_default-2.is
+    (g.R.Source.remaining c.next_tag.new.self.src.now)) c.in_default.is
     (c.in_ok-next_tag.ensures.reads fine) in
     hears_at _ _ _ _ _ _ _ _ (ap (λ s. s.taken) c.close.ensures) refl (leave_ended _ _ _ _ _ _ next)

@@ -2,7 +2,7 @@ use Rattle.std.proofs.Common.{rules, arith, ◌≡◌, inl, true, false, nat_lt,
 use Rattle.std.proofs.lemmas.Bool.Decides.{nat_tests}
 use Rattle.x690.specs.ReadHeaders.{fit_contents, read_number}
 use Rattle.ber_pull.specs.Standing.{enclosing}
-use Rattle.ber_pull.proofs.Hearing.{hears_as, hears_done, hears_err, hears_error, hears_first, hears_second, hears_then}
+use Rattle.ber_pull.proofs.Hearing.{hears_as, hears_done, hears_halted, hears_error, hears_first, hears_second, hears_then}
 use Rattle.ber_pull.proofs.pull.Pull.number.Goals as goal
 
 pub returns-then-first-lt128-clause-reads : goal.returns-then-first-lt128-clause-reads
@@ -16,7 +16,7 @@ pub returns-in_err-number-clause-reads : goal.returns-in_err-number-clause-reads
 unfolding read_number
 returns-in_err-number-clause-reads g c =
     let t : nat_lt c.args.first 128 ≡ false = let z = c.if-first-lt128.false in grind (arith, nat_tests) in
-    hears_err _ _ c.from_residual.result c.in_err-number.field-0.0 _ _ _ _ (search rules)
+    hears_halted c.big_endian.new.self _ _ c.from_residual.result c.in_err-number.field-0.0 _ _ _ _ (search rules)
     (hears_error _ _ _ _ _ _ _ (hears_second _ _ _ _ _ _ _ _ t c.in_err-number.ensures.reads))
 
 pub returns-clause-reads : goal.returns-clause-reads

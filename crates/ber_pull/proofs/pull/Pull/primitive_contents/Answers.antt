@@ -1,18 +1,18 @@
 use Rattle.std.proofs.Common.{rules, refl, ap}
-use Rattle.ber_pull.proofs.Hearing.{hears_at, hears_err, hears_error, hears_then}
+use Rattle.ber_pull.proofs.Hearing.{hears_at, hears_halted, hears_error, hears_then}
 use Rattle.x690.specs.ReadHeaders.{primitive_contents}
 use Rattle.ber_pull.proofs.pull.Pull.primitive_contents.Goals as goal
 
 pub returns-in_err-count-clause-reads : goal.returns-in_err-count-clause-reads
 unfolding primitive_contents
 returns-in_err-count-clause-reads g c =
-    hears_err _ _ c.from_residual.result c.in_err-count.field-0.0 _ _ _ _ (search rules)
+    hears_halted c.definite_length.new.self _ _ c.from_residual.result c.in_err-count.field-0.0 _ _ _ _ (search rules)
     (hears_error _ _ _ _ _ _ _ c.in_err-count.ensures.reads)
 
 pub returns-in_err-contents-clause-reads : goal.returns-in_err-contents-clause-reads
 unfolding primitive_contents
 returns-in_err-contents-clause-reads g c =
-    hears_err _ _ c.from_residual-in_err-contents.result c.in_err-contents.field-0.0 _ _ _ _ (search rules)
+    hears_halted c.contents.new.self _ _ c.from_residual-in_err-contents.result c.in_err-contents.field-0.0 _ _ _ _ (search rules)
     (hears_then _ _ c.in_ok-count.count _ _ _ _ _ _ _ c.in_ok-count.ensures.reads c.in_err-contents.ensures.reads)
 
 pub returns-clause-reads : goal.returns-clause-reads

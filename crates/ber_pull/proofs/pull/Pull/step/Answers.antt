@@ -2,7 +2,7 @@ use Rattle.std.proofs.Common.{rules, arith, ◌≡◌, ◌<◌, ◌≤◌, Some,
 use Rattle.tlv_core.specs.declared.fault.ReadError.TheVariants as errors
 use Rattle.x690.specs.Points.{fault}
 use Rattle.ber_pull.specs.Standing.{after_next, closing, enclosing, enclosing_of, giving, moved, opening, used}
-use Rattle.ber_pull.proofs.Hearing.{hears_as, hears_said, hears_stop}
+use Rattle.ber_pull.proofs.Hearing.{hears_as, hears_error_as, hears_said, hears_stop}
 use Rattle.std.proofs.Common.{◌∷◌, suc}
 use Rattle.tlv_core.specs.declared.reason.Reason.TheVariants.{WrongTag}
 use Rattle.x690.specs.ReadHeaders.{ElementStands}
@@ -152,14 +152,11 @@ returns-then-constructed-clause-reads g c = λ around v vs s stacked joins.
           ∙ ap (λ w. after_next c.next_tag.new.self.state.taken w c.args.self.now.state) c.in-Some.is)))));
     }
 
-pub returns-in_err-segment-clause-reads : goal.returns-in_err-segment-clause-reads
-returns-in_err-segment-clause-reads g c = λ around v vs s stacked joins.
+pub returns-in-Err-clause-reads : goal.returns-in-Err-clause-reads
+returns-in-Err-clause-reads g c = λ around v vs s stacked joins.
     let go = to_go c.args.self.now.state around v vs c.args.self.now.state.containers c.args.self.now.within
     c.requires.depth stacked in
-    step_error c.args.self.now c.segment.new.self around
-    (segment_number c.args.joined.now.is_bits)
-    _ c.segment.new.joined c.from_residual-in_err-segment.result c.in_err-segment.field-0.0
-    (search rules)
+    hears_error_as _ _ _ _ _ _ _ c.failure.ensures
     (hears_as _ _ _ _ _ _ _
     (ap (λ w. read_rest (segment_number c.args.joined.now.is_bits) c.args.self.now.state.limits (w ∷ vs) s) (sym go.is))
     (walk_one_error (segment_number c.args.joined.now.is_bits) _ _ _ _ _ _ _ _ c.in-Some.next.0 _ _ _ _ _ _
@@ -174,20 +171,20 @@ returns-in_err-segment-clause-reads g c = λ around v vs s stacked joins.
     (c.in_ok-next.ensures.stands c.requires.unused
     ∙ ap (λ w. after_next c.next_tag.new.self.state.taken w c.args.self.now.state) c.in-Some.is)
     c.taken-start.ensures.value)
-    (c.in_err-segment.ensures.reads s joins))))
+    (c.in-Err.ensures.reads s joins))))
 
-pub returns-clause-reads : goal.returns-clause-reads
-returns-clause-reads g c = λ around v vs s stacked joins.
+pub returns-in-Ok-clause-reads : goal.returns-in-Ok-clause-reads
+returns-in-Ok-clause-reads g c = λ around v vs s stacked joins.
     let go = to_go c.args.self.now.state around v vs c.args.self.now.state.containers c.args.self.now.within
     c.requires.depth stacked in
-    let came = c.in_ok-segment.ensures.reads s joins in
-    let stands = c.in_ok-segment.ensures.stands
+    let came = c.in-Ok.ensures.reads s joins in
+    let stands = c.in-Ok.ensures.stands
     ∙ ap (used c.segment.new.self.state.taken)
     (c.in_ok-next.ensures.stands c.requires.unused
     ∙ ap (λ w. after_next c.next_tag.new.self.state.taken w c.args.self.now.state) c.in-Some.is) in
     let limits : c.segment.new.self.state.limits ≡ c.args.self.now.state.limits = ap (λ w. w.limits) stands in
     let further : c.args.self.now.state.taken < c.segment.new.self.state.taken = omega
-    (arith, c.in_ok-next.ensures.advances c.requires.unused (search rules), c.in_ok-segment.ensures.frame.onward.forward) in
+    (arith, c.in_ok-next.ensures.advances c.requires.unused (search rules), c.in-Ok.ensures.frame.onward.forward) in
     let levels = level (suc go.deep) go.fuel v.around ∷ vs in
     record {
       levels = levels;
