@@ -212,6 +212,30 @@ impl<'a, R: Source> Pull<'a, R> {
         if self.state.has_failed() {
             return Err(self.state.failure());
         }
+        if let None = self.state.given() {
+            if self.state.is_done() {
+                self.state.close();
+                return Ok(());
+            }
+        }
+        self.leave_by_octets()
+    }
+
+    /// The same, where an identifier is given or the octets have to tell whether something is left.
+    #[inline(never)]
+    fn leave_by_octets(&mut self) -> Result<(), ReadError>
+        requires live { (standing self.old).error ≡ None }
+        requires inside { (standing self.old).containers ≡ [] → ⊥ }
+        ensures frame { Frame self.old self.new result }
+        ensures reads { Answers self.old self.new (read_leaving (standing self.old))
+            (heard (λ u. u) result) }
+        ensures stands { OnOk result (standing self.new
+            ≡ closing (moved (standing self.new).taken (standing self.old))) }
+        ensures ended { IsAtEnd (standing self.old)
+            → (result ≡ Ok tt) × (source self.new ≡ source self.old)
+            × (standing self.new ≡ closing (standing self.old)) }
+        ensures memory { AsksNoMemory self.old result }
+    {
         let at = self.at();
         if let Some(_) = self.next_tag()? {
             return Err(self.refuse(at, Reason::Extra, None));
