@@ -1,6 +1,7 @@
 -- Contents that come in pieces.
-use Rattle.std.proofs.Common.{◌≡◌, ◌≤◌, ℕ, zero, suc, ◌+◌, ◌<◌, ⊎_elim, List, [], ◌∷◌, ◌++◌, length, Option, Some, None, sym, ◌∙◌, ap, ap₂, subst, arith, append_assoc, append-nil}
-use Rattle.std.proofs.lemmas.List.{length-append}
+use Rattle.std.proofs.Common.{◌≡◌, ◌≤◌, ℕ, zero, suc, ◌+◌, ◌<◌, ⊎_elim, if◌then◌else◌, Bool, true, false, List, [], ◌∷◌, ◌++◌, length, take, take_all, take-take, Option, Some, None, sym, ◌∙◌, ap, ap₂, subst, arith, append_assoc, append-nil}
+use Rattle.std.proofs.Math.Seq.{take-append-add, take-append_seam}
+use Rattle.std.proofs.lemmas.List.{length-append, take-append-le}
 use Rattle.tlv_core.specs.declared.fault.Fault.{Fault}
 use Rattle.std.specs.Io.KnownBytes.{Consumes, IsAtEnd, Keeps}
 use Rattle.tlv_core.specs.declared.fault.ReadError.{ReadError}
@@ -142,3 +143,28 @@ pub octets_memory : (n : ℕ) (e : ReadError) (k i : ℕ) (s u u' : Option (List
 octets_memory n e k i s u u' octets x y c p fit =
     subst (λ w. Hears (next_octets n) k s (heard_error w) i u') (sym x)
     (subst (λ w. Hears (next_octets n) k s NoMemory i w) (sym y) (octets_came n k i s u octets c p fit))
+
+-- A room behind what came before, and what came into it.
+
+pub came_behind : (before front room post rest : List ℕ) (m n l : ℕ) → front ≡ before → n ≤ length room
+    → m ≡ length before + n → m ≤ l
+    → take m (take l ((front ++ (room ++ post)) ++ rest)) ≡ before ++ take n room
+came_behind before front room post rest m n l same fits e within =
+    take-take m l _ within
+    ∙ ap (take m) (append_assoc front (room ++ post) rest
+    ∙ ap₂ (λ a b. a ++ b) same (append_assoc room post rest))
+    ∙ ap (λ w. take w (before ++ (room ++ (post ++ rest)))) e
+    ∙ take-append-add before (room ++ (post ++ rest)) n
+    ∙ ap (λ w. before ++ w) (take-append-le n room (post ++ rest) fits)
+
+-- what a vector held stands there still where it has grown
+pub still_there : (a n : ℕ) (old new more : List ℕ) → a ≡ length old → a ≤ n → new ≡ take n old ++ more
+    → take a new ≡ old
+still_there a n old new more e h is =
+    ap (take a) (is ∙ ap (λ w. w ++ more) (take_all n old (omega arith)))
+    ∙ ap (λ w. take w (old ++ more)) e ∙ take-append_seam old more
+
+-- what an `if` gives whose test holds
+pub chosen : {A : Type 0} (b : Bool) (x y z : A) → b ≡ true → z ≡ (if b then x else y) → z ≡ x
+chosen true x y z e h = h
+chosen false x y z e h = cc

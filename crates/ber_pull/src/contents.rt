@@ -16,7 +16,7 @@ use tlv_core::source::{Failed, Source};
 /// How many octets are asked for at once, at most.
 const PIECE: usize = 1024;
 
-/// Pieces of no more than these get rooms of their own, since clearing the great one takes longer than reading them.
+/// Pieces of no more than these are read into rooms of their own, which takes less than to make the vector longer first.
 const SHORT: usize = 32;
 
 /// Longer pieces of no more than these, as keys and signatures of curves are, get the next larger ones.
@@ -137,9 +137,7 @@ impl<R: Source> Pull<'_, R> {
             let mut room = [0u8; MIDDLE];
             return self.fill(octets, &mut room[..most]);
         }
-        let mut room = [0u8; PIECE];
-        let size = most.min(PIECE);
-        self.fill(octets, &mut room[..size])
+        self.fill_behind(octets, most.min(PIECE))
     }
 
     /// Some of the next octets, at least one and at most as many as the room, behind those that came before.
@@ -166,6 +164,35 @@ impl<R: Source> Pull<'_, R> {
                     Ok(()) => Ok(()),
                     Err(_) => Err(self.halt_without_memory()),
                 }
+            }
+            Err(Failed) => Err(self.state.fail_reading()),
+        }
+    }
+
+    /// The same, straight into the vector: at least one octet, and at most so many.
+    fn fill_behind(&mut self, octets: &mut Vec<u8>, size: usize) -> Result<(), Halted>
+        requires live { (standing self.old).error ≡ None }
+        requires some { 0 < size }
+        requires short { size ≤ 1024 }
+        requires within { (standing self.old).taken + size ≤ (standing self.old).limits.octets }
+        ensures same_source { SameSource self.old self.new }
+        ensures adds { (most : ℕ) → size ≤ most
+            → AddsPiece self.old self.new octets.old.items octets.new.items most
+            (answered self.new result) }
+        ensures stands { Moves self.old self.new (answered self.new result) }
+        ensures read { ReadsFail self.old self.new (answered self.new result) }
+        ensures onward { Onward self.old self.new }
+    {
+        let before = octets.len();
+        if octets.resize(before + size, 0).is_err() {
+            return Err(self.halt_without_memory());
+        }
+        match self.src.read(&mut octets[before..]) {
+            Ok(0) => Err(self.truncated()),
+            Ok(count) => {
+                self.state.take(count as u32);
+                octets.truncate(before + count);
+                Ok(())
             }
             Err(Failed) => Err(self.state.fail_reading()),
         }

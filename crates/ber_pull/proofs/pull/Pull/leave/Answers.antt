@@ -1,4 +1,4 @@
-use Rattle.std.proofs.Common.{sym, ap, refl, ◌∙◌}
+use Rattle.std.proofs.Common.{rules, sym, ap, refl, ◌∙◌}
 use Rattle.ber_pull.proofs.Hearing.{hears_at}
 use Rattle.ber_pull.proofs.Containers.{leave_ended}
 use Rattle.ber_pull.proofs.Nexts.{next_done}
@@ -8,4 +8,4 @@ pub returns-then-is_done-clause-reads : goal.returns-then-is_done-clause-reads
 returns-then-is_done-clause-reads g c = λ fine.
     hears_at _ _ _ _ _ _ _ _ (ap (λ s. s.taken) c.close.ensures) refl
     (leave_ended _ _ _ _ _ _
-    (next_done c.args.self.now.state _ (sym c.given.ensures.value ∙ c.in-None.is) (sym c.is_done.ensures ∙ c.if-is_done.true)))
+    (next_done c.args.self.now.state _ (search rules) (sym c.is_done.ensures ∙ c.if-is_done.true)))
