@@ -114,11 +114,10 @@ def shared_names():
 def counts():
     """What each count counts, and how many that are."""
     hands = list(handing())
-    request = list(lines_of("pkcs10", "request", "info", "info_fields"))
-    key = list(lines_of("pkcs8", "one_asymmetric_key", "key_fields", "key_body", "key_head", "key_identifiers",
-                        "private_key", "public_key"))
+    request = list(lines_of("pkcs10", "request", "info"))
+    key = list(lines_of("pkcs8", "one_asymmetric_key", "key_head", "private_key", "public_key"))
     told = {"handing": hands, "same": list(same_by_hand()), "frames": list(frames()), "crates": crates(),
-            "newtypes": list(matching(r"(?m)^pub struct \w+(?:<.*>)?\((?:Ruled<)?Record<.*")),
+            "newtypes": list(matching(r"(?m)^pub struct \w+(?:<.*>)?\((?:Ruled)?(?:Sequence)?<.*")),
             "forms": list(matching(r"(?m)^impl Form for .*")), "names": shared_names()}
     found = {name: (len(it), [str(one) for one in it]) for name, it in told.items()}
     for name, it in {"handing_lines": hands, "request": request, "key": key}.items():

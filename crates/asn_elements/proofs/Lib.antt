@@ -3,6 +3,7 @@ pub mod ArrangedTexts
 pub mod Ascending
 pub mod BitReadings
 pub mod CallSteps
+pub mod Contained
 pub mod ContainerTexts
 pub mod CutTexts
 pub mod Firsts

@@ -1,5 +1,7 @@
 pub mod BitStrings
 pub mod CallLaws
+pub mod Contained
+pub mod ContainingClosed
 pub mod Framing
 pub mod Implicits
 pub mod Leaves

@@ -1,6 +1,6 @@
 //! BIT STRING (X.690 8.6, 11.2).
 ghost use Rattle.x690_laws.proofs.TextsTellApart.{leaf_one_text};
-ghost use Rattle.std.specs.Prelude.{◌≡◌, ◌↔◌, ◌<◌, ◌≤◌, ◌∷◌, IsTrue, drop, get_or, length};
+ghost use Rattle.std.specs.Prelude.{◌≡◌, ◌<◌, ◌≤◌, ◌∷◌, drop, get_or, length};
 ghost use Rattle.x690_laws.proofs.TypesClosed.{leaf_closed};
 ghost use Rattle.x690_laws.proofs.TypesOfOneTag.{leaf_fits};
 ghost use Rattle.x690.specs.Layouts.{universal};
@@ -53,13 +53,6 @@ impl Bits {
         ensures whole { IsDerBits (bit_string_of self.now) }
     {
         &self.contents[1..]
-    }
-
-    /// Whether the two have the same bits.
-    pub fn same(&self, other: &Bits) -> bool
-        ensures { IsTrue result ↔ (bit_string_of self.now ≡ bit_string_of other.now) }
-    {
-        self.contents == other.contents
     }
 }
 

@@ -1,6 +1,6 @@
 //! BOOLEAN (X.690 8.2, 11.1).
 ghost use Rattle.x690_laws.proofs.TextsTellApart.{leaf_one_text};
-ghost use Rattle.std.specs.Prelude.{◌≡◌, ◌↔◌, ◌∷◌, [], IsTrue, cond};
+ghost use Rattle.std.specs.Prelude.{◌≡◌, ◌∷◌, [], cond};
 ghost use Rattle.x690_laws.proofs.TypesClosed.{leaf_closed};
 ghost use Rattle.x690.specs.Layouts.{universal};
 ghost use Rattle.x690.specs.Contents.{Boolean};
@@ -34,13 +34,6 @@ impl Bool {
         ensures { result ≡ truth self.now }
     {
         self.value
-    }
-
-    /// Whether the two are the same.
-    pub fn same(&self, other: &Bool) -> bool
-        ensures { IsTrue result ↔ (truth self.now ≡ truth other.now) }
-    {
-        self.value == other.value
     }
 
     /// Its contents: FF for TRUE, 00 for FALSE (X.690 8.2.2, 11.1).

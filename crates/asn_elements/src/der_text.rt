@@ -28,6 +28,13 @@ pub trait DerText: Sized + Drop {
     /// Octet `i` of its text, counted from 0; `None` from `size` on.
     fn octet(&self, i: u64) -> Option<u8>
         ensures { result ≡ slice_get (der (value self.now)) i };
+
+    /// Whether the two are the same, which is to have one text.
+    final fn same(&self, other: &Self) -> bool
+        ensures { IsTrue result ↔ Same (value self.now) (value other.now) }
+    {
+        have_one_text(self, other)
+    }
 }
 
 /// The text of a value. Its whole length is asked of the memory first.
@@ -42,13 +49,6 @@ pub fn der_text<T: DerText>(alloc: Global, value: &T) -> Result<Vec<u8>, AllocEr
         Ok(()) => Ok(target.into_inner()),
         Err(_) => Err(AllocError),
     }
-}
-
-/// Whether the two are the same, which is to have one text.
-pub fn same_text<T: DerText>(value: &T, other: &T) -> bool
-    ensures { IsTrue result ↔ Same (T.value value.now) (T.value other.now) }
-{
-    have_one_text(value, other)
 }
 
 /// Whether the two have one text.

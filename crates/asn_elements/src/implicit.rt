@@ -1,5 +1,5 @@
 //! Implicit tags (X.690 8.14.3).
-ghost use Rattle.std.specs.Prelude.{◌≡◌, ◌↔◌, ◌+◌, ◌<◌, ◌^◌, None, Some, IsSome, IsTrue, OnOk, length, slice_get};
+ghost use Rattle.std.specs.Prelude.{◌≡◌, ◌+◌, ◌<◌, ◌^◌, None, Some, IsSome, OnOk, length, slice_get};
 ghost use Rattle.tlv_core.specs.Identifier.{Tag as Identified};
 ghost use Rattle.tlv_core.specs.Sinks.{count, Puts};
 ghost use Rattle.x690.specs.DerTexts.{der};
@@ -11,7 +11,7 @@ ghost use Rattle.ber_pull.specs.View.{standing, Repeats, Uses, Frame};
 ghost use Rattle.ber_pull.specs.declared.state.Given.{Given};
 ghost use Rattle.asn_elements.specs.Reading.{AnswersValue, read_given};
 
-use crate::der_text::{DerText, same_text};
+use crate::der_text::DerText;
 use crate::element::Element;
 use crate::tags::{context_tag, is_same_tag};
 use ber_pull::pull::Pull;
@@ -89,14 +89,6 @@ impl<const N: u8, T: ImplicitText> Implicit<N, T> {
         ensures { result.now ≡ value_under self.now }
     {
         &self.inner
-    }
-
-    /// Whether the two are the same.
-    pub fn same(&self, other: &Implicit<N, T>) -> bool
-        ensures { IsTrue result ↔ Same (T.value_as (context_specific N) (value_under self.now))
-            (T.value_as (context_specific N) (value_under other.now)) }
-    {
-        same_text(self, other)
     }
 }
 

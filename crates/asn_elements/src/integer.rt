@@ -63,13 +63,6 @@ impl Int {
     {
         &self.contents
     }
-
-    /// Whether the two are the same number.
-    pub fn same(&self, other: &Int) -> bool
-        ensures { IsTrue result ↔ (integer_of self.now ≡ integer_of other.now) }
-    {
-        self.contents == other.contents
-    }
 }
 
 /// Whether the octets are the contents of an INTEGER.

@@ -21,6 +21,7 @@ pub mod boolean;
 pub mod boxed;
 pub mod build;
 pub mod calls;
+pub mod containing;
 pub mod der_text;
 pub mod element;
 pub mod framing;

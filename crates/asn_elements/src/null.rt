@@ -1,6 +1,6 @@
 //! NULL (X.690 8.8).
 ghost use Rattle.x690_laws.proofs.TextsTellApart.{leaf_one_text};
-ghost use Rattle.std.specs.Prelude.{◌≡◌, [], IsTrue};
+ghost use Rattle.std.specs.Prelude.{[]};
 ghost use Rattle.x690_laws.proofs.TypesClosed.{leaf_closed};
 ghost use Rattle.x690.specs.Layouts.{universal};
 ghost use Rattle.x690.specs.Contents.{Null as NullKind};
@@ -23,15 +23,6 @@ use tlv_core::target::Target;
 /// A NULL.
 #[derive(Clone, Copy, Debug, PartialEq, Eq)]
 pub struct Null;
-
-impl Null {
-    /// Whether the two are the same: there is one NULL.
-    pub fn same(&self, _other: &Null) -> bool
-        ensures { IsTrue result }
-    {
-        true
-    }
-}
 
 impl DerText for Null {
     ghost value = { λ _. Leaf (universal 5) [] };

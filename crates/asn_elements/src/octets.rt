@@ -1,6 +1,6 @@
 //! OCTET STRING (X.690 8.7).
 ghost use Rattle.x690_laws.proofs.TextsTellApart.{leaf_one_text};
-ghost use Rattle.std.specs.Prelude.{◌≡◌, ◌↔◌, ◌<◌, ◌^◌, Err, IfOk, IsTrue, length};
+ghost use Rattle.std.specs.Prelude.{◌≡◌, ◌↔◌, ◌<◌, ◌^◌, Err, IfOk, length};
 ghost use Rattle.asn_elements.specs.declared.build.BuildError.TheVariants.{Bad, TooBig};
 ghost use Rattle.x690_laws.proofs.TypesClosed.{leaf_closed};
 ghost use Rattle.x690.specs.DerTexts.{der};
@@ -53,13 +53,6 @@ impl Octets {
         ensures { result.now ≡ octets_of self.now }
     {
         &self.octets
-    }
-
-    /// Whether the two have the same octets.
-    pub fn same(&self, other: &Octets) -> bool
-        ensures { IsTrue result ↔ (octets_of self.now ≡ octets_of other.now) }
-    {
-        self.octets == other.octets
     }
 }
 

@@ -1,7 +1,7 @@
 //! Character strings and times (X.690 8.23, 8.25).
 ghost use Rattle.x690_laws.proofs.TextsTellApart.{leaf_one_text};
 ghost use Rattle.x690_laws.proofs.TypesClosed.{strings_closed};
-ghost use Rattle.std.specs.Prelude.{◌≡◌, ◌↔◌, None, Some, IfErr, IfOk, IsSome, IsTrue, IsUtf8, OnOk, true};
+ghost use Rattle.std.specs.Prelude.{◌≡◌, None, Some, IfErr, IfOk, IsSome, IsUtf8, OnOk, true};
 ghost use Rattle.tlv_core.specs.declared.reason.Reason.TheVariants.{WrongTag};
 ghost use Rattle.x690.specs.Layouts.{same_tag, universal};
 ghost use Rattle.x690.specs.Points.{fault};
@@ -56,14 +56,6 @@ impl Text {
         ensures utf8 { text_tag self.now ≡ universal 12 → IsUtf8 (text_octets self.now) }
     {
         &self.octets
-    }
-
-    /// Whether the two are of one type, and have the same octets.
-    pub fn same(&self, other: &Text) -> bool
-        ensures { IsTrue result ↔ ((text_tag self.now ≡ text_tag other.now)
-            × (text_octets self.now ≡ text_octets other.now)) }
-    {
-        is_same_tag(self.tag, other.tag) && self.octets == other.octets
     }
 }
 

@@ -6,3 +6,4 @@ pub mod PartTexts
 pub mod Refusing
 pub mod ShortFields
 pub mod BegunSequence
+pub mod Dependents

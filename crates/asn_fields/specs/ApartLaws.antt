@@ -1,21 +1,21 @@
 -- Fields one after another are told apart by their texts.
-use Rattle.std.proofs.Common.{◌≡◌, ◌∙◌, ◌++◌, ◌&&◌, ◌||◌, ◌∷◌, Bool, List, [], None, Option, Some, append-nil, append_assoc, ap, false, map, not, refl, subst, sym, true, ℕ}
+use Rattle.std.proofs.Common.{◌≡◌, ◌∙◌, ◌+◌, ◌++◌, ◌&&◌, ◌||◌, ◌∷◌, Bool, List, [], None, Option, Some, append-nil, append_assoc, ap, false, map, not, refl, subst, sym, true, ℕ}
 use Rattle.tlv_core.specs.Identifier.{Tag}
 use Rattle.x690.specs.DerTexts.{der, der_element}
 use Rattle.x690.specs.Contents.{Boolean}
 use Rattle.x690.specs.Layouts.{same_tag, universal}
 use Rattle.x690_laws.proofs.ReadingLayoutsSound.{same_tag_is}
-use Rattle.x690.specs.TypeTerms.{ChoiceType, ContainingType, Default, DefinedByType, EndOfFields, Fields, LeafType, OpenType, Optional, RefusedType, Required, Rule, RuledType, SequenceOfType, SequenceType, SetOfType, TypeTerm}
-use Rattle.x690.specs.Values.{Leaf, Same, Sequence, SetOf, Value, leaf_at, value_tag, values_of}
+use Rattle.x690.specs.TypeTerms.{ChoiceType, ContainingType, Default, DefinedByType, EndOfFields, Fields, LeafType, OpenType, Optional, RefusedType, Required, RuledType, SequenceOfType, SequenceType, SetOfType, TypeTerm}
+use Rattle.x690.specs.Values.{Leaf, Same, Sequence, SetOf, Value, value_tag, values_of}
 use Rattle.std.specs.Option.{option_map}
-use Rattle.x690.specs.Lists.{Each, one_of}
-use Rattle.x690_laws.proofs.ValuesOfTrees.{leaf_at_same}
+use Rattle.x690.specs.Lists.{Each}
 use Rattle.asn_fields.specs.declared.either.Either.{Either}
 use Rattle.asn_fields.specs.declared.either.Either.TheVariants.{First, Second}
 use Rattle.x690_laws.proofs.TextsTellApart.{each_sequence, leaf_one_text, sequence_texts}
 use Rattle.x690_laws.proofs.TextsAsLayouts.{element_alone}
 use Rattle.asn_fields.specs.FieldReadings.{with_field}
 use Rattle.asn_fields.specs.Fields.{unless_false}
+use Rattle.asn_fields.specs.Listings.{Listing}
 use Rattle.asn_fields.specs.Apart.{Begins, BeginsAsTyped, Tells, apart, fields_may_begin, fits_one, is_end, may_begin, none_of}
 
 -- the text of a value by its tag
@@ -63,11 +63,11 @@ flag_one_text false true = tt
 flag_one_text true false = tt
 flag_one_text true true = leaf_one_text (universal 1) (universal 1) (255 ∷ []) (255 ∷ [])
 
-and_first : (a b : Bool) → (a && b) ≡ true → a ≡ true
+pub and_first : (a b : Bool) → (a && b) ≡ true → a ≡ true
 and_first true b e = refl
 and_first false b e = cc
 
-and_second : (a b : Bool) → (a && b) ≡ true → b ≡ true
+pub and_second : (a b : Bool) → (a && b) ≡ true → b ≡ true
 and_second true b e = e
 and_second false b e = cc
 
@@ -180,137 +180,95 @@ default_tells own octets T o o' rest vs ws one f g d b c e =
     let t = absent_tells T rest (none_behind T rest (and_first _ _ d)) o o' vs ws one f g b c e in
     (t.0, t.1, and_second _ _ d)
 
-each_both : (vs vs' ws ws' : List Value) → Each Same vs ws → Each Same vs' ws' → Each Same (vs ++ vs') (ws ++ ws')
+pub each_both : (vs vs' ws ws' : List Value) → Each Same vs ws → Each Same vs' ws' → Each Same (vs ++ vs') (ws ++ ws')
 each_both [] vs' [] ws' h k = k
 each_both [] vs' (w ∷ ws) ws' h k = absurd h
 each_both (v ∷ vs) vs' [] ws' h k = absurd h
 each_both (v ∷ vs) vs' (w ∷ ws) ws' h k = (h.0, each_both vs vs' ws ws' h.1 k)
 
 -- fields and those behind them
-module _ {A B : Type 0} (known : A → Bool) (types : Fields → Fields) (values : A → List Value) (known' : B → Bool)
-    (types' : Fields → Fields) (values' : B → List Value) where
-  pub both_begin : BeginsAsTyped known types values → BeginsAsTyped known' types' values'
-      → BeginsAsTyped {A = A × B} (λ both. known both.0 && known' both.1) (λ rest. types (types' rest))
-      (λ both. values both.0 ++ values' both.1)
-  both_begin f g x rest vs h b =
-      subst (Begins (types (types' rest))) (sym (append_assoc (values x.0) (values' x.1) vs))
-      (f x.0 (types' rest) (values' x.1 ++ vs) (and_first _ _ h) (g x.1 rest vs (and_second _ _ h) b))
+module _ {A B : Type 0} {values : A → List Value} {values' : B → List Value} (of : Listing values)
+    (of' : Listing values') where
+  pub both_begin : BeginsAsTyped {A = A × B} (λ x. of.known x.0 && of'.known x.1) (λ rest. of.types (of'.types rest))
+      (λ x. values x.0 ++ values' x.1)
+  both_begin x rest vs h b =
+      subst (Begins (of.types (of'.types rest))) (sym (append_assoc (values x.0) (values' x.1) vs))
+      (of.begins x.0 (of'.types rest) (values' x.1 ++ vs) (and_first _ _ h)
+      (of'.begins x.1 rest vs (and_second _ _ h) b))
 
-  pub both_tell : BeginsAsTyped known' types' values' → Tells known types values → Tells known' types' values'
-      → Tells {A = A × B} (λ both. known both.0 && known' both.1) (λ rest. types (types' rest))
-      (λ both. values both.0 ++ values' both.1)
-  both_tell b f g x y rest vs ws h k d begins begins' e =
-      let h' = and_second (known x.0) (known' x.1) h in
-      let k' = and_second (known y.0) (known' y.1) k in
+  pub both_tell : Tells {A = A × B} (λ x. of.known x.0 && of'.known x.1) (λ rest. of.types (of'.types rest))
+      (λ x. values x.0 ++ values' x.1)
+  both_tell x y rest vs ws h k d begins begins' e =
+      let h' = and_second (of.known x.0) (of'.known x.1) h in
+      let k' = and_second (of.known y.0) (of'.known y.1) k in
       let e' = ap (map der) (sym (append_assoc (values x.0) (values' x.1) vs)) ∙ e
       ∙ ap (map der) (append_assoc (values y.0) (values' y.1) ws) in
-      let t = f x.0 y.0 (types' rest) (values' x.1 ++ vs) (values' y.1 ++ ws) (and_first _ _ h) (and_first _ _ k) d
-      (b x.1 rest vs h' begins) (b y.1 rest ws k' begins') e' in
-      let u = g x.1 y.1 rest vs ws h' k' t.2 begins begins' t.1 in
+      let t = of.tells x.0 y.0 (of'.types rest) (values' x.1 ++ vs) (values' y.1 ++ ws) (and_first _ _ h)
+      (and_first _ _ k) d (of'.begins x.1 rest vs h' begins) (of'.begins y.1 rest ws k' begins') e' in
+      let u = of'.tells x.1 y.1 rest vs ws h' k' t.2 begins begins' t.1 in
       (each_both (values x.0) (values' x.1) (values y.0) (values' y.1) t.0 u.0, u.1, u.2)
+
+  abbrev pub both : Listing {A = A × B} (λ x. values x.0 ++ values' x.1)
+  both = record {
+    types = λ rest. of.types (of'.types rest);
+    most = of.most + of'.most;
+    known = λ x. of.known x.0 && of'.known x.1;
+    begins = both_begin;
+    tells = both_tell;
+  }
+
+-- a field that is due
+abbrev pub required : {A : Type 0} (value : A → Value) (T : TypeTerm) → ((x y : A) → OneText (value x) (value y))
+    → Listing (λ a. value a ∷ [])
+required value T one = record {
+  types = λ rest. Required T rest;
+  most = 1;
+  known = λ a. may_begin T (value_tag (value a));
+  begins = λ x rest vs h b. due_begins T (value x) rest vs h;
+  tells = λ x y rest vs ws h k d b c e. due_tells T (value x) (value y) rest vs ws (one x y) d e;
+}
+
+-- one that may be absent
+abbrev pub optional : {A : Type 0} (value : A → Value) (T : TypeTerm) → ((x y : A) → OneText (value x) (value y))
+    → Listing {A = Option A} (λ o. with_field (option_map value o) [])
+optional value T one = record {
+  types = λ rest. Optional T rest;
+  most = 1;
+  known = λ o. fits_one T (option_map value o);
+  begins = λ x rest vs h b. optional_begins T (option_map value x) rest vs h b;
+  tells = λ x y rest vs ws h k d b c e.
+      optional_tells T (option_map value x) (option_map value y) rest vs ws (field_one_text value one x y) h k d b c e;
+}
 
 -- a BOOLEAN DEFAULT FALSE
 pub flag_fits : (b : Bool) → fits_one (LeafType (universal 1) Boolean) (unless_false b) ≡ true
 flag_fits true = refl
 flag_fits false = refl
 
+abbrev boolean : TypeTerm
+boolean = LeafType (universal 1) Boolean
+
+abbrev pub flag : Listing (λ b. with_field (unless_false b) [])
+flag = record {
+  types = λ rest. Default (universal 1) (0 ∷ []) boolean rest;
+  most = 1;
+  known = λ b. true;
+  begins = λ x rest vs h b. default_begins (universal 1) (0 ∷ []) boolean (unless_false x) rest vs (flag_fits x) b;
+  tells = λ x y rest vs ws h k d b c e.
+      default_tells (universal 1) (0 ∷ []) boolean (unless_false x) (unless_false y) rest vs ws (flag_one_text x y)
+      (flag_fits x) (flag_fits y) d b c e;
+}
+
 -- and so of the SEQUENCE
-pub record_one_text : {A : Type 0} (known : A → Bool) (types : Fields → Fields) (values : A → List Value)
-    → Tells known types values → apart (types EndOfFields) ≡ true → (t : Tag) (x y : A) → known x ≡ true
-    → known y ≡ true → OneText (Sequence t (values_of (values x))) (Sequence t (values_of (values y)))
-record_one_text known types values tells parted t x y k k' e =
+pub sequence_one_text : {A : Type 0} {values : A → List Value} (of : Listing values)
+    → apart (of.types EndOfFields) ≡ true → (t : Tag) (x y : A) → of.known x ≡ true → of.known y ≡ true
+    → OneText (Sequence t (values_of (values x))) (Sequence t (values_of (values y)))
+sequence_one_text {A} {values} of parted t x y k k' e =
     let alike = ap (map der) (append-nil (values x)) ∙ sequence_texts t (values x) (values y) e
     ∙ ap (map der) (sym (append-nil (values y))) in
-    each_sequence t (values x) (values y) (tells x y EndOfFields [] [] k k' parted tt tt alike).0
-
--- fields, and one behind them with a rule on it
-module _ {A B : Type 0} (known : A → Bool) (types : Fields → Fields) (values : A → List Value) (value : B → Value)
-    (one : (x y : B) → OneText (value x) (value y)) (T : TypeTerm) (rule : Rule) where
-  last_begins : BeginsAsTyped (λ b. may_begin T (value_tag (value b))) (λ rest. Required (RuledType rule T) rest)
-      (λ b. value b ∷ [])
-  last_begins x rest vs h b = h
-
-  last_tells : Tells (λ b. may_begin T (value_tag (value b))) (λ rest. Required (RuledType rule T) rest)
-      (λ b. value b ∷ [])
-  last_tells x y rest vs ws h k d b c e = due_tells (RuledType rule T) (value x) (value y) rest vs ws (one x y) d e
-
-  pub judged_begin : BeginsAsTyped known types values
-      → BeginsAsTyped {A = A × B} (λ both. known both.0 && may_begin T (value_tag (value both.1)))
-      (λ rest. types (Required (RuledType rule T) rest)) (λ both. values both.0 ++ (value both.1 ∷ []))
-  judged_begin f =
-      both_begin known types values (λ b. may_begin T (value_tag (value b))) (λ rest. Required (RuledType rule T) rest)
-      (λ b. value b ∷ []) f last_begins
-
-  pub judged_tell : Tells known types values
-      → Tells {A = A × B} (λ both. known both.0 && may_begin T (value_tag (value both.1)))
-      (λ rest. types (Required (RuledType rule T) rest)) (λ both. values both.0 ++ (value both.1 ∷ []))
-  judged_tell f =
-      both_tell known types values (λ b. may_begin T (value_tag (value b))) (λ rest. Required (RuledType rule T) rest)
-      (λ b. value b ∷ []) last_begins f last_tells
-
-one_by_one : {A : Type 0} (a b : A) (as' bs : List A) → a ∷ as' ≡ b ∷ bs → (a ≡ b) × (as' ≡ bs)
-one_by_one a b as' bs e = (cc, cc)
+    each_sequence t (values x) (values y) (of.tells x y EndOfFields [] [] k k' parted tt tt alike).0
 
 -- one of two
 abbrev pub either_of : {A B C : Type 0} → (A → C) → (B → C) → Either A B → C
 either_of first second (First a) = first a
 either_of first second (Second b) = second b
-
-abbrev pub is_first : {A B : Type 0} → Either A B → Bool
-is_first (First a) = true
-is_first (Second b) = false
-
--- fields, and one behind them whose type goes by them
-module _ {A B C : Type 0} (known : A → Bool) (types : Fields → Fields) (values : A → List Value) (first : B → Value)
-    (second : C → Value) (one : (x y : B) → OneText (first x) (first y))
-    (other : (x y : C) → OneText (second x) (second y)) (T U : TypeTerm) (path : List ℕ) (octets : List (List ℕ)) where
-  abbrev pub known_either : Either B C → Bool
-  known_either e = either_of (λ b. may_begin T (value_tag (first b))) (λ c. may_begin U (value_tag (second c))) e
-
-  either_begins : (x : Either B C) (rest : Fields) (vs : List Value) → known_either x ≡ true
-      → Begins (Required (DefinedByType path octets T U) rest) (either_of first second x ∷ vs)
-  either_begins (First b) rest vs h = or_first (may_begin T (value_tag (first b))) (may_begin U (value_tag (first b))) h
-  either_begins (Second c) rest vs h =
-      or_second (may_begin T (value_tag (second c))) (may_begin U (value_tag (second c))) h
-
-  either_same : (x y : Either B C) → is_first x ≡ is_first y
-      → der (either_of first second x) ≡ der (either_of first second y)
-      → Same (either_of first second x) (either_of first second y)
-  either_same (First x) (First y) s e = one x y e
-  either_same (First x) (Second y) s e = cc
-  either_same (Second x) (First y) s e = cc
-  either_same (Second x) (Second y) s e = other x y e
-
-  pub chosen_begin : BeginsAsTyped known types values
-      → BeginsAsTyped {A = A × Either B C} (λ both. known both.0 && known_either both.1)
-      (λ rest. types (Required (DefinedByType path octets T U) rest))
-      (λ both. values both.0 ++ (either_of first second both.1 ∷ []))
-  chosen_begin f x rest vs h b =
-      subst (Begins (types (Required (DefinedByType path octets T U) rest)))
-      (sym (append_assoc (values x.0) (either_of first second x.1 ∷ []) vs))
-      (f x.0 (Required (DefinedByType path octets T U) rest) (either_of first second x.1 ∷ vs) (and_first _ _ h)
-      (either_begins x.1 rest vs (and_second _ _ h)))
-
-  pub chosen_tell : Tells known types values → (x y : A × Either B C)
-      → is_first x.1 ≡ one_of (leaf_at path (values x.0)) octets
-      → is_first y.1 ≡ one_of (leaf_at path (values y.0)) octets
-      → (rest : Fields) (vs ws : List Value) → (known x.0 && known_either x.1) ≡ true
-      → (known y.0 && known_either y.1) ≡ true → apart (types (Required (DefinedByType path octets T U) rest)) ≡ true
-      → Begins rest vs → Begins rest ws
-      → map der ((values x.0 ++ (either_of first second x.1 ∷ [])) ++ vs)
-      ≡ map der ((values y.0 ++ (either_of first second y.1 ∷ [])) ++ ws)
-      → Each Same (values x.0 ++ (either_of first second x.1 ∷ [])) (values y.0 ++ (either_of first second y.1 ∷ []))
-      × (map der vs ≡ map der ws)
-      × (apart rest ≡ true)
-  chosen_tell f x y p q rest vs ws h k d b c e =
-      let v = either_of first second x.1 in
-      let w = either_of first second y.1 in
-      let own = Required (DefinedByType path octets T U) rest in
-      let e' = ap (map der) (sym (append_assoc (values x.0) (v ∷ []) vs)) ∙ e
-      ∙ ap (map der) (append_assoc (values y.0) (w ∷ []) ws) in
-      let t = f x.0 y.0 own (v ∷ vs) (w ∷ ws) (and_first _ _ h) (and_first _ _ k) d
-      (either_begins x.1 rest vs (and_second _ _ h)) (either_begins y.1 rest ws (and_second _ _ k)) e' in
-      let e'' : map der (v ∷ vs) ≡ map der (w ∷ ws) = t.1 in
-      let same = one_by_one (der v) (der w) (map der vs) (map der ws) e'' in
-      let branch = p ∙ ap (λ o. one_of o octets) (leaf_at_same path (values x.0) (values y.0) t.0) ∙ sym q in
-      (each_both (values x.0) (v ∷ []) (values y.0) (w ∷ []) t.0 (either_same x.1 y.1 branch same.0, tt), same.1, t.2)

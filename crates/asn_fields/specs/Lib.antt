@@ -4,3 +4,6 @@ pub mod Apart
 pub mod BegunSequence
 pub mod FieldReadings
 pub mod Insides
+pub mod Listings
+pub mod DependentLaws
+pub mod Dependents

@@ -1,13 +1,12 @@
 //! A BOOLEAN that is FALSE where it is absent (X.690 11.5).
-ghost use Rattle.std.specs.Prelude.{◌≡◌, ◌<◌, ◌∷◌, None, Some, [], length, true};
+ghost use Rattle.std.specs.Prelude.{◌≡◌, ◌<◌, ◌∷◌, None, Some, []};
 ghost use Rattle.std.specs.Option.{option_map};
-ghost use Rattle.x690.specs.Contents.{Boolean};
 ghost use Rattle.x690.specs.DerTexts.{texts_of};
 ghost use Rattle.x690.specs.Layouts.{universal};
-ghost use Rattle.x690.specs.TypeTerms.{Default, LeafType};
 ghost use Rattle.asn_fields.specs.FieldReadings.{but_default, with_field};
 ghost use Rattle.asn_fields.specs.Fields.{unless_false};
-ghost use Rattle.asn_fields.specs.ApartLaws.{default_begins, default_tells, flag_fits, flag_one_text};
+ghost use Rattle.asn_fields.specs.ApartLaws.{flag};
+ghost use Rattle.asn_fields.specs.Listings.{through};
 
 use crate::field_list::{Fields, FieldsText, FirstFields};
 use crate::fields::{Next, optional};
@@ -45,20 +44,9 @@ impl DefaultFalse {
 }
 
 impl FieldsText for DefaultFalse {
-    ghost types = { λ rest. Default (universal 1) (0 ∷ []) (LeafType (universal 1) Boolean) rest };
-
-    ghost most = { 1 };
-
     ghost values = { λ field. with_field (unless_false field.0) [] };
 
-    ghost known = { λ field. true };
-
-    ghost begins = { λ x rest vs h b. default_begins (universal 1) (0 ∷ [])
-        (LeafType (universal 1) Boolean) (unless_false x.0) rest vs (flag_fits x.0) b };
-
-    ghost tells = { λ x y rest vs ws h k d b c e. default_tells (universal 1) (0 ∷ [])
-        (LeafType (universal 1) Boolean) (unless_false x.0) (unless_false y.0) rest vs ws
-        (flag_one_text x.0 y.0) (flag_fits x.0) (flag_fits y.0) d b c e };
+    ghost listing = { through (λ field. field.0) flag };
 
     fn size(&self) -> u64 {
         self.text().len() as u64

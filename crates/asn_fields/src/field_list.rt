@@ -1,15 +1,14 @@
 //! What a list of fields is, in the order of the ASN.1 (X.690 8.9): `(A, B)` is `A` in front of `B`, and more of them
 //! are pairs in pairs, `(A, (B, C))`.
-ghost use Rattle.std.specs.Prelude.{◌≡◌, ◌+◌, ◌++◌, ◌*◌, ◌^◌, ◌<◌, ◌≤◌, ◌&&◌, ℕ, Bool, IfOk, List, None, OnOk, length, slice_get, true};
+ghost use Rattle.std.specs.Prelude.{◌≡◌, ◌+◌, ◌++◌, ◌*◌, ◌^◌, ◌<◌, ◌≤◌, IfOk, List, None, OnOk, length, slice_get, true};
 ghost use Rattle.tlv_core.specs.Sinks.{count, Puts};
 ghost use Rattle.x690.specs.DerTexts.{texts_of};
-ghost use Rattle.x690.specs.TypeTerms.{Fields as FieldTypes};
 ghost use Rattle.x690.specs.Values.{Value};
 ghost use Rattle.ber_pull.specs.View.{standing, Frame};
 ghost use Rattle.asn_fields.specs.Fields.{IsInside, StaysInside};
-ghost use Rattle.asn_fields.specs.Apart.{BeginsAsTyped, Tells};
 ghost use Rattle.asn_fields.specs.BegunSequence.{ReadsFields, ReadsFirst};
-ghost use Rattle.asn_fields.specs.ApartLaws.{both_begin, both_tell};
+ghost use Rattle.asn_fields.specs.ApartLaws.{both};
+ghost use Rattle.asn_fields.specs.Listings.{Listing};
 
 use crate::fields::Next;
 use ber_pull::pull::Pull;
@@ -21,23 +20,11 @@ use tlv_core::target::Target;
 
 /// Fields one after another, and their types.
 pub trait FieldsText: Sized + Drop {
-    /// Their types, in front of those behind them.
-    ghost types: { FieldTypes → FieldTypes };
-
-    /// How many there are at most.
-    ghost most: { ℕ };
-
     /// The values of those that are there.
     ghost values: { Self → List Value };
 
-    /// Each that is there begins as its type may.
-    ghost known: { Self → Bool };
-
-    /// They begin as their types may,
-    ghost begins: { BeginsAsTyped known types values };
-
-    /// and are told by their texts.
-    ghost tells: { Tells known types values };
+    /// Their types, how many there are at most, that each begins as its type may, and that their texts tell them.
+    ghost listing: { Listing values };
 
     /// The length of their texts.
     fn size(&self) -> u64
@@ -66,11 +53,11 @@ pub trait Fields: FieldsText {
         requires fine { (standing pull.old).error ≡ None }
         requires inside { IsInside pull.old next.old }
         ensures frame { Frame pull.old pull.new result }
-        ensures reads { ReadsFields pull.old pull.new next.old next.new Self.types Self.values
+        ensures reads { ReadsFields pull.old pull.new next.old next.new Self.listing.types Self.values
             result }
         ensures short { IfOk result (λ fields. length (texts_of (Self.values fields))
-            ≤ Self.most * 2 ^ 32) }
-        ensures known { IfOk result (λ fields. Self.known fields ≡ true) }
+            ≤ Self.listing.most * 2 ^ 32) }
+        ensures known { IfOk result (λ fields. Self.listing.known fields ≡ true) }
         ensures stands { OnOk result (StaysInside pull.old pull.new next.old next.new) };
 }
 
@@ -85,28 +72,18 @@ pub trait FirstFields: FieldsText {
         requires fine { (standing pull.old).error ≡ None }
         requires inside { IsInside pull.old next.old }
         ensures frame { Frame pull.old pull.new result }
-        ensures reads { ReadsFirst pull.old pull.new next.old next.new Self.types Self.values
+        ensures reads { ReadsFirst pull.old pull.new next.old next.new Self.listing.types Self.values
             result }
         ensures short { IfOk result (λ fields. length (texts_of (Self.values fields))
-            ≤ Self.most * 2 ^ 32) }
-        ensures known { IfOk result (λ fields. Self.known fields ≡ true) }
+            ≤ Self.listing.most * 2 ^ 32) }
+        ensures known { IfOk result (λ fields. Self.listing.known fields ≡ true) }
         ensures stands { OnOk result (StaysInside pull.old pull.new next.old next.new) };
 }
 
 impl<A: FieldsText, B: FieldsText> FieldsText for (A, B) {
-    ghost types = { λ rest. A.types (B.types rest) };
-
-    ghost most = { A.most + B.most };
-
     ghost values = { λ both. A.values both.0 ++ B.values both.1 };
 
-    ghost known = { λ both. A.known both.0 && B.known both.1 };
-
-    ghost begins = { both_begin A.known A.types A.values B.known B.types B.values
-        A.begins B.begins };
-
-    ghost tells = { both_tell A.known A.types A.values B.known B.types B.values B.begins A.tells
-        B.tells };
+    ghost listing = { both A.listing B.listing };
 
     fn size(&self) -> u64 {
         let (first, rest) = self;

@@ -1,10 +1,9 @@
 //! A field that may be absent.
 ghost use Rattle.std.specs.Prelude.{None, Some, []};
 ghost use Rattle.std.specs.Option.{option_map};
-ghost use Rattle.x690.specs.TypeTerms.{Optional as OptionalType};
 ghost use Rattle.asn_fields.specs.FieldReadings.{with_field};
-ghost use Rattle.asn_fields.specs.Apart.{fits_one};
-ghost use Rattle.asn_fields.specs.ApartLaws.{field_one_text, optional_begins, optional_tells};
+ghost use Rattle.asn_fields.specs.ApartLaws.{optional};
+ghost use Rattle.asn_fields.specs.Listings.{through};
 
 use crate::field_list::{Fields, FieldsText, FirstFields};
 use crate::fields::{Next, optional};
@@ -21,20 +20,9 @@ use tlv_core::target::Target;
 pub struct Optional<T: Drop>(pub Option<T>);
 
 impl<T: Element> FieldsText for Optional<T> {
-    ghost types = { λ rest. OptionalType T.type_term rest };
-
-    ghost most = { 1 };
-
     ghost values = { λ field. with_field (option_map T.value field.0) [] };
 
-    ghost known = { λ field. fits_one T.type_term (option_map T.value field.0) };
-
-    ghost begins = { λ x rest vs h b. optional_begins T.type_term
-        (option_map T.value x.0) rest vs h b };
-
-    ghost tells = { λ x y rest vs ws h k d b c e. optional_tells T.type_term
-        (option_map T.value x.0) (option_map T.value y.0) rest vs ws
-        (field_one_text T.value T.one_text x.0 y.0) h k d b c e };
+    ghost listing = { through (λ field. field.0) (optional T.value T.type_term T.one_text) };
 
     fn size(&self) -> u64 {
         match &self.0 {

@@ -1,9 +1,7 @@
 //! A field that is due.
 ghost use Rattle.std.specs.Prelude.{◌∷◌, []};
-ghost use Rattle.x690.specs.TypeTerms.{Required as RequiredType};
-ghost use Rattle.x690.specs.Values.{value_tag};
-ghost use Rattle.asn_fields.specs.Apart.{may_begin};
-ghost use Rattle.asn_fields.specs.ApartLaws.{due_begins, due_tells};
+ghost use Rattle.asn_fields.specs.ApartLaws.{required};
+ghost use Rattle.asn_fields.specs.Listings.{through};
 
 use crate::field_list::{Fields, FieldsText, FirstFields};
 use crate::fields::{Next, due};
@@ -20,18 +18,9 @@ use tlv_core::target::Target;
 pub struct Required<T: Drop>(pub T);
 
 impl<T: Element> FieldsText for Required<T> {
-    ghost types = { λ rest. RequiredType T.type_term rest };
-
-    ghost most = { 1 };
-
     ghost values = { λ field. T.value field.0 ∷ [] };
 
-    ghost known = { λ field. may_begin T.type_term (value_tag (T.value field.0)) };
-
-    ghost begins = { λ x rest vs h b. due_begins T.type_term (T.value x.0) rest vs h };
-
-    ghost tells = { λ x y rest vs ws h k d b c e. due_tells T.type_term (T.value x.0)
-        (T.value y.0) rest vs ws (T.one_text x.0 y.0) d e };
+    ghost listing = { through (λ field. field.0) (required T.value T.type_term T.one_text) };
 
     fn size(&self) -> u64 {
         self.0.size()

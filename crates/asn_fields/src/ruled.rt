@@ -1,15 +1,16 @@
 //! Values with a rule on them, of the value alone.
-ghost use Rattle.std.specs.Prelude.{◌≡◌, ◌↔◌, IsTrue, List, None, []};
+ghost use Rattle.std.specs.Prelude.{◌≡◌, List, None, []};
 ghost use Rattle.x690.specs.Premises.{FairRule, HonestRule};
 ghost use Rattle.x690.specs.TypeTerms.{Rule, RuledType};
-ghost use Rattle.x690.specs.Values.{Same, Value};
+ghost use Rattle.x690.specs.Values.{Value};
 ghost use Rattle.x690_laws.proofs.TypesClosed.{ruled_closed};
 
-use asn_elements::der_text::{DerText, same_text};
+use asn_elements::der_text::DerText;
 use asn_elements::element::Element;
 use ber_pull::pull::Pull;
 use std::alloc::Global;
 use std::marker::PhantomData;
+use std::ops::Deref;
 use tlv_core::fault::ReadError;
 use tlv_core::reason::Reason;
 use tlv_core::sink::{Sink, WriteError};
@@ -52,12 +53,15 @@ impl<T: DerText, K: Rules<T>> Ruled<T, K> {
     {
         &self.value
     }
+}
 
-    /// Whether the two are the same.
-    pub fn same(&self, other: &Ruled<T, K>) -> bool
-        ensures { IsTrue result ↔ Same (T.value self.now.value) (T.value other.now.value) }
+impl<T: DerText, K: Rules<T>> Deref for Ruled<T, K> {
+    type Target = T;
+
+    fn deref(&self) -> &T
+        ensures { result.now ≡ self.now.value }
     {
-        same_text(&self.value, &other.value)
+        &self.value
     }
 }
 

@@ -1,16 +1,16 @@
 //! Explicit tags (X.690 8.14).
 ghost use Rattle.x690_laws.proofs.TextsTellApart.{single_one_text};
-ghost use Rattle.std.specs.Prelude.{◌≡◌, ◌↔◌, ◌+◌, ◌<◌, ◌^◌, ◌∷◌, [], IsTrue, length, slice_get};
+ghost use Rattle.std.specs.Prelude.{◌≡◌, ◌+◌, ◌<◌, ◌^◌, ◌∷◌, [], length, slice_get};
 ghost use Rattle.tlv_core.specs.Sinks.{count, Puts};
 ghost use Rattle.x690.specs.DerTexts.{der};
 ghost use Rattle.x690.specs.Layouts.{context_specific};
 ghost use Rattle.x690.specs.TypeTerms.{EndOfFields, Required as RequiredType, SequenceType};
-ghost use Rattle.x690.specs.Values.{Same, Sequence, values_of};
+ghost use Rattle.x690.specs.Values.{Sequence, values_of};
 ghost use Rattle.x690_laws.proofs.TypesClosed.{sequence_closed};
 
 use crate::required::Required;
 use crate::sequence::read_sequence_as;
-use asn_elements::der_text::{DerText, same_text};
+use asn_elements::der_text::DerText;
 use asn_elements::element::Element;
 use asn_elements::framing::{Stands, element_size, find_octet, put_header};
 use asn_elements::tags::{context_tag, is_same_tag};
@@ -35,15 +35,6 @@ impl<const N: u8, T: DerText> Tagged<N, T> {
         ensures { result.now ≡ self.now.inner }
     {
         &self.inner
-    }
-
-    /// Whether the two are the same.
-    pub fn same(&self, other: &Tagged<N, T>) -> bool
-        ensures { IsTrue result ↔ Same
-            (Sequence (context_specific N) (values_of (T.value self.now.inner ∷ [])))
-            (Sequence (context_specific N) (values_of (T.value other.now.inner ∷ []))) }
-    {
-        same_text(self, other)
     }
 
     fn size_as(&self, tag: Tag) -> u64

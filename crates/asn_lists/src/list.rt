@@ -10,11 +10,11 @@ ghost use Rattle.x690.specs.TypeTerms.{SequenceOfType};
 ghost use Rattle.ber_pull.specs.View.{standing, Repeats, Uses, Frame};
 ghost use Rattle.ber_pull.specs.declared.state.Given.{Given};
 ghost use Rattle.asn_elements.specs.Reading.{AnswersValue, read_given};
-ghost use Rattle.x690.specs.Values.{Same, Sequence, values_of};
+ghost use Rattle.x690.specs.Values.{Sequence, values_of};
 
 use crate::members::{read_members, row_of};
 use crate::row::Row;
-use asn_elements::der_text::{DerText, same_text};
+use asn_elements::der_text::DerText;
 use asn_elements::element::Element;
 use asn_elements::leaf_reading::expect_tag;
 use asn_elements::tags::{is_same_tag, universal_tag};
@@ -59,15 +59,6 @@ impl<T: DerText> List<T> {
         } else {
             None
         }
-    }
-
-    /// Whether the two are the same.
-    pub fn same(&self, other: &List<T>) -> bool
-        ensures { IsTrue result ↔ Same
-            (Sequence (universal 16) (values_of (map T.value (list_items self.now))))
-            (Sequence (universal 16) (values_of (map T.value (list_items other.now)))) }
-    {
-        same_text(self, other)
     }
 
     fn size_as(&self, tag: Tag) -> u64

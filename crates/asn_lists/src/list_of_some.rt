@@ -1,10 +1,8 @@
 //! SEQUENCE OF with at least one member (X.680 26, with SIZE (1..MAX)).
-ghost use Rattle.std.specs.Prelude.{◌≡◌, ◌↔◌, ◌+◌, ◌<◌, ◌^◌, IsTrue, length, map, slice_get};
-ghost use Rattle.tlv_core.specs.Sinks.{count, Puts};
-ghost use Rattle.x690.specs.DerTexts.{der};
+ghost use Rattle.std.specs.Prelude.{◌≡◌, ◌<◌, length, map};
 ghost use Rattle.x690.specs.Layouts.{universal};
 ghost use Rattle.x690.specs.TypeTerms.{SequenceOfType};
-ghost use Rattle.x690.specs.Values.{Same, Sequence, values_of};
+ghost use Rattle.x690.specs.Values.{Sequence, values_of};
 ghost use Rattle.x690_laws.proofs.TypesClosed.{sequence_of_closed};
 ghost use Rattle.asn_lists.specs.Containers.{list_items};
 
@@ -34,15 +32,6 @@ impl<T: DerText> ListOfSome<T> {
         ensures some { 0 < length (list_items result.now) }
     {
         &self.items
-    }
-
-    /// Whether the two are the same.
-    pub fn same(&self, other: &ListOfSome<T>) -> bool
-        ensures { IsTrue result ↔ Same
-            (Sequence (universal 16) (values_of (map T.value (list_items self.now.items))))
-            (Sequence (universal 16) (values_of (map T.value (list_items other.now.items)))) }
-    {
-        self.items.same(&other.items)
     }
 }
 

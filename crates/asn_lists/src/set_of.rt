@@ -11,7 +11,7 @@ ghost use Rattle.ber_pull.specs.Standing.{failed_with};
 ghost use Rattle.ber_pull.specs.declared.state.Given.{Given};
 ghost use Rattle.tlv_core.specs.declared.fault.ReadError.TheVariants.{Memory};
 ghost use Rattle.asn_elements.specs.Reading.{AnswersValue, read_given};
-ghost use Rattle.x690.specs.Values.{Same, SetOf as SetValue, values_of};
+ghost use Rattle.x690.specs.Values.{SetOf as SetValue, values_of};
 ghost use Rattle.asn_elements.specs.Members.{ascends};
 ghost use Rattle.asn_elements.proofs.Ascending.{ascends_is};
 ghost use Rattle.x690_laws.proofs.TypesOfOneTag.{set_of_fits};
@@ -21,7 +21,7 @@ use crate::members::{read_members, row_of};
 use crate::order::in_order;
 use crate::row::{LONGEST, Row, contents_length};
 use asn_elements::build::BuildError;
-use asn_elements::der_text::{DerText, same_text};
+use asn_elements::der_text::DerText;
 use asn_elements::element::Element;
 use asn_elements::framing::element_size;
 use asn_elements::implicit::{ImplicitElement, ImplicitText};
@@ -99,15 +99,6 @@ impl<T: DerText> SetOf<T> {
         } else {
             None
         }
-    }
-
-    /// Whether the two are the same.
-    pub fn same(&self, other: &SetOf<T>) -> bool
-        ensures { IsTrue result ↔ Same
-            (SetValue (universal 17) (values_of (map T.value (set_items self.now))))
-            (SetValue (universal 17) (values_of (map T.value (set_items other.now)))) }
-    {
-        same_text(self, other)
     }
 }
 

@@ -5,12 +5,11 @@
 //! comparing it is a matter of octets; an OBJECT IDENTIFIER by its contents alone.
 ghost use Rattle.std.proofs.Common.{ap, sym, ◌∙◌};
 ghost use Rattle.x690_laws.proofs.ValuesOfTrees.{same_of};
-ghost use Rattle.std.specs.Prelude.{◌≡◌, ◌↔◌, IsTrue};
+ghost use Rattle.std.specs.Prelude.{◌≡◌};
 ghost use Rattle.std.specs.Option.{option_map};
 ghost use Rattle.x690.specs.DerTexts.{der};
 ghost use Rattle.x690.specs.TypeTerms.{OpenType};
 ghost use Rattle.x690_laws.proofs.TypesClosed.{open_closed};
-ghost use Rattle.x690.specs.Values.{Same};
 ghost use Rattle.asn_open_values.specs.TextValues.{identifier_in, open_value};
 ghost use Rattle.asn_open_values.specs.KeptValues.{identifier_kept, text_kept};
 
@@ -54,17 +53,6 @@ impl Any {
         match &self.kept {
             Kept::Identifier(oid) => Some(oid),
             Kept::Text(_) => None,
-        }
-    }
-
-    /// Whether the two are the same.
-    pub fn same(&self, other: &Any) -> bool
-        ensures { IsTrue result ↔ Same (open_value_of self.now) (open_value_of other.now) }
-    {
-        match (&self.kept, &other.kept) {
-            (Kept::Identifier(oid), Kept::Identifier(other_oid)) => oid.same(other_oid),
-            (Kept::Text(text), Kept::Text(other_text)) => text == other_text,
-            _ => false,
         }
     }
 }

@@ -1,14 +1,13 @@
 // Reading open values (X.690; profile): elements that stand where any type may, kept as their text in DER.
-ghost use Rattle.std.specs.Prelude.{◌≡◌, ◌++◌, ◌+◌, ◌<◌, ◌≤◌, Bool, List, [], ℕ, None, Ok, Some, IfErr, IfOk, IsSome, OnOk, false, true, length, suc};
+ghost use Rattle.std.specs.Prelude.{◌≡◌, ◌++◌, ◌+◌, ◌<◌, ◌≤◌, List, [], ℕ, None, Ok, Some, IfErr, IfOk, IsSome, OnOk, false, true, length, suc};
 ghost use Rattle.tlv_core.specs.Header.{der_header};
 ghost use Rattle.tlv_core.specs.Identifier.{Tag as Identified};
 ghost use Rattle.tlv_core.specs.declared.fault.ReadError.TheVariants.{Memory};
 ghost use Rattle.x690.specs.DerTexts.{der};
-ghost use Rattle.x690.specs.ReadContents.{read_open};
 ghost use Rattle.x690.specs.Values.{Leaf, SetOf, Value, values_of};
 ghost use Rattle.ber_pull.specs.Hears.{heard};
-ghost use Rattle.ber_pull.specs.Standing.{enclosing, failed_with};
-ghost use Rattle.ber_pull.specs.View.{standing, source, Repeats, Answers, Uses, Unmoved, Frame};
+ghost use Rattle.ber_pull.specs.Standing.{failed_with};
+ghost use Rattle.ber_pull.specs.View.{standing, source, Repeats, Answers, Uses, Frame};
 ghost use Rattle.ber_pull.specs.declared.state.Given.{Given};
 ghost use Rattle.asn_elements.specs.Framing.{framed};
 ghost use Rattle.asn_open_values.specs.declared.open_form.OpenForm.TheVariants.{Identifier};

@@ -3,8 +3,9 @@
 //! `DerText` is what has a text, `Element` what can be read as well, from any source and in any layout of BER. There
 //! are the leaves `Bool`, `Int`, `Null`, `Bits`, `Octets`, `Text` and `tlv_core`'s `Oid`, the containers `List`,
 //! `ListOfSome` and `SetOf`, `Tagged` for explicit tags, `Implicit` for implicit ones, and `Any`, an open value.
-//! `record` keeps a SEQUENCE as the list of its fields, `ruled`, `judged` and `chosen` put rules on it; `sequence`
-//! reads one by that list and `parts` writes it; `fields` reads one field by field.
+//! `sequence` keeps a SEQUENCE as the list of its fields, with rules on it by `ruled`, and on a field by those before it
+//! by `dependent`; `parts` writes one, `fields` reads one field by field. `Containing` is an OCTET STRING that contains
+//! an element.
 //!
 //! This crate is the table of contents: what stands here is proved in `asn_elements` (the traits and the leaves),
 //! `asn_fields`, `asn_lists` and `asn_open_values`, each of which says what. `tests/rows/values.tsv` has
@@ -21,11 +22,12 @@
 #![tactic(auto)]
 
 pub use asn_elements::{
-    bits, boolean, boxed, build, der_text, element, framing, implicit, integer, leaf_reading, null,
-    object_identifier, octets, tags, text,
+    bits, boolean, boxed, build, containing, der_text, element, framing, implicit, integer,
+    leaf_reading, null, object_identifier, octets, tags, text,
 };
 pub use asn_fields::{
-    chosen, either, field_list, fields, judged, parts, record, refused, ruled, sequence, tagged,
+    defined_by, dependent, either, field_list, fields, optional_dependent, parts, refused, ruled,
+    ruled_behind, ruled_containing, ruled_sequence, sequence, tagged, unnamed,
 };
 pub use asn_lists::{list, list_of_some, set_of};
 pub use asn_open_values::any;

@@ -3,9 +3,9 @@ use Rattle.x690.specs.Values.{Value}
 use Rattle.pkcs8.specs.declared.key_package.KeyPackage.{KeyPackage}
 use Rattle.pkcs8.specs.declared.one_asymmetric_key.OneAsymmetricKey.{OneAsymmetricKey}
 use Rattle.private_keys.specs.declared.ec_private_key.EcPrivateKey.{EcPrivateKey}
-use Rattle.pkcs8.specs.declared.encrypted_key.EncryptedKey.{EncryptedKey}
-use Rattle.pkcs10.specs.declared.request.CertificationRequest.{CertificationRequest}
-use Rattle.pkix_values.specs.declared.public_key.SubjectPublicKeyInfo.{SubjectPublicKeyInfo}
+use Rattle.pkcs8.specs.EncryptedKeys.{EncryptedKey}
+use Rattle.pkcs10.specs.Requests.{CertificationRequest}
+use Rattle.pkix_values.specs.PublicKeys.{SubjectPublicKeyInfo}
 use Rattle.pk_documents.specs.declared.document.Document.{Document}
 use Rattle.pk_documents.specs.declared.document.Document.TheVariants as documents
 use Rattle.pk_documents.specs.declared.kind.Kind.{Kind}

@@ -3,6 +3,7 @@ ghost use Rattle.std.specs.Prelude.{◌≡◌, ◌↔◌, ◌⊎◌, IfOk, IsTru
 ghost use Rattle.std.specs.Io.KnownBytes.{IsAtEnd};
 ghost use Rattle.x690.specs.DerTexts.{der};
 ghost use Rattle.x690.specs.Premises.{Lawful};
+ghost use Rattle.x690.specs.TypeTerms.{TypeTerm};
 ghost use Rattle.x690.specs.Values.{Same, Value};
 ghost use Rattle.asn_elements.specs.Whole.{IsFailedRead};
 ghost use Rattle.asn_documents.specs.Checked.{Unchecked};
@@ -95,24 +96,34 @@ impl Document {
     }
 }
 
-/// A type that the documents of a kind are of.
-trait DocumentOf: Element {
+/// A type that the documents of a kind are of. (It isn't an `Element` by itself: the toolchain states no `impl` of a
+/// trait above another one for a SEQUENCE of certain fields, as long as these own memory.)
+trait DocumentOf {
     ghost use Rattle.pk_documents.specs.declared.kind.Kind.{Kind};
 
     /// The kind.
     ghost kind: { Kind };
 
+    /// Its type, and what one of it stands for.
+    ghost term: { TypeTerm };
+
+    ghost stands_for: { Self → Value };
+
     /// The document that it is.
     fn document(self) -> Document
-        ensures value { ⟦<Document as Valued>⟧.value result ≡ Self.value self }
+        ensures value { ⟦<Document as Valued>⟧.value result ≡ stands_for self }
         ensures kind { kind_of result ≡ kind };
 
     /// Its rules are as the laws ask.
-    ghost lawful: { Lawful Self.Element.type_term };
+    ghost lawful: { Lawful term };
 }
 
 impl DocumentOf for OneAsymmetricKey {
     ghost kind = { kinds.Key };
+
+    ghost term = { ⟦<OneAsymmetricKey as Element>⟧.type_term };
+
+    ghost stands_for = { ⟦<OneAsymmetricKey as DerText>⟧.value };
 
     ghost lawful = { key };
 
@@ -124,6 +135,10 @@ impl DocumentOf for OneAsymmetricKey {
 impl DocumentOf for EcPrivateKey {
     ghost kind = { kinds.Ec };
 
+    ghost term = { ⟦<EcPrivateKey as Element>⟧.type_term };
+
+    ghost stands_for = { ⟦<EcPrivateKey as DerText>⟧.value };
+
     ghost lawful = { ec_key };
 
     fn document(self) -> Document {
@@ -133,6 +148,10 @@ impl DocumentOf for EcPrivateKey {
 
 impl DocumentOf for CertificationRequest {
     ghost kind = { kinds.Request };
+
+    ghost term = { ⟦<CertificationRequest as Element>⟧.type_term };
+
+    ghost stands_for = { ⟦<CertificationRequest as DerText>⟧.value };
 
     ghost lawful = { request };
 
@@ -144,6 +163,10 @@ impl DocumentOf for CertificationRequest {
 impl DocumentOf for SubjectPublicKeyInfo {
     ghost kind = { kinds.Public };
 
+    ghost term = { ⟦<SubjectPublicKeyInfo as Element>⟧.type_term };
+
+    ghost stands_for = { ⟦<SubjectPublicKeyInfo as DerText>⟧.value };
+
     ghost lawful = { public_key_info };
 
     fn document(self) -> Document {
@@ -154,6 +177,10 @@ impl DocumentOf for SubjectPublicKeyInfo {
 impl DocumentOf for EncryptedKey {
     ghost kind = { kinds.Encrypted };
 
+    ghost term = { ⟦<EncryptedKey as Element>⟧.type_term };
+
+    ghost stands_for = { ⟦<EncryptedKey as DerText>⟧.value };
+
     ghost lawful = { encrypted_key };
 
     fn document(self) -> Document {
@@ -163,6 +190,10 @@ impl DocumentOf for EncryptedKey {
 
 impl DocumentOf for KeyPackage {
     ghost kind = { kinds.Package };
+
+    ghost term = { ⟦<KeyPackage as Element>⟧.type_term };
+
+    ghost stands_for = { ⟦<KeyPackage as DerText>⟧.value };
 
     ghost lawful = { key_package };
 
@@ -253,17 +284,19 @@ pub fn write_document<W: Target>(document: &Document, dst: &mut W) -> Result<u64
     }
 }
 
-fn read_as<R: Source, T: DocumentOf>(
+fn read_as<R: Source, T: DocumentOf + Element>(
     alloc: Global,
     src: &mut R,
     limits: Limits,
 ) -> Result<(Document, u64), ReadError>
-    requires { R.has_failed src.old ≡ false }
-    ensures reads { MatchResult result (λ read. ReadsValue limits T.type_term
+    requires live { R.has_failed src.old ≡ false }
+    requires term { T.Element.type_term ≡ T.DocumentOf.term }
+    requires stands_for { (x : T) → T.DerText.value x ≡ T.DocumentOf.stands_for x }
+    ensures reads { MatchResult result (λ read. ReadsValue limits T.Element.type_term
         (⟦<Document as Valued>⟧.value read.0) (R.remaining src.old) (R.remaining src.new) read.1)
-        (λ error. Unchecked limits T.type_term error (R.remaining src.old)
+        (λ error. Unchecked limits T.Element.type_term error (R.remaining src.old)
         (R.remaining src.new)) }
-    ensures kind { IfOk result (λ read. kind_of read.0 ≡ T.kind) }
+    ensures kind { IfOk result (λ read. kind_of read.0 ≡ T.DocumentOf.kind) }
     ensures read { MatchResult result (λ _. R.has_failed src.new ≡ false)
         (IsFailedRead (R.has_failed src.new)) }
     ensures frame { R.frame src.new ≡ R.frame src.old }
@@ -272,18 +305,20 @@ fn read_as<R: Source, T: DocumentOf>(
     Ok((value.document(), taken))
 }
 
-fn read_whole_as<R: Source, T: DocumentOf>(
+fn read_whole_as<R: Source, T: DocumentOf + Element>(
     alloc: Global,
     src: &mut R,
     limits: Limits,
 ) -> Result<(Document, u64), ReadError>
-    requires { R.has_failed src.old ≡ false }
-    ensures reads { MatchResult result (λ read. ReadsValue limits T.type_term
+    requires live { R.has_failed src.old ≡ false }
+    requires term { T.Element.type_term ≡ T.DocumentOf.term }
+    requires stands_for { (x : T) → T.DerText.value x ≡ T.DocumentOf.stands_for x }
+    ensures reads { MatchResult result (λ read. ReadsValue limits T.Element.type_term
         (⟦<Document as Valued>⟧.value read.0) (R.remaining src.old) (R.remaining src.new) read.1)
-        (λ error. Unchecked limits T.type_term error (R.remaining src.old) (R.remaining src.new)
-        ⊎ Followed limits T.type_term error (R.remaining src.old) (R.remaining src.new)) }
+        (λ error. Unchecked limits T.Element.type_term error (R.remaining src.old) (R.remaining src.new)
+        ⊎ Followed limits T.Element.type_term error (R.remaining src.old) (R.remaining src.new)) }
     ensures ends { IfOk result (λ _. IsAtEnd (R.remaining src.new)) }
-    ensures kind { IfOk result (λ read. kind_of read.0 ≡ T.kind) }
+    ensures kind { IfOk result (λ read. kind_of read.0 ≡ T.DocumentOf.kind) }
     ensures read { MatchResult result (λ _. R.has_failed src.new ≡ false)
         (IsFailedRead (R.has_failed src.new)) }
     ensures frame { R.frame src.new ≡ R.frame src.old }

@@ -21,7 +21,7 @@ pub fn write_signed_part<W: Target>(
 ) -> Result<u64, WriteError>
     requires { W.has_failed dst.old ≡ false }
     ensures { WritesText (der (⟦<CertificationRequestInfo as DerText>⟧.value
-        (request_info_of request.now))) (W.contents dst.old) (W.contents dst.new)
+        (request_info_of request.now.fields))) (W.contents dst.old) (W.contents dst.new)
         (W.has_failed dst.new) result }
 {
     write_value(request.info(), dst)

@@ -9,7 +9,7 @@ use Rattle.private_keys.specs.CurveKeys.{curve_key_of}
 use Rattle.private_keys.specs.EcParts.{ec_curve_of, ec_key_of}
 use Rattle.private_keys.specs.RsaParts.{rsa_numbers_of}
 use Rattle.private_keys.specs.declared.ec_private_key.EcPrivateKey.{EcPrivateKey}
-use Rattle.private_keys.specs.declared.rsa_private_key.RsaPrivateKey.{RsaPrivateKey}
+use Rattle.private_keys.specs.RsaParts.{RsaPrivateKey}
 use Rattle.pkcs8.specs.AsymmetricKeys.{key_algorithm_of, private_key_of}
 use Rattle.pkcs8.specs.Keys.{curve_octets, identifier_of}
 use Rattle.pkcs8.specs.Seen.{AnyKey}
@@ -39,7 +39,7 @@ number_octets (Some number) = integer_of number
 -- modulus and publicExponent
 abbrev pub rsa_parts : RsaPrivateKey → Parts
 rsa_parts key =
-    Rsa (number_octets (slice_get (rsa_numbers_of key) 0)) (number_octets (slice_get (rsa_numbers_of key) 1))
+    Rsa (number_octets (slice_get (rsa_numbers_of key.value.fields) 0)) (number_octets (slice_get (rsa_numbers_of key.value.fields) 1))
 
 -- by the algorithm, the curve that its parameters name, and what privateKey contains
 abbrev pub parts_by : List ℕ → List ℕ → AnyKey → Parts

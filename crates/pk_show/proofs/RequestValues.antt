@@ -13,7 +13,7 @@ use Rattle.asn_fields.specs.declared.either.Either.TheVariants.{First, Second}
 use Rattle.asn_open_values.specs.declared.any.Any.{Any}
 use Rattle.pkix_values.specs.Eithers.{first_of, second_of}
 use Rattle.pkix_values.specs.SetsOfSome.{some_items}
-use Rattle.pkix_values.specs.declared.extension.Extension.{Extension}
+use Rattle.pkix_values.specs.Extensions.{Extension}
 use Rattle.pkix_values.specs.declared.set_of_some.SetOfSome.{SetOfSome}
 use Rattle.pk_show.specs.Parts.{values_in}
 use Rattle.pk_show.specs.Shown.{attribute_line, extensions_lines, value_line, values_lines}

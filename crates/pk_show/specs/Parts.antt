@@ -9,12 +9,11 @@ use Rattle.asn_fields.specs.declared.either.Either.TheVariants.{First, Second}
 use Rattle.asn_open_values.specs.declared.any.Any.{Any}
 use Rattle.pkix_values.specs.Names.{rdns_of}
 use Rattle.pkix_values.specs.SetsOfSome.{some_items}
-use Rattle.pkix_values.specs.declared.extension.Extension.{Extension}
+use Rattle.pkix_values.specs.Extensions.{Extension}
 use Rattle.pkix_values.specs.declared.name.Name.{Name}
-use Rattle.pkix_values.specs.declared.name.NameItem.{NameItem}
+use Rattle.pkix_values.specs.Names.{NameItem}
 use Rattle.pkix_values.specs.declared.set_of_some.SetOfSome.{SetOfSome}
-use Rattle.private_keys.specs.contracts.rsa_private_key.RsaPrivateKeyDerText.TheImpl as rsa_text
-use Rattle.private_keys.specs.declared.rsa_private_key.RsaPrivateKey.{RsaPrivateKey}
+use Rattle.private_keys.specs.RsaParts.{RsaPrivateKey, rsa_value_of}
 
 -- the values of an attribute of a request, in the order of their texts, by their members
 abbrev pub values_in : {t : Ghosts Extension} {u : Ghosts (SequenceOf Extension t)} {v : Ghosts Any}
@@ -32,4 +31,4 @@ name_items it = map rdn_items (list_items (rdns_of it))
 
 -- the DER text of an RSAPrivateKey
 abbrev pub rsa_key_text : RsaPrivateKey → List ℕ
-rsa_key_text it = der (rsa_text.value-value.it it)
+rsa_key_text it = der (rsa_value_of it)

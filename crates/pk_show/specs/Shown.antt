@@ -14,17 +14,17 @@ use Rattle.pkix_values.specs.Names.{item_type_of, item_value_of}
 use Rattle.pkix_values.specs.PublicKeys.{public_key_algorithm_of, subject_public_key_of}
 use Rattle.pkix_values.specs.RequestAttributes.{request_attribute_type_of, request_attribute_values_of}
 use Rattle.pkix_values.specs.declared.algorithm.AlgorithmIdentifier.{AlgorithmIdentifier}
-use Rattle.pkix_values.specs.declared.attribute.Attribute.{Attribute}
-use Rattle.pkix_values.specs.declared.extension.Extension.{Extension}
+use Rattle.pkix_values.specs.Attributes.{Attribute}
+use Rattle.pkix_values.specs.Extensions.{Extension}
 use Rattle.pkix_values.specs.declared.name.Name.{Name}
-use Rattle.pkix_values.specs.declared.name.NameItem.{NameItem}
-use Rattle.pkix_values.specs.declared.public_key.SubjectPublicKeyInfo.{SubjectPublicKeyInfo}
-use Rattle.pkix_values.specs.declared.request_attribute.RequestAttribute.{RequestAttribute}
+use Rattle.pkix_values.specs.Names.{NameItem}
+use Rattle.pkix_values.specs.PublicKeys.{SubjectPublicKeyInfo}
+use Rattle.pkix_values.specs.RequestAttributes.{RequestAttribute}
 use Rattle.private_keys.specs.CurveKeys.{curve_key_of}
 use Rattle.private_keys.specs.EcParts.{ec_curve_of, ec_key_of, ec_public_key_of}
 use Rattle.pkcs8.specs.EncryptedKeys.{encrypted_data_of, encryption_algorithm_of}
 use Rattle.private_keys.specs.declared.ec_private_key.EcPrivateKey.{EcPrivateKey}
-use Rattle.pkcs8.specs.declared.encrypted_key.EncryptedKey.{EncryptedKey}
+use Rattle.pkcs8.specs.EncryptedKeys.{EncryptedKey}
 use Rattle.pkcs8.specs.AsymmetricKeys.{key_algorithm_of, key_attributes_of, key_version_of, private_key_of, public_key_of}
 use Rattle.pkcs8.specs.KeyPackages.{keys_of}
 use Rattle.pkcs8.specs.Seen.{AnyKey}
@@ -32,8 +32,8 @@ use Rattle.pkcs8.specs.declared.key_package.KeyPackage.{KeyPackage}
 use Rattle.pkcs8.specs.declared.one_asymmetric_key.OneAsymmetricKey.{OneAsymmetricKey}
 use Rattle.pkcs10.specs.Infos.{request_attributes_of, subject_key_of, subject_of}
 use Rattle.pkcs10.specs.Requests.{request_info_of, signature_algorithm_of, signature_of}
-use Rattle.pkcs10.specs.declared.info.CertificationRequestInfo.{CertificationRequestInfo}
-use Rattle.pkcs10.specs.declared.request.CertificationRequest.{CertificationRequest}
+use Rattle.pkcs10.specs.Infos.{CertificationRequestInfo}
+use Rattle.pkcs10.specs.Requests.{CertificationRequest}
 use Rattle.pk_documents.specs.declared.document.Document.{Document}
 use Rattle.pk_documents.specs.declared.document.Document.TheVariants as documents
 use Rattle.pk_show.specs.Lines.{any_text, bits_said, line, octets_line, optional, parameters_text}
@@ -56,14 +56,14 @@ attribute_line id count = codes "attribute " ++ oid_text id ++ line (codes ": ")
 -- An Attribute, its values in the order of their texts.
 unfoldable pub attribute_lines : Attribute → List ℕ
 attribute_lines it =
-    attribute_line (attribute_type_of it) (length (set_items (attribute_values_of it)))
-    ++ flat_map value_line (set_items (attribute_values_of it))
+    attribute_line (attribute_type_of it.fields) (length (set_items (attribute_values_of it.fields)))
+    ++ flat_map value_line (set_items (attribute_values_of it.fields))
 
 -- An Extension.
 unfoldable pub extension_line : Extension → List ℕ
 extension_line it =
-    codes "    " ++ oid_text (extension_id_of it)
-    ++ line (cond (is_critical it) (codes ", critical: ") (codes ": ")) (hex_text (octets_of (extension_value_of it)))
+    codes "    " ++ oid_text (extension_id_of it.fields)
+    ++ line (cond (is_critical it.fields) (codes ", critical: ") (codes ": ")) (hex_text (octets_of (extension_value_of it.fields)))
 
 -- one value of extensionRequest
 unfoldable pub extensions_lines : List Extension → List ℕ
@@ -77,7 +77,7 @@ values_lines id (Second values) = attribute_line id (length values) ++ flat_map 
 
 -- An attribute of a request.
 unfoldable pub request_attribute_lines : RequestAttribute → List ℕ
-request_attribute_lines it = values_lines (request_attribute_type_of it) (values_in (request_attribute_values_of it))
+request_attribute_lines it = values_lines (request_attribute_type_of it.fields) (values_in (request_attribute_values_of it.fields))
 
 -- attributes in the order of their texts, each by its lines
 unfoldable pub attributes_lines : {A : Type 0} → (A → List ℕ) → Option (List A) → List ℕ
@@ -87,7 +87,7 @@ attributes_lines lines (Some attributes) =
 
 -- An AttributeTypeAndValue.
 unfoldable pub item_line : NameItem → List ℕ
-item_line it = codes "    " ++ oid_text (item_type_of it) ++ line (codes ": ") (any_text (item_value_of it))
+item_line it = codes "    " ++ oid_text (item_type_of it.fields) ++ line (codes ": ") (any_text (item_value_of it.fields))
 
 unfoldable pub rdn_lines : List NameItem → List ℕ
 rdn_lines items = line (codes "  rdn: ") (decimal (length items)) ++ flat_map item_line items
@@ -99,8 +99,8 @@ subject_lines it = line (codes "subject: ") (decimal (length (name_items it))) +
 -- A SubjectPublicKeyInfo, its algorithm by these labels.
 unfoldable pub public_key_lines : List ℕ → List ℕ → SubjectPublicKeyInfo → List ℕ
 public_key_lines label parameters_label it =
-    algorithm_lines label parameters_label (public_key_algorithm_of it)
-    ++ line (codes "public key: ") (bits_said (subject_public_key_of it))
+    algorithm_lines label parameters_label (public_key_algorithm_of it.fields)
+    ++ line (codes "public key: ") (bits_said (subject_public_key_of it.fields))
 
 -- An ECPrivateKey, by these labels.
 unfoldable pub ec_lines : List ℕ → List ℕ → List ℕ → EcPrivateKey → List ℕ
@@ -131,22 +131,22 @@ key_lines it =
 -- A CertificationRequestInfo.
 unfoldable pub info_lines : CertificationRequestInfo → List ℕ
 info_lines it =
-    subject_lines (subject_of it)
-    ++ public_key_lines (codes "key algorithm: ") (codes "key parameters: ") (subject_key_of it)
-    ++ attributes_lines request_attribute_lines (option_map (λ set. set_items set) (request_attributes_of it))
+    subject_lines (subject_of it.fields)
+    ++ public_key_lines (codes "key algorithm: ") (codes "key parameters: ") (subject_key_of it.fields)
+    ++ attributes_lines request_attribute_lines (option_map (λ set. set_items set) (request_attributes_of it.fields))
 
 -- A CertificationRequest.
 unfoldable pub request_lines : CertificationRequest → List ℕ
 request_lines it =
-    info_lines (request_info_of it)
-    ++ algorithm_lines (codes "signature algorithm: ") (codes "signature parameters: ") (signature_algorithm_of it)
-    ++ line (codes "signature: ") (bits_said (signature_of it))
+    info_lines (request_info_of it.fields)
+    ++ algorithm_lines (codes "signature algorithm: ") (codes "signature parameters: ") (signature_algorithm_of it.fields)
+    ++ line (codes "signature: ") (bits_said (signature_of it.fields))
 
 -- An EncryptedPrivateKeyInfo.
 unfoldable pub encrypted_lines : EncryptedKey → List ℕ
 encrypted_lines it =
-    algorithm_lines (codes "algorithm: ") (codes "parameters: ") (encryption_algorithm_of it)
-    ++ octets_line (codes "encrypted key: ") (length (octets_of (encrypted_data_of it)))
+    algorithm_lines (codes "algorithm: ") (codes "parameters: ") (encryption_algorithm_of it.fields)
+    ++ octets_line (codes "encrypted key: ") (length (octets_of (encrypted_data_of it.fields)))
 
 -- An AsymmetricKeyPackage.
 unfoldable pub package_lines : KeyPackage → List ℕ

@@ -11,6 +11,7 @@ use crate::lines::{push_absent_line, push_any_line, push_list, push_number_line,
 use crate::shown::Shown;
 use crate::texts::push_hex;
 use asn_values::any::Any;
+use asn_values::der_text::DerText;
 use asn_values::list::List;
 use asn_values::set_of::SetOf;
 use pkix_values::attribute::Attribute;
@@ -89,7 +90,7 @@ fn push_plain(
     text: &mut String,
     attribute: &RequestAttribute,
 ) -> Result<(), AllocError>
-    requires { one_of (request_attribute_type_of attribute.now) (extension_request ∷ []) ≡ false }
+    requires { one_of (request_attribute_type_of attribute.now.fields) (extension_request ∷ []) ≡ false }
     ensures { OnOk result (string_bytes text.new ≡ string_bytes text.old
         ++ request_attribute_lines attribute.now) }
 {
@@ -150,13 +151,13 @@ fn push_extension_lists(
 
 /// The lines of attributes, in the order of their texts.
 #[tactic(auto, unfolding(crate::specs::Shown::attributes_lines))]
-pub(crate) fn push_attributes<T: Shown>(
+pub(crate) fn push_attributes<T: DerText + Shown>(
     alloc: Global,
     text: &mut String,
     attributes: Option<&SetOf<T>>,
 ) -> Result<(), AllocError>
     ensures { OnOk result (string_bytes text.new ≡ string_bytes text.old
-        ++ attributes_lines T.lines
+        ++ attributes_lines T.Shown.lines
         (option_map (λ set. set_items set) (option_map (λ r. r.now) attributes.entry))) }
 {
     let Some(attributes) = attributes else {

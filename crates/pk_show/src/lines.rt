@@ -9,7 +9,7 @@ use crate::shown::Shown;
 use crate::texts::{push_bits, push_hex};
 use asn_values::any::Any;
 use asn_values::bits::Bits;
-use asn_values::der_text::der_text;
+use asn_values::der_text::{DerText, der_text};
 use asn_values::list::List;
 use asn_values::set_of::SetOf;
 use std::alloc::{AllocError, Global};
@@ -152,13 +152,13 @@ pub(crate) fn push_parameters_line(
 }
 
 /// The lines of the members of a SET OF, in the order of their texts.
-pub(crate) fn push_set<T: Shown>(
+pub(crate) fn push_set<T: DerText + Shown>(
     alloc: Global,
     text: &mut String,
     set: &SetOf<T>,
 ) -> Result<(), AllocError>
     ensures { OnOk result (string_bytes text.new ≡ string_bytes text.old
-        ++ flat_map T.lines (set_items set.now)) }
+        ++ flat_map T.Shown.lines (set_items set.now)) }
 {
     for i in 0..set.len() {
         let Some(member) = set.get(i) else {
@@ -170,13 +170,13 @@ pub(crate) fn push_set<T: Shown>(
 }
 
 /// The lines of the members of a list, in order.
-pub(crate) fn push_list<T: Shown>(
+pub(crate) fn push_list<T: DerText + Shown>(
     alloc: Global,
     text: &mut String,
     list: &List<T>,
 ) -> Result<(), AllocError>
     ensures { OnOk result (string_bytes text.new ≡ string_bytes text.old
-        ++ flat_map T.lines (list_items list.now)) }
+        ++ flat_map T.Shown.lines (list_items list.now)) }
 {
     for i in 0..list.len() {
         let Some(member) = list.get(i) else {

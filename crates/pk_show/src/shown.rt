@@ -1,11 +1,10 @@
 //! What has lines of its own.
 ghost use Rattle.std.specs.Prelude.{List, ℕ, ◌≡◌, ◌++◌, OnOk, string_bytes};
 
-use asn_values::der_text::DerText;
 use std::alloc::{AllocError, Global};
 
 /// What is shown by lines of its own.
-pub(crate) trait Shown: DerText {
+pub(crate) trait Shown {
     /// The lines.
     ghost lines: { Self → List ℕ };
 

@@ -1,83 +1,71 @@
 //! CertificationRequestInfo of RFC 2986 section 4.1.
 ghost use Rattle.std.proofs.lemmas.Bool.{ltb-true};
-ghost use Rattle.std.specs.Prelude.{◌≡◌, ◌↔◌, IsTrue, refl};
+ghost use Rattle.std.specs.Prelude.{◌≡◌, refl};
 ghost use Rattle.std.specs.Option.{option_map};
+ghost use Rattle.asn_fields.specs.Listings.{through};
 ghost use Rattle.pkix_definitions.specs.DocumentTypes.{CertificationRequestInfo as CertificationRequestInfoType};
-ghost use Rattle.x690.specs.Values.{Same};
-ghost use Rattle.pkix_definitions.proofs.ClosedTypes.{info_closed};
+ghost use Rattle.pkix_definitions.proofs.Sequences.{info_is};
 
-use crate::info_fields::InfoFields;
-use asn_values::der_text::DerText;
-use asn_values::element::Element;
-use asn_values::record::{Form, Record};
+use asn_values::fields::Next;
+use asn_values::implicit::Implicit;
+use asn_values::sequence::{FieldsText, FirstFields, Optional, Required, Sequence, SequenceFields};
 use asn_values::set_of::SetOf;
 use ber_pull::pull::Pull;
 use pkix_values::name::Name;
 use pkix_values::public_key::SubjectPublicKeyInfo;
 use pkix_values::request_attribute::RequestAttribute;
+use pkix_values::version::Version;
 use std::alloc::Global;
 use tlv_core::fault::ReadError;
 use tlv_core::sink::{Sink, WriteError};
 use tlv_core::source::Source;
-use tlv_core::tag::Tag;
 use tlv_core::target::Target;
 
-/// version, subject, subjectPKInfo, attributes.
+/// version, subject, subjectPKInfo, attributes [0].
+type Listed = (
+    (Required<Version<0, 0>>, Required<Name>),
+    (
+        Required<SubjectPublicKeyInfo>,
+        Optional<Implicit<0, SetOf<RequestAttribute>>>,
+    ),
+);
+
+/// version, subject, subjectPKInfo, attributes [0].
 #[derive(Drop)]
-pub struct InfoForm;
+pub struct InfoFields(Listed);
 
-impl Form for InfoForm {
-    type Fields = InfoFields;
-
-    ghost parted = { refl };
-
-    ghost few = { ltb-true _ _ refl };
-}
-
-/// What is asked to be certified; the signature of a request covers its DER text.
-#[derive(Drop)]
-pub struct CertificationRequestInfo(Record<InfoForm>);
-
-impl CertificationRequestInfo {
+impl InfoFields {
     ghost use Rattle.pkcs10.specs.Infos.{request_attributes_of, subject_key_of, subject_of};
 
     /// Who asks.
     pub fn subject(&self) -> &Name
         ensures { result.now ≡ subject_of self.now }
     {
-        self.0.fields().subject()
+        &self.0.0.1.0
     }
 
     /// The public key that is to be certified.
     pub fn key_info(&self) -> &SubjectPublicKeyInfo
         ensures { result.now ≡ subject_key_of self.now }
     {
-        self.0.fields().key_info()
+        &self.0.1.0.0
     }
 
     /// What else is asked for, in the order of the texts. Attributes that are absent aren't the same as none of them.
     pub fn attributes(&self) -> Option<&SetOf<RequestAttribute>>
         ensures { option_map (λ r. r.now) result ≡ request_attributes_of self.now }
     {
-        match self.0.fields().attributes() {
+        match &self.0.1.1.0 {
             Some(attributes) => Some(attributes.value()),
             None => None,
         }
     }
-
-    /// Whether the two are the same.
-    pub fn same(&self, other: &CertificationRequestInfo) -> bool
-        ensures { IsTrue result ↔ Same (⟦<CertificationRequestInfo as DerText>⟧.value self.now)
-            (⟦<CertificationRequestInfo as DerText>⟧.value other.now) }
-    {
-        self.0.same(&other.0)
-    }
 }
 
-impl DerText for CertificationRequestInfo {
-    ghost value = { λ x. ⟦<Record<InfoForm> as DerText>⟧.value x.0 };
+impl FieldsText for InfoFields {
+    ghost values = { λ fields. ⟦<Listed as FieldsText>⟧.values fields.0 };
 
-    ghost one_text = { λ x y. ⟦<Record<InfoForm> as DerText>⟧.one_text x.0 y.0 };
+    ghost listing = { through (λ fields. fields.0) ⟦<Listed as FieldsText>⟧.listing };
 
     fn size(&self) -> u64 {
         self.0.size()
@@ -92,20 +80,28 @@ impl DerText for CertificationRequestInfo {
     }
 }
 
-#[tactic(auto, unfolding(pkix_definitions::specs::DocumentTypes::CertificationRequestInfo))]
-impl Element for CertificationRequestInfo {
-    ghost type_term = { CertificationRequestInfoType };
-
-    ghost closed = { info_closed };
-
-    fn fits(tag: Tag) -> bool {
-        Record::<InfoForm>::fits(tag)
-    }
-
-    fn read<R: Source>(
+impl FirstFields for InfoFields {
+    fn read_first<R: Source>(
         alloc: Global,
         pull: &mut Pull<'_, R>,
-    ) -> Result<CertificationRequestInfo, ReadError> {
-        Ok(CertificationRequestInfo(Record::<InfoForm>::read(alloc, pull)?))
+        next: &mut Next,
+    ) -> Result<InfoFields, ReadError> {
+        match <Listed as FirstFields>::read_first(alloc, pull, next) {
+            Ok(listed) => Ok(InfoFields(listed)),
+            Err(error) => Err(error),
+        }
     }
 }
+
+impl SequenceFields for InfoFields {
+    ghost type_term = { CertificationRequestInfoType };
+
+    ghost listed = { info_is };
+
+    ghost parted = { refl };
+
+    ghost few = { ltb-true _ _ refl };
+}
+
+/// What is asked to be certified; the signature of a request covers its DER text.
+pub type CertificationRequestInfo = Sequence<InfoFields>;

@@ -6,5 +6,4 @@
 #![tactic(auto)]
 
 pub mod info;
-mod info_fields;
 pub mod request;

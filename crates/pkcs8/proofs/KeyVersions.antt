@@ -14,7 +14,7 @@ use Rattle.asn_fields.specs.Apart.{fits_one, may_begin}
 use Rattle.asn_fields.specs.FieldReadings.{with_field}
 use Rattle.asn_fields.specs.declared.either.Either.{Either}
 use Rattle.asn_fields.specs.declared.either.Either.TheVariants.{First, Second}
-use Rattle.asn_contained.specs.Dependents.{suits_as, suits_where_there}
+use Rattle.asn_fields.specs.Dependents.{suits_as, suits_where_there}
 use Rattle.asn_elements.specs.declared.bits.Bits.{Bits}
 use Rattle.pkcs8.specs.Seen.{bits_in, bits_of}
 use Rattle.pkcs8.specs.declared.public_key.PublicKey.{PublicKey}

@@ -1,6 +1,6 @@
 -- Which kind of key stands in a container, by the algorithm.
 use Rattle.std.proofs.Common.{◌≡◌, ◌∷◌, Bool, List, [], false, not, refl, true, ℕ}
-use Rattle.asn_contained.specs.Dependents.{suits_as}
+use Rattle.asn_fields.specs.Dependents.{suits_as}
 use Rattle.asn_elements.specs.declared.octets.Octets.{Octets}
 use Rattle.asn_fields.specs.declared.either.Either.{Either}
 use Rattle.asn_fields.specs.declared.either.Either.TheVariants.{First, Second}
@@ -8,7 +8,7 @@ use Rattle.pkcs8.specs.Seen.{GoesWith}
 use Rattle.pkcs8.proofs.KeyVersions.{both_first, both_second}
 use Rattle.private_keys.specs.declared.curve_key.CurveKey.{CurveKey}
 use Rattle.private_keys.specs.declared.ec_private_key.EcPrivateKey.{EcPrivateKey}
-use Rattle.private_keys.specs.declared.rsa_private_key.RsaPrivateKey.{RsaPrivateKey}
+use Rattle.private_keys.specs.RsaParts.{RsaPrivateKey}
 use Rattle.pkix_definitions.specs.Identifiers.{ec_public_key, rfc8410_algorithms, rsa_encryption}
 use Rattle.x690.specs.Lists.{one_of}
 

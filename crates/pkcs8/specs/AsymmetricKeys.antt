@@ -5,9 +5,8 @@ use Rattle.asn_lists.specs.declared.set_of.SetOf.{SetOf}
 use Rattle.asn_elements.specs.Implicits.{value_under}
 use Rattle.asn_elements.specs.declared.bits.Bits.{Bits}
 use Rattle.pkix_values.specs.VersionNumbers.{version_number}
-use Rattle.pkix_values.specs.contracts.attribute.AttributeDerText.TheImpl as attribute_text
+use Rattle.pkix_values.specs.Attributes.{Attribute, attribute_text}
 use Rattle.pkix_values.specs.declared.algorithm.AlgorithmIdentifier.{AlgorithmIdentifier}
-use Rattle.pkix_values.specs.declared.attribute.Attribute.{Attribute}
 use Rattle.pkcs8.specs.Seen.{AnyKey, bits_of, key_in}
 use Rattle.pkcs8.specs.declared.one_asymmetric_key.OneAsymmetricKey.{OneAsymmetricKey}
 
@@ -24,7 +23,7 @@ abbrev pub private_key_of : OneAsymmetricKey → AnyKey
 private_key_of it = key_in it.0.value.fields.0.earlier.0.0.field
 
 -- attributes, where they are there
-abbrev pub key_attributes_of : OneAsymmetricKey → Option (SetOf Attribute attribute_text.ghosts)
+abbrev pub key_attributes_of : OneAsymmetricKey → Option (SetOf Attribute attribute_text)
 key_attributes_of it = option_map value_under it.0.value.fields.0.earlier.0.1.0
 
 -- publicKey, where it is there

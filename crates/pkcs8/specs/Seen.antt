@@ -13,7 +13,7 @@ use Rattle.pkcs8.specs.declared.private_key.PrivateKey.TheVariants.{Carried, Cur
 use Rattle.pkcs8.specs.declared.public_key.PublicKey.{PublicKey}
 use Rattle.private_keys.specs.declared.curve_key.CurveKey.{CurveKey}
 use Rattle.private_keys.specs.declared.ec_private_key.EcPrivateKey.{EcPrivateKey}
-use Rattle.private_keys.specs.declared.rsa_private_key.RsaPrivateKey.{RsaPrivateKey}
+use Rattle.private_keys.specs.RsaParts.{RsaPrivateKey}
 
 -- one of the four
 abbrev pub AnyKey : Type 0

@@ -1,70 +1,50 @@
 //! EncryptedPrivateKeyInfo of RFC 5958 section 3.
 ghost use Rattle.std.proofs.lemmas.Bool.{ltb-true};
-ghost use Rattle.std.specs.Prelude.{◌≡◌, ◌↔◌, IsTrue, refl};
+ghost use Rattle.std.specs.Prelude.{◌≡◌, refl};
 ghost use Rattle.pkix_definitions.specs.DocumentTypes.{EncryptedPrivateKeyInfo};
-ghost use Rattle.pkix_definitions.proofs.ClosedTypes.{encrypted_key_closed};
-ghost use Rattle.x690.specs.Values.{Same};
+ghost use Rattle.asn_fields.specs.Listings.{through};
+ghost use Rattle.pkix_definitions.proofs.Sequences.{encrypted_key_is};
 
-use asn_values::der_text::DerText;
-use asn_values::element::Element;
+use asn_values::fields::Next;
 use asn_values::octets::Octets;
-use asn_values::record::{Form, Record};
-use asn_values::sequence::Required;
+use asn_values::sequence::{FieldsText, FirstFields, Required, Sequence, SequenceFields};
 use ber_pull::pull::Pull;
 use pkix_values::algorithm::AlgorithmIdentifier;
 use std::alloc::Global;
 use tlv_core::fault::ReadError;
 use tlv_core::sink::{Sink, WriteError};
 use tlv_core::source::Source;
-use tlv_core::tag::Tag;
 use tlv_core::target::Target;
 
 /// encryptionAlgorithm, encryptedData.
+type Listed = (Required<AlgorithmIdentifier>, Required<Octets>);
+
+/// encryptionAlgorithm, encryptedData.
 #[derive(Drop)]
-pub struct EncryptedKeyForm;
+pub struct EncryptedKeyFields(Listed);
 
-impl Form for EncryptedKeyForm {
-    type Fields = (Required<AlgorithmIdentifier>, Required<Octets>);
-
-    ghost parted = { refl };
-
-    ghost few = { ltb-true _ _ refl };
-}
-
-/// An encrypted private key. Its octets are carried.
-#[derive(Drop)]
-pub struct EncryptedKey(Record<EncryptedKeyForm>);
-
-impl EncryptedKey {
+impl EncryptedKeyFields {
     ghost use Rattle.pkcs8.specs.EncryptedKeys.{encrypted_data_of, encryption_algorithm_of};
 
     /// What it is encrypted by.
     pub fn algorithm(&self) -> &AlgorithmIdentifier
         ensures { result.now ≡ encryption_algorithm_of self.now }
     {
-        &self.0.fields().0.0
+        &self.0.0.0
     }
 
     /// The encrypted octets.
     pub fn octets(&self) -> &Octets
         ensures { result.now ≡ encrypted_data_of self.now }
     {
-        &self.0.fields().1.0
-    }
-
-    /// Whether the two are the same.
-    pub fn same(&self, other: &EncryptedKey) -> bool
-        ensures { IsTrue result ↔ Same (⟦<EncryptedKey as DerText>⟧.value self.now)
-            (⟦<EncryptedKey as DerText>⟧.value other.now) }
-    {
-        self.0.same(&other.0)
+        &self.0.1.0
     }
 }
 
-impl DerText for EncryptedKey {
-    ghost value = { λ x. ⟦<Record<EncryptedKeyForm> as DerText>⟧.value x.0 };
+impl FieldsText for EncryptedKeyFields {
+    ghost values = { λ fields. ⟦<Listed as FieldsText>⟧.values fields.0 };
 
-    ghost one_text = { λ x y. ⟦<Record<EncryptedKeyForm> as DerText>⟧.one_text x.0 y.0 };
+    ghost listing = { through (λ fields. fields.0) ⟦<Listed as FieldsText>⟧.listing };
 
     fn size(&self) -> u64 {
         self.0.size()
@@ -79,17 +59,28 @@ impl DerText for EncryptedKey {
     }
 }
 
-#[tactic(auto, unfolding(pkix_definitions::specs::DocumentTypes::EncryptedPrivateKeyInfo))]
-impl Element for EncryptedKey {
-    ghost type_term = { EncryptedPrivateKeyInfo };
-
-    ghost closed = { encrypted_key_closed };
-
-    fn fits(tag: Tag) -> bool {
-        Record::<EncryptedKeyForm>::fits(tag)
-    }
-
-    fn read<R: Source>(alloc: Global, pull: &mut Pull<'_, R>) -> Result<EncryptedKey, ReadError> {
-        Ok(EncryptedKey(Record::<EncryptedKeyForm>::read(alloc, pull)?))
+impl FirstFields for EncryptedKeyFields {
+    fn read_first<R: Source>(
+        alloc: Global,
+        pull: &mut Pull<'_, R>,
+        next: &mut Next,
+    ) -> Result<EncryptedKeyFields, ReadError> {
+        match <Listed as FirstFields>::read_first(alloc, pull, next) {
+            Ok(listed) => Ok(EncryptedKeyFields(listed)),
+            Err(error) => Err(error),
+        }
     }
 }
+
+impl SequenceFields for EncryptedKeyFields {
+    ghost type_term = { EncryptedPrivateKeyInfo };
+
+    ghost listed = { encrypted_key_is };
+
+    ghost parted = { refl };
+
+    ghost few = { ltb-true _ _ refl };
+}
+
+/// An encrypted private key. Its octets are carried.
+pub type EncryptedKey = Sequence<EncryptedKeyFields>;

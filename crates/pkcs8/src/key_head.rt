@@ -3,18 +3,20 @@ ghost use Rattle.std.specs.Option.{option_map};
 ghost use Rattle.std.specs.Prelude.{◌≡◌, ◌∷◌, [], refl};
 ghost use Rattle.pkix_definitions.proofs.Fairs.{fair_ec_parameters};
 ghost use Rattle.pkix_definitions.proofs.LawfulTypes.{honest_ec_parameters};
+ghost use Rattle.pkix_definitions.specs.Identifiers.{ec_public_key, rsa_encryption};
 ghost use Rattle.pkix_definitions.specs.Rules.{container_curve, ec_parameters_rule};
 ghost use Rattle.pkcs8.specs.Keys.{curve_octets, identifier_of};
+ghost use Rattle.x690.specs.Lists.{one_of};
 ghost use Rattle.x690.specs.Values.{leaf_at};
+ghost use Rattle.asn_fields.specs.Listings.{through};
 
-use crate::key_identifiers::is_ec_public_key;
 use asn_values::any::Any;
-use asn_values::field_list::{FieldsText, FirstFields};
 use asn_values::fields::Next;
 use asn_values::ruled::{Ruled, Rules};
-use asn_values::sequence::Required;
+use asn_values::sequence::{FieldsText, FirstFields, Required};
 use ber_pull::pull::Pull;
 use pkix_values::algorithm::AlgorithmIdentifier;
+use pkix_values::identifiers::has_contents;
 use pkix_values::version::Version;
 use std::alloc::Global;
 use tlv_core::fault::ReadError;
@@ -38,6 +40,23 @@ pub trait NamesKey: FieldsText {
     fn curve(&self) -> Option<&Oid>
         ensures { container_curve (Self.values self.now)
             ≡ curve_octets (option_map (λ r. r.now) result) };
+}
+
+/// Whether it is id-ecPublicKey (RFC 5480 section 2.1.1).
+pub fn is_ec_public_key(algorithm: &Oid) -> bool
+    ensures { result ≡ one_of algorithm.now (ec_public_key ∷ []) }
+{
+    has_contents(algorithm, &[0x2A, 0x86, 0x48, 0xCE, 0x3D, 0x02, 0x01])
+}
+
+/// Whether it is rsaEncryption (RFC 8017 A.1).
+pub fn is_rsa_encryption(algorithm: &Oid) -> bool
+    ensures { result ≡ one_of algorithm.now (rsa_encryption ∷ []) }
+{
+    has_contents(
+        algorithm,
+        &[0x2A, 0x86, 0x48, 0x86, 0xF7, 0x0D, 0x01, 0x01, 0x01],
+    )
 }
 
 /// In a private key id-ecPublicKey has parameters, and they name its curve.
@@ -79,8 +98,11 @@ fn named_in(parameters: Option<&Any>) -> Option<&Oid>
 pub type KeyAlgorithm = Ruled<AlgorithmIdentifier, InKeys>;
 
 /// version, privateKeyAlgorithm.
+type Listed = (Required<Version<0, 1>>, Required<KeyAlgorithm>);
+
+/// version, privateKeyAlgorithm.
 #[derive(Drop)]
-pub struct KeyHead((Required<Version<0, 1>>, Required<KeyAlgorithm>));
+pub struct KeyHead(Listed);
 
 impl KeyHead {
     /// The version's number.
@@ -120,18 +142,9 @@ impl NamesKey for KeyHead {
 }
 
 impl FieldsText for KeyHead {
-    ghost types = { ⟦<(Required<Version<0, 1>>, Required<KeyAlgorithm>) as FieldsText>⟧.types };
+    ghost values = { λ fields. ⟦<Listed as FieldsText>⟧.values fields.0 };
 
-    ghost most = { 2 };
-
-    ghost values = { λ x. ⟦<(Required<Version<0, 1>>, Required<KeyAlgorithm>) as FieldsText>⟧.values x.0 };
-
-    ghost known = { λ x. ⟦<(Required<Version<0, 1>>, Required<KeyAlgorithm>) as FieldsText>⟧.known x.0 };
-
-    ghost begins = { λ x. ⟦<(Required<Version<0, 1>>, Required<KeyAlgorithm>) as FieldsText>⟧.begins x.0 };
-
-    ghost tells = { λ x y.
-        ⟦<(Required<Version<0, 1>>, Required<KeyAlgorithm>) as FieldsText>⟧.tells x.0 y.0 };
+    ghost listing = { through (λ fields. fields.0) ⟦<Listed as FieldsText>⟧.listing };
 
     fn size(&self) -> u64 {
         self.0.size()
@@ -152,8 +165,9 @@ impl FirstFields for KeyHead {
         pull: &mut Pull<'_, R>,
         next: &mut Next,
     ) -> Result<KeyHead, ReadError> {
-        Ok(KeyHead(<(Required<Version<0, 1>>, Required<KeyAlgorithm>) as FirstFields>::read_first(
-            alloc, pull, next,
-        )?))
+        match <Listed as FirstFields>::read_first(alloc, pull, next) {
+            Ok(listed) => Ok(KeyHead(listed)),
+            Err(error) => Err(error),
+        }
     }
 }

@@ -1,9 +1,8 @@
 //! AsymmetricKeyPackage of RFC 5958 section 2.
-ghost use Rattle.std.specs.Prelude.{◌≡◌, ◌↔◌, ◌<◌, IsTrue, length};
+ghost use Rattle.std.specs.Prelude.{◌≡◌, ◌<◌, length};
 ghost use Rattle.asn_lists.specs.Containers.{list_items};
 ghost use Rattle.pkix_definitions.proofs.ClosedTypes.{key_package_closed};
 ghost use Rattle.pkix_definitions.specs.DocumentTypes.{AsymmetricKeyPackage};
-ghost use Rattle.x690.specs.Values.{Same};
 
 use crate::one_asymmetric_key::OneAsymmetricKey;
 use asn_values::der_text::DerText;
@@ -31,14 +30,6 @@ impl KeyPackage {
         ensures some { 0 < length (list_items result.now) }
     {
         self.0.items()
-    }
-
-    /// Whether the two are the same.
-    pub fn same(&self, other: &KeyPackage) -> bool
-        ensures { IsTrue result ↔ Same (⟦<KeyPackage as DerText>⟧.value self.now)
-            (⟦<KeyPackage as DerText>⟧.value other.now) }
-    {
-        self.0.same(&other.0)
     }
 }
 

@@ -3,7 +3,7 @@
 //!
 //! What privateKey contains goes by the algorithm: an ECPrivateKey, a CurvePrivateKey, an RSAPrivateKey, read as a
 //! document of its own and written in its DER text; or octets that are carried. `key_head` has the fields by which the
-//! others go, `private_key` and `public_key` those others, `key_body` and `key_fields` put them together.
+//! others go, `private_key` and `public_key` those others, `one_asymmetric_key` puts them together.
 //!
 //! Proved here: a `OneAsymmetricKey`, an `EncryptedKey` and a `KeyPackage` are read as the plain reading of their types
 //! says, the rules on what is inside and the first fault, with its place inside, included; written as their DER texts;
@@ -11,10 +11,7 @@
 #![tactic(auto)]
 
 pub mod encrypted_key;
-mod key_body;
-mod key_fields;
 mod key_head;
-mod key_identifiers;
 pub mod key_package;
 pub mod one_asymmetric_key;
 pub mod private_key;

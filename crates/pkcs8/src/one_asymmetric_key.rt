@@ -1,7 +1,7 @@
 //! OneAsymmetricKey of RFC 5958 section 2, PrivateKeyInfo of RFC 5208.
 ghost use Rattle.std.proofs.lemmas.Bool.{ltb-true};
 ghost use Rattle.std.specs.Option.{is_some, option_map};
-ghost use Rattle.std.specs.Prelude.{◌≡◌, ◌↔◌, ◌==◌, ◌∷◌, [], IsTrue, refl};
+ghost use Rattle.std.specs.Prelude.{◌≡◌, ◌==◌, ◌∷◌, [], refl};
 ghost use Rattle.pkix_definitions.proofs.ClosedTypes.{asymmetric_key_closed};
 ghost use Rattle.pkix_definitions.proofs.Fairs.{fair_key_version};
 ghost use Rattle.pkix_definitions.proofs.LawfulTypes.{honest_key_version};
@@ -10,41 +10,157 @@ ghost use Rattle.pkix_definitions.specs.Rules.{key_version_rule};
 ghost use Rattle.pkcs8.specs.Seen.{GoesWith, key_seen};
 ghost use Rattle.pkix_values.specs.Algorithms.{algorithm_of};
 ghost use Rattle.x690.specs.Lists.{one_of};
-ghost use Rattle.x690.specs.Values.{Same};
+ghost use Rattle.asn_fields.specs.Listings.{through};
+ghost use Rattle.x690.specs.Layouts.{universal};
+ghost use Rattle.x690.specs.TypeTerms.{EndOfFields, SequenceType};
 
-use crate::key_body::KeyBody;
-use crate::key_fields::KeyFields;
-use crate::private_key::PrivateKey;
+use crate::key_head::{KeyHead, NamesKey};
+use crate::private_key::{ContainedKey, PrivateKey};
+use crate::public_key::PublicKey;
 use asn_values::bits::Bits;
+use asn_values::dependent::Dependent;
 use asn_values::der_text::DerText;
 use asn_values::element::Element;
-use asn_values::record::{Form, Record};
-use asn_values::ruled::{Ruled, Rules};
+use asn_values::fields::Next;
+use asn_values::implicit::Implicit;
+use asn_values::optional_dependent::OptionalDependent;
+use asn_values::ruled_sequence::{RuledFields, RuledSequence};
+use asn_values::sequence::{FieldsText, FirstFields, Optional, SequenceFields};
 use asn_values::set_of::SetOf;
 use ber_pull::pull::Pull;
 use pkix_values::algorithm::AlgorithmIdentifier;
 use pkix_values::attribute::Attribute;
 use std::alloc::Global;
 use tlv_core::fault::ReadError;
+use tlv_core::oid::Oid;
 use tlv_core::reason::Reason;
 use tlv_core::sink::{Sink, WriteError};
 use tlv_core::source::Source;
 use tlv_core::tag::Tag;
 use tlv_core::target::Target;
 
-/// version, privateKeyAlgorithm, privateKey, attributes, publicKey, which is there under version 1 alone.
-#[derive(Drop)]
-pub struct KeyForm;
+/// The head, and privateKey behind it; attributes, under the implicit tag [0].
+type BodyListed = (
+    Dependent<KeyHead, ContainedKey>,
+    Optional<Implicit<0, SetOf<Attribute>>>,
+);
 
-impl Form for KeyForm {
-    type Fields = KeyFields;
+/// version, privateKeyAlgorithm, privateKey, attributes.
+#[derive(Drop)]
+pub struct KeyBody(BodyListed);
+
+impl NamesKey for KeyBody {
+    #[tactic(auto, unfolding(x690::specs::Values::leaf_at))]
+    fn version(&self) -> u8 {
+        self.0.0.earlier().version()
+    }
+
+    #[tactic(auto, unfolding(x690::specs::Values::leaf_at))]
+    fn algorithm(&self) -> &Oid {
+        self.0.0.earlier().algorithm()
+    }
+
+    #[tactic(auto, unfolding(x690::specs::Values::leaf_at))]
+    fn curve(&self) -> Option<&Oid> {
+        self.0.0.earlier().curve()
+    }
+}
+
+impl FieldsText for KeyBody {
+    ghost values = { λ fields. ⟦<BodyListed as FieldsText>⟧.values fields.0 };
+
+    ghost listing = { through (λ fields. fields.0) ⟦<BodyListed as FieldsText>⟧.listing };
+
+    fn size(&self) -> u64 {
+        self.0.size()
+    }
+
+    fn put<W: Target>(&self, sink: &mut Sink<'_, W>) -> Result<(), WriteError> {
+        self.0.put(sink)
+    }
+
+    fn octet(&self, i: u64) -> Option<u8> {
+        self.0.octet(i)
+    }
+}
+
+impl FirstFields for KeyBody {
+    fn read_first<R: Source>(
+        alloc: Global,
+        pull: &mut Pull<'_, R>,
+        next: &mut Next,
+    ) -> Result<KeyBody, ReadError> {
+        match <BodyListed as FirstFields>::read_first(alloc, pull, next) {
+            Ok(listed) => Ok(KeyBody(listed)),
+            Err(error) => Err(error),
+        }
+    }
+}
+
+/// The body, and publicKey behind it, which is there under version 1 alone.
+type Listed = OptionalDependent<KeyBody, PublicKey>;
+
+/// version, privateKeyAlgorithm, privateKey, attributes, publicKey.
+#[derive(Drop)]
+pub struct KeyFields(Listed);
+
+impl KeyFields {
+    fn body(&self) -> &KeyBody
+        ensures { result.now ≡ self.now.0.earlier }
+    {
+        self.0.earlier()
+    }
+
+    fn public_key(&self) -> &Option<PublicKey>
+        ensures { result.now ≡ self.now.0.field }
+    {
+        self.0.field()
+    }
+}
+
+impl FieldsText for KeyFields {
+    ghost values = { λ fields. ⟦<Listed as FieldsText>⟧.values fields.0 };
+
+    ghost listing = { through (λ fields. fields.0) ⟦<Listed as FieldsText>⟧.listing };
+
+    fn size(&self) -> u64 {
+        self.0.size()
+    }
+
+    fn put<W: Target>(&self, sink: &mut Sink<'_, W>) -> Result<(), WriteError> {
+        self.0.put(sink)
+    }
+
+    fn octet(&self, i: u64) -> Option<u8> {
+        self.0.octet(i)
+    }
+}
+
+impl FirstFields for KeyFields {
+    fn read_first<R: Source>(
+        alloc: Global,
+        pull: &mut Pull<'_, R>,
+        next: &mut Next,
+    ) -> Result<KeyFields, ReadError> {
+        match <Listed as FirstFields>::read_first(alloc, pull, next) {
+            Ok(listed) => Ok(KeyFields(listed)),
+            Err(error) => Err(error),
+        }
+    }
+}
+
+impl SequenceFields for KeyFields {
+    ghost type_term = { SequenceType (universal 16) (⟦<Listed as FieldsText>⟧.listing.types EndOfFields) };
+
+    ghost listed = { refl };
 
     ghost parted = { refl };
 
     ghost few = { ltb-true _ _ refl };
 }
 
-impl Rules<Record<KeyForm>> for KeyForm {
+/// A key without a public key is of version 0.
+impl RuledFields for KeyFields {
     ghost rule = { key_version_rule };
 
     ghost fair = { fair_key_version };
@@ -53,12 +169,11 @@ impl Rules<Record<KeyForm>> for KeyForm {
 
     ghost alone = { λ earlier. refl };
 
-    fn judge(value: &Record<KeyForm>) -> Option<Reason> {
-        let fields = &value.fields().0;
-        if is_version_0(fields.earlier().0.0.earlier().number()) {
+    fn judge(&self) -> Option<Reason> {
+        if is_version_0(self.body().0.0.earlier().number()) {
             return None;
         }
-        match fields.field() {
+        match self.public_key() {
             Some(_) => None,
             None => Some(Reason::VersionRule),
         }
@@ -77,7 +192,7 @@ fn is_version_0(number: u8) -> bool
 
 /// A private key, the algorithm that it is for, and what is said of it.
 #[derive(Drop)]
-pub struct OneAsymmetricKey(Ruled<Record<KeyForm>, KeyForm>);
+pub struct OneAsymmetricKey(RuledSequence<KeyFields>);
 
 impl OneAsymmetricKey {
     ghost use Rattle.pkcs8.specs.AsymmetricKeys.{key_algorithm_of, key_attributes_of, key_version_of, private_key_of, public_key_of};
@@ -85,7 +200,7 @@ impl OneAsymmetricKey {
     fn body(&self) -> &KeyBody
         ensures { result.now ≡ self.now.0.value.fields.0.earlier }
     {
-        self.0.value().fields().0.earlier()
+        self.0.value().body()
     }
 
     /// The version, 0 or 1.
@@ -125,25 +240,17 @@ impl OneAsymmetricKey {
         ensures value { option_map (λ r. r.now) result ≡ public_key_of self.now }
         ensures stands { is_some result ≡ (key_version_of self.now == 1) }
     {
-        match self.0.value().fields().0.field() {
+        match self.0.value().public_key() {
             Some(key) => key.bits(),
             None => None,
         }
     }
-
-    /// Whether the two are the same.
-    pub fn same(&self, other: &OneAsymmetricKey) -> bool
-        ensures { IsTrue result ↔ Same (⟦<OneAsymmetricKey as DerText>⟧.value self.now)
-            (⟦<OneAsymmetricKey as DerText>⟧.value other.now) }
-    {
-        self.0.same(&other.0)
-    }
 }
 
 impl DerText for OneAsymmetricKey {
-    ghost value = { λ x. ⟦<Ruled<Record<KeyForm>, KeyForm> as DerText>⟧.value x.0 };
+    ghost value = { λ x. ⟦<RuledSequence<KeyFields> as DerText>⟧.value x.0 };
 
-    ghost one_text = { λ x y. ⟦<Ruled<Record<KeyForm>, KeyForm> as DerText>⟧.one_text x.0 y.0 };
+    ghost one_text = { λ x y. ⟦<RuledSequence<KeyFields> as DerText>⟧.one_text x.0 y.0 };
 
     fn size(&self) -> u64 {
         self.0.size()
@@ -165,13 +272,16 @@ impl Element for OneAsymmetricKey {
     ghost closed = { asymmetric_key_closed };
 
     fn fits(tag: Tag) -> bool {
-        Ruled::<Record<KeyForm>, KeyForm>::fits(tag)
+        RuledSequence::<KeyFields>::fits(tag)
     }
 
     fn read<R: Source>(
         alloc: Global,
         pull: &mut Pull<'_, R>,
     ) -> Result<OneAsymmetricKey, ReadError> {
-        Ok(OneAsymmetricKey(Ruled::<Record<KeyForm>, KeyForm>::read(alloc, pull)?))
+        match RuledSequence::<KeyFields>::read(alloc, pull) {
+            Ok(key) => Ok(OneAsymmetricKey(key)),
+            Err(error) => Err(error),
+        }
     }
 }

@@ -1,7 +1,7 @@
 //! privateKey of a OneAsymmetricKey: an OCTET STRING, and what it contains goes by the algorithm (RFC 5915 section 3,
 //! RFC 8410 section 7, RFC 8017 A.1.2).
 ghost use Rattle.std.specs.Option.{option_map};
-ghost use Rattle.std.specs.Prelude.{◌≡◌, ◌+◌, ◌<◌, ◌^◌, ◌∷◌, [], length, slice_get};
+ghost use Rattle.std.specs.Prelude.{◌≡◌, ◌<◌, ◌∷◌, [], length};
 ghost use Rattle.asn_elements.specs.Leaves.{octets_of};
 ghost use Rattle.pkix_definitions.proofs.Fairs.{fair_inner_curve, fair_inner_ec};
 ghost use Rattle.pkix_definitions.proofs.LawfulTypes.{honest_inner_curve, honest_inner_ec};
@@ -11,16 +11,15 @@ ghost use Rattle.pkix_definitions.specs.Rules.{has_length, inner_curve_rule, inn
 ghost use Rattle.pkcs8.specs.Keys.{curve_octets};
 ghost use Rattle.pkcs8.specs.Seen.{key_in, key_seen};
 
-use crate::key_head::NamesKey;
-use crate::key_identifiers::{is_ec_public_key, is_rsa_encryption};
-use asn_contained::containing::Containing;
-use asn_contained::defined_by::{DefinedBy, Defines};
-use asn_contained::dependent::{DependentElement, Independent};
-use asn_contained::ruled_containing::RuledContaining;
+use crate::key_head::{NamesKey, is_ec_public_key, is_rsa_encryption};
 use asn_values::boxed::Boxed;
+use asn_values::containing::Containing;
+use asn_values::defined_by::{DefinedBy, Defines};
+use asn_values::dependent::{DependentElement, Independent};
 use asn_values::either::Either;
-use asn_values::judged::FieldRules;
 use asn_values::octets::Octets;
+use asn_values::ruled_behind::FieldRules;
+use asn_values::ruled_containing::RuledContaining;
 use ber_pull::pull::Pull;
 use pkix_values::identifiers::public_key_length;
 use private_keys::curve_key::CurveKey;
@@ -202,6 +201,7 @@ impl ContainedKey {
     }
 }
 
+#[tactic(auto, unfolding(pkix_definitions::specs::DocumentTypes::RSAPrivateKey))]
 impl<A: NamesKey> DependentElement<A> for ContainedKey {
     ghost type_term = { private_key };
 
@@ -220,7 +220,10 @@ impl<A: NamesKey> DependentElement<A> for ContainedKey {
         pull: &mut Pull<'_, R>,
         earlier: &A,
     ) -> Result<ContainedKey, ReadError> {
-        Ok(ContainedKey(<ByAlgorithm as DependentElement<A>>::read(alloc, pull, earlier)?))
+        match <ByAlgorithm as DependentElement<A>>::read(alloc, pull, earlier) {
+            Ok(key) => Ok(ContainedKey(key)),
+            Err(error) => Err(error),
+        }
     }
 
     fn size(&self) -> u64 {

@@ -1,7 +1,6 @@
 //! publicKey of a OneAsymmetricKey (RFC 5958 section 2): it stands under version 1 alone.
 ghost use Rattle.std.specs.Option.{option_map};
-ghost use Rattle.std.specs.Prelude.{◌≡◌, ◌+◌, ◌<◌, ◌^◌, ◌∷◌, [], length, slice_get};
-ghost use Rattle.asn_elements.specs.Leaves.{bit_string_of};
+ghost use Rattle.std.specs.Prelude.{◌≡◌, ◌<◌, ◌∷◌, []};
 ghost use Rattle.pkix_definitions.proofs.Fairs.{fair_key_bits};
 ghost use Rattle.pkix_definitions.proofs.LawfulTypes.{honest_key_bits, rule_honest};
 ghost use Rattle.pkix_definitions.specs.DocumentTypes.{public_key};
@@ -11,14 +10,13 @@ ghost use Rattle.tlv_core.specs.declared.reason.Reason.TheVariants as why;
 ghost use Rattle.x690.specs.Layouts.{context_specific};
 
 use crate::key_head::NamesKey;
-use asn_contained::defined_by::{DefinedBy, Defines};
-use asn_contained::dependent::{DependentElement, Independent};
-use asn_contained::ruled_behind::RuledBehind;
 use asn_values::bits::Bits;
+use asn_values::defined_by::{DefinedBy, Defines};
+use asn_values::dependent::{DependentElement, Independent};
 use asn_values::either::Either;
 use asn_values::implicit::Implicit;
-use asn_values::judged::FieldRules;
 use asn_values::refused::{Refusal, Refused};
+use asn_values::ruled_behind::{FieldRules, RuledBehind};
 use asn_values::tags::context_tag;
 use ber_pull::pull::Pull;
 use pkix_values::public_key::is_key_of;

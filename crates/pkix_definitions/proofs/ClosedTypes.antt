@@ -4,19 +4,11 @@ use Rattle.x690.specs.Contents.{Integer}
 use Rattle.x690.specs.Layouts.{universal}
 use Rattle.x690.specs.ReadTypes.{IsClosed}
 use Rattle.x690_laws.proofs.TypesClosed.{leaf_closed, ruled_closed, sequence_closed, sequence_of_closed}
-use Rattle.pkix_definitions.specs.DocumentTypes.{AlgorithmIdentifier, AsymmetricKeyPackage, Attribute, CertificationRequest, CertificationRequestInfo, ECPrivateKey, EncryptedPrivateKeyInfo, Extension, Name, NameItem, OneAsymmetricKey, OtherPrimeInfo, RSAPrivateKey, RequestAttribute, SubjectPublicKeyInfo, version}
+use Rattle.pkix_definitions.specs.DocumentTypes.{AlgorithmIdentifier, AsymmetricKeyPackage, ECPrivateKey, Name, OneAsymmetricKey, RSAPrivateKey, version}
 use Rattle.pkix_definitions.specs.Rules.{ec_rule, key_version_rule, parameters_rule, rsa_version_rule, version_rule}
 
 pub version_closed : (allowed : List (List ℕ)) → IsClosed (version allowed)
 version_closed allowed = ruled_closed (version_rule allowed) _ (leaf_closed (universal 2) Integer) (λ earlier. refl)
-
-pub extension_closed : IsClosed Extension
-unfolding Extension
-extension_closed = sequence_closed _ _
-
-pub name_item_closed : IsClosed NameItem
-unfolding NameItem
-name_item_closed = sequence_closed _ _
 
 pub name_closed : IsClosed Name
 unfolding Name
@@ -26,29 +18,9 @@ pub algorithm_closed : IsClosed AlgorithmIdentifier
 unfolding AlgorithmIdentifier
 algorithm_closed = ruled_closed parameters_rule _ (sequence_closed _ _) (λ earlier. refl)
 
-pub public_key_closed : IsClosed SubjectPublicKeyInfo
-unfolding SubjectPublicKeyInfo
-public_key_closed = sequence_closed _ _
-
-pub request_attribute_closed : IsClosed RequestAttribute
-unfolding RequestAttribute
-request_attribute_closed = sequence_closed _ _
-
-pub info_closed : IsClosed CertificationRequestInfo
-unfolding CertificationRequestInfo
-info_closed = sequence_closed _ _
-
-pub request_closed : IsClosed CertificationRequest
-unfolding CertificationRequest
-request_closed = sequence_closed _ _
-
 pub ec_key_closed : IsClosed ECPrivateKey
 unfolding ECPrivateKey
 ec_key_closed = ruled_closed ec_rule _ (sequence_closed _ _) (λ earlier. refl)
-
-pub other_prime_closed : IsClosed OtherPrimeInfo
-unfolding OtherPrimeInfo
-other_prime_closed = sequence_closed _ _
 
 pub rsa_key_closed : IsClosed RSAPrivateKey
 unfolding RSAPrivateKey
@@ -61,11 +33,3 @@ asymmetric_key_closed = ruled_closed key_version_rule _ (sequence_closed _ _) (�
 pub key_package_closed : IsClosed AsymmetricKeyPackage
 unfolding AsymmetricKeyPackage
 key_package_closed = sequence_of_closed _ _ _
-
-pub encrypted_key_closed : IsClosed EncryptedPrivateKeyInfo
-unfolding EncryptedPrivateKeyInfo
-encrypted_key_closed = sequence_closed _ _
-
-pub attribute_closed : IsClosed Attribute
-unfolding Attribute
-attribute_closed = sequence_closed _ _

@@ -10,3 +10,4 @@ pub mod RowsRequests
 pub mod RowsRsaKeys
 pub mod RowsTools
 pub mod RuleLaws
+pub mod Sequences

@@ -4,7 +4,7 @@ use Rattle.std.specs.Prelude.{List, [], ℕ, ◌∷◌}
 use Rattle.tlv_core.specs.declared.reason.Reason.TheVariants.{VersionRule}
 use Rattle.x690.specs.Contents.{BitString, Boolean}
 use Rattle.x690.specs.Layouts.{context_specific, universal}
-use Rattle.x690.specs.TypeTerms.{ContainingType, Default, DefinedByType, EndOfFields, LeafType, OpenType, Optional, RefusedType, Required, RuledType, SequenceOfType, SetOfType, TypeTerm, no_rule}
+use Rattle.x690.specs.TypeTerms.{ContainingType, Default, DefinedByType, EndOfFields, Fields, LeafType, OpenType, Optional, RefusedType, Required, RuledType, SequenceOfType, SetOfType, TypeTerm, no_rule}
 use Rattle.x690.specs.UniversalTypes.{bit_string, explicit, integer, object_identifier, octet_string, sequence, sequence_of, set_of_some, ◌⨾◌}
 use Rattle.pkix_definitions.specs.Identifiers.{ec_public_key, extension_request, rfc8410_algorithms, rsa_encryption}
 use Rattle.pkix_definitions.specs.Paths.{algorithm_of_key, algorithm_of_public_key, first_field, version_0, version_1}
@@ -20,37 +20,54 @@ AlgorithmIdentifier =
     RuledType parameters_rule (sequence (Required object_identifier ⨾ Optional OpenType ⨾ EndOfFields))
 
 -- AttributeTypeAndValue of RFC 5280 section 4.1.2.4.
+abbrev pub name_item_fields : Fields
+name_item_fields = Required object_identifier ⨾ Required OpenType ⨾ EndOfFields
+
 unfoldable pub NameItem : TypeTerm
-NameItem = sequence (Required object_identifier ⨾ Required OpenType ⨾ EndOfFields)
+NameItem = sequence name_item_fields
 
 -- RFC 5280 section 4.1.2.4.
 unfoldable pub Name : TypeTerm
 Name = sequence_of (set_of_some NameItem)
 
 -- RFC 5280 section 4.1.2.7; under the algorithms of RFC 8410 the key has the length that goes with it.
+abbrev pub public_key_info_fields : Fields
+public_key_info_fields =
+    Required AlgorithmIdentifier
+    ⨾ Required (RuledType (key_bits_rule algorithm_of_public_key) bit_string)
+    ⨾ EndOfFields
+
 unfoldable pub SubjectPublicKeyInfo : TypeTerm
-SubjectPublicKeyInfo =
-    sequence (Required AlgorithmIdentifier ⨾ Required (RuledType (key_bits_rule algorithm_of_public_key) bit_string)
-    ⨾ EndOfFields)
+SubjectPublicKeyInfo = sequence public_key_info_fields
 
 -- RFC 2986 section 4.1; at least one value (in keys: profile).
+abbrev pub attribute_fields : Fields
+attribute_fields = Required object_identifier ⨾ Required (set_of_some OpenType) ⨾ EndOfFields
+
 unfoldable pub Attribute : TypeTerm
-Attribute = sequence (Required object_identifier ⨾ Required (set_of_some OpenType) ⨾ EndOfFields)
+Attribute = sequence attribute_fields
 
 -- RFC 5280 section 4.1: `critical` is FALSE by default.
+abbrev pub extension_fields : Fields
+extension_fields =
+    Required object_identifier
+    ⨾ Default (universal 1) (0 ∷ []) (LeafType (universal 1) Boolean)
+    ⨾ Required octet_string
+    ⨾ EndOfFields
+
 unfoldable pub Extension : TypeTerm
-Extension =
-    sequence (Required object_identifier ⨾ Default (universal 1) (0 ∷ []) (LeafType (universal 1) Boolean)
-    ⨾ Required octet_string ⨾ EndOfFields)
+Extension = sequence extension_fields
 
 -- An attribute of a request: extensionRequest has lists of extensions (RFC 2985 section 5.4.2, which has one list of at
 -- least one; several of them and empty ones: profile), any other one open values.
+abbrev pub request_attribute_fields : Fields
+request_attribute_fields =
+    Required object_identifier
+    ⨾ Required (DefinedByType first_field (extension_request ∷ []) (set_of_some (sequence_of Extension)) (set_of_some OpenType))
+    ⨾ EndOfFields
+
 unfoldable pub RequestAttribute : TypeTerm
-RequestAttribute =
-    sequence (Required object_identifier
-    ⨾ Required
-    (DefinedByType first_field (extension_request ∷ []) (set_of_some (sequence_of Extension)) (set_of_some OpenType))
-    ⨾ EndOfFields)
+RequestAttribute = sequence request_attribute_fields
 
 -- RFC 5915 section 3. The parameters may be absent (profile), and are a named curve.
 unfoldable pub ECPrivateKey : TypeTerm
@@ -63,8 +80,11 @@ ECPrivateKey =
     ⨾ EndOfFields))
 
 -- RFC 8017 A.1.2: prime, exponent, coefficient.
+abbrev pub other_prime_fields : Fields
+other_prime_fields = Required integer ⨾ Required integer ⨾ Required integer ⨾ EndOfFields
+
 unfoldable pub OtherPrimeInfo : TypeTerm
-OtherPrimeInfo = sequence (Required integer ⨾ Required integer ⨾ Required integer ⨾ EndOfFields)
+OtherPrimeInfo = sequence other_prime_fields
 
 -- otherPrimeInfos of an RSAPrivateKey: at least one, and none under version 0 (RFC 8017 A.1.2).
 abbrev pub other_prime_infos : TypeTerm
@@ -113,19 +133,27 @@ unfoldable pub AsymmetricKeyPackage : TypeTerm
 AsymmetricKeyPackage = SequenceOfType (universal 16) 1 OneAsymmetricKey
 
 -- RFC 5958 section 3; the octets are carried.
+abbrev pub encrypted_key_fields : Fields
+encrypted_key_fields = Required AlgorithmIdentifier ⨾ Required octet_string ⨾ EndOfFields
+
 unfoldable pub EncryptedPrivateKeyInfo : TypeTerm
-EncryptedPrivateKeyInfo = sequence (Required AlgorithmIdentifier ⨾ Required octet_string ⨾ EndOfFields)
+EncryptedPrivateKeyInfo = sequence encrypted_key_fields
 
 -- RFC 2986 section 4.1. The attributes may be absent (profile).
-unfoldable pub CertificationRequestInfo : TypeTerm
-CertificationRequestInfo =
-    sequence (Required (version (version_0 ∷ []))
+abbrev pub info_fields : Fields
+info_fields =
+    Required (version (version_0 ∷ []))
     ⨾ Required Name
     ⨾ Required SubjectPublicKeyInfo
     ⨾ Optional (SetOfType (context_specific 0) 0 RequestAttribute)
-    ⨾ EndOfFields)
+    ⨾ EndOfFields
+
+unfoldable pub CertificationRequestInfo : TypeTerm
+CertificationRequestInfo = sequence info_fields
 
 -- RFC 2986 section 4.2.
+abbrev pub request_fields : Fields
+request_fields = Required CertificationRequestInfo ⨾ Required AlgorithmIdentifier ⨾ Required bit_string ⨾ EndOfFields
+
 unfoldable pub CertificationRequest : TypeTerm
-CertificationRequest =
-    sequence (Required CertificationRequestInfo ⨾ Required AlgorithmIdentifier ⨾ Required bit_string ⨾ EndOfFields)
+CertificationRequest = sequence request_fields

@@ -1,5 +1,5 @@
 -- What the rules say of the values of the types.
-use Rattle.std.proofs.Common.{◌≡◌, ◌∙◌, Bool, true, false, List, [], ◌∷◌, Option, Some, None, ℕ, refl, not, sym, ◌||◌}
+use Rattle.std.proofs.Common.{◌≡◌, ◌∙◌, Bool, true, false, List, [], ◌∷◌, Option, Some, None, ℕ, ap, refl, not, sym, ◌||◌}
 use Rattle.std.specs.Option.{is_some, option_map}
 use Rattle.tlv_core.specs.declared.reason.Reason.TheVariants.{KeyLength, Parameters}
 use Rattle.pkix_definitions.specs.Identifiers.{rfc8410_algorithms}
@@ -7,6 +7,7 @@ use Rattle.x690.specs.Layouts.{universal}
 use Rattle.x690.specs.Lists.{one_of}
 use Rattle.pkix_definitions.specs.Rules.{else_refused, key_bits_rule, parameters_rule}
 use Rattle.x690.specs.Values.{Leaf, Sequence, Value, leaf_at, values_of}
+use Rattle.asn_fields.specs.Dependents.{passes}
 use Rattle.asn_fields.specs.FieldReadings.{with_field}
 use Rattle.pkix_values.specs.Values.{key_fits}
 
@@ -57,12 +58,12 @@ module _ (algorithm bits : List ℕ) (more : List Value) where
   unfolding leaf_at
   key_rule_is = refl
 
-  pub key_is_fit : key_bits_rule (0 ∷ 0 ∷ [])
-      (Sequence (universal 16) (values_of (Leaf (universal 6) algorithm ∷ more)) ∷ []) (Leaf (universal 3) bits)
-      ≡ None
+  pub key_is_fit : passes (key_bits_rule (0 ∷ 0 ∷ [])
+      (Sequence (universal 16) (values_of (Leaf (universal 6) algorithm ∷ more)) ∷ []) (Leaf (universal 3) bits))
+      ≡ true
       → key_fits algorithm bits ≡ true
-  key_is_fit e = go (key_fits algorithm bits) (sym key_rule_is ∙ e)
+  key_is_fit e = go (key_fits algorithm bits) (sym (ap passes key_rule_is) ∙ e)
     where
-      go : (b : Bool) → else_refused b KeyLength ≡ None → b ≡ true
+      go : (b : Bool) → passes (else_refused b KeyLength) ≡ true → b ≡ true
       go true e = refl
       go false e = cc

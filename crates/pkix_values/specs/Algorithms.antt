@@ -5,8 +5,8 @@ use Rattle.pkix_values.specs.declared.algorithm.AlgorithmIdentifier.{AlgorithmId
 
 -- algorithm, by the contents of the identifier, as identifiers everywhere
 abbrev pub algorithm_of : AlgorithmIdentifier → List ℕ
-algorithm_of it = it.0.value.fields.0.0
+algorithm_of it = it.0.value.fields.0.0.0
 
 -- parameters, where they are there
 abbrev pub parameters_of : AlgorithmIdentifier → Option Any
-parameters_of it = it.0.value.fields.1.0
+parameters_of it = it.0.value.fields.0.1.0

@@ -1,8 +1,5 @@
 -- What clauses see of one of two.
-use Rattle.std.specs.Prelude.{None, Option, Some, ◌≡◌, refl}
-use Rattle.tlv_core.specs.Identifier.{Tag}
-use Rattle.x690.specs.UniversalTypes.{set_of_some}
-use Rattle.x690.specs.TypeTerms.{TypeTerm, fits_tag}
+use Rattle.std.specs.Prelude.{None, Option, Some}
 use Rattle.asn_fields.specs.declared.either.Either.{Either}
 use Rattle.asn_fields.specs.declared.either.Either.TheVariants.{First, Second}
 
@@ -14,7 +11,6 @@ abbrev pub second_of : {A B : Type 0} → Either A B → Option B
 second_of (First a) = None
 second_of (Second b) = Some b
 
--- Every SET OF begins alike.
-pub sets_alike : (T U : TypeTerm) (tag : Tag) → fits_tag (set_of_some T) tag ≡ fits_tag (set_of_some U) tag
-unfolding fits_tag
-sets_alike T U tag = refl
+abbrev pub each_of : {A B C D : Type 0} → (A → C) → (B → D) → Either A B → Either C D
+each_of first second (First a) = First (first a)
+each_of first second (Second b) = Second (second b)

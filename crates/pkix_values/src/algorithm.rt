@@ -1,13 +1,16 @@
 //! AlgorithmIdentifier of RFC 5280 section 4.1.1.2.
 ghost use Rattle.std.proofs.lemmas.Bool.{ltb-true};
-ghost use Rattle.std.specs.Prelude.{◌≡◌, ◌↔◌, ◌∷◌, IsTrue, [], None, refl, true};
+ghost use Rattle.std.specs.Prelude.{◌≡◌, ◌∷◌, [], None, refl, true};
 ghost use Rattle.std.specs.Option.{option_map};
 ghost use Rattle.pkix_definitions.specs.DocumentTypes.{AlgorithmIdentifier as AlgorithmIdentifierType};
 ghost use Rattle.pkix_definitions.proofs.ClosedTypes.{algorithm_closed};
 ghost use Rattle.pkix_definitions.specs.Identifiers.{rfc8410_algorithms};
+ghost use Rattle.x690.specs.Layouts.{universal};
 ghost use Rattle.x690.specs.Lists.{one_of};
+ghost use Rattle.x690.specs.TypeTerms.{EndOfFields, SequenceType};
+ghost use Rattle.asn_fields.specs.Listings.{through};
 ghost use Rattle.pkix_definitions.specs.Rules.{parameters_rule};
-ghost use Rattle.x690.specs.Values.{Same, leaf_at};
+ghost use Rattle.x690.specs.Values.{leaf_at};
 ghost use Rattle.pkix_definitions.proofs.Fairs.{fair_parameters};
 ghost use Rattle.pkix_values.specs.Forms.{honest_parameters};
 
@@ -15,9 +18,9 @@ use crate::identifiers::public_key_length;
 use asn_values::any::Any;
 use asn_values::der_text::DerText;
 use asn_values::element::Element;
-use asn_values::record::{Form, Record};
-use asn_values::ruled::{Ruled, Rules};
-use asn_values::sequence::{Optional, Required};
+use asn_values::fields::Next;
+use asn_values::ruled_sequence::{RuledFields, RuledSequence};
+use asn_values::sequence::{FieldsText, FirstFields, Optional, Required, SequenceFields};
 use ber_pull::pull::Pull;
 use std::alloc::Global;
 use tlv_core::fault::ReadError;
@@ -28,19 +31,70 @@ use tlv_core::source::Source;
 use tlv_core::tag::Tag;
 use tlv_core::target::Target;
 
-/// algorithm, parameters; the algorithms of RFC 8410 have no parameters (its section 3).
-#[derive(Drop)]
-pub struct AlgorithmForm;
+/// algorithm, parameters.
+type Listed = (Required<Oid>, Optional<Any>);
 
-impl Form for AlgorithmForm {
-    type Fields = (Required<Oid>, Optional<Any>);
+/// algorithm, parameters.
+#[derive(Drop)]
+pub struct AlgorithmFields(Listed);
+
+impl AlgorithmFields {
+    fn algorithm(&self) -> &Oid
+        ensures { result.now ≡ self.now.0.0.0 }
+    {
+        &self.0.0.0
+    }
+
+    fn parameters(&self) -> &Option<Any>
+        ensures { result.now ≡ self.now.0.1.0 }
+    {
+        &self.0.1.0
+    }
+}
+
+impl FieldsText for AlgorithmFields {
+    ghost values = { λ fields. ⟦<Listed as FieldsText>⟧.values fields.0 };
+
+    ghost listing = { through (λ fields. fields.0) ⟦<Listed as FieldsText>⟧.listing };
+
+    fn size(&self) -> u64 {
+        self.0.size()
+    }
+
+    fn put<W: Target>(&self, sink: &mut Sink<'_, W>) -> Result<(), WriteError> {
+        self.0.put(sink)
+    }
+
+    fn octet(&self, i: u64) -> Option<u8> {
+        self.0.octet(i)
+    }
+}
+
+impl FirstFields for AlgorithmFields {
+    fn read_first<R: Source>(
+        alloc: Global,
+        pull: &mut Pull<'_, R>,
+        next: &mut Next,
+    ) -> Result<AlgorithmFields, ReadError> {
+        match <Listed as FirstFields>::read_first(alloc, pull, next) {
+            Ok(listed) => Ok(AlgorithmFields(listed)),
+            Err(error) => Err(error),
+        }
+    }
+}
+
+impl SequenceFields for AlgorithmFields {
+    ghost type_term = { SequenceType (universal 16) (⟦<Listed as FieldsText>⟧.listing.types EndOfFields) };
+
+    ghost listed = { refl };
 
     ghost parted = { refl };
 
     ghost few = { ltb-true _ _ refl };
 }
 
-impl Rules<Record<AlgorithmForm>> for AlgorithmForm {
+/// The algorithms of RFC 8410 have no parameters (its section 3).
+impl RuledFields for AlgorithmFields {
     ghost rule = { parameters_rule };
 
     ghost fair = { fair_parameters };
@@ -49,9 +103,8 @@ impl Rules<Record<AlgorithmForm>> for AlgorithmForm {
 
     ghost alone = { λ earlier. refl };
 
-    fn judge(value: &Record<AlgorithmForm>) -> Option<Reason> {
-        let (Required(algorithm), Optional(parameters)) = value.fields();
-        if parameters.is_some() && public_key_length(algorithm).is_some() {
+    fn judge(&self) -> Option<Reason> {
+        if self.parameters().is_some() && public_key_length(self.algorithm()).is_some() {
             Some(Reason::Parameters)
         } else {
             None
@@ -61,7 +114,7 @@ impl Rules<Record<AlgorithmForm>> for AlgorithmForm {
 
 /// An algorithm, and what it depends on.
 #[derive(Drop)]
-pub struct AlgorithmIdentifier(Ruled<Record<AlgorithmForm>, AlgorithmForm>);
+pub struct AlgorithmIdentifier(RuledSequence<AlgorithmFields>);
 
 impl AlgorithmIdentifier {
     ghost use Rattle.pkix_values.specs.Algorithms.{algorithm_of, parameters_of};
@@ -70,7 +123,7 @@ impl AlgorithmIdentifier {
     pub fn algorithm(&self) -> &Oid
         ensures { result.now ≡ algorithm_of self.now }
     {
-        &self.0.value().fields().0.0
+        self.0.value().algorithm()
     }
 
     /// What it depends on. The algorithms of RFC 8410 have no parameters.
@@ -78,15 +131,7 @@ impl AlgorithmIdentifier {
         ensures value { option_map (λ r. r.now) result ≡ parameters_of self.now }
         ensures bare { one_of (algorithm_of self.now) rfc8410_algorithms ≡ true → result ≡ None }
     {
-        self.0.value().fields().1.0.as_ref()
-    }
-
-    /// Whether the two are the same.
-    pub fn same(&self, other: &AlgorithmIdentifier) -> bool
-        ensures { IsTrue result ↔ Same (⟦<AlgorithmIdentifier as DerText>⟧.value self.now)
-            (⟦<AlgorithmIdentifier as DerText>⟧.value other.now) }
-    {
-        self.0.same(&other.0)
+        self.0.value().parameters().as_ref()
     }
 }
 
@@ -105,9 +150,9 @@ impl NamesAlgorithm for AlgorithmIdentifier {
 }
 
 impl DerText for AlgorithmIdentifier {
-    ghost value = { λ x. ⟦<Ruled<Record<AlgorithmForm>, AlgorithmForm> as DerText>⟧.value x.0 };
+    ghost value = { λ x. ⟦<RuledSequence<AlgorithmFields> as DerText>⟧.value x.0 };
 
-    ghost one_text = { λ x y. ⟦<Ruled<Record<AlgorithmForm>, AlgorithmForm> as DerText>⟧.one_text
+    ghost one_text = { λ x y. ⟦<RuledSequence<AlgorithmFields> as DerText>⟧.one_text
         x.0 y.0 };
 
     fn size(&self) -> u64 {
@@ -130,13 +175,13 @@ impl Element for AlgorithmIdentifier {
     ghost closed = { algorithm_closed };
 
     fn fits(tag: Tag) -> bool {
-        Ruled::<Record<AlgorithmForm>, AlgorithmForm>::fits(tag)
+        RuledSequence::<AlgorithmFields>::fits(tag)
     }
 
     fn read<R: Source>(
         alloc: Global,
         pull: &mut Pull<'_, R>,
     ) -> Result<AlgorithmIdentifier, ReadError> {
-        Ok(AlgorithmIdentifier(Ruled::<Record<AlgorithmForm>, AlgorithmForm>::read(alloc, pull)?))
+        Ok(AlgorithmIdentifier(RuledSequence::<AlgorithmFields>::read(alloc, pull)?))
     }
 }

@@ -1,17 +1,15 @@
 //! Attribute of RFC 2986 section 4.1.
 ghost use Rattle.std.proofs.lemmas.Bool.{ltb-true};
 ghost use Rattle.asn_lists.specs.Containers.{set_items};
-ghost use Rattle.std.specs.Prelude.{◌≡◌, ◌↔◌, ◌<◌, IsTrue, length, refl};
+ghost use Rattle.std.specs.Prelude.{◌≡◌, ◌<◌, length, refl};
 ghost use Rattle.pkix_definitions.specs.DocumentTypes.{Attribute as AttributeType};
-ghost use Rattle.x690.specs.Values.{Same};
-ghost use Rattle.pkix_definitions.proofs.ClosedTypes.{attribute_closed};
+ghost use Rattle.asn_fields.specs.Listings.{through};
+ghost use Rattle.pkix_definitions.proofs.Sequences.{attribute_is};
 
 use crate::set_of_some::SetOfSome;
 use asn_values::any::Any;
-use asn_values::der_text::DerText;
-use asn_values::element::Element;
-use asn_values::record::{Form, Record};
-use asn_values::sequence::Required;
+use asn_values::fields::Next;
+use asn_values::sequence::{FieldsText, FirstFields, Required, Sequence, SequenceFields};
 use asn_values::set_of::SetOf;
 use ber_pull::pull::Pull;
 use std::alloc::Global;
@@ -19,33 +17,23 @@ use tlv_core::fault::ReadError;
 use tlv_core::oid::Oid;
 use tlv_core::sink::{Sink, WriteError};
 use tlv_core::source::Source;
-use tlv_core::tag::Tag;
 use tlv_core::target::Target;
 
 /// type, values.
+type Listed = (Required<Oid>, Required<SetOfSome<Any>>);
+
+/// type, values.
 #[derive(Drop)]
-pub struct AttributeForm;
+pub struct AttributeFields(Listed);
 
-impl Form for AttributeForm {
-    type Fields = (Required<Oid>, Required<SetOfSome<Any>>);
-
-    ghost parted = { refl };
-
-    ghost few = { ltb-true _ _ refl };
-}
-
-/// An attribute: of what type it is, and its values, of which there is at least one.
-#[derive(Drop)]
-pub struct Attribute(Record<AttributeForm>);
-
-impl Attribute {
+impl AttributeFields {
     ghost use Rattle.pkix_values.specs.Attributes.{attribute_type_of, attribute_values_of};
 
     /// Its type.
     pub fn id(&self) -> &Oid
         ensures { result.now ≡ attribute_type_of self.now }
     {
-        &self.0.fields().0.0
+        &self.0.0.0
     }
 
     /// Its values, in the order of their texts.
@@ -53,22 +41,14 @@ impl Attribute {
         ensures value { result.now ≡ attribute_values_of self.now }
         ensures some { 0 < length (set_items result.now) }
     {
-        self.0.fields().1.0.items()
-    }
-
-    /// Whether the two are the same.
-    pub fn same(&self, other: &Attribute) -> bool
-        ensures { IsTrue result ↔ Same (⟦<Attribute as DerText>⟧.value self.now)
-            (⟦<Attribute as DerText>⟧.value other.now) }
-    {
-        self.0.same(&other.0)
+        self.0.1.0.items()
     }
 }
 
-impl DerText for Attribute {
-    ghost value = { λ x. ⟦<Record<AttributeForm> as DerText>⟧.value x.0 };
+impl FieldsText for AttributeFields {
+    ghost values = { λ fields. ⟦<Listed as FieldsText>⟧.values fields.0 };
 
-    ghost one_text = { λ x y. ⟦<Record<AttributeForm> as DerText>⟧.one_text x.0 y.0 };
+    ghost listing = { through (λ fields. fields.0) ⟦<Listed as FieldsText>⟧.listing };
 
     fn size(&self) -> u64 {
         self.0.size()
@@ -83,17 +63,28 @@ impl DerText for Attribute {
     }
 }
 
-#[tactic(auto, unfolding(pkix_definitions::specs::DocumentTypes::Attribute))]
-impl Element for Attribute {
-    ghost type_term = { AttributeType };
-
-    ghost closed = { attribute_closed };
-
-    fn fits(tag: Tag) -> bool {
-        Record::<AttributeForm>::fits(tag)
-    }
-
-    fn read<R: Source>(alloc: Global, pull: &mut Pull<'_, R>) -> Result<Attribute, ReadError> {
-        Ok(Attribute(Record::<AttributeForm>::read(alloc, pull)?))
+impl FirstFields for AttributeFields {
+    fn read_first<R: Source>(
+        alloc: Global,
+        pull: &mut Pull<'_, R>,
+        next: &mut Next,
+    ) -> Result<AttributeFields, ReadError> {
+        match <Listed as FirstFields>::read_first(alloc, pull, next) {
+            Ok(listed) => Ok(AttributeFields(listed)),
+            Err(error) => Err(error),
+        }
     }
 }
+
+impl SequenceFields for AttributeFields {
+    ghost type_term = { AttributeType };
+
+    ghost listed = { attribute_is };
+
+    ghost parted = { refl };
+
+    ghost few = { ltb-true _ _ refl };
+}
+
+/// An attribute: of what type it is, and its values, of which there is at least one.
+pub type Attribute = Sequence<AttributeFields>;

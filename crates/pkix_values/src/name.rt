@@ -1,17 +1,18 @@
 //! Names of RFC 5280 section 4.1.2.4.
 ghost use Rattle.std.proofs.lemmas.Bool.{ltb-true};
-ghost use Rattle.std.specs.Prelude.{◌≡◌, ◌↔◌, IsTrue, refl};
+ghost use Rattle.std.specs.Prelude.{◌≡◌, refl};
 ghost use Rattle.pkix_definitions.specs.DocumentTypes.{Name as NameType, NameItem as NameItemType};
-ghost use Rattle.x690.specs.Values.{Same};
-ghost use Rattle.pkix_definitions.proofs.ClosedTypes.{name_closed, name_item_closed};
+ghost use Rattle.asn_fields.specs.Listings.{through};
+ghost use Rattle.pkix_definitions.proofs.ClosedTypes.{name_closed};
+ghost use Rattle.pkix_definitions.proofs.Sequences.{name_item_is};
 
 use crate::set_of_some::SetOfSome;
 use asn_values::any::Any;
 use asn_values::der_text::DerText;
 use asn_values::element::Element;
+use asn_values::fields::Next;
 use asn_values::list::List;
-use asn_values::record::{Form, Record};
-use asn_values::sequence::Required;
+use asn_values::sequence::{FieldsText, FirstFields, Required, Sequence, SequenceFields};
 use ber_pull::pull::Pull;
 use std::alloc::Global;
 use tlv_core::fault::ReadError;
@@ -22,51 +23,34 @@ use tlv_core::tag::Tag;
 use tlv_core::target::Target;
 
 /// type, value.
+type Listed = (Required<Oid>, Required<Any>);
+
+/// type, value.
 #[derive(Drop)]
-pub struct NameItemForm;
+pub struct NameItemFields(Listed);
 
-impl Form for NameItemForm {
-    type Fields = (Required<Oid>, Required<Any>);
-
-    ghost parted = { refl };
-
-    ghost few = { ltb-true _ _ refl };
-}
-
-/// AttributeTypeAndValue: one item of a name, as a country or an organization.
-#[derive(Drop)]
-pub struct NameItem(Record<NameItemForm>);
-
-impl NameItem {
+impl NameItemFields {
     ghost use Rattle.pkix_values.specs.Names.{item_type_of, item_value_of};
 
     /// What it tells.
     pub fn id(&self) -> &Oid
         ensures { result.now ≡ item_type_of self.now }
     {
-        &self.0.fields().0.0
+        &self.0.0.0
     }
 
     /// What is told.
     pub fn value(&self) -> &Any
         ensures { result.now ≡ item_value_of self.now }
     {
-        &self.0.fields().1.0
-    }
-
-    /// Whether the two are the same.
-    pub fn same(&self, other: &NameItem) -> bool
-        ensures { IsTrue result ↔ Same (⟦<NameItem as DerText>⟧.value self.now)
-            (⟦<NameItem as DerText>⟧.value other.now) }
-    {
-        self.0.same(&other.0)
+        &self.0.1.0
     }
 }
 
-impl DerText for NameItem {
-    ghost value = { λ x. ⟦<Record<NameItemForm> as DerText>⟧.value x.0 };
+impl FieldsText for NameItemFields {
+    ghost values = { λ fields. ⟦<Listed as FieldsText>⟧.values fields.0 };
 
-    ghost one_text = { λ x y. ⟦<Record<NameItemForm> as DerText>⟧.one_text x.0 y.0 };
+    ghost listing = { through (λ fields. fields.0) ⟦<Listed as FieldsText>⟧.listing };
 
     fn size(&self) -> u64 {
         self.0.size()
@@ -81,20 +65,31 @@ impl DerText for NameItem {
     }
 }
 
-#[tactic(auto, unfolding(pkix_definitions::specs::DocumentTypes::NameItem))]
-impl Element for NameItem {
-    ghost type_term = { NameItemType };
-
-    ghost closed = { name_item_closed };
-
-    fn fits(tag: Tag) -> bool {
-        Record::<NameItemForm>::fits(tag)
-    }
-
-    fn read<R: Source>(alloc: Global, pull: &mut Pull<'_, R>) -> Result<NameItem, ReadError> {
-        Ok(NameItem(Record::<NameItemForm>::read(alloc, pull)?))
+impl FirstFields for NameItemFields {
+    fn read_first<R: Source>(
+        alloc: Global,
+        pull: &mut Pull<'_, R>,
+        next: &mut Next,
+    ) -> Result<NameItemFields, ReadError> {
+        match <Listed as FirstFields>::read_first(alloc, pull, next) {
+            Ok(listed) => Ok(NameItemFields(listed)),
+            Err(error) => Err(error),
+        }
     }
 }
+
+impl SequenceFields for NameItemFields {
+    ghost type_term = { NameItemType };
+
+    ghost listed = { name_item_is };
+
+    ghost parted = { refl };
+
+    ghost few = { ltb-true _ _ refl };
+}
+
+/// AttributeTypeAndValue: one item of a name, as a country or an organization.
+pub type NameItem = Sequence<NameItemFields>;
 
 /// RelativeDistinguishedName: items that tell it together.
 pub type Rdn = SetOfSome<NameItem>;
@@ -113,14 +108,6 @@ impl Name {
         ensures { result.now ≡ rdns_of self.now }
     {
         &self.rdns
-    }
-
-    /// Whether the two are the same.
-    pub fn same(&self, other: &Name) -> bool
-        ensures { IsTrue result ↔ Same (⟦<Name as DerText>⟧.value self.now)
-            (⟦<Name as DerText>⟧.value other.now) }
-    {
-        self.rdns.same(&other.rdns)
     }
 }
 

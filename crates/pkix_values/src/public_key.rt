@@ -1,23 +1,22 @@
 //! SubjectPublicKeyInfo of RFC 5280 section 4.1.2.7.
 ghost use Rattle.std.proofs.lemmas.Bool.{ltb-true};
-ghost use Rattle.std.specs.Prelude.{◌≡◌, ◌↔◌, ◌∷◌, IsTrue, [], refl, true};
+ghost use Rattle.std.specs.Prelude.{◌≡◌, ◌∷◌, [], refl, true};
 ghost use Rattle.pkix_definitions.specs.DocumentTypes.{SubjectPublicKeyInfo as SubjectPublicKeyInfoType};
 ghost use Rattle.pkix_definitions.specs.Rules.{key_bits_rule};
-ghost use Rattle.x690.specs.Values.{Same};
 ghost use Rattle.pkix_definitions.proofs.Fairs.{fair_key_bits};
 ghost use Rattle.asn_elements.specs.Leaves.{bit_string_of};
-ghost use Rattle.pkix_definitions.proofs.ClosedTypes.{public_key_closed};
 ghost use Rattle.pkix_values.specs.Forms.{honest_key_bits};
 ghost use Rattle.pkix_values.specs.Values.{key_fits};
+ghost use Rattle.asn_fields.specs.Listings.{through};
+ghost use Rattle.pkix_definitions.proofs.Sequences.{public_key_info_is};
 
 use crate::algorithm::{AlgorithmIdentifier, NamesAlgorithm};
 use crate::identifiers::public_key_length;
 use asn_values::bits::Bits;
-use asn_values::der_text::DerText;
-use asn_values::element::Element;
-use asn_values::judged::{FieldRules, Judged};
-use asn_values::record::{Form, Record};
-use asn_values::sequence::Required;
+use asn_values::dependent::Dependent;
+use asn_values::fields::Next;
+use asn_values::ruled_behind::{FieldRules, RuledBehind};
+use asn_values::sequence::{FieldsText, FirstFields, Required, Sequence, SequenceFields};
 use ber_pull::pull::Pull;
 use std::alloc::Global;
 use tlv_core::fault::ReadError;
@@ -25,23 +24,13 @@ use tlv_core::oid::Oid;
 use tlv_core::reason::Reason;
 use tlv_core::sink::{Sink, WriteError};
 use tlv_core::source::Source;
-use tlv_core::tag::Tag;
 use tlv_core::target::Target;
 
-/// algorithm, subjectPublicKey, which is as RFC 8410 has it under its algorithms.
-#[derive(Drop)]
-pub struct PublicKeyForm;
-
-impl Form for PublicKeyForm {
-    type Fields = Judged<Required<AlgorithmIdentifier>, Bits, PublicKeyForm>;
-
-    ghost parted = { refl };
-
-    ghost few = { ltb-true _ _ refl };
-}
-
 /// Under the algorithms of RFC 8410 a key has the length that goes with the algorithm, and no unused bits.
-impl<T: NamesAlgorithm> FieldRules<Required<T>, Bits> for PublicKeyForm {
+#[derive(Drop)]
+pub struct KeyLength;
+
+impl<T: NamesAlgorithm> FieldRules<Required<T>, Bits> for KeyLength {
     ghost rule = { key_bits_rule (0 ∷ 0 ∷ []) };
 
     ghost fair = { fair_key_bits (0 ∷ 0 ∷ []) };
@@ -68,11 +57,14 @@ pub fn is_key_of(algorithm: &Oid, key: &Bits) -> bool
     }
 }
 
-/// A public key, and the algorithm that it is for.
-#[derive(Drop)]
-pub struct SubjectPublicKeyInfo(Record<PublicKeyForm>);
+/// algorithm, subjectPublicKey.
+type Listed = Dependent<Required<AlgorithmIdentifier>, RuledBehind<Bits, KeyLength>>;
 
-impl SubjectPublicKeyInfo {
+/// algorithm, subjectPublicKey.
+#[derive(Drop)]
+pub struct PublicKeyFields(Listed);
+
+impl PublicKeyFields {
     ghost use Rattle.pkix_values.specs.Algorithms.{algorithm_of};
     ghost use Rattle.pkix_values.specs.PublicKeys.{public_key_algorithm_of, subject_public_key_of};
 
@@ -80,7 +72,7 @@ impl SubjectPublicKeyInfo {
     pub fn algorithm(&self) -> &AlgorithmIdentifier
         ensures { result.now ≡ public_key_algorithm_of self.now }
     {
-        &self.0.fields().earlier().0
+        &self.0.earlier().0
     }
 
     /// The key. Under the algorithms of RFC 8410 it has the length that goes with the algorithm, and no unused bits.
@@ -89,22 +81,14 @@ impl SubjectPublicKeyInfo {
         ensures fits { key_fits (algorithm_of (public_key_algorithm_of self.now))
             (bit_string_of result.now) ≡ true }
     {
-        self.0.fields().field()
-    }
-
-    /// Whether the two are the same.
-    pub fn same(&self, other: &SubjectPublicKeyInfo) -> bool
-        ensures { IsTrue result ↔ Same (⟦<SubjectPublicKeyInfo as DerText>⟧.value self.now)
-            (⟦<SubjectPublicKeyInfo as DerText>⟧.value other.now) }
-    {
-        self.0.same(&other.0)
+        self.0.field().value()
     }
 }
 
-impl DerText for SubjectPublicKeyInfo {
-    ghost value = { λ x. ⟦<Record<PublicKeyForm> as DerText>⟧.value x.0 };
+impl FieldsText for PublicKeyFields {
+    ghost values = { λ fields. ⟦<Listed as FieldsText>⟧.values fields.0 };
 
-    ghost one_text = { λ x y. ⟦<Record<PublicKeyForm> as DerText>⟧.one_text x.0 y.0 };
+    ghost listing = { through (λ fields. fields.0) ⟦<Listed as FieldsText>⟧.listing };
 
     fn size(&self) -> u64 {
         self.0.size()
@@ -119,20 +103,28 @@ impl DerText for SubjectPublicKeyInfo {
     }
 }
 
-#[tactic(auto, unfolding(pkix_definitions::specs::DocumentTypes::SubjectPublicKeyInfo))]
-impl Element for SubjectPublicKeyInfo {
-    ghost type_term = { SubjectPublicKeyInfoType };
-
-    ghost closed = { public_key_closed };
-
-    fn fits(tag: Tag) -> bool {
-        Record::<PublicKeyForm>::fits(tag)
-    }
-
-    fn read<R: Source>(
+impl FirstFields for PublicKeyFields {
+    fn read_first<R: Source>(
         alloc: Global,
         pull: &mut Pull<'_, R>,
-    ) -> Result<SubjectPublicKeyInfo, ReadError> {
-        Ok(SubjectPublicKeyInfo(Record::<PublicKeyForm>::read(alloc, pull)?))
+        next: &mut Next,
+    ) -> Result<PublicKeyFields, ReadError> {
+        match <Listed as FirstFields>::read_first(alloc, pull, next) {
+            Ok(listed) => Ok(PublicKeyFields(listed)),
+            Err(error) => Err(error),
+        }
     }
 }
+
+impl SequenceFields for PublicKeyFields {
+    ghost type_term = { SubjectPublicKeyInfoType };
+
+    ghost listed = { public_key_info_is };
+
+    ghost parted = { refl };
+
+    ghost few = { ltb-true _ _ refl };
+}
+
+/// A public key, and the algorithm that it is for.
+pub type SubjectPublicKeyInfo = Sequence<PublicKeyFields>;

@@ -1,25 +1,25 @@
 //! Attributes of certification requests (RFC 2986 section 4.1, RFC 2985 section 5.4.2).
 ghost use Rattle.std.proofs.lemmas.Bool.{ltb-true};
-ghost use Rattle.std.specs.Prelude.{◌≡◌, ◌↔◌, ◌∷◌, IsTrue, [], not, refl};
+ghost use Rattle.std.specs.Prelude.{◌≡◌, ◌∷◌, [], not, refl};
 ghost use Rattle.std.specs.Option.{is_some, option_map};
 ghost use Rattle.pkix_definitions.specs.DocumentTypes.{RequestAttribute as RequestAttributeType};
 ghost use Rattle.pkix_definitions.specs.Identifiers.{extension_request};
 ghost use Rattle.x690.specs.Lists.{one_of};
-ghost use Rattle.x690.specs.Values.{Same};
-ghost use Rattle.pkix_definitions.proofs.ClosedTypes.{request_attribute_closed};
-ghost use Rattle.pkix_values.specs.Eithers.{sets_alike};
+ghost use Rattle.x690.specs.Values.{leaf_at};
+ghost use Rattle.asn_fields.specs.Listings.{through};
+ghost use Rattle.pkix_definitions.proofs.Sequences.{request_attribute_is};
 
 use crate::extension::Extension;
 use crate::identifiers::is_extension_request;
 use crate::set_of_some::SetOfSome;
 use asn_values::any::Any;
-use asn_values::chosen::{Choice, Chosen};
-use asn_values::der_text::DerText;
+use asn_values::defined_by::{DefinedBy, Defines};
+use asn_values::dependent::{Dependent, Independent};
 use asn_values::either::Either;
 use asn_values::element::Element;
+use asn_values::fields::Next;
 use asn_values::list::List;
-use asn_values::record::{Form, Record};
-use asn_values::sequence::Required;
+use asn_values::sequence::{FieldsText, FirstFields, Required, Sequence, SequenceFields};
 use asn_values::set_of::SetOf;
 use ber_pull::pull::Pull;
 use std::alloc::Global;
@@ -27,52 +27,54 @@ use tlv_core::fault::ReadError;
 use tlv_core::oid::Oid;
 use tlv_core::sink::{Sink, WriteError};
 use tlv_core::source::Source;
-use tlv_core::tag::Tag;
 use tlv_core::target::Target;
 
-/// type, values, which are lists of extensions under extensionRequest.
+/// Under extensionRequest the values are lists of extensions.
 #[derive(Drop)]
-pub struct RequestAttributeForm;
+pub struct ByType;
 
-impl<X: Element, Y: Element> Choice<Required<Oid>, SetOfSome<X>, SetOfSome<Y>>
-    for RequestAttributeForm {
+/// What is an OBJECT IDENTIFIER.
+pub trait IsOid: Element {
+    /// It.
+    fn oid(&self) -> &Oid
+        ensures { leaf_at (0 ∷ []) (Self.value self.now ∷ []) ≡ result.now };
+}
+
+impl IsOid for Oid {
+    #[tactic(auto, unfolding(x690::specs::Values::leaf_at))]
+    fn oid(&self) -> &Oid {
+        self
+    }
+}
+
+impl<T: IsOid> Defines<Required<T>> for ByType {
     ghost path = { 0 ∷ [] };
 
     ghost octets = { extension_request ∷ [] };
 
-    ghost alike = { sets_alike Y.type_term X.type_term };
-
-    #[tactic(auto, unfolding(x690::specs::Values::leaf_at))]
-    fn is_first(earlier: &Required<Oid>) -> bool {
-        is_extension_request(&earlier.0)
+    fn is_first(earlier: &Required<T>) -> bool {
+        is_extension_request(earlier.0.oid())
     }
 }
 
-impl Form for RequestAttributeForm {
-    type Fields = Chosen<
-        Required<Oid>,
-        SetOfSome<List<Extension>>,
-        SetOfSome<Any>,
-        RequestAttributeForm,
-    >;
+/// type, values.
+type Listed = Dependent<
+    Required<Oid>,
+    DefinedBy<Independent<SetOfSome<List<Extension>>>, Independent<SetOfSome<Any>>, ByType>,
+>;
 
-    ghost parted = { refl };
-
-    ghost few = { ltb-true _ _ refl };
-}
-
-/// An attribute of a certification request: extensionRequest, which has lists of extensions, or any other one.
+/// type, values, which are lists of extensions under extensionRequest.
 #[derive(Drop)]
-pub struct RequestAttribute(Record<RequestAttributeForm>);
+pub struct RequestAttributeFields(Listed);
 
-impl RequestAttribute {
+impl RequestAttributeFields {
     ghost use Rattle.pkix_values.specs.RequestAttributes.{extensions_of, plain_values_of, request_attribute_type_of};
 
     /// Its type.
     pub fn id(&self) -> &Oid
         ensures { result.now ≡ request_attribute_type_of self.now }
     {
-        &self.0.fields().earlier().0
+        &self.0.earlier().0
     }
 
     /// The lists of extensions of extensionRequest.
@@ -82,8 +84,8 @@ impl RequestAttribute {
         ensures by_type { is_some result ≡ one_of (request_attribute_type_of self.now)
             (extension_request ∷ []) }
     {
-        match self.0.fields().field() {
-            Either::First(lists) => Some(lists.items()),
+        match self.0.field().value() {
+            Either::First(lists) => Some(lists.0.items()),
             Either::Second(_) => None,
         }
     }
@@ -95,25 +97,17 @@ impl RequestAttribute {
         ensures by_type { is_some result ≡ not
             (one_of (request_attribute_type_of self.now) (extension_request ∷ [])) }
     {
-        match self.0.fields().field() {
+        match self.0.field().value() {
             Either::First(_) => None,
-            Either::Second(values) => Some(values.items()),
+            Either::Second(values) => Some(values.0.items()),
         }
-    }
-
-    /// Whether the two are the same.
-    pub fn same(&self, other: &RequestAttribute) -> bool
-        ensures { IsTrue result ↔ Same (⟦<RequestAttribute as DerText>⟧.value self.now)
-            (⟦<RequestAttribute as DerText>⟧.value other.now) }
-    {
-        self.0.same(&other.0)
     }
 }
 
-impl DerText for RequestAttribute {
-    ghost value = { λ x. ⟦<Record<RequestAttributeForm> as DerText>⟧.value x.0 };
+impl FieldsText for RequestAttributeFields {
+    ghost values = { λ fields. ⟦<Listed as FieldsText>⟧.values fields.0 };
 
-    ghost one_text = { λ x y. ⟦<Record<RequestAttributeForm> as DerText>⟧.one_text x.0 y.0 };
+    ghost listing = { through (λ fields. fields.0) ⟦<Listed as FieldsText>⟧.listing };
 
     fn size(&self) -> u64 {
         self.0.size()
@@ -128,20 +122,28 @@ impl DerText for RequestAttribute {
     }
 }
 
-#[tactic(auto, unfolding(pkix_definitions::specs::DocumentTypes::RequestAttribute, x690::specs::TypeTerms::fits_tag))]
-impl Element for RequestAttribute {
-    ghost type_term = { RequestAttributeType };
-
-    ghost closed = { request_attribute_closed };
-
-    fn fits(tag: Tag) -> bool {
-        Record::<RequestAttributeForm>::fits(tag)
-    }
-
-    fn read<R: Source>(
+impl FirstFields for RequestAttributeFields {
+    fn read_first<R: Source>(
         alloc: Global,
         pull: &mut Pull<'_, R>,
-    ) -> Result<RequestAttribute, ReadError> {
-        Ok(RequestAttribute(Record::<RequestAttributeForm>::read(alloc, pull)?))
+        next: &mut Next,
+    ) -> Result<RequestAttributeFields, ReadError> {
+        match <Listed as FirstFields>::read_first(alloc, pull, next) {
+            Ok(listed) => Ok(RequestAttributeFields(listed)),
+            Err(error) => Err(error),
+        }
     }
 }
+
+impl SequenceFields for RequestAttributeFields {
+    ghost type_term = { RequestAttributeType };
+
+    ghost listed = { request_attribute_is };
+
+    ghost parted = { refl };
+
+    ghost few = { ltb-true _ _ refl };
+}
+
+/// An attribute of a certification request: extensionRequest, which has lists of extensions, or any other one.
+pub type RequestAttribute = Sequence<RequestAttributeFields>;

@@ -1,8 +1,8 @@
 //! SET OF with at least one member (X.680 28, with SIZE (1..MAX)).
-ghost use Rattle.std.specs.Prelude.{◌≡◌, ◌↔◌, ◌<◌, IsTrue, length, map};
+ghost use Rattle.std.specs.Prelude.{◌≡◌, ◌<◌, length, map};
 ghost use Rattle.x690.specs.UniversalTypes.{set_of_some};
 ghost use Rattle.x690.specs.Layouts.{universal};
-ghost use Rattle.x690.specs.Values.{Same, SetOf as SetValue, values_of};
+ghost use Rattle.x690.specs.Values.{SetOf as SetValue, values_of};
 ghost use Rattle.asn_lists.specs.Containers.{set_items};
 ghost use Rattle.x690_laws.proofs.TypesClosed.{set_of_closed};
 
@@ -34,15 +34,6 @@ impl<T: DerText> SetOfSome<T> {
         ensures some { 0 < length (set_items result.now) }
     {
         &self.items
-    }
-
-    /// Whether the two are the same.
-    pub fn same(&self, other: &SetOfSome<T>) -> bool
-        ensures { IsTrue result ↔ Same
-            (SetValue (universal 17) (values_of (map T.value (set_items (some_items self.now)))))
-            (SetValue (universal 17) (values_of (map T.value (set_items (some_items other.now))))) }
-    {
-        self.items.same(&other.items)
     }
 }
 

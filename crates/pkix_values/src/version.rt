@@ -1,6 +1,6 @@
 //! Versions of documents (RFC 5958 section 2, RFC 5915 section 3, RFC 2986 section 4.1).
 ghost use Rattle.x690_laws.proofs.TextsTellApart.{leaf_one_text};
-ghost use Rattle.std.specs.Prelude.{◌≡◌, ◌↔◌, ◌≤◌, ◌<◌, ◌∷◌, IfSome, IsTrue, [], true};
+ghost use Rattle.std.specs.Prelude.{◌≡◌, ◌≤◌, ◌<◌, ◌∷◌, IfSome, [], true};
 ghost use Rattle.std.specs.Option.{is_some};
 ghost use Rattle.x690.specs.DerTexts.{der};
 ghost use Rattle.pkix_definitions.specs.DocumentTypes.{version};
@@ -43,13 +43,6 @@ impl<const LEAST: u8, const MOST: u8> Version<LEAST, MOST> {
         ensures allowed { one_of (result ∷ []) (versions LEAST MOST) ≡ true }
     {
         self.number
-    }
-
-    /// Whether the two are the same.
-    pub fn same(&self, other: &Version<LEAST, MOST>) -> bool
-        ensures { IsTrue result ↔ (version_number self.now ≡ version_number other.now) }
-    {
-        self.number == other.number
     }
 
     fn text(&self) -> [u8; 3]

@@ -1,12 +1,11 @@
 //! CurvePrivateKey of RFC 8410 section 7.
-ghost use Rattle.std.specs.Prelude.{◌≡◌, ◌↔◌, IsTrue};
+ghost use Rattle.std.specs.Prelude.{◌≡◌};
 ghost use Rattle.x690.specs.Contents.{OctetString};
 ghost use Rattle.x690.specs.Layouts.{universal};
 ghost use Rattle.x690.specs.UniversalTypes.{octet_string};
-ghost use Rattle.x690.specs.Values.{Same};
 ghost use Rattle.x690_laws.proofs.TypesClosed.{leaf_closed};
 
-use asn_values::der_text::{DerText, same_text};
+use asn_values::der_text::DerText;
 use asn_values::element::Element;
 use asn_values::octets::Octets;
 use ber_pull::pull::Pull;
@@ -29,14 +28,6 @@ impl CurveKey {
         ensures { result.now ≡ curve_key_of self.now }
     {
         &self.0
-    }
-
-    /// Whether the two are the same.
-    pub fn same(&self, other: &CurveKey) -> bool
-        ensures { IsTrue result ↔ Same (⟦<CurveKey as DerText>⟧.value self.now)
-            (⟦<CurveKey as DerText>⟧.value other.now) }
-    {
-        same_text(&self.0, &other.0)
     }
 }
 

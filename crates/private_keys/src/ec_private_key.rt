@@ -1,25 +1,28 @@
 //! ECPrivateKey of RFC 5915 section 3.
 ghost use Rattle.std.proofs.lemmas.Bool.{ltb-true};
-ghost use Rattle.std.specs.Prelude.{◌≡◌, ◌↔◌, IsTrue, length, refl, true};
+ghost use Rattle.std.specs.Prelude.{◌≡◌, length, refl, true};
 ghost use Rattle.std.specs.Option.{option_map};
 ghost use Rattle.pkix_definitions.specs.DocumentTypes.{ECPrivateKey};
 ghost use Rattle.pkix_definitions.specs.Rules.{ec_rule, has_length};
-ghost use Rattle.x690.specs.Values.{Same};
 ghost use Rattle.pkix_definitions.proofs.Fairs.{fair_ec};
-ghost use Rattle.asn_elements.specs.Leaves.{octets_of};
 ghost use Rattle.pkix_definitions.proofs.ClosedTypes.{ec_key_closed};
+ghost use Rattle.x690.specs.Layouts.{universal};
+ghost use Rattle.x690.specs.TypeTerms.{EndOfFields, SequenceType};
+ghost use Rattle.asn_elements.specs.Leaves.{octets_of};
+ghost use Rattle.asn_fields.specs.Listings.{through};
 ghost use Rattle.private_keys.specs.EcKeys.{honest_ec, named_length};
 
 use crate::curves::private_key_length;
-use crate::ec_fields::EcFields;
 use asn_values::bits::Bits;
 use asn_values::der_text::DerText;
 use asn_values::element::Element;
+use asn_values::fields::Next;
 use asn_values::octets::Octets;
-use asn_values::record::{Form, Record};
-use asn_values::ruled::{Ruled, Rules};
+use asn_values::ruled_sequence::{RuledFields, RuledSequence};
+use asn_values::sequence::{FieldsText, FirstFields, Optional, Required, SequenceFields};
 use asn_values::tagged::Tagged;
 use ber_pull::pull::Pull;
+use pkix_values::version::Version;
 use std::alloc::Global;
 use tlv_core::fault::ReadError;
 use tlv_core::oid::Oid;
@@ -29,19 +32,79 @@ use tlv_core::source::Source;
 use tlv_core::tag::Tag;
 use tlv_core::target::Target;
 
-/// version, privateKey, parameters [0], publicKey [1]; a key on a curve that it names has that curve's length.
-#[derive(Drop)]
-pub struct EcKeyForm;
+/// version, privateKey, parameters [0], publicKey [1].
+type Listed = (
+    (Required<Version<1, 1>>, Required<Octets>),
+    (Optional<Tagged<0, Oid>>, Optional<Tagged<1, Bits>>),
+);
 
-impl Form for EcKeyForm {
-    type Fields = EcFields;
+/// version, privateKey, parameters [0], publicKey [1].
+#[derive(Drop)]
+pub struct EcFields(Listed);
+
+impl EcFields {
+    fn key(&self) -> &Octets
+        ensures { result.now ≡ self.now.0.0.1.0 }
+    {
+        &self.0.0.1.0
+    }
+
+    fn curve(&self) -> &Option<Tagged<0, Oid>>
+        ensures { result.now ≡ self.now.0.1.0.0 }
+    {
+        &self.0.1.0.0
+    }
+
+    fn public_key(&self) -> &Option<Tagged<1, Bits>>
+        ensures { result.now ≡ self.now.0.1.1.0 }
+    {
+        &self.0.1.1.0
+    }
+}
+
+impl FieldsText for EcFields {
+    ghost values = { λ fields. ⟦<Listed as FieldsText>⟧.values fields.0 };
+
+    ghost listing = { through (λ fields. fields.0) ⟦<Listed as FieldsText>⟧.listing };
+
+    fn size(&self) -> u64 {
+        self.0.size()
+    }
+
+    fn put<W: Target>(&self, sink: &mut Sink<'_, W>) -> Result<(), WriteError> {
+        self.0.put(sink)
+    }
+
+    fn octet(&self, i: u64) -> Option<u8> {
+        self.0.octet(i)
+    }
+}
+
+impl FirstFields for EcFields {
+    fn read_first<R: Source>(
+        alloc: Global,
+        pull: &mut Pull<'_, R>,
+        next: &mut Next,
+    ) -> Result<EcFields, ReadError> {
+        match <Listed as FirstFields>::read_first(alloc, pull, next) {
+            Ok(listed) => Ok(EcFields(listed)),
+            Err(error) => Err(error),
+        }
+    }
+}
+
+impl SequenceFields for EcFields {
+    ghost type_term = { SequenceType (universal 16) (⟦<Listed as FieldsText>⟧.listing.types EndOfFields) };
+
+    ghost listed = { refl };
 
     ghost parted = { refl };
 
     ghost few = { ltb-true _ _ refl };
 }
 
-impl Rules<Record<EcKeyForm>> for EcKeyForm {
+/// A key on a curve that it names has that curve's length.
+impl RuledFields for EcFields {
     ghost rule = { ec_rule };
 
     ghost fair = { fair_ec };
@@ -50,9 +113,8 @@ impl Rules<Record<EcKeyForm>> for EcKeyForm {
 
     ghost alone = { λ earlier. refl };
 
-    fn judge(value: &Record<EcKeyForm>) -> Option<Reason> {
-        let fields = value.fields();
-        if has_length_of(fields.curve(), fields.key()) {
+    fn judge(&self) -> Option<Reason> {
+        if has_length_of(self.curve(), self.key()) {
             None
         } else {
             Some(Reason::KeyLength)
@@ -77,7 +139,7 @@ fn has_length_of(curve: &Option<Tagged<0, Oid>>, key: &Octets) -> bool
 /// An EC private key. It may name its curve, and may have its public key beside it; whether that is its own isn't
 /// looked at.
 #[derive(Drop)]
-pub struct EcPrivateKey(Ruled<Record<EcKeyForm>, EcKeyForm>);
+pub struct EcPrivateKey(RuledSequence<EcFields>);
 
 impl EcPrivateKey {
     ghost use Rattle.private_keys.specs.EcParts.{ec_curve_of, ec_key_of, ec_public_key_of};
@@ -89,14 +151,14 @@ impl EcPrivateKey {
         ensures fits { has_length (named_length (ec_curve_of self.now))
             (length (octets_of result.now)) ≡ true }
     {
-        self.0.value().fields().key()
+        self.0.value().key()
     }
 
     /// The curve that it names.
     pub fn curve(&self) -> Option<&Oid>
         ensures { option_map (λ r. r.now) result ≡ ec_curve_of self.now }
     {
-        match self.0.value().fields().curve() {
+        match self.0.value().curve() {
             Some(curve) => Some(curve.value()),
             None => None,
         }
@@ -106,25 +168,17 @@ impl EcPrivateKey {
     pub fn public_key(&self) -> Option<&Bits>
         ensures { option_map (λ r. r.now) result ≡ ec_public_key_of self.now }
     {
-        match self.0.value().fields().public_key() {
+        match self.0.value().public_key() {
             Some(key) => Some(key.value()),
             None => None,
         }
     }
-
-    /// Whether the two are the same.
-    pub fn same(&self, other: &EcPrivateKey) -> bool
-        ensures { IsTrue result ↔ Same (⟦<EcPrivateKey as DerText>⟧.value self.now)
-            (⟦<EcPrivateKey as DerText>⟧.value other.now) }
-    {
-        self.0.same(&other.0)
-    }
 }
 
 impl DerText for EcPrivateKey {
-    ghost value = { λ x. ⟦<Ruled<Record<EcKeyForm>, EcKeyForm> as DerText>⟧.value x.0 };
+    ghost value = { λ x. ⟦<RuledSequence<EcFields> as DerText>⟧.value x.0 };
 
-    ghost one_text = { λ x y. ⟦<Ruled<Record<EcKeyForm>, EcKeyForm> as DerText>⟧.one_text x.0 y.0 };
+    ghost one_text = { λ x y. ⟦<RuledSequence<EcFields> as DerText>⟧.one_text x.0 y.0 };
 
     fn size(&self) -> u64 {
         self.0.size()
@@ -146,10 +200,13 @@ impl Element for EcPrivateKey {
     ghost closed = { ec_key_closed };
 
     fn fits(tag: Tag) -> bool {
-        Ruled::<Record<EcKeyForm>, EcKeyForm>::fits(tag)
+        RuledSequence::<EcFields>::fits(tag)
     }
 
     fn read<R: Source>(alloc: Global, pull: &mut Pull<'_, R>) -> Result<EcPrivateKey, ReadError> {
-        Ok(EcPrivateKey(Ruled::<Record<EcKeyForm>, EcKeyForm>::read(alloc, pull)?))
+        match RuledSequence::<EcFields>::read(alloc, pull) {
+            Ok(key) => Ok(EcPrivateKey(key)),
+            Err(error) => Err(error),
+        }
     }
 }

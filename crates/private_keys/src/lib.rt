@@ -5,17 +5,14 @@
 //! included: the length that goes with the curve that an EC key names, and the version of an RSA key; written as their
 //! DER texts; `same` is the same value.
 //!
-//! `ec_fields` and `rsa_fields` are the lists of fields of these keys, `rsa_numbers` and `other_primes` parts of the
-//! latter. Each is a type of its own, so that what stands above rests on one name and not on all that it is put
-//! together of.
+//! `rsa_numbers` and `other_primes` are parts of the list of an RSA key's fields. Each is a type of its own, so that
+//! what stands above rests on one name and not on all that it is put together of.
 #![tactic(auto)]
 
 pub mod curve_key;
 pub mod curves;
-mod ec_fields;
 pub mod ec_private_key;
 pub mod other_prime_info;
 mod other_primes;
-mod rsa_fields;
 mod rsa_numbers;
 pub mod rsa_private_key;

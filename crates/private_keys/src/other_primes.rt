@@ -9,8 +9,8 @@ ghost use Rattle.private_keys.specs.RsaKeys.{infos};
 
 use crate::other_prime_info::OtherPrimeInfo;
 use crate::rsa_numbers::Numbers;
-use asn_contained::defined_by::{DefinedBy, Defines};
-use asn_contained::dependent::{DependentElement, Independent};
+use asn_values::defined_by::{DefinedBy, Defines};
+use asn_values::dependent::{DependentElement, Independent};
 use asn_values::either::Either;
 use asn_values::list_of_some::ListOfSome;
 use asn_values::refused::{Refusal, Refused};

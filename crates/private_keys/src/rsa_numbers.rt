@@ -1,12 +1,11 @@
 //! The INTEGERs of an RSAPrivateKey (RFC 8017 A.1.2), two by two.
 //!
 //! Each group of them is a type of its own, so that what stands above rests on one group and not on eight fields.
-ghost use Rattle.std.specs.Prelude.{◌≡◌, ◌++◌, ◌∷◌, [], IfSome, slice_get};
+ghost use Rattle.std.specs.Prelude.{◌≡◌, ◌∷◌, [], IfSome, slice_get};
 ghost use Rattle.std.specs.Option.{option_map};
-ghost use Rattle.x690.specs.TypeTerms.{Required as RequiredType};
-ghost use Rattle.x690.specs.UniversalTypes.{integer};
 ghost use Rattle.x690.specs.Values.{leaf_at};
 ghost use Rattle.asn_elements.specs.Leaves.{integer_of};
+ghost use Rattle.asn_fields.specs.Listings.{through};
 ghost use Rattle.private_keys.specs.RsaKeys.{numbers_of};
 
 use asn_values::fields::Next;
@@ -24,17 +23,9 @@ use tlv_core::target::Target;
 pub struct Two(pub (Required<Int>, Required<Int>));
 
 impl FieldsText for Two {
-    ghost types = { λ rest. RequiredType integer (RequiredType integer rest) };
-
-    ghost most = { 2 };
-
     ghost values = { λ two. ⟦<(Required<Int>, Required<Int>) as FieldsText>⟧.values two.0 };
 
-    ghost known = { λ two. ⟦<(Required<Int>, Required<Int>) as FieldsText>⟧.known two.0 };
-
-    ghost begins = { λ x. ⟦<(Required<Int>, Required<Int>) as FieldsText>⟧.begins x.0 };
-
-    ghost tells = { λ x y. ⟦<(Required<Int>, Required<Int>) as FieldsText>⟧.tells x.0 y.0 };
+    ghost listing = { through (λ fields. fields.0) ⟦<(Required<Int>, Required<Int>) as FieldsText>⟧.listing };
 
     fn size(&self) -> u64 {
         self.0.size()
@@ -55,7 +46,10 @@ impl Fields for Two {
         pull: &mut Pull<'_, R>,
         next: &mut Next,
     ) -> Result<Two, ReadError> {
-        Ok(Two(<(Required<Int>, Required<Int>) as Fields>::read(alloc, pull, next)?))
+        match <(Required<Int>, Required<Int>) as Fields>::read(alloc, pull, next) {
+            Ok(listed) => Ok(Two(listed)),
+            Err(error) => Err(error),
+        }
     }
 }
 
@@ -64,18 +58,9 @@ impl Fields for Two {
 pub struct Four(pub (Two, Two));
 
 impl FieldsText for Four {
-    ghost types = { λ rest.
-        RequiredType integer (RequiredType integer (RequiredType integer (RequiredType integer rest))) };
-
-    ghost most = { 4 };
-
     ghost values = { λ four. ⟦<(Two, Two) as FieldsText>⟧.values four.0 };
 
-    ghost known = { λ four. ⟦<(Two, Two) as FieldsText>⟧.known four.0 };
-
-    ghost begins = { λ x. ⟦<(Two, Two) as FieldsText>⟧.begins x.0 };
-
-    ghost tells = { λ x y. ⟦<(Two, Two) as FieldsText>⟧.tells x.0 y.0 };
+    ghost listing = { through (λ fields. fields.0) ⟦<(Two, Two) as FieldsText>⟧.listing };
 
     fn size(&self) -> u64 {
         self.0.size()
@@ -96,7 +81,10 @@ impl Fields for Four {
         pull: &mut Pull<'_, R>,
         next: &mut Next,
     ) -> Result<Four, ReadError> {
-        Ok(Four(<(Two, Two) as Fields>::read(alloc, pull, next)?))
+        match <(Two, Two) as Fields>::read(alloc, pull, next) {
+            Ok(listed) => Ok(Four(listed)),
+            Err(error) => Err(error),
+        }
     }
 }
 
@@ -128,17 +116,9 @@ impl Numbers {
 }
 
 impl FieldsText for Numbers {
-    ghost types = { λ rest. ⟦<Four as FieldsText>⟧.types (⟦<Four as FieldsText>⟧.types rest) };
-
-    ghost most = { 8 };
-
     ghost values = { λ numbers. ⟦<(Four, Four) as FieldsText>⟧.values numbers.0 };
 
-    ghost known = { λ numbers. ⟦<(Four, Four) as FieldsText>⟧.known numbers.0 };
-
-    ghost begins = { λ x. ⟦<(Four, Four) as FieldsText>⟧.begins x.0 };
-
-    ghost tells = { λ x y. ⟦<(Four, Four) as FieldsText>⟧.tells x.0 y.0 };
+    ghost listing = { through (λ fields. fields.0) ⟦<(Four, Four) as FieldsText>⟧.listing };
 
     fn size(&self) -> u64 {
         self.0.size()
@@ -159,6 +139,9 @@ impl Fields for Numbers {
         pull: &mut Pull<'_, R>,
         next: &mut Next,
     ) -> Result<Numbers, ReadError> {
-        Ok(Numbers(<(Four, Four) as Fields>::read(alloc, pull, next)?))
+        match <(Four, Four) as Fields>::read(alloc, pull, next) {
+            Ok(listed) => Ok(Numbers(listed)),
+            Err(error) => Err(error),
+        }
     }
 }

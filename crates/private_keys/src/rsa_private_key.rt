@@ -1,98 +1,73 @@
 //! RSAPrivateKey of RFC 8017 A.1.2.
 ghost use Rattle.std.proofs.lemmas.Bool.{ltb-true};
-ghost use Rattle.std.specs.Prelude.{◌≡◌, ◌↔◌, IsTrue, length, refl, slice_get};
+ghost use Rattle.std.specs.Prelude.{◌≡◌, length, refl, slice_get};
 ghost use Rattle.std.specs.Option.{option_map};
-ghost use Rattle.pkix_definitions.specs.DocumentTypes.{RSAPrivateKey};
 ghost use Rattle.pkix_definitions.specs.Rules.{rsa_version_rule};
-ghost use Rattle.pkix_definitions.proofs.ClosedTypes.{rsa_key_closed};
 ghost use Rattle.pkix_definitions.proofs.Fairs.{fair_rsa_version};
-ghost use Rattle.x690.specs.Values.{Same};
 ghost use Rattle.pkix_definitions.proofs.LawfulTypes.{honest_rsa_version};
+ghost use Rattle.x690.specs.Layouts.{universal};
+ghost use Rattle.x690.specs.TypeTerms.{EndOfFields, SequenceType};
+ghost use Rattle.asn_fields.specs.Listings.{through};
 
-use crate::rsa_fields::RsaFields;
-use asn_values::der_text::DerText;
-use asn_values::element::Element;
+use crate::other_primes::{OtherPrimes, VersionAndNumbers};
+use asn_values::fields::Next;
 use asn_values::integer::Int;
-use asn_values::record::{Form, Record};
-use asn_values::ruled::{Ruled, Rules};
+use asn_values::optional_dependent::OptionalDependent;
+use asn_values::ruled_sequence::{RuledFields, RuledSequence};
+use asn_values::sequence::{FieldsText, FirstFields, SequenceFields};
 use ber_pull::pull::Pull;
 use std::alloc::Global;
 use tlv_core::fault::ReadError;
 use tlv_core::reason::Reason;
 use tlv_core::sink::{Sink, WriteError};
 use tlv_core::source::Source;
-use tlv_core::tag::Tag;
 use tlv_core::target::Target;
 
 /// version, the numbers of two primes, otherPrimeInfos.
+type Listed = OptionalDependent<VersionAndNumbers, OtherPrimes>;
+
+/// version, the numbers of two primes, otherPrimeInfos.
 #[derive(Drop)]
-pub struct RsaKeyForm;
+pub struct RsaFields(Listed);
 
-impl Form for RsaKeyForm {
-    type Fields = RsaFields;
-
-    ghost parted = { refl };
-
-    ghost few = { ltb-true _ _ refl };
-}
-
-impl Rules<Record<RsaKeyForm>> for RsaKeyForm {
-    ghost rule = { rsa_version_rule };
-
-    ghost fair = { fair_rsa_version };
-
-    ghost honest = { honest_rsa_version };
-
-    ghost alone = { λ earlier. refl };
-
-    fn judge(value: &Record<RsaKeyForm>) -> Option<Reason> {
-        value.fields().refusal()
-    }
-}
-
-/// An RSA private key, of two primes (version 0) or of more (version 1). Whether the numbers belong together isn't
-/// looked at.
-#[derive(Drop)]
-pub struct RsaPrivateKey(Ruled<Record<RsaKeyForm>, RsaKeyForm>);
-
-impl RsaPrivateKey {
+impl RsaFields {
     ghost use Rattle.private_keys.specs.RsaParts.{other_primes_of, rsa_numbers_of, rsa_version_of};
 
-    /// Its version: 1 where it has more than two primes, else 0.
+    /// The version: 1 where there are more than two primes, else 0.
     pub fn version(&self) -> u8
         ensures { result ≡ rsa_version_of self.now }
     {
-        self.0.value().fields().version()
+        self.0.earlier().0.0.number()
     }
 
     /// modulus, publicExponent, privateExponent, prime1, prime2, exponent1, exponent2 and coefficient, counted from 0.
     pub fn number(&self, i: usize) -> Option<&Int>
         ensures { option_map (λ r. r.now) result ≡ slice_get (rsa_numbers_of self.now) i }
     {
-        self.0.value().fields().number(i)
+        self.0.earlier().1.get(i)
     }
 
     /// The number of primes behind the first two.
     pub fn others(&self) -> usize
         ensures { result ≡ length (other_primes_of self.now) }
     {
-        self.0.value().fields().others()
+        match self.0.field() {
+            Some(others) => others.count(),
+            None => 0,
+        }
     }
 
-    /// Whether the two are the same.
-    pub fn same(&self, other: &RsaPrivateKey) -> bool
-        ensures { IsTrue result ↔ Same (⟦<RsaPrivateKey as DerText>⟧.value self.now)
-            (⟦<RsaPrivateKey as DerText>⟧.value other.now) }
+    fn other_primes(&self) -> &Option<OtherPrimes>
+        ensures { result.now ≡ self.now.0.field }
     {
-        self.0.same(&other.0)
+        self.0.field()
     }
 }
 
-impl DerText for RsaPrivateKey {
-    ghost value = { λ x. ⟦<Ruled<Record<RsaKeyForm>, RsaKeyForm> as DerText>⟧.value x.0 };
+impl FieldsText for RsaFields {
+    ghost values = { λ fields. ⟦<Listed as FieldsText>⟧.values fields.0 };
 
-    ghost one_text = { λ x y.
-        ⟦<Ruled<Record<RsaKeyForm>, RsaKeyForm> as DerText>⟧.one_text x.0 y.0 };
+    ghost listing = { through (λ fields. fields.0) ⟦<Listed as FieldsText>⟧.listing };
 
     fn size(&self) -> u64 {
         self.0.size()
@@ -107,17 +82,51 @@ impl DerText for RsaPrivateKey {
     }
 }
 
-#[tactic(auto, unfolding(pkix_definitions::specs::DocumentTypes::RSAPrivateKey))]
-impl Element for RsaPrivateKey {
-    ghost type_term = { RSAPrivateKey };
-
-    ghost closed = { rsa_key_closed };
-
-    fn fits(tag: Tag) -> bool {
-        Ruled::<Record<RsaKeyForm>, RsaKeyForm>::fits(tag)
-    }
-
-    fn read<R: Source>(alloc: Global, pull: &mut Pull<'_, R>) -> Result<RsaPrivateKey, ReadError> {
-        Ok(RsaPrivateKey(Ruled::<Record<RsaKeyForm>, RsaKeyForm>::read(alloc, pull)?))
+impl FirstFields for RsaFields {
+    fn read_first<R: Source>(
+        alloc: Global,
+        pull: &mut Pull<'_, R>,
+        next: &mut Next,
+    ) -> Result<RsaFields, ReadError> {
+        match <Listed as FirstFields>::read_first(alloc, pull, next) {
+            Ok(listed) => Ok(RsaFields(listed)),
+            Err(error) => Err(error),
+        }
     }
 }
+
+impl SequenceFields for RsaFields {
+    ghost type_term = { SequenceType (universal 16) (⟦<Listed as FieldsText>⟧.listing.types EndOfFields) };
+
+    ghost listed = { refl };
+
+    ghost parted = { refl };
+
+    ghost few = { ltb-true _ _ refl };
+}
+
+/// Under version 1 there are more than two primes.
+impl RuledFields for RsaFields {
+    ghost rule = { rsa_version_rule };
+
+    ghost fair = { fair_rsa_version };
+
+    ghost honest = { honest_rsa_version };
+
+    ghost alone = { λ earlier. refl };
+
+    #[tactic(auto, unfolding(x690::specs::Values::leaf_at))]
+    fn judge(&self) -> Option<Reason> {
+        if self.version() == 0 {
+            return None;
+        }
+        match self.other_primes() {
+            Some(_) => None,
+            None => Some(Reason::VersionRule),
+        }
+    }
+}
+
+/// An RSA private key, of two primes (version 0) or of more (version 1). Whether the numbers belong together isn't
+/// looked at.
+pub type RsaPrivateKey = RuledSequence<RsaFields>;

@@ -6,33 +6,33 @@ ghost use Rattle.tlv_core.specs.declared.reason.Reason.TheVariants as why;
 ghost use Rattle.x690.specs.Layouts.{context_specific, universal};
 ghost use Rattle.rows.specs.Rules.{fair_length, honest_left_out, honest_length, honest_version, length_rule};
 
-use asn_contained::defined_by::{DefinedBy, Defines};
-use asn_contained::dependent::Independent;
-use asn_contained::optional_dependent::OptionalDependent;
-use asn_contained::ruled_behind::RuledBehind;
+use asn_values::defined_by::{DefinedBy, Defines};
+use asn_values::dependent::Independent;
 use asn_values::integer::Int;
-use asn_values::judged::FieldRules;
 use asn_values::octets::Octets;
-use asn_values::record::{Form, Record};
+use asn_values::optional_dependent::OptionalDependent;
 use asn_values::refused::{Refusal, Refused};
-use asn_values::sequence::{Optional, Required};
+use asn_values::ruled_behind::{FieldRules, RuledBehind};
+use asn_values::sequence::{Optional, Required, Sequence};
 use asn_values::tags::{context_tag, universal_tag};
+use asn_values::unnamed::{Completes, Unnamed};
 use tlv_core::reason::Reason;
 use tlv_core::tag::Tag;
 
 /// number, sealed, octets.
+type Listed = OptionalDependent<
+    NumberAndSealed,
+    DefinedBy<Independent<Refused<BehindZero>>, RuledBehind<Octets, AsLong>, BehindZero>,
+>;
+
+/// number, sealed, octets.
 #[derive(Drop)]
-pub struct AllowedForm;
+pub struct AllowedFields;
 
 /// number, sealed.
 type NumberAndSealed = (Required<Int>, Optional<Refused<Sealed>>);
 
-impl Form for AllowedForm {
-    type Fields = OptionalDependent<
-        NumberAndSealed,
-        DefinedBy<Independent<Refused<BehindZero>>, RuledBehind<Octets, AsLong>, BehindZero>,
-    >;
-
+impl Completes<Listed> for AllowedFields {
     ghost parted = { refl };
 
     ghost few = { ltb-true _ _ refl };
@@ -114,4 +114,4 @@ impl FieldRules<NumberAndSealed, Octets> for AsLong {
 }
 
 /// A number, and octets that it allows.
-pub type Allowed = Record<AllowedForm>;
+pub type Allowed = Sequence<Unnamed<Listed, AllowedFields>>;

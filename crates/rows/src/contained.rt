@@ -3,14 +3,14 @@
 ghost use Rattle.std.proofs.lemmas.Bool.{ltb-true};
 ghost use Rattle.std.specs.Prelude.{refl};
 
-use crate::flagged::FlaggedForm;
-use asn_contained::containing::Containing;
-use asn_contained::ruled_containing::JudgedInside;
+use crate::flagged::FlaggedFields;
 use asn_values::boolean::Bool;
+use asn_values::containing::Containing;
 use asn_values::integer::Int;
 use asn_values::octets::Octets;
-use asn_values::record::{Form, Record};
-use asn_values::sequence::Required;
+use asn_values::ruled_containing::JudgedInside;
+use asn_values::sequence::{Required, Sequence};
+use asn_values::unnamed::{Completes, Unnamed};
 
 /// OCTET STRING (CONTAINING INTEGER).
 pub type ContainedInteger = Containing<Int>;
@@ -22,16 +22,17 @@ pub type ContainedTwice = Containing<ContainedInteger>;
 pub type ContainedLetter = Containing<Letter>;
 
 /// flag, octets.
+type Listed = JudgedInside<Required<Bool>, Octets, FlaggedFields>;
+
+/// flag, octets.
 #[derive(Drop)]
-pub struct LetterForm;
+pub struct LetterFields;
 
-impl Form for LetterForm {
-    type Fields = JudgedInside<Required<Bool>, Octets, FlaggedForm>;
-
+impl Completes<Listed> for LetterFields {
     ghost parted = { refl };
 
     ghost few = { ltb-true _ _ refl };
 }
 
 /// A flag, and inside an OCTET STRING octets that go with it.
-pub type Letter = Record<LetterForm>;
+pub type Letter = Sequence<Unnamed<Listed, LetterFields>>;

@@ -11,10 +11,6 @@ use private_keys::rsa_private_key::RsaPrivateKey;
 use std::alloc::AllocError;
 
 impl Described for EcPrivateKey {
-    fn is_same(&self, other: &EcPrivateKey) -> bool {
-        self.same(other)
-    }
-
     fn describe(&self, line: &mut Line) -> Result<(), AllocError> {
         line.octets("key", self.key().octets())?;
         match self.curve() {
@@ -32,20 +28,12 @@ impl Described for EcPrivateKey {
 }
 
 impl Described for CurveKey {
-    fn is_same(&self, other: &CurveKey) -> bool {
-        self.same(other)
-    }
-
     fn describe(&self, line: &mut Line) -> Result<(), AllocError> {
         line.octets("key", self.key().octets())
     }
 }
 
 impl Described for EncryptedKey {
-    fn is_same(&self, other: &EncryptedKey) -> bool {
-        self.same(other)
-    }
-
     fn describe(&self, line: &mut Line) -> Result<(), AllocError> {
         self.algorithm().describe(line)?;
         line.octets("octets", self.octets().octets())
@@ -53,10 +41,6 @@ impl Described for EncryptedKey {
 }
 
 impl Described for OtherPrimeInfo {
-    fn is_same(&self, other: &OtherPrimeInfo) -> bool {
-        self.same(other)
-    }
-
     fn describe(&self, line: &mut Line) -> Result<(), AllocError> {
         line.octets("prime", self.prime().contents())?;
         line.octets("exponent", self.exponent().contents())?;
@@ -65,10 +49,6 @@ impl Described for OtherPrimeInfo {
 }
 
 impl Described for RsaPrivateKey {
-    fn is_same(&self, other: &RsaPrivateKey) -> bool {
-        self.same(other)
-    }
-
     fn describe(&self, line: &mut Line) -> Result<(), AllocError> {
         line.number("version", usize::from(self.version()))?;
         for i in 0..9 {

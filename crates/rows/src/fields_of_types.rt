@@ -21,10 +21,6 @@ use pkix_values::version::Version;
 use std::alloc::AllocError;
 
 impl Described for Text {
-    fn is_same(&self, other: &Text) -> bool {
-        self.same(other)
-    }
-
     fn describe(&self, line: &mut Line) -> Result<(), AllocError> {
         line.number("tag", self.tag().number() as usize)?;
         line.octets("octets", self.octets())
@@ -32,30 +28,18 @@ impl Described for Text {
 }
 
 impl<T: Element> Described for SetOf<T> {
-    fn is_same(&self, other: &SetOf<T>) -> bool {
-        self.same(other)
-    }
-
     fn describe(&self, line: &mut Line) -> Result<(), AllocError> {
         line.number("members", self.len())
     }
 }
 
 impl Described for Implicit<0, SetOf<Int>> {
-    fn is_same(&self, other: &Implicit<0, SetOf<Int>>) -> bool {
-        self.same(other)
-    }
-
     fn describe(&self, line: &mut Line) -> Result<(), AllocError> {
         line.number("members", self.value().len())
     }
 }
 
 impl Described for Any {
-    fn is_same(&self, other: &Any) -> bool {
-        self.same(other)
-    }
-
     fn describe(&self, line: &mut Line) -> Result<(), AllocError> {
         match self.oid() {
             Some(id) => line.octets("identifier", id.contents()),
@@ -65,20 +49,12 @@ impl Described for Any {
 }
 
 impl<const LEAST: u8, const MOST: u8> Described for Version<LEAST, MOST> {
-    fn is_same(&self, other: &Version<LEAST, MOST>) -> bool {
-        self.same(other)
-    }
-
     fn describe(&self, line: &mut Line) -> Result<(), AllocError> {
         line.number("number", usize::from(self.number()))
     }
 }
 
 impl Described for AlgorithmIdentifier {
-    fn is_same(&self, other: &AlgorithmIdentifier) -> bool {
-        self.same(other)
-    }
-
     fn describe(&self, line: &mut Line) -> Result<(), AllocError> {
         line.octets("algorithm", self.algorithm().contents())?;
         match self.parameters() {
@@ -89,21 +65,13 @@ impl Described for AlgorithmIdentifier {
 }
 
 impl Described for NameItem {
-    fn is_same(&self, other: &NameItem) -> bool {
-        self.same(other)
-    }
-
     fn describe(&self, line: &mut Line) -> Result<(), AllocError> {
         line.octets("type", self.id().contents())?;
         line.value("value", self.value())
     }
 }
 
-impl<T: Described> Described for SetOfSome<T> {
-    fn is_same(&self, other: &SetOfSome<T>) -> bool {
-        self.same(other)
-    }
-
+impl<T: Described + Element> Described for SetOfSome<T> {
     fn describe(&self, line: &mut Line) -> Result<(), AllocError> {
         line.number("items", self.items().len())?;
         for i in 0..self.items().len() {
@@ -116,10 +84,6 @@ impl<T: Described> Described for SetOfSome<T> {
 }
 
 impl Described for Name {
-    fn is_same(&self, other: &Name) -> bool {
-        self.same(other)
-    }
-
     fn describe(&self, line: &mut Line) -> Result<(), AllocError> {
         if self.rdns().is_empty() {
             return line.part("no parts");
@@ -140,10 +104,6 @@ pub fn describe_bits(line: &mut Line, bits: &Bits) -> Result<(), AllocError> {
 }
 
 impl Described for SubjectPublicKeyInfo {
-    fn is_same(&self, other: &SubjectPublicKeyInfo) -> bool {
-        self.same(other)
-    }
-
     fn describe(&self, line: &mut Line) -> Result<(), AllocError> {
         self.algorithm().describe(line)?;
         line.part("key")?;
@@ -152,10 +112,6 @@ impl Described for SubjectPublicKeyInfo {
 }
 
 impl Described for Attribute {
-    fn is_same(&self, other: &Attribute) -> bool {
-        self.same(other)
-    }
-
     fn describe(&self, line: &mut Line) -> Result<(), AllocError> {
         line.octets("type", self.id().contents())?;
         line.number("values", self.values().len())
@@ -163,10 +119,6 @@ impl Described for Attribute {
 }
 
 impl Described for Extension {
-    fn is_same(&self, other: &Extension) -> bool {
-        self.same(other)
-    }
-
     fn describe(&self, line: &mut Line) -> Result<(), AllocError> {
         line.octets("extension", self.id().contents())?;
         line.part(if self.critical() {
@@ -179,10 +131,6 @@ impl Described for Extension {
 }
 
 impl Described for RequestAttribute {
-    fn is_same(&self, other: &RequestAttribute) -> bool {
-        self.same(other)
-    }
-
     fn describe(&self, line: &mut Line) -> Result<(), AllocError> {
         line.octets("type", self.id().contents())?;
         match self.plain() {
@@ -208,10 +156,6 @@ impl Described for RequestAttribute {
 }
 
 impl Described for CertificationRequestInfo {
-    fn is_same(&self, other: &CertificationRequestInfo) -> bool {
-        self.same(other)
-    }
-
     fn describe(&self, line: &mut Line) -> Result<(), AllocError> {
         line.part("subject")?;
         self.subject().describe(line)?;
@@ -230,10 +174,6 @@ impl Described for CertificationRequestInfo {
 }
 
 impl Described for CertificationRequest {
-    fn is_same(&self, other: &CertificationRequest) -> bool {
-        self.same(other)
-    }
-
     fn describe(&self, line: &mut Line) -> Result<(), AllocError> {
         self.info().describe(line)?;
         line.part("signature")?;

@@ -4,25 +4,27 @@ ghost use Rattle.std.specs.Prelude.{refl};
 ghost use Rattle.rows.specs.Rules.{fair_flag, flag_rule, honest_flag};
 
 use asn_values::boolean::Bool;
-use asn_values::judged::{FieldRules, Judged};
+use asn_values::dependent::Dependent;
 use asn_values::octets::Octets;
-use asn_values::record::{Form, Record};
-use asn_values::sequence::Required;
+use asn_values::ruled_behind::{FieldRules, RuledBehind};
+use asn_values::sequence::{Required, Sequence};
+use asn_values::unnamed::{Completes, Unnamed};
 use tlv_core::reason::Reason;
 
 /// flag, octets.
+type Listed = Dependent<Required<Bool>, RuledBehind<Octets, FlaggedFields>>;
+
+/// flag, octets.
 #[derive(Drop)]
-pub struct FlaggedForm;
+pub struct FlaggedFields;
 
-impl Form for FlaggedForm {
-    type Fields = Judged<Required<Bool>, Octets, FlaggedForm>;
-
+impl Completes<Listed> for FlaggedFields {
     ghost parted = { refl };
 
     ghost few = { ltb-true _ _ refl };
 }
 
-impl FieldRules<Required<Bool>, Octets> for FlaggedForm {
+impl FieldRules<Required<Bool>, Octets> for FlaggedFields {
     ghost rule = { flag_rule };
 
     ghost fair = { fair_flag };
@@ -40,4 +42,4 @@ impl FieldRules<Required<Bool>, Octets> for FlaggedForm {
 }
 
 /// A flag, and octets that go with it.
-pub type Flagged = Record<FlaggedForm>;
+pub type Flagged = Sequence<Unnamed<Listed, FlaggedFields>>;

@@ -6,21 +6,22 @@ ghost use Rattle.std.specs.Prelude.{refl};
 use asn_values::integer::Int;
 use asn_values::list_of_some::ListOfSome;
 use asn_values::octets::Octets;
-use asn_values::record::{Form, Record};
-use asn_values::sequence::{Optional, Required};
+use asn_values::sequence::{Optional, Required, Sequence};
+use asn_values::unnamed::{Completes, Unnamed};
 use tlv_core::oid::Oid;
 
 /// number, subject, lines.
+type Listed = (Required<Int>, (Optional<Oid>, Required<ListOfSome<Octets>>));
+
+/// number, subject, lines.
 #[derive(Drop)]
-pub struct NoteForm;
+pub struct NoteFields;
 
-impl Form for NoteForm {
-    type Fields = (Required<Int>, (Optional<Oid>, Required<ListOfSome<Octets>>));
-
+impl Completes<Listed> for NoteFields {
     ghost parted = { refl };
 
     ghost few = { ltb-true _ _ refl };
 }
 
 /// A note.
-pub type Note = Record<NoteForm>;
+pub type Note = Sequence<Unnamed<Listed, NoteFields>>;

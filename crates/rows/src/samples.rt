@@ -3,22 +3,23 @@ ghost use Rattle.std.proofs.lemmas.Bool.{ltb-true};
 ghost use Rattle.std.specs.Prelude.{refl};
 
 use asn_values::integer::Int;
-use asn_values::record::{Form, Record};
-use asn_values::sequence::Required;
+use asn_values::sequence::{Required, Sequence};
 use asn_values::set_of::SetOf;
+use asn_values::unnamed::{Completes, Unnamed};
 use tlv_core::oid::Oid;
 
 /// name, counts.
+type Listed = (Required<Oid>, Required<SetOf<Int>>);
+
+/// name, counts.
 #[derive(Drop)]
-pub struct SampleForm;
+pub struct SampleFields;
 
-impl Form for SampleForm {
-    type Fields = (Required<Oid>, Required<SetOf<Int>>);
-
+impl Completes<Listed> for SampleFields {
     ghost parted = { refl };
 
     ghost few = { ltb-true _ _ refl };
 }
 
 /// What was counted, and how often each time.
-pub type Sample = Record<SampleForm>;
+pub type Sample = Sequence<Unnamed<Listed, SampleFields>>;

@@ -179,7 +179,7 @@ fn plain<T: Element>(alloc: Global, task: &Task<'_>) -> Answer {
 }
 
 /// A value of the type, whether two are the same, or what the field readers of one answer.
-fn described<T: Described>(alloc: Global, task: &Task<'_>) -> Answer {
+fn described<T: Described + Element>(alloc: Global, task: &Task<'_>) -> Answer {
     match task.words.task {
         "same" => same::<T>(alloc, task.octets, task.words.limits),
         "fields" => fields::<T>(alloc, task.octets, task.words.limits),

@@ -5,7 +5,7 @@ use Rattle.asn_documents.proofs.WholeInputs.{unread_whole}
 use Rattle.pk_documents.specs.Kinds.{type_of}
 use Rattle.pk_documents.specs.RequestParts.{part_of}
 use Rattle.pk_documents.specs.declared.kind.Kind.TheVariants.{Request}
-use Rattle.pkcs10.specs.contracts.request.CertificationRequestDerText.TheImpl as request_text
+use Rattle.pkcs10.specs.Requests.{request_value_of}
 use Rattle.pk_documents.proofs.LawfulKinds.{kinds_are_lawful}
 use Rattle.pk_documents.proofs.RequestParts.{part_same}
 use Rattle.pk_commands.specs.Replies.{DueOfValue, Unreadable}
@@ -28,25 +28,25 @@ returns-in-Ok-clause-replied g c =
     let reads = c.in-Ok.ensures.reads in
     let due = due_of_value l T (part_of part) (part_same part) before after _ c.in-Ok._taken (kinds_are_lawful Request)
     (search rules) reads c.in-Ok.ensures.ends in
-    text_replies (λ _. part_of c.args.part (request_text.value-value.it c.in-Ok.request)) c.args.dst.now
+    text_replies (λ _. part_of c.args.part (request_value_of c.in-Ok.request)) c.args.dst.now
     c.write_part_text.new.dst g.W.Target.contents
     g.W.Target.has_failed c.write_part_text.result outcomes.Done tt
     (λ error. Unreadable l T error before after) (DueOfValue l T (part_of part) before after) _ c.new_block.result (is_due c.new_block.result refl)
     due
-    (no_memory l T before after reads.octets (der (request_text.value-value.it c.in-Ok.request)) reads.takes
-    (λ more. reads.answers more ∙ ap (Spelled (der (request_text.value-value.it c.in-Ok.request))) reads.taken_are)
+    (no_memory l T before after reads.octets (der (request_value_of c.in-Ok.request)) reads.takes
+    (λ more. reads.answers more ∙ ap (Spelled (der (request_value_of c.in-Ok.request))) reads.taken_are)
     reads.spells.octets_fit)
     c.write_part_text.ensures
 
 pub returns-in-Ok-clause-unwritten : goal.returns-in-Ok-clause-unwritten
 returns-in-Ok-clause-unwritten g c =
-    text_silent (λ _. part_of c.args.part (request_text.value-value.it c.in-Ok.request)) c.args.dst.now
+    text_silent (λ _. part_of c.args.part (request_value_of c.in-Ok.request)) c.args.dst.now
     c.write_part_text.new.dst g.W.Target.contents
     g.W.Target.has_failed c.write_part_text.result outcomes.Done tt c.new_block.result c.write_part_text.ensures
 
 pub returns-in-Ok-clause-failed : goal.returns-in-Ok-clause-failed
 returns-in-Ok-clause-failed g c =
-    text_fails (λ _. part_of c.args.part (request_text.value-value.it c.in-Ok.request)) c.args.dst.now
+    text_fails (λ _. part_of c.args.part (request_value_of c.in-Ok.request)) c.args.dst.now
     c.write_part_text.new.dst g.W.Target.contents g.W.Target.has_failed
     c.write_part_text.result outcomes.Done tt c.new_block.result
     (g.R.Source.has_failed c.read_whole_input.new.src) c.in-Ok.ensures.read c.requires.writable

@@ -1,7 +1,7 @@
 use Rattle.std.proofs.Common.{ap, le_of_eq, subst, sym}
 use Rattle.asn_documents.specs.WrittenValues.{WritesText}
 use Rattle.pk_documents.specs.RequestParts.{part_of}
-use Rattle.pkcs10.specs.contracts.request.CertificationRequestDerText.TheImpl as request_text
+use Rattle.pkcs10.specs.Requests.{request_value_of}
 use Rattle.pk_commands.specs.BlockTargets.{has_failed_under, held, target_of}
 use Rattle.pk_commands.specs.KnownOctets.{known_length}
 use Rattle.pk_commands.proofs.BlockTargets.{at_last, none_waits}
@@ -12,7 +12,7 @@ invariant_of-blocks-clause-no_shorter g c = le_of_eq (ap known_length (sym c.req
 
 pub returns-clause-writes : goal.returns-clause-writes
 returns-clause-writes g c =
-    let text = part_of c.args.part (request_text.value-value.it c.args.request.now) in
+    let text = part_of c.args.part (request_value_of c.args.request.now) in
     let before = g.K.Start.before in
     let contents = g.W.Target.contents c.args.dst.now in
     let came = c.write_part-come.new.dst in

@@ -1,5 +1,6 @@
 use Rattle.std.proofs.Common.{◌∙◌, ◌++◌, ap, ap₂, codes, length, string_bytes}
 use Rattle.asn_elements.specs.Leaves.{octets_of}
+use Rattle.pkcs8.specs.EncryptedKeys.{encrypted_data_of, encryption_algorithm_of}
 use Rattle.pk_show.specs.Lines.{octets_line}
 use Rattle.pk_show.specs.Shown.{algorithm_lines, encrypted_lines}
 use Rattle.pk_show.proofs.Behind.{in_words, past}
@@ -17,5 +18,5 @@ returns c =
     (string_bytes c.push_algorithm.new.text) old first second c.in_ok-push_algorithm.ensures c.push_octets_line.ensures)
     (ap₂ (λ it octets.
     algorithm_lines (codes "algorithm: ") (codes "parameters: ") it
-    ++ octets_line (codes "encrypted key: ") (length octets)) c.algorithm.ensures
-    (c.octets-2.ensures ∙ ap octets_of c.octets.ensures))
+    ++ octets_line (codes "encrypted key: ") (length octets)) (c.algorithm.ensures ∙ ap encryption_algorithm_of c.deref.ensures)
+    (c.octets-2.ensures ∙ ap octets_of (c.octets.ensures ∙ ap encrypted_data_of c.deref-2.ensures)))

@@ -1,6 +1,7 @@
-use Rattle.std.proofs.Common.{◌++◌, ap, ap₂, codes, string_bytes}
+use Rattle.std.proofs.Common.{◌∙◌, ◌++◌, ap, ap₂, codes, string_bytes}
 use Rattle.std.specs.Option.{option_map}
 use Rattle.asn_lists.specs.Containers.{set_items}
+use Rattle.pkcs10.specs.Infos.{request_attributes_of, subject_key_of, subject_of}
 use Rattle.pk_show.specs.Shown.{attributes_lines, info_lines, public_key_lines, request_attribute_lines, subject_lines}
 use Rattle.pk_show.proofs.Behind.{further, in_words, past}
 use Rattle.pk_show.proofs.requests.push_info.Goals as goal
@@ -22,6 +23,8 @@ returns c =
     (further with_key with_subject old first second c.in_ok-push_subject.ensures c.in_ok-push_public_key.ensures)
     c.push_attributes.ensures)
     (ap₂ (λ a b. a ++ b)
-    (ap₂ (λ a b. a ++ b) (ap subject_lines c.subject.ensures)
-    (ap (public_key_lines (codes "key algorithm: ") (codes "key parameters: ")) c.key_info.ensures))
-    (ap (λ set. attributes_lines request_attribute_lines (option_map (λ set. set_items set) set)) c.attributes.ensures))
+    (ap₂ (λ a b. a ++ b) (ap subject_lines (c.subject.ensures ∙ ap subject_of c.deref.ensures))
+    (ap (public_key_lines (codes "key algorithm: ") (codes "key parameters: "))
+    (c.key_info.ensures ∙ ap subject_key_of c.deref-2.ensures)))
+    (ap (λ set. attributes_lines request_attribute_lines (option_map (λ set. set_items set) set))
+    (c.attributes.ensures ∙ ap request_attributes_of c.deref-3.ensures)))

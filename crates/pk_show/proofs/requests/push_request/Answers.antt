@@ -1,4 +1,5 @@
-use Rattle.std.proofs.Common.{◌++◌, ap, ap₂, codes, string_bytes}
+use Rattle.std.proofs.Common.{◌∙◌, ◌++◌, ap, ap₂, codes, string_bytes}
+use Rattle.pkcs10.specs.Requests.{request_info_of, signature_algorithm_of, signature_of}
 use Rattle.pk_show.specs.Lines.{bits_said, line}
 use Rattle.pk_show.specs.Shown.{algorithm_lines, info_lines, request_lines}
 use Rattle.pk_show.proofs.Behind.{further, in_words, past}
@@ -21,7 +22,8 @@ returns c =
     (further with_algorithm with_info old first second c.in_ok-push_info.ensures c.in_ok-push_algorithm.ensures)
     c.push_bits_line.ensures)
     (ap₂ (λ a b. a ++ b)
-    (ap₂ (λ a b. a ++ b) (ap info_lines c.info.ensures)
+    (ap₂ (λ a b. a ++ b) (ap info_lines (c.info.ensures ∙ ap request_info_of c.deref.ensures))
     (ap
-    (algorithm_lines (codes "signature algorithm: ") (codes "signature parameters: ")) c.signature_algorithm.ensures))
-    (ap (λ bits. line (codes "signature: ") (bits_said bits)) c.signature.ensures))
+    (algorithm_lines (codes "signature algorithm: ") (codes "signature parameters: "))
+    (c.signature_algorithm.ensures ∙ ap signature_algorithm_of c.deref-2.ensures)))
+    (ap (λ bits. line (codes "signature: ") (bits_said bits)) (c.signature.ensures ∙ ap signature_of c.deref-3.ensures)))

@@ -33,7 +33,7 @@ returns-in-Some-clause-stands c =
     stands_by (one_of (version.number ∷ []) ((0 ∷ []) ∷ [])) _ fields.field fields.suits
     (λ k s. seen_by_version _ _ (λ ruled. value_under ruled.value) _ k.0.value s) (passes c.args.self.now) in
     let field =
-    c.field.ensures.value ∙ ap (λ f. f.0.field) (c.fields.ensures ∙ ap (λ r. r.fields) c.value.ensures.value) in
+    c.public_key.ensures ∙ ap (λ f. f.0.field) (c.deref.ensures ∙ ap (λ r. r.fields) c.value.ensures.value) in
     shown_where_there (λ r. r.now) c.bits.result
     ∙ ap is_some (c.bits.ensures ∙ ap bits_of (sym c.in-Some.is ∙ field))
     ∙ stands
@@ -49,5 +49,5 @@ returns-in-None-clause-stands c =
     stands_by (one_of (version.number ∷ []) ((0 ∷ []) ∷ [])) _ fields.field fields.suits
     (λ k s. seen_by_version _ _ (λ ruled. value_under ruled.value) _ k.0.value s) (passes c.args.self.now) in
     let field =
-    c.field.ensures.value ∙ ap (λ f. f.0.field) (c.fields.ensures ∙ ap (λ r. r.fields) c.value.ensures.value) in
+    c.public_key.ensures ∙ ap (λ f. f.0.field) (c.deref.ensures ∙ ap (λ r. r.fields) c.value.ensures.value) in
     ap (λ f. is_some (bits_of f)) (sym c.in-None.is ∙ field) ∙ stands ∙ is_1 version.number version.allowed

@@ -5,6 +5,6 @@ use Rattle.pkix_values.proofs.algorithm.AlgorithmIdentifier.parameters.Goals as 
 
 pub returns-clause-bare : goal.returns-clause-bare
 returns-clause-bare c = λ e.
-    let none : c.args.self.now.0.value.fields.1.0 ≡ None = parameters_bare open_value_of
-    c.args.self.now.0.value.fields.0.0 c.args.self.now.0.value.fields.1.0 c.args.self.now.0.judged e in
+    let none : c.args.self.now.0.value.fields.0.1.0 ≡ None = parameters_bare open_value_of
+    c.args.self.now.0.value.fields.0.0.0 c.args.self.now.0.value.fields.0.1.0 c.args.self.now.0.judged e in
     search rules

@@ -1,2 +1,0 @@
-pub mod Contained
-pub mod Dependents

@@ -1,4 +1,0 @@
-pub mod ClosedTypes
-pub mod Contained
-pub mod DependentLaws
-pub mod Dependents

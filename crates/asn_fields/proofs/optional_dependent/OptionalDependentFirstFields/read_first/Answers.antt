@@ -1,0 +1,35 @@
+use Rattle.std.proofs.Common.{rules, [], arith}
+use Rattle.std.specs.Option.{option_map}
+use Rattle.asn_fields.specs.FieldReadings.{with_field}
+use Rattle.asn_fields.proofs.FieldAnswers.{with_error}
+use Rattle.asn_fields.proofs.PartTexts.{length_both}
+use Rattle.asn_fields.proofs.BegunSequence.{after_optional_behind, stopped_at_optional_behind}
+use Rattle.asn_fields.proofs.Dependents.{optional_text_short}
+use Rattle.asn_fields.proofs.optional_dependent.OptionalDependentFirstFields.read_first.Goals as goal
+
+pub returns-in_err-earlier-clause-reads : goal.returns-in_err-earlier-clause-reads
+returns-in_err-earlier-clause-reads g c = λ k s whole finish rest a.
+    with_error _ _ c.from_residual.result c.in_err-earlier.field-0.0 (search rules)
+    (c.in_err-earlier.ensures.reads k s whole finish _ a)
+
+pub returns-in_err-field-clause-reads : goal.returns-in_err-field-clause-reads
+returns-in_err-field-clause-reads g c = λ k s whole finish rest a.
+    let earlier = c.in_ok-earlier.ensures.reads k s whole finish _ a in
+    with_error _ _ c.from_residual-in_err-field.result c.in_err-field.field-0.0 (search rules)
+    (stopped_at_optional_behind earlier _ _ _ c.in_err-field.ensures.reads)
+
+pub returns-clause-reads : goal.returns-clause-reads
+returns-clause-reads g c = λ k s whole finish rest a.
+    let earlier = c.in_ok-earlier.ensures.reads k s whole finish _ a in
+    after_optional_behind earlier _ c.in_ok-field.ensures.reads c.in_ok-field.ensures.stands
+
+pub returns-clause-short : goal.returns-clause-short
+returns-clause-short g c =
+    let a = g.A.FieldsText.values c.in_ok-earlier.earlier in
+    let w = option_map g.F.DependentElement.value c.in_ok-field.field in
+    omega (
+      arith,
+      length_both a (with_field w []),
+      optional_text_short g.F.DependentElement.value c.in_ok-field.field c.in_ok-field.ensures.short,
+      c.in_ok-earlier.ensures.short,
+    )

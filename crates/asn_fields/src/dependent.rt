@@ -1,0 +1,300 @@
+//! Fields whose type or rule goes by those before them.
+//!
+//! `Dependent<A, F>` are the fields `A` and one behind them, `F`, that is due; in `OptionalDependent<A, F>` it may be
+//! absent. `F` is put together of `Independent`, an element of any type, `DefinedBy`, one of two by a leaf of the
+//! fields before it, `RuledBehind` and `RuledContaining`, with a rule that looks at these fields, and `Refused`.
+ghost use Rattle.std.specs.Prelude.{◌≡◌, ◌+◌, ◌++◌, ◌<◌, ◌^◌, ◌∷◌, Bool as Truth, IfOk, IfSome, IsSome, List, None, Ok, OnOk, [], false, length, slice_get, true};
+ghost use Rattle.tlv_core.specs.Sinks.{count, Puts};
+ghost use Rattle.x690.specs.DerTexts.{der};
+ghost use Rattle.x690.specs.TypeTerms.{TypeTerm, fits_tag};
+ghost use Rattle.x690.specs.Values.{Value, value_tag};
+ghost use Rattle.ber_pull.specs.View.{standing, AsksNoMemory, Unmoved, Uses, Frame};
+ghost use Rattle.asn_fields.specs.Apart.{may_begin};
+ghost use Rattle.asn_fields.specs.Fields.{IsInside, LeavesWithin, StaysInside, stands_next};
+ghost use Rattle.asn_fields.specs.Dependents.{AnswersBehind, RequiredBehind, OneTextBehind, OptionalBehind, TakesBehind, suits_where_there};
+ghost use Rattle.asn_fields.specs.Listings.{through};
+ghost use Rattle.asn_fields.specs.DependentLaws.{dependent};
+
+use crate::fields::{Next, ahead};
+use crate::parts::Parts;
+use crate::sequence::{FieldsText, FirstFields, Kept};
+use asn_elements::element::Element;
+use ber_pull::pull::Pull;
+use std::alloc::Global;
+use std::marker::PhantomData;
+use tlv_core::fault::ReadError;
+use tlv_core::reason::Reason;
+use tlv_core::sink::{Sink, WriteError};
+use tlv_core::source::Source;
+use tlv_core::tag::Tag;
+use tlv_core::target::Target;
+
+/// An element whose type or rule goes by the fields before it, `A`.
+pub trait DependentElement<A: FieldsText>: Sized + Drop {
+    /// Its type.
+    ghost type_term: { TypeTerm };
+
+    /// What it stands for.
+    ghost value: { Self → Value };
+
+    /// Whether it is of the type behind fields of these values.
+    ghost suits: { List Value → Self → Truth };
+
+    /// Behind the same fields, two that have one text are the same.
+    ghost one_text: { OneTextBehind value suits };
+
+    /// Whether a value of the type may begin with this tag.
+    fn fits(tag: Tag) -> bool
+        ensures { result ≡ fits_tag type_term tag };
+
+    /// Reads the element that `next_tag` has given, as the plain reading of the type does behind the earlier fields.
+    fn read<R: Source>(
+        alloc: Global,
+        pull: &mut Pull<'_, R>,
+        earlier: &A,
+    ) -> Result<Self, ReadError>
+        requires { (standing pull.old).error ≡ None → IsSome (standing pull.old).given }
+        ensures frame { Frame pull.old pull.new result }
+        ensures reads { AnswersBehind pull.old pull.new type_term
+            (A.values earlier.now) Self.value result }
+        ensures suits { IfOk result (λ x. Self.suits (A.values earlier.now) x ≡ true) }
+        ensures stands { OnOk result (Uses pull.old pull.new) };
+
+    /// The length of its text, in octets.
+    fn size(&self) -> u64
+        ensures { result ≡ length (der (value self.now)) };
+
+    /// Writes its text.
+    fn put<W: Target>(&self, sink: &mut Sink<'_, W>) -> Result<(), WriteError>
+        requires { count sink.old + length (der (value self.now)) < 2 ^ 64 }
+        ensures { Puts (der (value self.now)) sink.old sink.new result };
+
+    /// Octet `i` of its text.
+    fn octet(&self, i: u64) -> Option<u8>
+        ensures { result ≡ slice_get (der (value self.now)) i };
+}
+
+/// An element of a type that no other field bears on.
+#[derive(Drop)]
+pub struct Independent<T: Drop>(pub T);
+
+impl<A: FieldsText, T: Element> DependentElement<A> for Independent<T> {
+    ghost type_term = { T.type_term };
+
+    ghost value = { λ x. T.value x.0 };
+
+    ghost suits = { λ vs x. true };
+
+    ghost one_text = { λ vs ws x y same h k. T.one_text x.0 y.0 };
+
+    fn fits(tag: Tag) -> bool {
+        T::fits(tag)
+    }
+
+    fn read<R: Source>(
+        alloc: Global,
+        pull: &mut Pull<'_, R>,
+        earlier: &A,
+    ) -> Result<Independent<T>, ReadError> {
+        let _ = earlier;
+        let value = T::read(alloc, pull)?;
+        Ok(Independent(value))
+    }
+
+    fn size(&self) -> u64 {
+        self.0.size()
+    }
+
+    fn put<W: Target>(&self, sink: &mut Sink<'_, W>) -> Result<(), WriteError> {
+        self.0.put(sink)
+    }
+
+    fn octet(&self, i: u64) -> Option<u8> {
+        self.0.octet(i)
+    }
+}
+
+/// A field that is due behind these, by itself: what stands behind it is looked at by `ahead`.
+///
+/// Faults: `Missing` at the end of the container, `WrongTag` at another element; those of the field.
+fn take_dependent<R: Source, A: FieldsText, F: DependentElement<A>>(
+    alloc: Global,
+    pull: &mut Pull<'_, R>,
+    next: Next,
+    earlier: &A,
+) -> Result<F, ReadError>
+    requires fine { (standing pull.old).error ≡ None }
+    requires inside { IsInside pull.old next }
+    ensures frame { Frame pull.old pull.new result }
+    ensures reads { TakesBehind pull.old pull.new next F.type_term
+        (A.values earlier.now) F.value result }
+    ensures suits { IfOk result (λ field. F.suits (A.values earlier.now) field ≡ true) }
+    ensures short { IfOk result (λ field. length (der (F.value field)) < 2 ^ 32) }
+    ensures begins { IfOk result (λ field.
+        may_begin F.type_term (value_tag (F.value field)) ≡ true) }
+    ensures stands { OnOk result (LeavesWithin pull.old pull.new next) }
+    ensures memory { stands_next F.type_term next ≡ false → AsksNoMemory pull.old result }
+{
+    let fits = match next.tag {
+        Some((tag, _)) => F::fits(tag),
+        None => return Err(pull.refuse(next.at, Reason::Missing, None)),
+    };
+    if !fits {
+        return Err(pull.refuse(next.at, Reason::WrongTag, None));
+    }
+    F::read(alloc, pull, earlier)
+}
+
+/// A field that is due behind these.
+///
+/// Faults: `Missing` at the end of the container, `WrongTag` at another element; those of the field, and of
+/// `Pull::next_tag` behind it.
+pub fn due_dependent<R: Source, A: FieldsText, F: DependentElement<A>>(
+    alloc: Global,
+    pull: &mut Pull<'_, R>,
+    next: &mut Next,
+    earlier: &A,
+) -> Result<F, ReadError>
+    requires fine { (standing pull.old).error ≡ None }
+    requires inside { IsInside pull.old next.old }
+    ensures frame { Frame pull.old pull.new result }
+    ensures reads { RequiredBehind pull.old pull.new next.old next.new F.type_term
+        (A.values earlier.now) F.value result }
+    ensures suits { IfOk result (λ field. F.suits (A.values earlier.now) field ≡ true) }
+    ensures short { IfOk result (λ field. length (der (F.value field)) < 2 ^ 32) }
+    ensures begins { IfOk result (λ field.
+        may_begin F.type_term (value_tag (F.value field)) ≡ true) }
+    ensures stands { OnOk result (StaysInside pull.old pull.new next.old next.new) }
+    ensures memory { stands_next F.type_term next.old ≡ false → AsksNoMemory pull.old result }
+{
+    let field = take_dependent::<R, A, F>(alloc, pull, *next, earlier)?;
+    *next = ahead(pull)?;
+    Ok(field)
+}
+
+/// A field behind these that may be absent.
+///
+/// Faults: those of the field where it stands here, and of `Pull::next_tag` behind it.
+pub fn optional_dependent<R: Source, A: FieldsText, F: DependentElement<A>>(
+    alloc: Global,
+    pull: &mut Pull<'_, R>,
+    next: &mut Next,
+    earlier: &A,
+) -> Result<Option<F>, ReadError>
+    requires fine { (standing pull.old).error ≡ None }
+    requires inside { IsInside pull.old next.old }
+    ensures frame { Frame pull.old pull.new result }
+    ensures reads { OptionalBehind pull.old pull.new next.old next.new F.type_term
+        (A.values earlier.now) F.value result }
+    ensures suits { IfOk result (λ field. suits_where_there (F.suits (A.values earlier.now)) field
+        ≡ true) }
+    ensures short { IfOk result (λ field. IfSome field (λ f. length (der (F.value f)) < 2 ^ 32)) }
+    ensures begins { IfOk result (λ field. IfSome field
+        (λ f. may_begin F.type_term (value_tag (F.value f)) ≡ true)) }
+    ensures stands { OnOk result (StaysInside pull.old pull.new next.old next.new) }
+    ensures absent { stands_next F.type_term next.old ≡ false
+        → (result ≡ Ok None) × Unmoved pull.old pull.new × (next.new ≡ next.old) }
+{
+    let fits = match next.tag {
+        Some((tag, _)) => F::fits(tag),
+        None => return Ok(None),
+    };
+    if !fits {
+        return Ok(None);
+    }
+    let field = F::read(alloc, pull, earlier)?;
+    *next = ahead(pull)?;
+    Ok(Some(field))
+}
+
+/// The fields `A`, and one behind them that is due and depends on them.
+#[derive(Drop)]
+pub struct Dependent<A: FieldsText, F: DependentElement<A>> {
+    earlier: A,
+    field: F,
+    ghost suits: { F.suits (A.values earlier) field ≡ true },
+}
+
+impl<A: FieldsText, F: DependentElement<A>> Dependent<A, F> {
+    /// The earlier fields.
+    pub fn earlier(&self) -> &A
+        ensures { result.now ≡ self.now.earlier }
+    {
+        &self.earlier
+    }
+
+    /// The field.
+    pub fn field(&self) -> &F
+        ensures value { result.now ≡ self.now.field }
+        ensures suits { F.suits (A.values self.now.earlier) result.now ≡ true }
+    {
+        &self.field
+    }
+
+    fn parts(&self) -> (Kept<'_, A>, Written<'_, A, F>)
+        ensures earlier { result.0.0.now ≡ self.now.earlier }
+        ensures field { result.1.field.now ≡ self.now.field }
+    {
+        (
+            Kept(&self.earlier),
+            Written {
+                field: &self.field,
+                earlier: PhantomData,
+            },
+        )
+    }
+}
+
+/// A field that is due, as it is written.
+#[derive(Drop)]
+struct Written<'a, A: FieldsText, F: DependentElement<A>> {
+    field: &'a F,
+    earlier: PhantomData<A>,
+}
+
+impl<'a, A: FieldsText, F: DependentElement<A>> Parts for Written<'a, A, F> {
+    ghost values = { λ written. F.value written.field.now ∷ [] };
+
+    fn length(&self) -> u64 {
+        self.field.size()
+    }
+
+    fn put<W: Target>(&self, sink: &mut Sink<'_, W>) -> Result<(), WriteError> {
+        self.field.put(sink)
+    }
+
+    fn octet(&self, i: u64) -> Option<u8> {
+        self.field.octet(i)
+    }
+}
+
+impl<A: FieldsText, F: DependentElement<A>> FieldsText for Dependent<A, F> {
+    ghost values = { λ d. A.values d.earlier ++ (F.value d.field ∷ []) };
+
+    ghost listing = { through (λ d. (d.earlier, d.field, d.suits))
+        (dependent A.listing F.value F.type_term F.suits F.one_text) };
+
+    fn size(&self) -> u64 {
+        Parts::length(&self.parts())
+    }
+
+    fn put<W: Target>(&self, sink: &mut Sink<'_, W>) -> Result<(), WriteError> {
+        Parts::put(&self.parts(), sink)
+    }
+
+    fn octet(&self, i: u64) -> Option<u8> {
+        Parts::octet(&self.parts(), i)
+    }
+}
+
+impl<A: FirstFields, F: DependentElement<A>> FirstFields for Dependent<A, F> {
+    fn read_first<R: Source>(
+        alloc: Global,
+        pull: &mut Pull<'_, R>,
+        next: &mut Next,
+    ) -> Result<Dependent<A, F>, ReadError> {
+        let earlier = A::read_first(alloc, pull, next)?;
+        let field = due_dependent::<R, A, F>(alloc, pull, next, &earlier)?;
+        Ok(Dependent { earlier, field })
+    }
+}

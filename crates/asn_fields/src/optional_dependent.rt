@@ -1,0 +1,120 @@
+//! Fields that may be absent, and whose type or rule goes by those before them.
+ghost use Rattle.std.specs.Prelude.{◌≡◌, ◌+◌, ◌++◌, ◌<◌, [], length, true};
+ghost use Rattle.std.specs.Option.{option_map};
+ghost use Rattle.asn_fields.specs.FieldReadings.{with_field};
+ghost use Rattle.asn_fields.specs.Dependents.{suits_where_there};
+ghost use Rattle.asn_fields.specs.Listings.{through};
+ghost use Rattle.asn_fields.specs.DependentLaws.{optional_dependent};
+
+use crate::dependent::{DependentElement, optional_dependent};
+use crate::fields::Next;
+use crate::parts::Parts;
+use crate::sequence::{FieldsText, FirstFields, Kept};
+use ber_pull::pull::Pull;
+use std::alloc::Global;
+use std::marker::PhantomData;
+use tlv_core::fault::ReadError;
+use tlv_core::sink::{Sink, WriteError};
+use tlv_core::source::Source;
+use tlv_core::target::Target;
+
+/// The fields `A`, and one behind them that may be absent and depends on them.
+#[derive(Drop)]
+pub struct OptionalDependent<A: FieldsText, F: DependentElement<A>> {
+    earlier: A,
+    field: Option<F>,
+    ghost suits: { suits_where_there (F.suits (A.values earlier)) field ≡ true },
+}
+
+impl<A: FieldsText, F: DependentElement<A>> OptionalDependent<A, F> {
+    /// The earlier fields.
+    pub fn earlier(&self) -> &A
+        ensures { result.now ≡ self.now.earlier }
+    {
+        &self.earlier
+    }
+
+    /// The field.
+    pub fn field(&self) -> &Option<F>
+        ensures value { result.now ≡ self.now.field }
+        ensures suits { suits_where_there (F.suits (A.values self.now.earlier)) result.now ≡ true }
+    {
+        &self.field
+    }
+
+    fn parts(&self) -> (Kept<'_, A>, OptionalWritten<'_, A, F>)
+        ensures earlier { result.0.0.now ≡ self.now.earlier }
+        ensures field { result.1.field.now ≡ self.now.field }
+    {
+        (
+            Kept(&self.earlier),
+            OptionalWritten {
+                field: &self.field,
+                earlier: PhantomData,
+            },
+        )
+    }
+}
+
+/// A field that may be absent, as it is written.
+#[derive(Drop)]
+struct OptionalWritten<'a, A: FieldsText, F: DependentElement<A>> {
+    field: &'a Option<F>,
+    earlier: PhantomData<A>,
+}
+
+impl<'a, A: FieldsText, F: DependentElement<A>> Parts for OptionalWritten<'a, A, F> {
+    ghost values = { λ written. with_field (option_map F.value written.field.now) [] };
+
+    fn length(&self) -> u64 {
+        match self.field {
+            Some(field) => field.size(),
+            None => 0,
+        }
+    }
+
+    fn put<W: Target>(&self, sink: &mut Sink<'_, W>) -> Result<(), WriteError> {
+        match self.field {
+            Some(field) => field.put(sink),
+            None => sink.put(&[]),
+        }
+    }
+
+    fn octet(&self, i: u64) -> Option<u8> {
+        match self.field {
+            Some(field) => field.octet(i),
+            None => None,
+        }
+    }
+}
+
+impl<A: FieldsText, F: DependentElement<A>> FieldsText for OptionalDependent<A, F> {
+    ghost values = { λ d. A.values d.earlier ++ with_field (option_map F.value d.field) [] };
+
+    ghost listing = { through (λ d. (d.earlier, d.field, d.suits))
+        (optional_dependent A.listing F.value F.type_term F.suits F.one_text) };
+
+    fn size(&self) -> u64 {
+        Parts::length(&self.parts())
+    }
+
+    fn put<W: Target>(&self, sink: &mut Sink<'_, W>) -> Result<(), WriteError> {
+        Parts::put(&self.parts(), sink)
+    }
+
+    fn octet(&self, i: u64) -> Option<u8> {
+        Parts::octet(&self.parts(), i)
+    }
+}
+
+impl<A: FirstFields, F: DependentElement<A>> FirstFields for OptionalDependent<A, F> {
+    fn read_first<R: Source>(
+        alloc: Global,
+        pull: &mut Pull<'_, R>,
+        next: &mut Next,
+    ) -> Result<OptionalDependent<A, F>, ReadError> {
+        let earlier = A::read_first(alloc, pull, next)?;
+        let field = optional_dependent::<R, A, F>(alloc, pull, next, &earlier)?;
+        Ok(OptionalDependent { earlier, field })
+    }
+}

@@ -1,0 +1,94 @@
+//! Elements with a rule on them that looks at the fields before them.
+ghost use Rattle.std.specs.Prelude.{◌≡◌};
+ghost use Rattle.x690.specs.Premises.{FairRule, HonestRule};
+ghost use Rattle.x690.specs.TypeTerms.{Rule, RuledType};
+ghost use Rattle.asn_fields.specs.Dependents.{passes};
+
+use crate::dependent::DependentElement;
+use crate::sequence::FieldsText;
+use asn_elements::der_text::DerText;
+use asn_elements::element::Element;
+use ber_pull::pull::Pull;
+use std::alloc::Global;
+use std::marker::PhantomData;
+use tlv_core::fault::ReadError;
+use tlv_core::reason::Reason;
+use tlv_core::sink::{Sink, WriteError};
+use tlv_core::source::Source;
+use tlv_core::tag::Tag;
+use tlv_core::target::Target;
+
+/// A rule on an element of the type `T` behind the fields `A`.
+pub trait FieldRules<A: FieldsText, T: DerText>: Drop {
+    /// The rule.
+    ghost rule: { Rule };
+
+    /// Why the element is refused, if it is.
+    fn judge(earlier: &A, field: &T) -> Option<Reason>
+        ensures { result ≡ rule (A.values earlier.now) (T.value field.now) };
+
+    /// It goes by the values, and by no order of a SET OF,
+    ghost fair: { FairRule rule };
+
+    /// and gives reasons of its own.
+    ghost honest: { HonestRule rule };
+}
+
+/// An element that the rule lets pass behind the fields before it.
+#[derive(Drop)]
+pub struct RuledBehind<T: Drop, K: Drop> {
+    value: T,
+    rules: PhantomData<K>,
+}
+
+impl<T: Drop, K: Drop> RuledBehind<T, K> {
+    /// The element.
+    pub fn value(&self) -> &T
+        ensures { result.now ≡ self.now.value }
+    {
+        &self.value
+    }
+}
+
+impl<A: FieldsText, T: Element, K: FieldRules<A, T>> DependentElement<A> for RuledBehind<T, K> {
+    ghost type_term = { RuledType K.rule T.type_term };
+
+    ghost value = { λ x. T.value x.value };
+
+    ghost suits = { λ vs x. passes (K.rule vs (T.value x.value)) };
+
+    ghost one_text = { λ vs ws x y same h k. T.one_text x.value y.value };
+
+    #[tactic(auto, unfolding(x690::specs::TypeTerms::fits_tag))]
+    fn fits(tag: Tag) -> bool {
+        T::fits(tag)
+    }
+
+    fn read<R: Source>(
+        alloc: Global,
+        pull: &mut Pull<'_, R>,
+        earlier: &A,
+    ) -> Result<RuledBehind<T, K>, ReadError> {
+        let at = pull.at();
+        let value = T::read(alloc, pull)?;
+        if let Some(why) = K::judge(earlier, &value) {
+            return Err(pull.refuse(at, why, None));
+        }
+        Ok(RuledBehind {
+            value,
+            rules: PhantomData,
+        })
+    }
+
+    fn size(&self) -> u64 {
+        self.value.size()
+    }
+
+    fn put<W: Target>(&self, sink: &mut Sink<'_, W>) -> Result<(), WriteError> {
+        self.value.put(sink)
+    }
+
+    fn octet(&self, i: u64) -> Option<u8> {
+        self.value.octet(i)
+    }
+}
