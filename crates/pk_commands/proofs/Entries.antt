@@ -1,5 +1,5 @@
 -- What a run over named documents has come to, document after document.
-use Rattle.std.proofs.Common.{◌≡◌, ◌∙◌, ◌+◌, ◌^◌, ◌≤◌, ◌++◌, List, [], ◌∷◌, Option, ap, append-nil, arith, inr, length, length-append, max, refl, subst, sym, take, ℕ}
+use Rattle.std.proofs.Common.{◌≡◌, ◌∙◌, ◌+◌, ◌^◌, ◌≤◌, ◌++◌, List, [], ◌∷◌, Option, ap, append-nil, arith, inl, inr, length, length-append, max, refl, subst, sym, take, ℕ}
 use Rattle.std.proofs.KnownBytes.{Appends-trans}
 use Rattle.std.proofs.Math.Seq.{take-append-add}
 use Rattle.std.proofs.lemmas.Grind.{flat_map-append}
@@ -31,7 +31,7 @@ names_behind_all all it = map-append (λ e. e.name) all (it ∷ [])
 
 module _ (value_of : Document → Value) (told : List ℕ → Option (List ℕ))
     (refuses : List ℕ → Why → Type 0) (task : Task) (list left : Option (List (List ℕ)))
-    (stops : NamesFault → Type 0) (old mid : Option (List ℕ)) (status out : ℕ) (all : List Entry)
+    (stops : Option (List (List ℕ)) → NamesFault → Type 0) (old mid : Option (List ℕ)) (status out : ℕ) (all : List Entry)
     (went : Went value_of told refuses task list left old mid status out all) where
   pub through : NoneLeft left → FilesTold value_of told refuses task list stops old mid (ends.Through status)
   through none = (all, went.said, (list_ends list left (names_of all) went.named none, went.written, went.status_is))
@@ -39,6 +39,11 @@ module _ (value_of : Document → Value) (told : List ℕ → Option (List ℕ))
   pub no_name : (fault : NamesFault) → GivesUp (AreSaid value_of told refuses task) stops list all fault
       → FilesTold value_of told refuses task list stops old mid (ends.NoName fault)
   no_name fault gives_up = (all, went.said, (list_begins list left (names_of all) went.named, went.written, gives_up))
+
+  -- the next name doesn't come
+  pub stopped : (fault : NamesFault) → stops left fault
+      → FilesTold value_of told refuses task list stops old mid (ends.NoName fault)
+  stopped fault stops_so = no_name fault (inl (left, went.named, stops_so))
 
   pub no_memory_for : FilesTold value_of told refuses task list stops old mid ends.Memory
   no_memory_for = (all, went.said, (list_begins list left (names_of all) went.named, went.written))

@@ -68,7 +68,8 @@ FilesEndAs end last = (last ≡ end) ⊎ ((has_failed_write end ≡ false) × (l
 
 -- What is said of the documents is written, and then the writer is flushed.
 abbrev pub AnsweredFiles : (Document → Value) → (List ℕ → Option (List ℕ)) → (List ℕ → Why → Type 0) → Task
-    → Option (List (List ℕ)) → (NamesFault → Type 0) → Option (List ℕ) → Option (List ℕ) → FilesEnd → Type 0
+    → Option (List (List ℕ)) → (Option (List (List ℕ)) → NamesFault → Type 0) → Option (List ℕ) → Option (List ℕ)
+    → FilesEnd → Type 0
 AnsweredFiles value_of told refuses task list stops old new last =
     (end : FilesEnd)
     × (out : Option (List ℕ))

@@ -138,16 +138,18 @@ IsPastCounting are_said list entries =
     × BeginsWith list (names_of (entries ++ next ∷ []))
     × (2 ^ 64 ≤ length (texts_of (entries ++ next ∷ []))))
 
--- No more documents are gone through: the list doesn't give the next name, or more can't be counted.
-abbrev pub GivesUp : (List Entry → Type 0) → (NamesFault → Type 0) → Option (List (List ℕ)) → List Entry → NamesFault
-    → Type 0
+-- No more documents are gone through: all names that the list gave are these, and it doesn't give the next one; or more
+-- can't be counted.
+abbrev pub GivesUp : (List Entry → Type 0) → (Option (List (List ℕ)) → NamesFault → Type 0) → Option (List (List ℕ))
+    → List Entry → NamesFault → Type 0
 GivesUp are_said stops list entries fault =
-    stops fault ⊎ ((fault ≡ TooMany) × IsPastCounting are_said list entries)
+    ((left : Option (List (List ℕ))) × TakesNames list left (names_of entries) × stops left fault)
+    ⊎ ((fault ≡ TooMany) × IsPastCounting are_said list entries)
 
 -- How it ends: behind the last document of the list, with the greatest status; or with the text of the last of these
 -- documents, of which the first octets are out; or behind some, since no more are gone through, or no memory is left.
-abbrev pub EndsBehind : (List Entry → Type 0) → (NamesFault → Type 0) → List Entry → Option (List (List ℕ))
-    → Option (List ℕ) → Option (List ℕ) → FilesEnd → Type 0
+abbrev pub EndsBehind : (List Entry → Type 0) → (Option (List (List ℕ)) → NamesFault → Type 0) → List Entry
+    → Option (List (List ℕ)) → Option (List ℕ) → Option (List ℕ) → FilesEnd → Type 0
 EndsBehind are_said stops entries list old new (ends.Through status) =
     IsListOf list (names_of entries) × Appends old new (texts_of entries) × (status ≡ greatest entries)
 EndsBehind are_said stops entries list old new (ends.WriteFailed count) =
@@ -162,7 +164,8 @@ EndsBehind are_said stops entries list old new ends.Memory =
     BeginsWith list (names_of entries) × Appends old new (texts_of entries)
 
 abbrev pub FilesTold : (Document → Value) → (List ℕ → Option (List ℕ)) → (List ℕ → Why → Type 0) → Task
-    → Option (List (List ℕ)) → (NamesFault → Type 0) → Option (List ℕ) → Option (List ℕ) → FilesEnd → Type 0
+    → Option (List (List ℕ)) → (Option (List (List ℕ)) → NamesFault → Type 0) → Option (List ℕ) → Option (List ℕ)
+    → FilesEnd → Type 0
 FilesTold value_of told refuses task list stops old new end =
     (entries : List Entry)
     × AreSaid value_of told refuses task entries

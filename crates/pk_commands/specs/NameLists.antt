@@ -30,6 +30,12 @@ abbrev pub IsListOf : Option (List (List ℕ)) → List (List ℕ) → Type 0
 IsListOf None names = Unit {0}
 IsListOf (Some list) names = list ≡ names
 
+-- The list stands as it does since its next name doesn't come: these names are left, and this is why.
+abbrev pub HasStopped : {Names : Type 0} → (Names → Option (List (List ℕ))) → (Names → Names → NamesFault → Type 0)
+    → Names → Option (List (List ℕ)) → NamesFault → Type 0
+HasStopped {Names} left_of stops list left fault =
+    (before : Names) × (left_of before ≡ left) × stops before list fault
+
 -- the names behind these octets of a name, each ended by an octet 0, the last one perhaps by the end
 abbrev pub names_behind : List ℕ → List ℕ → List (List ℕ)
 names_behind name [] = cond (length name == 0) [] (name ∷ [])

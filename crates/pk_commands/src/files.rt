@@ -1,6 +1,7 @@
 //! One task over any number of documents, which have names.
 ghost use Rattle.std.specs.Prelude.{◌≡◌, ◌+◌, ◌++◌, ℕ, IfOk, List, MatchResult, OnOk, Option, false, length, string_bytes};
 ghost use Rattle.pk_commands.specs.Files.{CameAs, Entry, FilesTold, IsSaid, Went, front_of, has_failed_write, kept, line_of_end, is_json, named_line, said_line, said_text, status_of_came, status_of_end, words_of_came};
+ghost use Rattle.pk_commands.specs.NameLists.{HasStopped};
 ghost use Rattle.pk_commands.specs.Names.{told_name};
 ghost use Rattle.pk_commands.specs.Outcomes.{line_of};
 
@@ -60,7 +61,7 @@ pub fn run_files<N: Names, O: Opener, W: Target>(
 ) -> FilesEnd
     requires writable { W.has_failed dst.old ≡ false }
     ensures told { FilesTold ⟦<Document as Valued>⟧.value (O.told opener.now) (O.refuses opener.now)
-        task.now (N.left names.old) (λ fault. (before after : N) × N.stops before after fault)
+        task.now (N.left names.old) (HasStopped N.left N.stops names.new)
         (W.contents dst.old) (W.contents dst.new) result }
     ensures failed { W.has_failed dst.new ≡ has_failed_write result }
 {
@@ -91,7 +92,7 @@ fn next_file<N: Names, O: Opener, W: Target>(
         × Went ⟦<Document as Valued>⟧.value (O.told opener.now) (O.refuses opener.now)
         task.now list (N.left names.new) old (W.contents dst.new) further.status further.out more)
         (FilesTold ⟦<Document as Valued>⟧.value (O.told opener.now) (O.refuses opener.now) task.now
-        list (λ fault. (before after : N) × N.stops before after fault) old (W.contents dst.new)) }
+        list (HasStopped N.left N.stops names.new) old (W.contents dst.new)) }
     ensures failed { MatchResult result (λ _. W.has_failed dst.new ≡ false)
         (λ end. W.has_failed dst.new ≡ has_failed_write end) }
 {

@@ -5,6 +5,7 @@ ghost use Rattle.tlv_core.specs.declared.sink.WriteError.{WriteError};
 ghost use Rattle.asn_documents.specs.WrittenValues.{WritesText};
 ghost use Rattle.pk_commands.specs.Endings.{AnsweredAs, AnsweredFiles, EndsAs, FilesEndAs, IsWhole, WritesLine, WritesOneOf, has_failed_read};
 ghost use Rattle.pk_commands.specs.Files.{line_of_end, named_line, words_of_came};
+ghost use Rattle.pk_commands.specs.NameLists.{HasStopped};
 ghost use Rattle.pk_commands.specs.Outcomes.{line_of};
 ghost use Rattle.pk_commands.specs.Replies.{IsSilent, written_outcome};
 
@@ -73,8 +74,8 @@ pub fn answer_files<N: Names, O: Opener, W: Write + Drop>(
     task: &Task,
 ) -> (FilesEnd, W)
     ensures { AnsweredFiles ⟦<Document as Valued>⟧.value (O.told opener.now)
-        (O.refuses opener.now) task.now (N.left names.old)
-        (λ fault. (before after : N) × N.stops before after fault) (W.contents writer) (W.contents result.1) result.0 }
+        (O.refuses opener.now) task.now (N.left names.old) (HasStopped N.left N.stops names.new)
+        (W.contents writer) (W.contents result.1) result.0 }
 {
     let mut dst = ToWrite::new(writer);
     let end = run_files(alloc, names, opener, &mut dst, task);

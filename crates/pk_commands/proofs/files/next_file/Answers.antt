@@ -3,8 +3,7 @@ use Rattle.std.specs.Option.{option_map}
 use Rattle.std.specs.Io.KnownBytes.{Appends}
 use Rattle.pk_documents.proofs.DocumentValues.{valued}
 use Rattle.pk_commands.specs.Files.{IsSaid}
-use Rattle.pk_commands.specs.NameLists.{TakesNext}
-use Rattle.pk_commands.specs.declared.names.NamesFault.{NamesFault}
+use Rattle.pk_commands.specs.NameLists.{HasStopped, TakesNext}
 use Rattle.pk_commands.proofs.Entries.{cut_short, goes_further, uncounted}
 use Rattle.pk_commands.proofs.files.next_file.Goals as goal
 
@@ -15,7 +14,7 @@ returns-in-Ok-write_octets-clause-told g c =
     let contents = g.W.Target.contents in
     let left = g.N.Names.left c.args.names.now in
     let new = g.N.Names.left c.next_name.new.self in
-    let stops : NamesFault → Type 0 = λ fault. (before after : g.row.N.Denot) × g.N.Names.stops before after fault in
+    let stops = HasStopped g.N.Names.left g.N.Names.stops c.next_name.new.self in
     let said = c.in-Ok.said in
     let out : c.in-Some.out ≡ c.args.progress.out + length said.text.items =
     omega (arith, c.in-Some.ensures, c.len.ensures) in
@@ -38,7 +37,7 @@ returns-in_default-checked_add-clause-told g c =
     let contents = g.W.Target.contents in
     let left = g.N.Names.left c.args.names.now in
     let new = g.N.Names.left c.next_name.new.self in
-    let stops : NamesFault → Type 0 = λ fault. (before after : g.row.N.Denot) × g.N.Names.stops before after fault in
+    let stops = HasStopped g.N.Names.left g.N.Names.stops c.next_name.new.self in
     let said = c.in-Ok.said in
     λ all list old went. uncounted valued told refuses c.args.task.now list left
     stops old (contents c.args.dst.now)
@@ -57,7 +56,7 @@ returns-clause-told g c =
     let contents = g.W.Target.contents in
     let left = g.N.Names.left c.args.names.now in
     let new = g.N.Names.left c.next_name.new.self in
-    let stops : NamesFault → Type 0 = λ fault. (before after : g.row.N.Denot) × g.N.Names.stops before after fault in
+    let stops = HasStopped g.N.Names.left g.N.Names.stops c.next_name.new.self in
     let said = c.in-Ok.said in
     let written = c.in-Err-write_octets.error.written in
     λ all list old went. cut_short valued told refuses c.args.task.now list left stops old

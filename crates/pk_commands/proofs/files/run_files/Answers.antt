@@ -2,9 +2,9 @@ use Rattle.std.proofs.Common.{[], arith, inl, inr, refl}
 use Rattle.std.proofs.KnownBytes.{Appends-nil}
 use Rattle.pk_documents.proofs.DocumentValues.{valued}
 use Rattle.pk_commands.specs.declared.names.NamesFault.TheVariants.{TooMany}
-use Rattle.pk_commands.specs.declared.names.NamesFault.{NamesFault}
 use Rattle.pk_commands.proofs.Entries.{begins, no_name}
 use Rattle.pk_commands.proofs.NameLists.{no_names}
+use Rattle.pk_commands.specs.NameLists.{HasStopped}
 use Rattle.pk_commands.proofs.files.run_files.Goals as goal
 
 pub loop-init : goal.loop-init
@@ -42,7 +42,7 @@ loop-preserved g c =
 pub returns-clause-told : goal.returns-clause-told
 returns-clause-told g c =
     let went = c.loop.invariant.went in
-    let stops : NamesFault → Type 0 = λ fault. (before after : g.row.N.Denot) × g.N.Names.stops before after fault in
+    let stops = HasStopped g.N.Names.left g.N.Names.stops c.loop.names in
     no_name valued (g.O.Opener.told c.args.opener.now) (g.O.Opener.refuses c.args.opener.now) c.args.task.now
     (g.N.Names.left c.args.names.now) (g.N.Names.left c.loop.names) stops
     (g.W.Target.contents c.args.dst.now) (g.W.Target.contents c.loop.dst)
