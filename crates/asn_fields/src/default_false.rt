@@ -8,7 +8,7 @@ ghost use Rattle.asn_fields.specs.Fields.{unless_false};
 ghost use Rattle.asn_fields.specs.ApartLaws.{flag};
 ghost use Rattle.asn_fields.specs.Listings.{through};
 
-use crate::field_list::{Fields, FieldsText, FirstFields};
+use crate::field_list::{FieldsText, FirstFields, IndependentFields};
 use crate::fields::{Next, optional};
 use asn_elements::boolean::Bool;
 use asn_elements::der_text::DerText;
@@ -65,7 +65,7 @@ impl FieldsText for DefaultFalse {
     }
 }
 
-impl Fields for DefaultFalse {
+impl IndependentFields for DefaultFalse {
     fn read<R: Source>(
         alloc: Global,
         pull: &mut Pull<'_, R>,
@@ -82,6 +82,6 @@ impl FirstFields for DefaultFalse {
         pull: &mut Pull<'_, R>,
         next: &mut Next,
     ) -> Result<DefaultFalse, ReadError> {
-        <DefaultFalse as Fields>::read(alloc, pull, next)
+        <DefaultFalse as IndependentFields>::read(alloc, pull, next)
     }
 }

@@ -43,7 +43,7 @@ pub trait FieldsText: Sized + Drop {
 }
 
 /// Fields that are read as their types say, whatever stands before them.
-pub trait Fields: FieldsText {
+pub trait IndependentFields: FieldsText {
     /// Reads them where they stand next, as the plain reading does.
     fn read<R: Source>(
         alloc: Global,
@@ -107,7 +107,7 @@ impl<A: FieldsText, B: FieldsText> FieldsText for (A, B) {
     }
 }
 
-impl<A: Fields, B: Fields> Fields for (A, B) {
+impl<A: IndependentFields, B: IndependentFields> IndependentFields for (A, B) {
     fn read<R: Source>(
         alloc: Global,
         pull: &mut Pull<'_, R>,
@@ -119,7 +119,7 @@ impl<A: Fields, B: Fields> Fields for (A, B) {
     }
 }
 
-impl<A: FirstFields, B: Fields> FirstFields for (A, B) {
+impl<A: FirstFields, B: IndependentFields> FirstFields for (A, B) {
     fn read_first<R: Source>(
         alloc: Global,
         pull: &mut Pull<'_, R>,

@@ -5,7 +5,7 @@ ghost use Rattle.asn_fields.specs.FieldReadings.{with_field};
 ghost use Rattle.asn_fields.specs.ApartLaws.{optional};
 ghost use Rattle.asn_fields.specs.Listings.{through};
 
-use crate::field_list::{Fields, FieldsText, FirstFields};
+use crate::field_list::{FieldsText, FirstFields, IndependentFields};
 use crate::fields::{Next, optional};
 use asn_elements::element::Element;
 use ber_pull::pull::Pull;
@@ -46,7 +46,7 @@ impl<T: Element> FieldsText for Optional<T> {
     }
 }
 
-impl<T: Element> Fields for Optional<T> {
+impl<T: Element> IndependentFields for Optional<T> {
     fn read<R: Source>(
         alloc: Global,
         pull: &mut Pull<'_, R>,
@@ -63,6 +63,6 @@ impl<T: Element> FirstFields for Optional<T> {
         pull: &mut Pull<'_, R>,
         next: &mut Next,
     ) -> Result<Optional<T>, ReadError> {
-        <Optional<T> as Fields>::read(alloc, pull, next)
+        <Optional<T> as IndependentFields>::read(alloc, pull, next)
     }
 }

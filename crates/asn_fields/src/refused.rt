@@ -29,7 +29,7 @@ use tlv_core::tag::Tag;
 use tlv_core::target::Target;
 
 /// Which elements are refused, and why.
-pub trait Refusal: Drop {
+pub trait RefusedTag: Drop {
     /// Their tag.
     ghost own: { Identified };
 
@@ -55,14 +55,14 @@ pub enum Never {}
 /// An element that is refused by its tag, whatever stands in it: no value of this type is ever read.
 /// `Optional<Refused<K>>` is a field that may not stand.
 #[derive(Drop)]
-pub struct Refused<K: Refusal> {
+pub struct Refused<K: RefusedTag> {
     refusal: PhantomData<K>,
 }
 
 /// Refuses the element that is given.
 ///
 /// Faults, at the element: `WrongTag` where it has another tag, else the reason.
-pub fn read_refused<R: Source, K: Refusal>(pull: &mut Pull<'_, R>) -> Result<Never, ReadError>
+pub fn read_refused<R: Source, K: RefusedTag>(pull: &mut Pull<'_, R>) -> Result<Never, ReadError>
     requires { (standing pull.old).error ≡ None → IsSome (standing pull.old).given }
     ensures frame { Frame pull.old pull.new result }
     ensures repeats { Repeats pull.old pull.new result }
@@ -76,7 +76,7 @@ pub fn read_refused<R: Source, K: Refusal>(pull: &mut Pull<'_, R>) -> Result<Nev
 }
 
 /// No value is ever read; one would be written as a NULL.
-impl<K: Refusal> DerText for Refused<K> {
+impl<K: RefusedTag> DerText for Refused<K> {
     ghost value = { λ refused. Leaf (universal 5) [] };
 
     ghost one_text = { λ x y. leaf_one_text (universal 5) (universal 5) [] [] };
@@ -94,7 +94,7 @@ impl<K: Refusal> DerText for Refused<K> {
     }
 }
 
-impl<K: Refusal> Element for Refused<K> {
+impl<K: RefusedTag> Element for Refused<K> {
     ghost type_term = { RefusedType K.own K.why };
 
     ghost closed = { refused_closed K.own K.why };

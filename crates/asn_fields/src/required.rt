@@ -3,7 +3,7 @@ ghost use Rattle.std.specs.Prelude.{◌∷◌, []};
 ghost use Rattle.asn_fields.specs.ApartLaws.{required};
 ghost use Rattle.asn_fields.specs.Listings.{through};
 
-use crate::field_list::{Fields, FieldsText, FirstFields};
+use crate::field_list::{FieldsText, FirstFields, IndependentFields};
 use crate::fields::{Next, due};
 use asn_elements::element::Element;
 use ber_pull::pull::Pull;
@@ -35,7 +35,7 @@ impl<T: Element> FieldsText for Required<T> {
     }
 }
 
-impl<T: Element> Fields for Required<T> {
+impl<T: Element> IndependentFields for Required<T> {
     fn read<R: Source>(
         alloc: Global,
         pull: &mut Pull<'_, R>,
@@ -52,6 +52,6 @@ impl<T: Element> FirstFields for Required<T> {
         pull: &mut Pull<'_, R>,
         next: &mut Next,
     ) -> Result<Required<T>, ReadError> {
-        <Required<T> as Fields>::read(alloc, pull, next)
+        <Required<T> as IndependentFields>::read(alloc, pull, next)
     }
 }

@@ -17,7 +17,7 @@ ghost use Rattle.asn_fields.specs.ApartLaws.{sequence_one_text};
 ghost use Rattle.asn_fields.specs.Fields.{AnswersSequence};
 
 pub use crate::default_false::DefaultFalse;
-pub use crate::field_list::{Fields, FieldsText, FirstFields};
+pub use crate::field_list::{FieldsText, FirstFields, IndependentFields};
 use crate::fields::{begin, end};
 pub use crate::kept::Kept;
 pub use crate::optional::Optional;

@@ -5,7 +5,7 @@ use Rattle.asn_outline.specs.declared.event.Event.{Event}
 use Rattle.asn_outline.specs.declared.event.Stop.{Stop}
 use Rattle.asn_shapes.specs.declared.shape.Shape.{Shape}
 use Rattle.asn_names.specs.Walks.{State, happened, stopped}
-use Rattle.asn_names.specs.declared.element.Element.{Element}
+use Rattle.asn_names.specs.declared.element.NamedElement.{NamedElement}
 use Rattle.asn_names.specs.declared.element.Parting.{Parting}
 
 -- before the first event
@@ -25,9 +25,9 @@ finished document root stop told =
     elim told.1 [ None ↦ stopped document root stop told.0 | Some parting ↦ (told.0, parting) ]
 
 -- what a whole walk tells
-abbrev pub told : State × Parting → List Element × Parting
+abbrev pub told : State × Parting → List NamedElement × Parting
 told end = (end.0.elements, end.1)
 
 -- The elements that the headers of a document are, by the type, and where the type and the document part.
-abbrev pub named_by : List ℕ → List Event → Option Stop → Bor Shape → List Element × Parting
+abbrev pub named_by : List ℕ → List Event → Option Stop → Bor Shape → List NamedElement × Parting
 named_by document events stop root = told (finished document root stop (walked document root events start))

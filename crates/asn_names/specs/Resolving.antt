@@ -7,7 +7,7 @@ use Rattle.x690.specs.TypeTerms.{fits_tag}
 use Rattle.asn_shapes.specs.Terms.{term_of}
 use Rattle.asn_shapes.specs.declared.shape.Shape.{Choice', Containing', DefinedBy', Leaf, ListOf', Named', Open, Private', Refused, Sequence', SetOf', Shape}
 use Rattle.asn_names.specs.Levels.{one_more}
-use Rattle.asn_names.specs.declared.element.Element.{Element}
+use Rattle.asn_names.specs.declared.element.NamedElement.{NamedElement}
 use Rattle.asn_names.specs.declared.resolved.Resolved.{Resolved}
 
 -- the contents octets between two places, of a primitive element that stands whole
@@ -18,11 +18,11 @@ part document constructed (Some begin) (Some end) =
     cond (constructed || (nat_lt end begin || nat_lt (length document) end)) []
     (take (end - begin) (drop begin document))
 
-abbrev pub contents : List ℕ → Element → List ℕ
+abbrev pub contents : List ℕ → NamedElement → List ℕ
 contents document element = part document element.header.constructed element.begin element.end
 
 -- the elements from that of this number on, counted among those of the depth, up to a lesser depth
-abbrev pub from_member : ℕ → ℕ → List Element → List Element
+abbrev pub from_member : ℕ → ℕ → List NamedElement → List NamedElement
 from_member depth number [] = []
 from_member depth number (element ∷ elements) =
     cond (nat_lt element.header.depth depth) []
@@ -32,7 +32,7 @@ from_member depth number (element ∷ elements) =
 
 -- The contents of the leaf at a path among elements of this depth: each number of the path counts the elements of its
 -- container. None where it isn't there.
-abbrev pub leaf_at : List ℕ → ℕ → List ℕ → List Element → List ℕ
+abbrev pub leaf_at : List ℕ → ℕ → List ℕ → List NamedElement → List ℕ
 leaf_at document depth [] elements = []
 leaf_at document depth (number ∷ path) elements =
     elim (from_member depth number elements) [

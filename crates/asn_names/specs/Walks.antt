@@ -5,12 +5,12 @@ use Rattle.tlv_core.specs.Identifier.{Tag}
 use Rattle.asn_outline.specs.declared.announced.Announced.{Announced}
 use Rattle.asn_outline.specs.declared.event.Event.{Event}
 use Rattle.asn_outline.specs.declared.event.Event.TheVariants as events
-use Rattle.asn_outline.specs.declared.event.Header.{Header}
+use Rattle.asn_outline.specs.declared.event.ElementHeader.{ElementHeader}
 use Rattle.asn_outline.specs.declared.event.Stop.{Stop}
 use Rattle.asn_shapes.specs.declared.shape.Shape.{Choice', Containing', DefinedBy', Leaf, ListOf', Named', Open, Private', Refused, Sequence', SetOf', Shape}
 use Rattle.asn_names.specs.Levels.{level_of, may_close, outermost, place_in}
 use Rattle.asn_names.specs.Resolving.{leaf_at, resolved}
-use Rattle.asn_names.specs.declared.element.Element.{Element}
+use Rattle.asn_names.specs.declared.element.NamedElement.{NamedElement}
 use Rattle.asn_names.specs.declared.element.Level.{Level}
 use Rattle.asn_names.specs.declared.element.Parting.{Parting}
 use Rattle.asn_names.specs.declared.element.Parting.TheVariants as partings
@@ -26,7 +26,7 @@ use Rattle.asn_names.specs.declared.walk.Walk.{Walk}
 -- Between two events: the elements until now, and the open containers by their numbers, the innermost first, with what
 -- is due in each.
 pub record State : Type 0 where
-  pub elements : List Element
+  pub elements : List NamedElement
   pub containers : List (ℕ × Level)
 
 -- what a walk says
@@ -43,12 +43,12 @@ taken (container ∷ outer) root tag = record {
   due = partings.Unplaced container.0 container.1;
 }
 
-abbrev pub private_of : Option Element → Bool
+abbrev pub private_of : Option NamedElement → Bool
 private_of None = false
 private_of (Some element) = element.private
 
 -- whether the element of this number is private
-abbrev pub is_private : List Element → ℕ → Bool
+abbrev pub is_private : List NamedElement → ℕ → Bool
 is_private elements number = private_of (slice_get elements number)
 
 abbrev pub typed_by : Resolved → Typed
@@ -57,7 +57,7 @@ typed_by resolved =
 
 -- The type of an element in the container of this number, as its place has it: it is private too where the container
 -- is. A segment has none.
-abbrev pub typed_as : List ℕ → List Element → ℕ → Header → Option (Bor Shape) → Typed
+abbrev pub typed_as : List ℕ → List NamedElement → ℕ → ElementHeader → Option (Bor Shape) → Typed
 typed_as document elements around header None =
     record { type_name = None; shape = None; private = is_private elements around }
 typed_as document elements around header (Some shape) =
@@ -83,7 +83,7 @@ is_refused None = false
 is_refused (Some shape) = is_refused_type shape.now
 
 -- an element at its place
-abbrev pub listed : ℕ → Step → Typed → Beginning → Element
+abbrev pub listed : ℕ → Step → Typed → Beginning → NamedElement
 listed around step typed beginning = record {
   header = beginning.header;
   begin = beginning.begin;
@@ -96,7 +96,7 @@ listed around step typed beginning = record {
 }
 
 -- an element that has no place, which is private
-abbrev pub unplaced : ℕ → Beginning → Element
+abbrev pub unplaced : ℕ → Beginning → NamedElement
 unplaced around beginning =
     listed around steps.Outside (record { type_name = None; shape = None; private = true }) beginning
 
@@ -110,7 +110,7 @@ abbrev pub with_opened : Bool → ℕ → Level → List (ℕ × Level) → List
 with_opened opens number level outer = cond opens ((number, level) ∷ outer) outer
 
 -- an element more
-abbrev pub with_element : Element → State → State
+abbrev pub with_element : NamedElement → State → State
 with_element element state = record { elements = state.elements ++ (element ∷ []); containers = state.containers }
 
 -- an element without a place ends the walk
@@ -158,12 +158,12 @@ began document root beginning state =
     begins_taken document beginning (taken state.containers root beginning.header.tag) (without_innermost state)
 
 -- an element among others ends there
-abbrev pub with_end : ℕ → ℕ → List Element → Option Element → List Element
+abbrev pub with_end : ℕ → ℕ → List NamedElement → Option NamedElement → List NamedElement
 with_end number at elements None = elements
 with_end number at elements (Some element) = slice_set elements number (record element { end = Some at })
 
 -- the element of this number ends there
-abbrev pub ended_at : ℕ → ℕ → List Element → List Element
+abbrev pub ended_at : ℕ → ℕ → List NamedElement → List NamedElement
 ended_at number at elements = with_end number at elements (slice_get elements number)
 
 -- where something is still due in a container that ends
@@ -171,7 +171,7 @@ abbrev pub missing_in : ℕ → Level → Option Parting
 missing_in number level = cond (may_close level) None (Some (partings.Missing number level))
 
 -- The innermost open container ends.
-abbrev pub ended_in : ℕ → List Element → List (ℕ × Level) → State × Option Parting
+abbrev pub ended_in : ℕ → List NamedElement → List (ℕ × Level) → State × Option Parting
 ended_in at elements [] = (record { elements = elements; containers = [] }, None)
 ended_in at elements (container ∷ outer) = (
   record { elements = ended_at container.0 at elements; containers = outer },
@@ -182,10 +182,10 @@ abbrev pub ended : ℕ → State → State × Option Parting
 ended at state = ended_in at state.elements state.containers
 
 -- an element that stands whole, or a container that begins
-abbrev pub primitive : Header → ℕ → ℕ → Beginning
+abbrev pub primitive : ElementHeader → ℕ → ℕ → Beginning
 primitive header begin end = record { header = header; begin = Some begin; end = Some end; opens = false }
 
-abbrev pub container : Header → ℕ → Beginning
+abbrev pub container : ElementHeader → ℕ → Beginning
 container header begin = record { header = header; begin = Some begin; end = None; opens = true }
 
 -- One event happens.
@@ -201,7 +201,7 @@ contents_begin None = None
 contents_begin (Some announced) = Some announced.contents
 
 -- the element that reading stops in
-abbrev pub stopped_in : Header → Beginning
+abbrev pub stopped_in : ElementHeader → Beginning
 stopped_in header =
     record { header = header; begin = contents_begin header.announced; end = None; opens = false }
 
@@ -215,7 +215,7 @@ abbrev pub or_else : Parting → State × Option Parting → State × Parting
 or_else parting told = elim told.1 [ None ↦ (told.0, parting) | Some earlier ↦ (told.0, earlier) ]
 
 -- All events have happened: reading stops in an element, at an identifier, or the outermost element is whole.
-abbrev pub stopped_by : List ℕ → Bor Shape → Option Header → State → State × Parting
+abbrev pub stopped_by : List ℕ → Bor Shape → Option ElementHeader → State → State × Parting
 stopped_by document root None state = (state, partings.Stopped (innermost state.containers))
 stopped_by document root (Some header) state =
     let told = began document root (stopped_in header) state in

@@ -1,5 +1,5 @@
 //! An element of a document, with its place in the type.
-use asn_outline::event::Header;
+use asn_outline::event::ElementHeader;
 use asn_shapes::shape::{Fields, Shape};
 
 /// How an element is reached from the one around it. Numbers count from 0.
@@ -19,8 +19,8 @@ pub enum Step {
 
 /// An element, by its header, its contents and its place in the type.
 #[derive(Clone, Copy)]
-pub struct Element {
-    pub header: Header,
+pub struct NamedElement {
+    pub header: ElementHeader,
     /// The place where its contents begin. `None` where its length octets don't say that.
     pub begin: Option<u64>,
     /// The place where they end. `None` where reading stops before that.

@@ -3,16 +3,16 @@ ghost use Rattle.std.specs.Prelude.{◌≡◌, IfOk, reverse};
 ghost use Rattle.asn_names.specs.Naming.{named_by, walked};
 ghost use Rattle.asn_names.specs.Walks.{happened, innermost, state_of, stopped, stopped_in};
 
-use crate::element::{Element, Level, Parting};
+use crate::element::{Level, NamedElement, Parting};
 use crate::walk::{Beginning, Walk, begin_element, end_container};
-use asn_outline::event::{Event, Header, Stop};
+use asn_outline::event::{ElementHeader, Event, Stop};
 use asn_shapes::shape::Shape;
 use std::alloc::{AllocError, Global};
 
 /// The elements of a document, one after another, and where the type and the document part.
 #[derive(Drop)]
 pub struct Named {
-    pub elements: Vec<Element>,
+    pub elements: Vec<NamedElement>,
     pub parting: Parting,
 }
 
@@ -130,7 +130,7 @@ fn stop_walk(
 }
 
 /// The element that reading stops in, by its header.
-fn stopped_in(header: Header) -> Beginning
+fn stopped_in(header: ElementHeader) -> Beginning
     ensures { result ≡ stopped_in header }
 {
     Beginning {

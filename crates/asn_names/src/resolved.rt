@@ -3,7 +3,7 @@ ghost use Rattle.std.specs.Prelude.{◌≡◌, map};
 ghost use Rattle.x690.specs.Lists.{one_of};
 ghost use Rattle.asn_names.specs.Resolving.{contents, from_member, leaf_at, resolved};
 
-use crate::element::Element;
+use crate::element::NamedElement;
 use asn_shapes::shape::Shape;
 use tlv_core::tag::Tag;
 
@@ -23,7 +23,7 @@ pub(crate) fn resolve(
     document: &[u8],
     tag: Tag,
     depth: u64,
-    earlier: &[Element],
+    earlier: &[NamedElement],
     named: Option<&'static str>,
     private: bool,
     shape: &'static Shape,
@@ -70,7 +70,7 @@ fn is_one_of(octets: &[u8], others: &[&[u8]]) -> bool
 }
 
 /// The contents of the leaf at a path among elements of this depth; none where it isn't there.
-fn leaf_at<'a>(document: &'a [u8], depth: u64, path: &[u32], elements: &[Element]) -> &'a [u8]
+fn leaf_at<'a>(document: &'a [u8], depth: u64, path: &[u32], elements: &[NamedElement]) -> &'a [u8]
     ensures { result.now ≡ leaf_at document.now depth path.now elements.now }
 {
     let [number, behind @ ..] = path else {
@@ -86,7 +86,7 @@ fn leaf_at<'a>(document: &'a [u8], depth: u64, path: &[u32], elements: &[Element
 }
 
 /// The elements from that of this number on, counted among those of the depth, up to a lesser depth.
-fn from_member(depth: u64, number: u32, elements: &[Element]) -> &[Element]
+fn from_member(depth: u64, number: u32, elements: &[NamedElement]) -> &[NamedElement]
     ensures { result.now ≡ from_member depth number elements.now }
 {
     let mut left = number;
@@ -107,7 +107,7 @@ fn from_member(depth: u64, number: u32, elements: &[Element]) -> &[Element]
 }
 
 /// The contents octets of a primitive element that stands whole.
-fn contents<'a>(document: &'a [u8], element: &Element) -> &'a [u8]
+fn contents<'a>(document: &'a [u8], element: &NamedElement) -> &'a [u8]
     ensures { result.now ≡ contents document.now element.now }
 {
     let (Some(begin), Some(end)) = (element.begin, element.end) else {

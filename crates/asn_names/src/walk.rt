@@ -2,10 +2,10 @@
 ghost use Rattle.std.specs.Prelude.{[], ◌≡◌, ◌+◌, ◌++◌, ◌∷◌, IfOk, OnOk, drop, reverse};
 ghost use Rattle.asn_names.specs.Walks.{began, begins_as, begins_at, begins_outside, ended, ended_at, is_private, is_refused, listed, state_of, taken, typed_as, unplaced, with_behind, with_opened};
 
-use crate::element::{Element, Level, Parting, Step};
+use crate::element::{Level, NamedElement, Parting, Step};
 use crate::level::{Place, level_of, may_close, outermost, place_in};
 use crate::resolved::resolve;
-use asn_outline::event::Header;
+use asn_outline::event::ElementHeader;
 use asn_shapes::shape::Shape;
 use std::alloc::AllocError;
 use std::slice::from_ref;
@@ -15,7 +15,7 @@ use tlv_core::tag::Tag;
 #[derive(Drop)]
 pub(crate) struct Walk {
     /// The elements until now.
-    pub elements: Vec<Element>,
+    pub elements: Vec<NamedElement>,
     /// The open containers by their numbers, the innermost last, and what is due in each.
     pub containers: Vec<(u64, Level)>,
 }
@@ -23,7 +23,7 @@ pub(crate) struct Walk {
 /// An element that begins: its header, and where its contents begin and end, as far as that is known.
 #[derive(Clone, Copy)]
 pub(crate) struct Beginning {
-    pub header: Header,
+    pub header: ElementHeader,
     pub begin: Option<u64>,
     pub end: Option<u64>,
     /// Whether it is open from here on.
@@ -117,7 +117,7 @@ fn begin_as(
 }
 
 /// One element more.
-fn push_element(elements: &mut Vec<Element>, element: &Element) -> Result<(), AllocError>
+fn push_element(elements: &mut Vec<NamedElement>, element: &NamedElement) -> Result<(), AllocError>
     ensures { OnOk result (elements.new.items ≡ elements.old.items ++ element.now ∷ []) }
 {
     // (`push` takes the element by value, which the toolchain has no rule for)
@@ -186,7 +186,7 @@ pub(crate) fn end_container(walk: &mut Walk, at: u64) -> Option<Parting>
 }
 
 /// The element of this number ends there.
-fn end_element(elements: &mut Vec<Element>, number: u64, at: u64)
+fn end_element(elements: &mut Vec<NamedElement>, number: u64, at: u64)
     ensures { elements.new.items ≡ ended_at number at elements.old.items }
 {
     let number = number as usize;
@@ -217,10 +217,10 @@ fn take_place(containers: &mut Vec<(u64, Level)>, root: &'static Shape, tag: Tag
 
 /// The type of an element that stands in the container of this number.
 fn typed_as(
-    elements: &[Element],
+    elements: &[NamedElement],
     document: &[u8],
     around: u64,
-    header: Header,
+    header: ElementHeader,
     shape: Option<&'static Shape>,
 ) -> Typed
     ensures { result ≡ typed_as document.now elements.now around header shape.entry }
@@ -251,7 +251,7 @@ fn typed_as(
 }
 
 /// Whether the element of this number is private.
-fn is_private(elements: &[Element], number: u64) -> bool
+fn is_private(elements: &[NamedElement], number: u64) -> bool
     ensures { result ≡ is_private elements.now number }
 {
     match elements.get(number as usize) {
@@ -261,7 +261,7 @@ fn is_private(elements: &[Element], number: u64) -> bool
 }
 
 /// The elements behind that of this number.
-fn behind(elements: &[Element], number: u64) -> &[Element]
+fn behind(elements: &[NamedElement], number: u64) -> &[NamedElement]
     ensures { result.now ≡ drop (number + 1) elements.now }
 {
     let number = number as usize;
@@ -283,10 +283,10 @@ fn is_refused(shape: Option<&'static Shape>) -> bool
 }
 
 /// An element at its place.
-fn listed(around: u64, step: Step, typed: &Typed, beginning: &Beginning) -> Element
+fn listed(around: u64, step: Step, typed: &Typed, beginning: &Beginning) -> NamedElement
     ensures { result ≡ listed around step typed.now beginning.now }
 {
-    Element {
+    NamedElement {
         header: beginning.header,
         begin: beginning.begin,
         end: beginning.end,
@@ -299,7 +299,7 @@ fn listed(around: u64, step: Step, typed: &Typed, beginning: &Beginning) -> Elem
 }
 
 /// An element that has no place. What it is nobody knows, so it is private.
-fn unplaced(around: u64, beginning: &Beginning) -> Element
+fn unplaced(around: u64, beginning: &Beginning) -> NamedElement
     ensures { result ≡ unplaced around beginning.now }
 {
     let typed = Typed {

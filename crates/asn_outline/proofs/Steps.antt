@@ -23,7 +23,7 @@ use Rattle.asn_outline.specs.Announced.{announced}
 use Rattle.asn_outline.specs.Outlines.{HeaderStands, StopsWith, innermost_of}
 use Rattle.asn_outline.specs.Steps.{AllOpen, Leads, Ready, StopsAt, insides, point}
 use Rattle.asn_outline.specs.declared.event.Event.TheVariants.{Begin, End, Primitive}
-use Rattle.asn_outline.specs.declared.event.Header.{Header}
+use Rattle.asn_outline.specs.declared.event.ElementHeader.{ElementHeader}
 use Rattle.asn_outline.proofs.Points.{closed_is, ended_some, heard_run, heard_takes, inside_is, insides_behind, left_is, length_behind, length_insides, open_all_behind, opened, place_within, refused_run, takes_forward}
 
 -- the place that was asked for
@@ -48,7 +48,7 @@ end_said s next k left left' none is x =
     (hears_said _ _ _ _ _ _ _ (ap (next_at (place s)) is) x)
 
 -- the header with this identifier, before these octets
-abbrev made : Tag → Bool → ℕ → ℕ → ℕ → List ℕ → Header
+abbrev made : Tag → Bool → ℕ → ℕ → ℕ → List ℕ → ElementHeader
 made tag form at depth behind rest = record {
   at = at;
   tag = tag;
@@ -94,7 +94,7 @@ module _ (document : List ℕ) (s : Standing) (left : List ℕ) (w : Ready docum
     abbrev the_given : Given
     the_given = record { at = s.taken; tag = tag; constructed = form }
 
-    abbrev pub the_header : Header
+    abbrev pub the_header : ElementHeader
     the_header = record {
       at = s.taken;
       tag = tag;

@@ -7,7 +7,7 @@ use Rattle.ber_pull.specs.Standing.{Standing, started}
 use Rattle.asn_outline.specs.Outlines.{Happens, Outlines, StopsWith, start}
 use Rattle.asn_outline.specs.Steps.{Leads, Ready, insides, point}
 use Rattle.asn_outline.specs.declared.event.Event.{Event}
-use Rattle.asn_outline.specs.declared.event.Header.{Header}
+use Rattle.asn_outline.specs.declared.event.ElementHeader.{ElementHeader}
 use Rattle.asn_outline.specs.declared.event.Stop.{Stop}
 use Rattle.asn_outline.proofs.Points.{length_insides, open_live}
 
@@ -47,7 +47,7 @@ none_behind (enclosing ∷ around) A B none a = let z = none in cc
 module _ (limits : Limits) (document : List ℕ) (events : List Event) (s : Standing) (left : List ℕ)
     (w : Went limits document events s left) where
   -- what stands next stops
-  pub went_stops : (fault : Fault) (element : Option Header) → StopsWith s.limits fault element (point s left)
+  pub went_stops : (fault : Fault) (element : Option ElementHeader) → StopsWith s.limits fault element (point s left)
       → Outlines limits events (Some (record { fault = fault; element = element })) (start document)
   unfolding Outlines
   went_stops fault element x =

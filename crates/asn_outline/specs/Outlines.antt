@@ -9,7 +9,7 @@ use Rattle.x690.specs.Reading.{Done, Halted, Took, run}
 use Rattle.asn_outline.specs.Announced.{announced}
 use Rattle.asn_outline.specs.declared.event.Event.{Event}
 use Rattle.asn_outline.specs.declared.event.Event.TheVariants.{Begin, End, Primitive}
-use Rattle.asn_outline.specs.declared.event.Header.{Header}
+use Rattle.asn_outline.specs.declared.event.ElementHeader.{ElementHeader}
 use Rattle.asn_outline.specs.declared.event.Stop.{Stop}
 
 -- A point of a document: what encloses the members of each open container, the innermost first; the place, and the
@@ -33,7 +33,7 @@ without_innermost [] = []
 without_innermost (enclosing ∷ around) = around
 
 -- The header stands at the point: `behind` is the place behind its identifier, and `rest` follows there.
-pub record HeaderStands (limits : Limits) (header : Header) (p : Point) (behind : ℕ) (rest : List ℕ) : Type 0 where
+pub record HeaderStands (limits : Limits) (header : ElementHeader) (p : Point) (behind : ℕ) (rest : List ℕ) : Type 0 where
   pub identifier : run (next_tag limits (innermost_of p.containers)) p.place p.octets
       ≡ Took (ElementStands header.at header.tag header.constructed) behind rest
   pub depth : header.depth ≡ length p.containers
@@ -60,7 +60,7 @@ Happens limits (End at) p q =
     × (q.containers ≡ without_innermost p.containers)
 
 -- behind the identifier of an element the fault is found in its length, or in its contents if it is primitive
-abbrev pub StopsBehind : Limits → Header → Fault → Point → ℕ → List ℕ → Type 0
+abbrev pub StopsBehind : Limits → ElementHeader → Fault → Point → ℕ → List ℕ → Type 0
 StopsBehind limits header fault p behind rest =
     elim header.constructed [
       | false ↦ run (primitive_contents limits (innermost_of p.containers) header.at) behind rest ≡ Halted fault
@@ -68,7 +68,7 @@ StopsBehind limits header fault p behind rest =
     ]
 
 -- What stands at the point stops with the fault: in its identifier, or in the element of this header.
-abbrev pub StopsWith : Limits → Fault → Option Header → Point → Type 0
+abbrev pub StopsWith : Limits → Fault → Option ElementHeader → Point → Type 0
 StopsWith limits fault None p = run (next_tag limits (innermost_of p.containers)) p.place p.octets ≡ Halted fault
 StopsWith limits fault (Some header) p =
     (behind : ℕ) × (rest : List ℕ) × HeaderStands limits header p behind rest

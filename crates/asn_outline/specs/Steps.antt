@@ -9,7 +9,7 @@ use Rattle.ber_pull.specs.declared.state.Container.{Container}
 use Rattle.asn_outline.specs.Outlines.{Happens, Point, StopsWith}
 use Rattle.asn_outline.specs.declared.event.Event.{Event}
 use Rattle.asn_outline.specs.declared.event.Event.TheVariants.{Begin, End, Primitive}
-use Rattle.asn_outline.specs.declared.event.Header.{Header}
+use Rattle.asn_outline.specs.declared.event.ElementHeader.{ElementHeader}
 
 -- what encloses the members of each open container
 abbrev pub insides : List Container → List Enclosing
@@ -53,7 +53,7 @@ pub record Leads (document : List ℕ) (event : Event) (s : Standing) (left : Li
   pub fewer : 1 + 2 * s.taken + length s'.containers ≤ 2 * s'.taken + length s.containers
 
 -- What an error says: a fault is that of what stands at the point, and none comes from the source.
-abbrev pub StopsAt : ReadError → Option Header → Standing → List ℕ → Type 0
+abbrev pub StopsAt : ReadError → Option ElementHeader → Standing → List ℕ → Type 0
 StopsAt (errors.Fault fault) element s left = StopsWith s.limits fault element (point s left)
 StopsAt (errors.Read at) element s left = ⊥
 StopsAt errors.Memory element s left = Unit {0}

@@ -5,7 +5,7 @@ use tlv_core::tag::Tag;
 
 /// The header of an element (X.690 8.1.2, 8.1.3).
 #[derive(Clone, Copy)]
-pub struct Header {
+pub struct ElementHeader {
     /// The place where its identifier begins.
     pub at: u64,
     pub tag: Tag,
@@ -22,9 +22,9 @@ pub struct Header {
 #[derive(Clone, Copy)]
 pub enum Event {
     /// A primitive element, and the places where its contents begin and end.
-    Primitive(Header, u64, u64),
+    Primitive(ElementHeader, u64, u64),
     /// A constructed element, and the place where its contents begin. It is open up to its `End`.
-    Begin(Header, u64),
+    Begin(ElementHeader, u64),
     /// The place where the contents of the innermost open element end.
     End(u64),
 }
@@ -36,5 +36,5 @@ pub struct Stop {
     pub fault: Fault,
     /// The element whose length or contents are at fault. `None` where the fault is in an identifier, or in
     /// end-of-contents octets.
-    pub element: Option<Header>,
+    pub element: Option<ElementHeader>,
 }

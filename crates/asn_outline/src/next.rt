@@ -5,7 +5,7 @@ ghost use Rattle.asn_outline.specs.Announced.{announced};
 ghost use Rattle.asn_outline.specs.Steps.{Leads, Ready, StopsAt, open_behind};
 
 use crate::announced::announced_length;
-use crate::event::{Event, Header};
+use crate::event::{ElementHeader, Event};
 use ber_pull::pull::Pull;
 use tlv_core::der::header_size;
 use tlv_core::fault::ReadError;
@@ -18,7 +18,7 @@ pub(crate) fn next_event(
     document: &[u8],
     depth: u64,
     room: &mut Vec<u8>,
-) -> Result<Event, (ReadError, Option<Header>)>
+) -> Result<Event, (ReadError, Option<ElementHeader>)>
     requires ready { Ready document.now pull.old.state pull.old.src.now.now }
     requires depth { depth ≡ length pull.old.state.containers }
     ensures { MatchResult result
@@ -65,7 +65,7 @@ pub(crate) fn depth_behind(depth: u64, event: &Event) -> u64
 }
 
 /// The header whose identifier, of this tag and form, stands at a place of the document.
-fn header_at(document: &[u8], at: u64, tag: Tag, constructed: bool, depth: u64) -> Header
+fn header_at(document: &[u8], at: u64, tag: Tag, constructed: bool, depth: u64) -> ElementHeader
     requires { at + length (identifier tag constructed) ≤ length document.now }
     ensures { result ≡ record {
       at = at;
@@ -78,7 +78,7 @@ fn header_at(document: &[u8], at: u64, tag: Tag, constructed: bool, depth: u64) 
 {
     // (a header of length 0 has one octet behind its identifier)
     let behind = at + (header_size(tag, 0) - 1);
-    Header {
+    ElementHeader {
         at,
         tag,
         constructed,

@@ -11,7 +11,7 @@ use pk_documents::document::{Document, Valued};
 use pk_documents::kind::Kind;
 use pk_same::same::{Style, same_text};
 use pk_same::sameness::Sameness;
-use pk_same::text::Names;
+use pk_same::text::DocumentNames;
 use pk_same_key::same_key::same_key_text;
 use pk_same_key::verdict::KeySameness;
 use std::alloc::{AllocError, Global};
@@ -127,7 +127,7 @@ fn answer(
 {
     let first_name = said_name(alloc, comparison.question, names.first)?;
     let second_name = said_name(alloc, comparison.question, names.second)?;
-    let names = Names {
+    let names = DocumentNames {
         first: first_name.as_str(),
         second: second_name.as_str(),
     };
@@ -164,7 +164,7 @@ fn document_answer(
     second: &[u8],
     kind: Kind,
     limits: Limits,
-    names: Names<'_>,
+    names: DocumentNames<'_>,
     form: Style,
 ) -> Result<(String, u8), AllocError>
     ensures { IfOk result (λ it. AnswersDocument ⟦<Document as Valued>⟧.value form limits kind
@@ -186,7 +186,7 @@ fn note_text(
     second: &[u8],
     kind: Kind,
     limits: Limits,
-    names: Names<'_>,
+    names: DocumentNames<'_>,
 ) -> Result<String, AllocError>
     ensures { IfOk result (λ note. IsNote is_due ⟦<Document as Valued>⟧.value limits kind
         names.entry.first.now names.entry.second.now first.now second.now (string_bytes note)) }

@@ -1,6 +1,6 @@
 -- The lines of a file and of what is inside its elements.
 use Rattle.std.proofs.Common.{Bool, List, None, Option, Some, ℕ, [], false, inl, inr, refl, subst, sym, true, ◌+◌, ◌∙◌, ◌≡◌}
-use Rattle.asn_names.specs.declared.element.Element.{Element}
+use Rattle.asn_names.specs.declared.element.NamedElement.{NamedElement}
 use Rattle.pk_explain.specs.Insides.{IsOneOf}
 use Rattle.pk_explain.specs.Public.{is_guarded}
 use Rattle.pk_explain.specs.Tellings.{AreGuarded, AreInsideOf, ArePublic, EndInside, KeepsGuarded, KeepsOrEnds, StaysEnded, TellsFile}
@@ -9,13 +9,13 @@ use Rattle.pk_explain.specs.declared.values.Rule.{Rule}
 use Rattle.pk_explain.proofs.Guarded.{all_public}
 use Rattle.pk_reports.specs.declared.report.Line.{Line}
 
-pub same_lines : (document : List ℕ) (elements : List Element) (others : List Line) (number : ℕ) (ended ended' : Bool)
+pub same_lines : (document : List ℕ) (elements : List NamedElement) (others : List Line) (number : ℕ) (ended ended' : Bool)
     (old new : List Line) → ended' ≡ ended → new ≡ old → AreGuarded document elements others number ended old
     → AreGuarded document elements others number ended' new
 same_lines document elements others number ended ended' old new e l g =
     (g.0, l ∙ g.1, elim g.2 [ inl h ↦ inl h | inr h ↦ inr (e ∙ h.0, h.1) ])
 
-end_inside : (document : List ℕ) (elements : List Element) (insides : List Inside) (inside : Option Inside) (number : ℕ)
+end_inside : (document : List ℕ) (elements : List NamedElement) (insides : List Inside) (inside : Option Inside) (number : ℕ)
     (ended : Bool) (outer lines : List Line) → ended ≡ false
     → ((one : Inside) → inside ≡ Some one → IsOneOf one insides)
     → AreGuarded document elements [] number ended outer → AreInsideOf inside outer lines
@@ -32,7 +32,7 @@ end_inside document elements insides (Some one) number ended outer lines going m
     }
 
 -- an element more, and what is inside it
-pub file_on : (rule : Rule) (document : List ℕ) (elements : List Element) (insides : List Inside)
+pub file_on : (rule : Rule) (document : List ℕ) (elements : List NamedElement) (insides : List Inside)
     (inside : Option Inside) (number : ℕ) (a b c : Bool) (old mid new : List Line)
     → KeepsGuarded rule document elements number a old b mid → StaysEnded a old b mid
     → KeepsOrEnds rule inside b mid c new → ((one : Inside) → inside ≡ Some one → IsOneOf one insides)

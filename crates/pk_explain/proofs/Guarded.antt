@@ -3,7 +3,7 @@ use Rattle.std.proofs.Common.{Bool, List, Option, Some, ℕ, [], ap, cond, false
 use Rattle.std.proofs.Math.Numerals.{add-one}
 use Rattle.std.proofs.lemmas.List.{append_assoc}
 use Rattle.std.specs.Option.{is_some}
-use Rattle.asn_names.specs.declared.element.Element.{Element}
+use Rattle.asn_names.specs.declared.element.NamedElement.{NamedElement}
 use Rattle.asn_names.specs.declared.element.Step.{Step}
 use Rattle.asn_names.specs.declared.element.Step.TheVariants.{Field, Member, Outermost, Outside, Segment}
 use Rattle.pk_explain.specs.Hidden.{ends_untold, is_behind, is_private, is_private_placed, is_refused_here, is_untold, told_by, told_in, walk_after}
@@ -20,20 +20,20 @@ use Rattle.pk_reports.specs.declared.report.Cause.{Cause}
 use Rattle.pk_reports.specs.declared.report.Line.{Line}
 
 -- of one element more nothing is told
-public_more : (document : List ℕ) (elements : List Element) (number : ℕ) (lines : List Line)
+public_more : (document : List ℕ) (elements : List NamedElement) (number : ℕ) (lines : List Line)
     → ArePublic document elements number lines → ArePublic document elements (number + 1) lines
 public_more document elements number lines h =
     subst (λ n. ArePublic document elements n lines) (sym (add-one number)) (inl h)
 
 -- of one element more a public line is told
-public_line : (document : List ℕ) (elements : List Element) (number : ℕ) (before : List Line) (line : Line)
+public_line : (document : List ℕ) (elements : List NamedElement) (number : ℕ) (before : List Line) (line : Line)
     → ArePublic document elements number before → IsPublicLine document elements number line
     → ArePublic document elements (number + 1) (before ++ (line ∷ []))
 public_line document elements number before line h p =
     subst (λ n. ArePublic document elements n (before ++ (line ∷ []))) (sym (add-one number))
     (inr (before, line, refl, h, p))
 
-pub guarded_more : (document : List ℕ) (elements : List Element) (others : List Line) (number : ℕ) (ended ended' : Bool)
+pub guarded_more : (document : List ℕ) (elements : List NamedElement) (others : List Line) (number : ℕ) (ended ended' : Bool)
     (old new : List Line) → (ended ≡ true → ended' ≡ true) → new ≡ old
     → AreGuarded document elements others number ended old → AreGuarded document elements others (number + 1) ended' new
 guarded_more document elements others number ended ended' old new w e g = (
@@ -43,7 +43,7 @@ guarded_more document elements others number ended ended' old new w e g = (
 )
 
 -- before the end all lines are public
-pub all_public : (document : List ℕ) (elements : List Element) (others : List Line) (number : ℕ) (ended : Bool)
+pub all_public : (document : List ℕ) (elements : List NamedElement) (others : List Line) (number : ℕ) (ended : Bool)
     (lines : List Line) → ended ≡ false → AreGuarded document elements others number ended lines
     → (own : List Line) × (lines ≡ others ++ own) × ArePublic document elements number own
 all_public document elements others number ended lines going g =
@@ -72,10 +72,10 @@ not_place : (private : Bool) → cond private Place Header ≡ Header → privat
 not_place true h = absurd (cc)
 not_place false h = refl
 
-placed_false : (point : Point) (element : Element) → is_private_placed point element ≡ false → element.private ≡ false
+placed_false : (point : Point) (element : NamedElement) → is_private_placed point element ≡ false → element.private ≡ false
 placed_false point element h = (or_false element.private _ (or_false _ _ h).0).0
 
-private_false : (point : Point) (element : Element) (step : Step) → is_private point element step ≡ false
+private_false : (point : Point) (element : NamedElement) (step : Step) → is_private point element step ≡ false
     → (element.private ≡ false) ⊎ (step ≡ Outside)
 private_false point element Outside h = inr refl
 private_false point element Outermost h = inl (placed_false point element h)
@@ -84,7 +84,7 @@ private_false point element (Member number) h = inl (placed_false point element 
 private_false point element (Segment number) h = inl (placed_false point element h)
 
 -- An element whose header is told stands before the end of the telling, and isn't private or has no place.
-header_told : (point : Point) (walk : Walk) (element : Element) → told_in Guarded point walk element ≡ Header
+header_told : (point : Point) (walk : Walk) (element : NamedElement) → told_in Guarded point walk element ≡ Header
     → (walk.ended ≡ false) × ((element.private ≡ false) ⊎ (element.step ≡ Outside))
 header_told point walk element h =
     let both = not_nothing _ _ h in
@@ -94,7 +94,7 @@ header_told point walk element h =
       private_false point element element.step open_private.0,
     )
 
-place_told : (point : Point) (walk : Walk) (element : Element) → told_in Guarded point walk element ≡ Place
+place_told : (point : Point) (walk : Walk) (element : NamedElement) → told_in Guarded point walk element ≡ Place
     → walk.ended ≡ false
 place_told point walk element h =
     (or_false walk.ended (is_untold Guarded point walk element) (not_nothing_place _ _ h)).0
@@ -105,7 +105,7 @@ added : (others own old new : List Line) (line : Line) → new ≡ old ++ (line 
 added others own old new line e h = e ∙ (ap (λ lines. lines ++ (line ∷ [])) h ∙ append_assoc others own (line ∷ []))
 
 -- a place adds a line, or none
-place_added : (placed : Placed) (element : Element) (step : Step) (old new : List Line)
+place_added : (placed : Placed) (element : NamedElement) (step : Step) (old new : List Line)
     → AddsPlace placed element step old new
     → (new ≡ old) ⊎ ((line : Line) × (new ≡ old ++ (line ∷ [])) × IsPlaceLine placed element line)
 place_added placed element Outside old new h = inl h
@@ -114,8 +114,8 @@ place_added placed element (Field name) old new h = inr h
 place_added placed element (Member number) old new h = inr h
 place_added placed element (Segment number) old new h = inr h
 
-guarded : (point : Point) (walk : Walk) (element : Element) (told : Told) (all definite : Bool) (octets : List ℕ)
-    (placed : Placed) (elements : List Element) (number : ℕ) (cause : Option Cause) (others old new : List Line)
+guarded : (point : Point) (walk : Walk) (element : NamedElement) (told : Told) (all definite : Bool) (octets : List ℕ)
+    (placed : Placed) (elements : List NamedElement) (number : ℕ) (cause : Option Cause) (others old new : List Line)
     → told_in Guarded point walk element ≡ told → slice_get elements number ≡ Some element
     → AddsLine Guarded told octets placed element cause old new all
     → AreGuarded octets elements others number walk.ended old
@@ -159,8 +159,8 @@ guarded point walk element Place all definite octets placed elements number caus
       )
     ]
 
-pub keeps : (rule : Rule) (point : Point) (walk : Walk) (element : Element) (told : Told) (all definite : Bool)
-    (octets : List ℕ) (placed : Placed) (elements : List Element) (number : ℕ) (cause : Option Cause)
+pub keeps : (rule : Rule) (point : Point) (walk : Walk) (element : NamedElement) (told : Told) (all definite : Bool)
+    (octets : List ℕ) (placed : Placed) (elements : List NamedElement) (number : ℕ) (cause : Option Cause)
     (old new : List Line) → told_in rule point walk element ≡ told → slice_get elements number ≡ Some element
     → AddsLine rule told octets placed element cause old new all
     → KeepsGuarded rule octets elements number walk.ended old
@@ -173,7 +173,7 @@ keeps Guarded point walk element told all definite octets placed elements number
     λ is others g.
     guarded point walk element told all definite octets placed elements number cause others old new t l pushed g
 
-ended_told : (rule : Rule) (point : Point) (walk : Walk) (element : Element) → walk.ended ≡ true
+ended_told : (rule : Rule) (point : Point) (walk : Walk) (element : NamedElement) → walk.ended ≡ true
     → told_in rule point walk element ≡ Nothing
 ended_told rule point walk element e =
     ap
@@ -183,7 +183,7 @@ ended_told rule point walk element e =
     (is_private point element element.step || (is_some walk.members_of && is_refused_here point element)) walk.sure))
     e
 
-stays_told : (rule : Rule) (point : Point) (walk : Walk) (element : Element) (told : Told) (all definite : Bool)
+stays_told : (rule : Rule) (point : Point) (walk : Walk) (element : NamedElement) (told : Told) (all definite : Bool)
     (octets : List ℕ) (placed : Placed) (cause : Option Cause) (old new : List Line) → Nothing ≡ told
     → AddsLine rule told octets placed element cause old new all
     → StaysEnded walk.ended old (walk_after rule point walk element told all definite).ended new
@@ -193,7 +193,7 @@ stays_told rule point walk element Header all definite octets placed cause old n
 stays_told rule point walk element Place all definite octets placed cause old new t pushed = absurd (cc)
 
 -- where nothing more is told
-pub stays : (rule : Rule) (point : Point) (walk : Walk) (element : Element) (told : Told) (all definite : Bool)
+pub stays : (rule : Rule) (point : Point) (walk : Walk) (element : NamedElement) (told : Told) (all definite : Bool)
     (octets : List ℕ) (placed : Placed) (cause : Option Cause) (old new : List Line)
     → told_in rule point walk element ≡ told
     → AddsLine rule told octets placed element cause old new all

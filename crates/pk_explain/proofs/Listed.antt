@@ -13,7 +13,7 @@ use Rattle.pk_explain.specs.Places.{Page}
 use Rattle.pk_explain.specs.declared.hidden.Point.{Point}
 use Rattle.pk_explain.specs.declared.inside.Inside.{Inside}
 use Rattle.pk_explain.specs.declared.values.Rule.{Rule}
-use Rattle.asn_names.specs.declared.element.Element.{Element}
+use Rattle.asn_names.specs.declared.element.NamedElement.{NamedElement}
 use Rattle.tlv_core.specs.Limits.{Limits}
 
 pub started : (walk : Walk) (numbers : List ℕ) (lines : List Line) → walk ≡ walk_start → numbers ≡ []
@@ -50,14 +50,14 @@ file_more rule point fault page insides number others left inside line before mi
       b,
     )
 
-pub inside_more : (limits : Limits) (file : List ℕ) (elements : List Element) (number : ℕ) (before after : List Inside)
+pub inside_more : (limits : Limits) (file : List ℕ) (elements : List NamedElement) (number : ℕ) (before after : List Inside)
     → HasInsides limits file elements number before → AddsInside limits file elements number before after
     → HasInsides limits file elements (number + 1) after
 inside_more limits file elements number before after has adds =
     subst (λ n. HasInsides limits file elements n after) (sym (add-one number)) (before, has, adds)
 
 -- the document inside an element that contains one
-pub adds_inside : (limits : Limits) (file : List ℕ) (elements : List Element) (number : ℕ) (element : Element)
+pub adds_inside : (limits : Limits) (file : List ℕ) (elements : List NamedElement) (number : ℕ) (element : NamedElement)
     (shape : Bor Shape) (old new : List Inside) (inside : Inside) → slice_get elements number ≡ Some element
     → contained element ≡ Some shape → IsDocumentIn limits file (drop number elements) number shape inside
     → new ≡ old ++ (inside ∷ []) → AddsInside limits file elements number old new

@@ -7,24 +7,24 @@ use Rattle.std.proofs.lemmas.Bool.Decides.{nat_tests}
 use Rattle.std.proofs.lemmas.List.{drop_all}
 use Rattle.x690.specs.DerTexts.{padded_less}
 use Rattle.asn_elements.specs.Members.{ascends}
-use Rattle.asn_names.specs.declared.element.Element.{Element}
+use Rattle.asn_names.specs.declared.element.NamedElement.{NamedElement}
 use Rattle.pk_explain.specs.Causes.{causes_of, first_of_both, is_disordered, is_disordered_by, order_cause, own_cause, with_order}
 use Rattle.pk_reports.specs.declared.report.Cause.{Cause}
 use Rattle.pk_reports.specs.declared.report.Cause.TheVariants.{Order}
 
 -- of the first elements, so many, their own causes; of those behind them all
-abbrev pub own_before : List ℕ → ℕ → List Element → List (Option Cause)
+abbrev pub own_before : List ℕ → ℕ → List NamedElement → List (Option Cause)
 own_before document zero elements = causes_of document elements
 own_before document (suc number) [] = []
 own_before document (suc number) (element ∷ elements) = own_cause document element ∷ own_before document number elements
 
-all_own : (document : List ℕ) (elements : List Element)
+all_own : (document : List ℕ) (elements : List NamedElement)
     → own_before document (length elements) elements ≡ map (own_cause document) elements
 all_own document [] = refl
 all_own document (element ∷ elements) = ap (λ causes. own_cause document element ∷ causes) (all_own document elements)
 
 -- before any of them is done
-pub none_ordered : (document : List ℕ) (elements : List Element) (number : ℕ) (causes : List (Option Cause))
+pub none_ordered : (document : List ℕ) (elements : List NamedElement) (number : ℕ) (causes : List (Option Cause))
     → number ≡ length elements → causes ≡ map (own_cause document) elements
     → causes ≡ own_before document number elements
 none_ordered document elements number causes n own =
@@ -40,7 +40,7 @@ cond_behind : (is : Bool) (cause : Option Cause) (one other : List (Option Cause
 cond_behind true cause one other = refl
 cond_behind false cause one other = refl
 
-first_ordered : (document : List ℕ) (element : Element) (elements : List Element) (causes : List (Option Cause))
+first_ordered : (document : List ℕ) (element : NamedElement) (elements : List NamedElement) (causes : List (Option Cause))
     (cause : Option Cause)
     → cond (is_disordered_by document (Some element) (Some cause) elements causes) (Some Order ∷ causes)
     (cause ∷ causes)
@@ -49,7 +49,7 @@ first_ordered document element elements causes None = cond_first _ (Some Order) 
 first_ordered document element elements causes (Some cause) = refl
 
 -- those behind the first one
-disordered_behind : (document : List ℕ) (element : Element) (elements : List Element) (cause : Option Cause)
+disordered_behind : (document : List ℕ) (element : NamedElement) (elements : List NamedElement) (cause : Option Cause)
     (causes : List (Option Cause)) (number : ℕ)
     → is_disordered document (element ∷ elements) (cause ∷ causes) (suc number)
     ≡ is_disordered document elements causes number
@@ -61,7 +61,7 @@ disordered_behind document element elements cause causes number =
     (drop behind (cause ∷ causes)))
     one
 
-one_ordered : (document : List ℕ) (elements : List Element) (number : ℕ)
+one_ordered : (document : List ℕ) (elements : List NamedElement) (number : ℕ)
     → with_order document elements (own_before document (suc number) elements) number
     ≡ own_before document number elements
 one_ordered document [] zero = refl
@@ -77,7 +77,7 @@ one_ordered document (element ∷ elements) (suc number) =
     ∙ ap (λ behind. own ∷ behind) (one_ordered document elements number))
 
 -- the element before those that are done
-pub one_more_ordered : (document : List ℕ) (elements : List Element) (before number after : ℕ)
+pub one_more_ordered : (document : List ℕ) (elements : List NamedElement) (before number after : ℕ)
     (old new : List (Option Cause)) → before ≡ suc number → after ≡ number
     → old ≡ own_before document before elements → new ≡ with_order document elements old number
     → new ≡ own_before document after elements
@@ -88,7 +88,7 @@ one_more_ordered document elements before number after old new b a o n =
     ∙ (one_ordered document elements number ∙ ap (λ more. own_before document more elements) (sym a)))
 
 -- where all are done
-pub all_ordered : (document : List ℕ) (elements : List Element) (number : ℕ) (causes : List (Option Cause))
+pub all_ordered : (document : List ℕ) (elements : List NamedElement) (number : ℕ) (causes : List (Option Cause))
     → number ≡ 0 → causes ≡ own_before document number elements → causes ≡ causes_of document elements
 all_ordered document elements number causes n own = own ∙ ap (λ none. own_before document none elements) n
 

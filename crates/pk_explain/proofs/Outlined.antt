@@ -4,7 +4,7 @@ use Rattle.std.proofs.lemmas.List.{length-drop, take_all}
 use Rattle.std.specs.Borrow.{Bor}
 use Rattle.tlv_core.specs.Limits.{Limits}
 use Rattle.asn_names.specs.Naming.{named_by}
-use Rattle.asn_names.specs.declared.element.Element.{Element}
+use Rattle.asn_names.specs.declared.element.NamedElement.{NamedElement}
 use Rattle.asn_names.specs.declared.naming.Named.{Named}
 use Rattle.asn_outline.specs.Outlines.{IsOutline}
 use Rattle.asn_outline.specs.declared.event.Event.{Event}
@@ -31,7 +31,7 @@ one_of_last inside (first ∷ all) last h =
     ]
 
 -- a document inside one of the elements is one of the file
-document_in : (limits : Limits) (file : List ℕ) (elements : List Element) (number : ℕ) (element : Element)
+document_in : (limits : Limits) (file : List ℕ) (elements : List NamedElement) (number : ℕ) (element : NamedElement)
     (shape : Bor Shape) (inside : Inside) → slice_get elements number ≡ Some element → contained element ≡ Some shape
     → IsDocumentIn limits file (drop number elements) number shape inside → IsInside limits file elements inside
 document_in limits file elements number element shape inside listed contains is = record {
@@ -44,13 +44,13 @@ document_in limits file elements number element shape inside listed contains is 
 }
 
 -- all elements from a number on
-pub rest_of : (number : ℕ) (elements : List Element)
+pub rest_of : (number : ℕ) (elements : List NamedElement)
     → take (length elements - number) (drop number elements) ≡ drop number elements
 rest_of number elements =
     take_all (length elements - number) (drop number elements) (omega (arith, length-drop number elements))
 
 -- one document more
-pub one_more_inside : (limits : Limits) (file : List ℕ) (elements : List Element) (number : ℕ) (element : Element)
+pub one_more_inside : (limits : Limits) (file : List ℕ) (elements : List NamedElement) (number : ℕ) (element : NamedElement)
     (shape : Bor Shape) (old new : List Inside) (last : Inside) → slice_get elements number ≡ Some element
     → contained element ≡ Some shape → IsDocumentIn limits file (drop number elements) number shape last
     → new ≡ old ++ (last ∷ []) → AreInsides limits file elements old → AreInsides limits file elements new

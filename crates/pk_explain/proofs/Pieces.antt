@@ -3,7 +3,7 @@ use Rattle.std.proofs.Common.{List, Option, ap, arith, cond, drop, false, get_or
 use Rattle.std.proofs.Math.Nat.{zero-add}
 use Rattle.std.proofs.lemmas.List.{length-drop, take_all}
 use Rattle.std.proofs.lemmas.Bool.Decides.{nat_tests}
-use Rattle.asn_names.specs.declared.element.Element.{Element}
+use Rattle.asn_names.specs.declared.element.NamedElement.{NamedElement}
 use Rattle.pk_explain.specs.Places.{Page, Skips, place_of, sum_of}
 use Rattle.pk_explain.specs.declared.places.Piece.{Piece}
 use Rattle.pk_reports.specs.declared.report.Cause.{Cause}
@@ -16,7 +16,7 @@ abbrev pub whole : ℕ → List Piece
 whole octets = record { at = 0; octets = octets } ∷ []
 
 -- a file with these causes
-abbrev pub file_with : List ℕ → List Element → List (Option Cause) → Page
+abbrev pub file_with : List ℕ → List NamedElement → List (Option Cause) → Page
 file_with document elements causes = record {
   octets = document;
   elements = elements;

@@ -5,7 +5,7 @@ use Rattle.std.proofs.lemmas.List.{append-nil, append_assoc}
 use Rattle.std.proofs.lemmas.Option.{slice_get_within}
 use borrow.Author.Count.{below_more, below_none}
 use Rattle.tlv_core.specs.declared.fault.Fault.{Fault}
-use Rattle.asn_names.specs.declared.element.Element.{Element}
+use Rattle.asn_names.specs.declared.element.NamedElement.{NamedElement}
 use Rattle.asn_names.specs.declared.element.Step.{Step}
 use Rattle.asn_names.specs.declared.element.Step.TheVariants.{Field, Member, Outermost, Outside, Segment}
 use Rattle.pk_explain.specs.Causes.{line_cause}
@@ -41,7 +41,7 @@ grew_both : (a b c : List Line) → Grew a b → Grew b c → Grew a c
 unfolding Grew
 grew_both a b c g h = (g.0 ++ h.0, h.1 ∙ (ap (λ lines. lines ++ h.0) g.1 ∙ append_assoc a g.0 h.0))
 
-grew_place : (placed : Placed) (element : Element) (step : Step) (old new : List Line)
+grew_place : (placed : Placed) (element : NamedElement) (step : Step) (old new : List Line)
     → AddsPlace placed element step old new → Grew old new
 grew_place placed element Outside old new h = grew_none old new h
 grew_place placed element Outermost old new h = grew_some old new (h.0 ∷ []) h.1
@@ -49,13 +49,13 @@ grew_place placed element (Field name) old new h = grew_some old new (h.0 ∷ []
 grew_place placed element (Member number) old new h = grew_some old new (h.0 ∷ []) h.1
 grew_place placed element (Segment number) old new h = grew_some old new (h.0 ∷ []) h.1
 
-grew_line : (rule : Rule) (told : Told) (octets : List ℕ) (placed : Placed) (element : Element) (cause : Option Cause)
+grew_line : (rule : Rule) (told : Told) (octets : List ℕ) (placed : Placed) (element : NamedElement) (cause : Option Cause)
     (old new : List Line) (all : Bool) → AddsLine rule told octets placed element cause old new all → Grew old new
 grew_line rule Header octets placed element cause old new all h = grew_some old new (h.0 ∷ []) h.1
 grew_line rule Place octets placed element cause old new all h = grew_place placed element element.step old new h.0
 grew_line rule Nothing octets placed element cause old new all h = grew_none old new h.0
 
-grew_one : (rule : Rule) (point : Point) (page : Page) (cause : Option Cause) (found : Option Element)
+grew_one : (rule : Rule) (point : Point) (page : Page) (cause : Option Cause) (found : Option NamedElement)
     (before after : Telling) → AddsOne rule point page cause found before after → Grew before.lines after.lines
 grew_one rule point page cause None before after h = grew_none before.lines after.lines (ap (λ t. t.lines) h)
 grew_one rule point page cause (Some element) before after h =
@@ -100,7 +100,7 @@ leaves_behind point causes inside number None wanted before after h = leaves_sam
 leaves_behind point causes inside number (Some line) wanted before after h =
     leaves_wanted point _ wanted before after h
 
-leaves_document : (point : Point) (fault : Option Fault) (causes : List (Option Cause)) (found : Option Element)
+leaves_document : (point : Point) (fault : Option Fault) (causes : List (Option Cause)) (found : Option NamedElement)
     (inside : Option Inside) (number : ℕ) (before after : Telling)
     → AddsDocument Accepted point fault causes found inside number before after → Leaves before after
 leaves_document point fault causes None inside number before after h = leaves_same before after h
@@ -108,7 +108,7 @@ leaves_document point fault causes (Some element) None number before after h = l
 leaves_document point fault causes (Some element) (Some inside) number before after h =
     leaves_behind _ causes inside number (slice_get before.lines number) _ before after h
 
-grown_line : (octets : List ℕ) (element : Element) (cause : Option Cause) (old new : List Line) → Grew old new
+grown_line : (octets : List ℕ) (element : NamedElement) (cause : Option Cause) (old new : List Line) → Grew old new
     → HasLine octets element cause old → HasLine octets element cause new
 unfolding Grew
 grown_line octets element cause old new g h = record {
@@ -123,16 +123,16 @@ grown_line octets element cause old new g h = record {
 }
 
 -- the private element that what comes may be in
-Known : List Element → ℕ → Option ℕ → Type 0
+Known : List NamedElement → ℕ → Option ℕ → Type 0
 Known elements number None = Unit {0}
 Known elements number (Some depth) =
-    (other : ℕ) × (private : Element) × (other < number) × (slice_get elements other ≡ Some private)
+    (other : ℕ) × (private : NamedElement) × (other < number) × (slice_get elements other ≡ Some private)
     × (private.private ≡ true) × (depth ≡ private.header.depth)
 
 -- an element has its line or is in a private one
 SettledOne : Page → List Line → ℕ → Type 0
 SettledOne page lines other =
-    (element : Element) → slice_get page.elements other ≡ Some element
+    (element : NamedElement) → slice_get page.elements other ≡ Some element
     → HasLine page.octets element (line_cause page.elements page.causes other) lines
     ⊎ HasPrivate page.elements other element.header.depth
 
@@ -151,19 +151,19 @@ settled_grown page old new other g h = λ element listed.
       | inr private ↦ inr private
     ]
 
-known_more : (elements : List Element) (number : ℕ) (private : Option ℕ) → Known elements number private
+known_more : (elements : List NamedElement) (number : ℕ) (private : Option ℕ) → Known elements number private
     → Known elements (number + 1) private
 unfolding Known
 known_more elements number None k = tt
 known_more elements number (Some depth) k = (k.0, k.1, omega (arith, k.2), k.3, k.4, k.5)
 
-known_own : (elements : List Element) (number : ℕ) (element : Element) (is : Bool) → element.private ≡ is
+known_own : (elements : List NamedElement) (number : ℕ) (element : NamedElement) (is : Bool) → element.private ≡ is
     → slice_get elements number ≡ Some element → Known elements (number + 1) (depth_if is element.header.depth)
 unfolding Known
 known_own elements number element true e listed = (number, element, omega arith, listed, e, refl)
 known_own elements number element false e listed = tt
 
-private_of : (elements : List Element) (number : ℕ) (private : Option ℕ) (element : Element)
+private_of : (elements : List NamedElement) (number : ℕ) (private : Option ℕ) (element : NamedElement)
     → Known elements number private → is_deeper private element ≡ true
     → HasPrivate elements number element.header.depth
 unfolding Known
@@ -177,12 +177,12 @@ private_of elements number (Some depth) element k deeper = record {
   deeper = subst (λ d. nat_lt d element.header.depth ≡ true) k.5 deeper;
 }
 
-same_element : (elements : List Element) (number : ℕ) (one other : Element) → slice_get elements number ≡ Some one
+same_element : (elements : List NamedElement) (number : ℕ) (one other : NamedElement) → slice_get elements number ≡ Some one
     → slice_get elements number ≡ Some other → one ≡ other
 same_element elements number one other h i = cc
 
 -- an element in a private one
-untold : (point : Point) (page : Page) (number : ℕ) (element : Element) (placed : Placed) (all definite : Bool)
+untold : (point : Point) (page : Page) (number : ℕ) (element : NamedElement) (placed : Placed) (all definite : Bool)
     (before after : Telling) → slice_get page.elements number ≡ Some element
     → AddsLine Accepted Nothing page.octets placed element (line_cause page.elements page.causes number) before.lines
     after.lines all
@@ -198,14 +198,14 @@ untold point page number element placed all definite before after listed line wa
           (λ other less. settled_grown page before.lines after.lines other grew (state.settled other less))
           (λ one has.
           inr (
-          subst (λ (e : Element). HasPrivate page.elements number e.header.depth)
+          subst (λ (e : NamedElement). HasPrivate page.elements number e.header.depth)
           (same_element page.elements number element one listed has)
           (private_of page.elements number before.walk.private element state.known deeper)
           ));
     }
 
 -- an element that has its line
-headed : (point : Point) (page : Page) (number : ℕ) (element : Element) (placed : Placed) (all definite : Bool)
+headed : (point : Point) (page : Page) (number : ℕ) (element : NamedElement) (placed : Placed) (all definite : Bool)
     (before after : Telling) → slice_get page.elements number ≡ Some element
     → AddsLine Accepted Header page.octets placed element (line_cause page.elements page.causes number) before.lines
     after.lines all
@@ -232,18 +232,18 @@ headed point page number element placed all definite before after listed line wa
           (λ other less. settled_grown page before.lines after.lines other grew (state.settled other less))
           (λ one it.
           inl (
-          subst (λ (e : Element). HasLine page.octets e cause after.lines)
+          subst (λ (e : NamedElement). HasLine page.octets e cause after.lines)
           (same_element page.elements number element one listed it) has
           ));
     }
 
-told_by_depth : (point : Point) (walk : Walk) (element : Element) (deeper : Bool) → walk.ended ≡ false
+told_by_depth : (point : Point) (walk : Walk) (element : NamedElement) (deeper : Bool) → walk.ended ≡ false
     → is_deeper walk.private element ≡ deeper → told_in Accepted point walk element ≡ cond deeper Nothing Header
 told_by_depth point walk element deeper going e =
     ap (λ ended. cond (ended || is_deeper walk.private element) Nothing Header) going
     ∙ ap (λ d. cond d Nothing Header) e
 
-told_one : (point : Point) (page : Page) (number : ℕ) (element : Element) (deeper : Bool) (before after : Telling)
+told_one : (point : Point) (page : Page) (number : ℕ) (element : NamedElement) (deeper : Bool) (before after : Telling)
     → slice_get page.elements number ≡ Some element → is_deeper before.walk.private element ≡ deeper
     → IsNext Accepted point page (line_cause page.elements page.causes number) element before after
     → State page number before → State page (number + 1) after
@@ -270,7 +270,7 @@ told_one point page number element false before after listed e next state =
     t next.line)
     (next.walk ∙ ap (λ told. walk_after Accepted point before.walk element told next.all definite) t) state
 
-told_found : (point : Point) (page : Page) (number : ℕ) (found : Option Element) (before after : Telling)
+told_found : (point : Point) (page : Page) (number : ℕ) (found : Option NamedElement) (before after : Telling)
     → slice_get page.elements number ≡ found
     → AddsOne Accepted point page (line_cause page.elements page.causes number) found before after
     → State page number before → State page (number + 1) after
@@ -309,7 +309,7 @@ whole_file point fault page insides (suc number) left end h =
     subst (λ n. State page n end) (add-one number) after
 
 pub none_left : (point : Point) (fault : Option Fault) (page : Page) (insides : List Inside) (lines : List Line)
-    → IsListed Accepted point fault page insides lines → (number : ℕ) (element : Element)
+    → IsListed Accepted point fault page insides lines → (number : ℕ) (element : NamedElement)
     → slice_get page.elements number ≡ Some element
     → HasLine page.octets element (line_cause page.elements page.causes number) lines
     ⊎ HasPrivate page.elements number element.header.depth

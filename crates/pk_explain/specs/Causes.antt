@@ -5,11 +5,11 @@ use Rattle.tlv_core.specs.Header.{der_header}
 use Rattle.tlv_core.specs.Identifier.{Tag}
 use Rattle.asn_elements.specs.Members.{ascends}
 use Rattle.asn_names.specs.Levels.{holds_segments}
-use Rattle.asn_names.specs.declared.element.Element.{Element}
+use Rattle.asn_names.specs.declared.element.NamedElement.{NamedElement}
 use Rattle.asn_names.specs.declared.element.Step.{Step}
 use Rattle.asn_names.specs.declared.element.Step.TheVariants.{Field, Member, Outermost, Outside, Segment}
 use Rattle.asn_outline.specs.declared.announced.Announced.{Announced}
-use Rattle.asn_outline.specs.declared.event.Header.{Header}
+use Rattle.asn_outline.specs.declared.event.ElementHeader.{ElementHeader}
 use Rattle.asn_shapes.specs.declared.shape.Shape.{Choice', Containing', DefinedBy', Leaf, ListOf', Named', Open, Private', Refused, Sequence', SetOf', Shape}
 use Rattle.pk_explain.specs.Contents.{between, contents_in}
 use Rattle.pk_explain.specs.Public.{is_field, sort_of}
@@ -37,21 +37,21 @@ is_string_by tag None = false
 is_string_by tag (Some shape) = is_string_type tag shape
 
 -- an element is a string in segments, which DER forbids (10.2)
-abbrev pub is_in_segments : Element → Bool
+abbrev pub is_in_segments : NamedElement → Bool
 is_in_segments element =
     element.header.constructed && is_string_by element.header.tag (option_map (λ r. r.now) element.shape)
 
 -- the length octets are indefinite, or more than the fewest (10.1)
-abbrev pub cause_of_length : Header → ℕ → Option ℕ → Option Cause
+abbrev pub cause_of_length : ElementHeader → ℕ → Option ℕ → Option Cause
 cause_of_length header contents None = Some causes.IndefiniteLength
 cause_of_length header contents (Some length') =
     cond ((contents - header.at) == length (der_header header.tag false length')) None (Some causes.LongLength)
 
-abbrev pub length_cause_by : Header → Option Announced → Option Cause
+abbrev pub length_cause_by : ElementHeader → Option Announced → Option Cause
 length_cause_by header None = None
 length_cause_by header (Some announced) = cause_of_length header announced.contents announced.length
 
-abbrev pub length_cause : Header → Option Cause
+abbrev pub length_cause : ElementHeader → Option Cause
 length_cause header = length_cause_by header header.announced
 
 -- a default written out (11.5): critical is FALSE by default; TRUE by another octet than FF (11.1)
@@ -84,7 +84,7 @@ cause_in Identifier step contents = None
 cause_in Characters step contents = None
 cause_in Octets step contents = None
 
-abbrev pub cause_in_contents : Element → Option (List ℕ) → Option Cause
+abbrev pub cause_in_contents : NamedElement → Option (List ℕ) → Option Cause
 cause_in_contents element None = None
 cause_in_contents element (Some contents) = cause_in (sort_of element) element.step contents
 
@@ -93,12 +93,12 @@ first_of_both None other = other
 first_of_both (Some cause) other = Some cause
 
 -- Why an element with a place of its own isn't in DER, whatever is in it.
-abbrev pub cause_of : List ℕ → Element → Option Cause
+abbrev pub cause_of : List ℕ → NamedElement → Option Cause
 cause_of document element =
     cond (is_in_segments element) (Some causes.Segments)
     (first_of_both (length_cause element.header) (cause_in_contents element (contents_in document element)))
 
-abbrev pub cause_by : List ℕ → Element → Step → Option Cause
+abbrev pub cause_by : List ℕ → NamedElement → Step → Option Cause
 cause_by document element (Segment number) = None
 cause_by document element Outermost = cause_of document element
 cause_by document element (Field name) = cause_of document element
@@ -106,7 +106,7 @@ cause_by document element (Member number) = cause_of document element
 cause_by document element Outside = cause_of document element
 
 -- of a segment nothing is said: the string that it is in has the cause
-abbrev pub own_cause : List ℕ → Element → Option Cause
+abbrev pub own_cause : List ℕ → NamedElement → Option Cause
 own_cause document element = cause_by document element element.step
 
 abbrev pub is_set_type : Bool → Tag → Shape → Bool
@@ -127,17 +127,17 @@ is_set_by constructed tag None = false
 is_set_by constructed tag (Some shape) = is_set_type constructed tag shape
 
 -- an element is a SET OF: by its type, by its tag where that is open
-abbrev pub is_set : Element → Bool
+abbrev pub is_set : NamedElement → Bool
 is_set element =
     is_set_by element.header.constructed element.header.tag (option_map (λ r. r.now) element.shape)
 
 -- the octets of an element that stands whole and has a definite length
-abbrev pub encoding_of : List ℕ → Element → List ℕ
+abbrev pub encoding_of : List ℕ → NamedElement → List ℕ
 encoding_of document element = unwrap_or (between document (Some element.header.at) element.end) []
 
 -- The octets of the members of an element that is so deep, by the elements behind it: of those that are one deeper, as
 -- long as they are deeper.
-abbrev pub member_encodings : List ℕ → ℕ → List Element → List (List ℕ)
+abbrev pub member_encodings : List ℕ → ℕ → List NamedElement → List (List ℕ)
 member_encodings document depth [] = []
 member_encodings document depth (element ∷ elements) =
     cond (nat_lt depth element.header.depth)
@@ -145,34 +145,34 @@ member_encodings document depth (element ∷ elements) =
     (member_encodings document depth elements)) []
 
 -- the first cause of elements as long as they are deeper
-abbrev pub cause_within : ℕ → List Element → List (Option Cause) → Option Cause
+abbrev pub cause_within : ℕ → List NamedElement → List (Option Cause) → Option Cause
 cause_within depth [] causes' = None
 cause_within depth (element ∷ elements) [] = None
 cause_within depth (element ∷ elements) (cause ∷ causes') =
     cond (nat_lt depth element.header.depth) (first_of_both cause (cause_within depth elements causes')) None
 
 -- Nothing in an element that is so deep has a cause, and its members don't stand in the order of SET OF (11.6).
-abbrev pub is_out_of_order : List ℕ → ℕ → List Element → List (Option Cause) → Bool
+abbrev pub is_out_of_order : List ℕ → ℕ → List NamedElement → List (Option Cause) → Bool
 is_out_of_order document depth elements causes' =
     not (is_some (cause_within depth elements causes')) && not (ascends (member_encodings document depth elements))
 
 -- the order of a SET OF is a cause, by the elements behind it and their causes
-abbrev pub order_cause : List ℕ → Element → List Element → List (Option Cause) → Option Cause
+abbrev pub order_cause : List ℕ → NamedElement → List NamedElement → List (Option Cause) → Option Cause
 order_cause document element elements causes' =
     cond (is_set element && is_out_of_order document element.header.depth elements causes') (Some causes.Order) None
 
 -- The cause of an element before those of the elements behind it: its own, else its order.
-abbrev pub with_cause : List ℕ → Element → List Element → List (Option Cause) → List (Option Cause)
+abbrev pub with_cause : List ℕ → NamedElement → List NamedElement → List (Option Cause) → List (Option Cause)
 with_cause document element elements causes' =
     first_of_both (own_cause document element) (order_cause document element elements causes') ∷ causes'
 
 -- the causes of the elements of a document
-abbrev pub causes_of : List ℕ → List Element → List (Option Cause)
+abbrev pub causes_of : List ℕ → List NamedElement → List (Option Cause)
 causes_of document [] = []
 causes_of document (element ∷ elements) = with_cause document element elements (causes_of document elements)
 
 -- an element without a cause is a SET OF that is out of order
-abbrev pub is_disordered_by : List ℕ → Option Element → Option (Option Cause) → List Element → List (Option Cause)
+abbrev pub is_disordered_by : List ℕ → Option NamedElement → Option (Option Cause) → List NamedElement → List (Option Cause)
     → Bool
 is_disordered_by document None cause elements causes' = false
 is_disordered_by document (Some element) None elements causes' = false
@@ -181,26 +181,26 @@ is_disordered_by document (Some element) (Some None) elements causes' =
     is_set element && is_out_of_order document element.header.depth elements causes'
 
 -- so is the element of this number
-abbrev pub is_disordered : List ℕ → List Element → List (Option Cause) → ℕ → Bool
+abbrev pub is_disordered : List ℕ → List NamedElement → List (Option Cause) → ℕ → Bool
 is_disordered document elements causes' number =
     is_disordered_by document (slice_get elements number) (slice_get causes' number) (drop (number + 1) elements)
     (drop (number + 1) causes')
 
 -- its order becomes its cause
-abbrev pub with_order : List ℕ → List Element → List (Option Cause) → ℕ → List (Option Cause)
+abbrev pub with_order : List ℕ → List NamedElement → List (Option Cause) → ℕ → List (Option Cause)
 with_order document elements causes' number =
     cond (is_disordered document elements causes' number) (slice_set causes' number (Some causes.Order)) causes'
 
 -- The cause that the line of an element tells: its own; of a private one without a cause the first in it, since no line
 -- tells what is in it.
-abbrev pub line_cause_by : Option Element → Option (Option Cause) → List Element → List (Option Cause) → Option Cause
+abbrev pub line_cause_by : Option NamedElement → Option (Option Cause) → List NamedElement → List (Option Cause) → Option Cause
 line_cause_by None cause elements causes' = None
 line_cause_by (Some element) None elements causes' = None
 line_cause_by (Some element) (Some cause) elements causes' =
     first_of_both cause (cond element.private (cause_within element.header.depth elements causes') None)
 
 -- of the element of this number; none where there are no causes
-abbrev pub line_cause : List Element → List (Option Cause) → ℕ → Option Cause
+abbrev pub line_cause : List NamedElement → List (Option Cause) → ℕ → Option Cause
 line_cause elements causes' number =
     line_cause_by (slice_get elements number) (slice_get causes' number) (drop (number + 1) elements)
     (drop (number + 1) causes')

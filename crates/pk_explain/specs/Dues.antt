@@ -1,7 +1,7 @@
 -- What is due where a document is refused.
 use Rattle.std.specs.Prelude.{List, None, Option, Some, cond, slice_get, ℕ, Bool}
 use Rattle.std.specs.Borrow.{Bor}
-use Rattle.asn_names.specs.declared.element.Element.{Element}
+use Rattle.asn_names.specs.declared.element.NamedElement.{NamedElement}
 use Rattle.asn_names.specs.declared.element.Level.{Level}
 use Rattle.asn_names.specs.declared.element.Level.TheVariants as levels
 use Rattle.asn_shapes.specs.declared.shape.Shape.{Shape}
@@ -16,16 +16,16 @@ type_due None = Unsaid
 type_due (Some shape) = OfType shape
 
 -- a value of the element's own type
-abbrev pub element_due : Option Element → Due
+abbrev pub element_due : Option NamedElement → Due
 element_due None = Unsaid
 element_due (Some element) = type_due element.shape
 
-abbrev pub number_due : List Element → Option ℕ → Due
+abbrev pub number_due : List NamedElement → Option ℕ → Due
 number_due elements None = Unsaid
 number_due elements (Some number) = element_due (slice_get elements number)
 
 -- Where another tag stands that of the outermost type; where an element has the wrong form its own type.
-abbrev pub reason_due : List Element → Spot → Reason → Option ℕ → Bor Shape → Due
+abbrev pub reason_due : List NamedElement → Spot → Reason → Option ℕ → Bor Shape → Due
 reason_due elements spot reasons.WrongTag None root = OfType root
 reason_due elements spot reasons.WrongTag (Some container) root = Unsaid
 reason_due elements spot reasons.WrongForm container root = number_due elements spot.element
@@ -38,7 +38,7 @@ level_due (Some (levels.Fields fields)) other = Fields fields
 level_due (Some (levels.Members shape least number)) other = OfType shape
 level_due (Some (levels.Segments number)) other = other
 
-abbrev pub due_at : List Element → Spot → Reason → Bor Shape → Due
+abbrev pub due_at : List NamedElement → Spot → Reason → Bor Shape → Due
 due_at elements spot why root = level_due spot.level (reason_due elements spot why spot.container root)
 
 -- the same, where it may be told

@@ -1,7 +1,7 @@
 -- The line of a fault inside an OCTET STRING, where no other line tells of the element there.
 use Rattle.std.specs.Prelude.{Bool, List, None, Option, Some, [], cond, false, slice_get, true, unwrap_or, ℕ, ◌++◌, ◌||◌, ◌∷◌, ◌≡◌}
 use Rattle.std.specs.Option.{is_some}
-use Rattle.asn_names.specs.declared.element.Element.{Element}
+use Rattle.asn_names.specs.declared.element.NamedElement.{NamedElement}
 use Rattle.tlv_core.specs.declared.fault.Fault.{Fault}
 use Rattle.tlv_core.specs.declared.reason.Reason.{Reason}
 use Rattle.tlv_core.specs.declared.reason.Reason.TheVariants as reasons
@@ -28,7 +28,7 @@ is_listed lines container inside at spot =
 
 -- The number of the line around the fault: where all before it is told, that of the container; else that of the element
 -- which the document is inside.
-abbrev pub around_fault : List Line → ℕ → List Element → Spot → ℕ → ℕ
+abbrev pub around_fault : List Line → ℕ → List NamedElement → Spot → ℕ → ℕ
 around_fault lines container elements spot outer =
     cond (is_near elements spot (Some container) lines)
     (unwrap_or (line_of_number (Some container) lines elements spot.container) outer) outer
@@ -82,13 +82,13 @@ AddsIn container (Some inside) at why lines lines' =
           × (lines' ≡ lines ++ added line)
     ]
 
-abbrev pub AddsInside : List Element → List Inside → ℕ → Option (ℕ × Reason) → List Line → List Line → Type 0
+abbrev pub AddsInside : List NamedElement → List Inside → ℕ → Option (ℕ × Reason) → List Line → List Line → Type 0
 AddsInside elements insides container None lines lines' = lines' ≡ lines
 AddsInside elements insides container (Some inner) lines lines' =
     AddsIn container (inside_at elements insides container) inner.0 inner.1 lines lines'
 
 -- One line more, where the fault is inside an OCTET STRING and that is told.
-abbrev pub AddsFault : List Element → List Inside → Option Fault → List Line → List Line → Type 0
+abbrev pub AddsFault : List NamedElement → List Inside → Option Fault → List Line → List Line → Type 0
 AddsFault elements insides None lines lines' = lines' ≡ lines
 AddsFault elements insides (Some fault) lines lines' =
     AddsInside elements insides fault.at fault.inside lines lines'

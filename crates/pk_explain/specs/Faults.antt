@@ -2,7 +2,7 @@
 use Rattle.std.specs.Prelude.{Bool, List, None, Option, Some, [], cond, false, length, nat_lt, not, slice_get, suc, true, zero, ℕ, ◌++◌, ◌==◌, ◌&&◌, ◌||◌, ◌∷◌, ◌≡◌}
 use Rattle.std.specs.Borrow.{Bor}
 use Rattle.std.specs.Option.{is_some, option_or}
-use Rattle.asn_names.specs.declared.element.Element.{Element}
+use Rattle.asn_names.specs.declared.element.NamedElement.{NamedElement}
 use Rattle.asn_names.specs.declared.element.Parting.{Parting}
 use Rattle.asn_names.specs.declared.element.Step.{Step}
 use Rattle.asn_shapes.specs.declared.shape.Shape.{Shape}
@@ -24,7 +24,7 @@ use Rattle.pk_explain.specs.declared.values.Rule.{Rule}
 use Rattle.pk_explain.specs.declared.ways.Spot.{Spot}
 use Rattle.pk_reports.specs.declared.report.Answer.{Answer}
 use Rattle.pk_reports.specs.declared.report.Answer.TheVariants.{Der, NotDer, Refused}
-use Rattle.pk_reports.specs.declared.report.Container.{Container}
+use Rattle.pk_reports.specs.declared.report.ToldContainer.{ToldContainer}
 use Rattle.pk_reports.specs.declared.report.Found.{Found}
 use Rattle.pk_reports.specs.declared.report.Length.{Length}
 use Rattle.pk_reports.specs.declared.report.Line.{Line}
@@ -35,7 +35,7 @@ pub record Case : Type 0 where
   pub fault : Fault
   pub octets : List ℕ
   pub root : Bor Shape
-  pub elements : List Element
+  pub elements : List NamedElement
   pub parting : Parting
   pub insides : List Inside
   pub lines : List Line
@@ -53,7 +53,7 @@ case_of refusal = record {
 }
 
 -- the document, where it is refused for this fault
-abbrev pub refused_for : Rule → List ℕ → Bor Shape → List Element → Parting → List Inside → List Line → Fault → Case
+abbrev pub refused_for : Rule → List ℕ → Bor Shape → List NamedElement → Parting → List Inside → List Line → Fault → Case
 refused_for rule octets root elements parting insides lines fault = record {
   rule = rule;
   fault = fault;
@@ -69,15 +69,15 @@ refused_for rule octets root elements parting insides lines fault = record {
 abbrev pub number_at_fault : Spot → Option ℕ
 number_at_fault spot = option_or spot.container spot.element
 
-abbrev pub is_private_of : Option Element → Bool
+abbrev pub is_private_of : Option NamedElement → Bool
 is_private_of None = false
 is_private_of (Some element) = element.private
 
-abbrev pub is_private_number : List Element → Option ℕ → Bool
+abbrev pub is_private_number : List NamedElement → Option ℕ → Bool
 is_private_number elements None = false
 is_private_number elements (Some number) = is_private_of (slice_get elements number)
 
-abbrev pub is_in_private : List Element → Spot → Bool
+abbrev pub is_in_private : List NamedElement → Spot → Bool
 is_in_private elements spot = is_private_number elements (number_at_fault spot)
 
 -- the reason alone says which field is refused
@@ -104,34 +104,34 @@ abbrev pub may_tell : Case → Bool
 may_tell case = may_tell_by case (spot_of case) (own_line case)
 
 -- The nearest element round the one of this number that isn't private, or itself; so many are between.
-abbrev pub PublicAround : ℕ → List Element → ℕ → ℕ → Type 0
+abbrev pub PublicAround : ℕ → List NamedElement → ℕ → ℕ → Type 0
 PublicAround zero elements number found =
     (is_private_of (enclosed elements number) ≡ false) × (found ≡ number)
 PublicAround (suc count) elements number found =
-    (element : Element) × (enclosed elements number ≡ Some element) × (element.private ≡ true)
+    (element : NamedElement) × (enclosed elements number ≡ Some element) × (element.private ≡ true)
     × PublicAround count elements element.around found
 
-abbrev pub IsPublicAround : List Element → ℕ → ℕ → Type 0
+abbrev pub IsPublicAround : List NamedElement → ℕ → ℕ → Type 0
 IsPublicAround elements number found = (count : ℕ) × PublicAround count elements number found
 
-abbrev pub IsPublicWay : List Element → Option ℕ → List Step → Type 0
+abbrev pub IsPublicWay : List NamedElement → Option ℕ → List Step → Type 0
 IsPublicWay elements None steps = steps ≡ []
 IsPublicWay elements (Some number) steps =
     (found : ℕ) × IsPublicAround elements number found × IsWay elements found steps
 
 -- the steps added to those before
-abbrev pub AddsPublicWay : List Element → Option ℕ → List Step → List Step → Type 0
+abbrev pub AddsPublicWay : List NamedElement → Option ℕ → List Step → List Step → Type 0
 AddsPublicWay elements number old new =
     (steps : List Step) × (new ≡ old ++ steps) × IsPublicWay elements number steps
 
 -- The steps to what a fault is about, where that may be told. Else there are none where a private key may be, and in
 -- other documents those to the nearest element round it that isn't private.
-abbrev pub IsToldWay : Bool → Bool → List Element → Spot → List Step → Type 0
+abbrev pub IsToldWay : Bool → Bool → List NamedElement → Spot → List Step → Type 0
 IsToldWay true guarded elements spot steps = IsWayTo elements spot steps
 IsToldWay false true elements spot steps = steps ≡ []
 IsToldWay false false elements spot steps = IsPublicWay elements (number_at_fault spot) steps
 
-abbrev pub IsToldContainer : Bool → List Element → Reason → Spot → Option Container → Type 0
+abbrev pub IsToldContainer : Bool → List NamedElement → Reason → Spot → Option ToldContainer → Type 0
 IsToldContainer true elements why spot container =
     IsContainerOf elements why spot.container spot.element container
 IsToldContainer false elements why spot container = container ≡ None
@@ -161,11 +161,11 @@ pub record IsKnownOutside (case : Case) (fault : PublicFault) : Type 0 where
   pub due_octets : fault.due_octets ≡ (sizes_outside case).1
 
 -- the document inside the element at this place
-abbrev pub stands_at : ℕ → Option Element → Bool
+abbrev pub stands_at : ℕ → Option NamedElement → Bool
 stands_at at None = false
 stands_at at (Some element) = element.header.at == at
 
-abbrev pub inside_at : List Element → List Inside → ℕ → Option Inside
+abbrev pub inside_at : List NamedElement → List Inside → ℕ → Option Inside
 inside_at elements [] at = None
 inside_at elements (inside ∷ insides) at =
     cond (stands_at at (slice_get elements inside.container)) (Some inside) (inside_at elements insides at)
@@ -186,11 +186,11 @@ abbrev pub is_near_in : Case → Inside → Spot → Bool
 is_near_in case inside spot = is_near inside.named.elements.items spot (Some case.fault.at) case.lines
 
 -- The steps to the element that the document is in, and from there to what the fault is about, where that may be told.
-abbrev pub IsInnerWay : Bool → List Element → Spot → List Step → Type 0
+abbrev pub IsInnerWay : Bool → List NamedElement → Spot → List Step → Type 0
 IsInnerWay true elements spot steps = IsWayTo elements spot steps
 IsInnerWay false elements spot steps = steps ≡ []
 
-pub record IsWayInside (elements : List Element) (inside : Inside) (near : Bool) (spot : Spot) (steps : List Step)
+pub record IsWayInside (elements : List NamedElement) (inside : Inside) (near : Bool) (spot : Spot) (steps : List Step)
     : Type 0 where
   pub outer : List Step
   pub inner : List Step

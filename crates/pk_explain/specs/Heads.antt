@@ -5,7 +5,7 @@ use Rattle.std.specs.Str.{bytes_eq}
 use Rattle.tlv_core.specs.Identifier.{Tag}
 use Rattle.asn_outline.specs.declared.event.Event.{Event}
 use Rattle.asn_outline.specs.declared.event.Event.TheVariants.{Begin, End, Primitive}
-use Rattle.asn_outline.specs.declared.event.Header.{Header}
+use Rattle.asn_outline.specs.declared.event.ElementHeader.{ElementHeader}
 use Rattle.asn_outline.specs.declared.event.Stop.{Stop}
 use Rattle.pk_explain.specs.Blames.{saturating_sum}
 use Rattle.pk_explain.specs.Contents.{between}
@@ -65,7 +65,7 @@ with_inner heads code =
     (cond ((heads.count == 2) && (heads.in_second == 0)) (record heads { in_second = code }) heads)
 
 -- an element in so many containers
-abbrev pub with_header : Heads → Header → Heads
+abbrev pub with_header : Heads → ElementHeader → Heads
 with_header heads header =
     cond (header.depth == 1) (with_member heads (code_of header.tag))
     (cond (header.depth == 2) (with_inner heads (code_of header.tag)) heads)

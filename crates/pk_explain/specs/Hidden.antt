@@ -1,7 +1,7 @@
 -- What a report hides. A document is told from its first element on, in one walk.
 use Rattle.std.specs.Prelude.{Bool, None, Option, Some, cond, false, nat_le, nat_lt, not, true, ℕ, ◌-◌, ◌^◌, ◌&&◌, ◌==◌, ◌||◌}
 use Rattle.std.specs.Option.{is_some, option_map}
-use Rattle.asn_names.specs.declared.element.Element.{Element}
+use Rattle.asn_names.specs.declared.element.NamedElement.{NamedElement}
 use Rattle.asn_names.specs.declared.element.Level.{Level}
 use Rattle.asn_names.specs.declared.element.Level.TheVariants as levels
 use Rattle.asn_names.specs.declared.element.Parting.{Parting}
@@ -99,17 +99,17 @@ is_unread (Some shape) fault at None = contains shape
 is_unread (Some shape) fault at (Some end) = contains shape && nat_lt at fault && nat_lt fault end
 
 -- an element is the one that is refused, by what stands before its end
-abbrev pub is_refused_here : Point → Element → Bool
+abbrev pub is_refused_here : Point → NamedElement → Bool
 is_refused_here point element = not point.complete && (element.header.at == point.at)
 
 -- An element is private by its type, or its header may lie in private octets: where it has no place, or is the one that
 -- is refused, so does what is due there.
-abbrev pub is_private_placed : Point → Element → Bool
+abbrev pub is_private_placed : Point → NamedElement → Bool
 is_private_placed point element =
     element.private || is_unread (option_map (λ r. r.now) element.shape) point.at element.header.at element.end
     || (is_refused_here point element && point.private)
 
-abbrev pub is_private : Point → Element → Step → Bool
+abbrev pub is_private : Point → NamedElement → Step → Bool
 is_private point element steps.Outside = point.private
 is_private point element steps.Outermost = is_private_placed point element
 is_private point element (steps.Field name) = is_private_placed point element
@@ -117,16 +117,16 @@ is_private point element (steps.Member number) = is_private_placed point element
 is_private point element (steps.Segment number) = is_private_placed point element
 
 -- an element stands behind the fault, and not in the element at fault
-abbrev pub is_behind : Point → Option ℕ → Element → Bool
+abbrev pub is_behind : Point → Option ℕ → NamedElement → Bool
 is_behind point None element = nat_lt point.at element.header.at
 is_behind point (Some depth) element = nat_lt point.at element.header.at && nat_le element.header.depth depth
 
 -- in a private element, or behind the first member of a set of private ones
-abbrev pub is_deeper : Option ℕ → Element → Bool
+abbrev pub is_deeper : Option ℕ → NamedElement → Bool
 is_deeper None element = false
 is_deeper (Some depth) element = nat_lt depth element.header.depth
 
-abbrev pub is_member : Option ℕ → Element → Bool
+abbrev pub is_member : Option ℕ → NamedElement → Bool
 is_member None element = false
 is_member (Some container) element = element.private && (element.around == container)
 
@@ -142,7 +142,7 @@ told_by Guarded private sure = cond (private || not sure) Place Header
 
 -- Nothing is told of an element, before the end of the telling: in what is private; and in a refused document behind
 -- the fault, and behind the first member of a set of private ones.
-abbrev pub is_untold : Rule → Point → Walk → Element → Bool
+abbrev pub is_untold : Rule → Point → Walk → NamedElement → Bool
 is_untold Accepted point walk element = is_deeper walk.private element
 is_untold Refused point walk element =
     is_behind point walk.fault element || is_deeper walk.private element || is_member walk.members_of element
@@ -152,7 +152,7 @@ is_untold Guarded point walk element =
 -- What is told of the next element: nothing behind the fault, and nothing in what is private; of an accepted document
 -- all else; of a refused one the place alone of what is private, and, where a private key may be in it, of what stands
 -- behind octets that aren't told, since a damaged length may have led there.
-abbrev pub told_in : Rule → Point → Walk → Element → Told
+abbrev pub told_in : Rule → Point → Walk → NamedElement → Told
 told_in rule point walk element =
     cond (walk.ended || is_untold rule point walk element) Nothing
     (told_by rule
@@ -165,7 +165,7 @@ ends_at Refused hides definite = hides && not definite
 ends_at Guarded hides definite = hides
 
 -- whether it has ended behind an element of which nothing is told: where that stands behind the fault
-abbrev pub ends_untold : Rule → Point → Walk → Element → Bool
+abbrev pub ends_untold : Rule → Point → Walk → NamedElement → Bool
 ends_untold Accepted point walk element = false
 ends_untold Refused point walk element = is_behind point walk.fault element
 ends_untold Guarded point walk element = is_behind point walk.fault element
@@ -175,7 +175,7 @@ depth_if true depth = Some depth
 depth_if false depth = None
 
 -- What is known behind an element whose header is told (`hides` false) or its place alone.
-abbrev pub walk_told : Rule → Point → Walk → Element → Bool → Bool → Bool → Walk
+abbrev pub walk_told : Rule → Point → Walk → NamedElement → Bool → Bool → Bool → Walk
 walk_told rule point walk element hides all definite = record {
   ended = ends_at rule hides definite;
   sure = walk.sure && (element.header.constructed || all);
@@ -184,7 +184,7 @@ walk_told rule point walk element hides all definite = record {
   fault = cond (point.complete && (element.header.at == point.at)) (Some element.header.depth) walk.fault;
 }
 
-abbrev pub walk_after : Rule → Point → Walk → Element → Told → Bool → Bool → Walk
+abbrev pub walk_after : Rule → Point → Walk → NamedElement → Told → Bool → Bool → Walk
 walk_after rule point walk element Nothing all definite =
     record walk { ended = walk.ended || ends_untold rule point walk element }
 walk_after rule point walk element Header all definite = walk_told rule point walk element false all definite

@@ -3,7 +3,7 @@ use Rattle.std.specs.Prelude.{List, None, Option, Some, [], cond, drop, length, 
 use Rattle.std.specs.Borrow.{Bor}
 use Rattle.tlv_core.specs.Limits.{Limits}
 use Rattle.asn_names.specs.Naming.{named_by}
-use Rattle.asn_names.specs.declared.element.Element.{Element}
+use Rattle.asn_names.specs.declared.element.NamedElement.{NamedElement}
 use Rattle.asn_names.specs.declared.element.Parting.{Parting}
 use Rattle.asn_outline.specs.Outlines.{IsOutline}
 use Rattle.asn_outline.specs.declared.event.Event.{Event}
@@ -14,7 +14,7 @@ use Rattle.pk_explain.specs.declared.inside.Inside.{Inside}
 use Rattle.pk_explain.specs.declared.places.Piece.{Piece}
 
 -- The elements of a document by their names in this type, and where the two part.
-pub record IsNamed (limits : Limits) (document : List ℕ) (root : Bor Shape) (named : List Element × Parting)
+pub record IsNamed (limits : Limits) (document : List ℕ) (root : Bor Shape) (named : List NamedElement × Parting)
     : Type 0 where
   pub events : List Event
   pub stop : Option Stop
@@ -41,22 +41,22 @@ contained_by None (Some end) = None
 contained_by (Some shape) (Some end) = contained_in shape.now
 
 -- the type of the document that an element contains which stands whole
-abbrev pub contained : Element → Option (Bor Shape)
+abbrev pub contained : NamedElement → Option (Bor Shape)
 contained element = contained_by element.shape element.end
 
 -- the contents octets of a primitive element; of another one none
-abbrev pub own_contents : List ℕ → Element → List ℕ
+abbrev pub own_contents : List ℕ → NamedElement → List ℕ
 own_contents document element = unwrap_or (contents_in document element) []
 
 -- the contents octets of elements as long as they are deeper
-abbrev pub deeper_contents : List ℕ → ℕ → List Element → List ℕ
+abbrev pub deeper_contents : List ℕ → ℕ → List NamedElement → List ℕ
 deeper_contents document depth [] = []
 deeper_contents document depth (element ∷ elements) =
     cond (nat_lt depth element.header.depth)
     (own_contents document element ++ deeper_contents document depth elements) []
 
 -- the contents octets of the first of the elements, or those of all segments in it (X.690 8.7)
-abbrev pub contents_within : List ℕ → List Element → List ℕ
+abbrev pub contents_within : List ℕ → List NamedElement → List ℕ
 contents_within document [] = []
 contents_within document (element ∷ elements) =
     own_contents document element ++ deeper_contents document element.header.depth elements
@@ -67,26 +67,26 @@ piece_at None contents = []
 piece_at (Some at) None = []
 piece_at (Some at) (Some contents) = record { at = at; octets = length contents } ∷ []
 
-abbrev pub own_pieces : List ℕ → Element → List Piece
+abbrev pub own_pieces : List ℕ → NamedElement → List Piece
 own_pieces document element = piece_at element.begin (contents_in document element)
 
 -- where those of elements stand as long as they are deeper
-abbrev pub deeper_pieces : List ℕ → ℕ → List Element → List Piece
+abbrev pub deeper_pieces : List ℕ → ℕ → List NamedElement → List Piece
 deeper_pieces document depth [] = []
 deeper_pieces document depth (element ∷ elements) =
     cond (nat_lt depth element.header.depth)
     (own_pieces document element ++ deeper_pieces document depth elements) []
 
 -- where those of the first of the elements stand, or those of all segments in it
-abbrev pub pieces_within : List ℕ → List Element → List Piece
+abbrev pub pieces_within : List ℕ → List NamedElement → List Piece
 pieces_within document [] = []
 pieces_within document (element ∷ elements) =
     own_pieces document element ++ deeper_pieces document element.header.depth elements
 
 -- The document inside an element of a file: its octets are the element's contents, its elements have the names of the
 -- contained type.
-pub record IsInside (limits : Limits) (file : List ℕ) (elements : List Element) (inside : Inside) : Type 0 where
-  pub element : Element
+pub record IsInside (limits : Limits) (file : List ℕ) (elements : List NamedElement) (inside : Inside) : Type 0 where
+  pub element : NamedElement
   pub listed : slice_get elements inside.container ≡ Some element
   pub contains : contained element ≡ Some inside.shape
   pub octets : inside.octets.items ≡ contents_within file (drop inside.container elements)
@@ -94,7 +94,7 @@ pub record IsInside (limits : Limits) (file : List ℕ) (elements : List Element
   pub named : IsNamed limits inside.octets.items inside.shape (inside.named.elements.items, inside.named.parting)
 
 -- the same where its octets are these elements' and its type is this one
-pub record IsDocumentIn (limits : Limits) (file : List ℕ) (elements : List Element) (container : ℕ) (shape : Bor Shape)
+pub record IsDocumentIn (limits : Limits) (file : List ℕ) (elements : List NamedElement) (container : ℕ) (shape : Bor Shape)
     (inside : Inside) : Type 0 where
   pub stands_in : inside.container ≡ container
   pub type : inside.shape ≡ shape
@@ -106,27 +106,27 @@ abbrev pub IsOneOf : Inside → List Inside → Type 0
 IsOneOf inside [] = ⊥
 IsOneOf inside (other ∷ others) = (inside ≡ other) ⊎ IsOneOf inside others
 
-abbrev pub AreInsides : Limits → List ℕ → List Element → List Inside → Type 0
+abbrev pub AreInsides : Limits → List ℕ → List NamedElement → List Inside → Type 0
 AreInsides limits file elements insides =
     (inside : Inside) → IsOneOf inside insides → IsInside limits file elements inside
 
-abbrev pub contained_at : Option Element → Option (Bor Shape)
+abbrev pub contained_at : Option NamedElement → Option (Bor Shape)
 contained_at None = None
 contained_at (Some element) = contained element
 
 -- The document inside the element of this number is one more, where that contains one.
-abbrev pub AddsContained : Limits → List ℕ → List Element → ℕ → Option (Bor Shape) → List Inside → List Inside → Type 0
+abbrev pub AddsContained : Limits → List ℕ → List NamedElement → ℕ → Option (Bor Shape) → List Inside → List Inside → Type 0
 AddsContained limits file elements number None before after = after ≡ before
 AddsContained limits file elements number (Some shape) before after =
     (inside : Inside) × IsDocumentIn limits file (drop number elements) number shape inside
     × (after ≡ before ++ (inside ∷ []))
 
-abbrev pub AddsInside : Limits → List ℕ → List Element → ℕ → List Inside → List Inside → Type 0
+abbrev pub AddsInside : Limits → List ℕ → List NamedElement → ℕ → List Inside → List Inside → Type 0
 AddsInside limits file elements number before after =
     AddsContained limits file elements number (contained_at (slice_get elements number)) before after
 
 -- They are the documents inside the first elements, so many, in their order: none is left out.
-abbrev pub HasInsides : Limits → List ℕ → List Element → ℕ → List Inside → Type 0
+abbrev pub HasInsides : Limits → List ℕ → List NamedElement → ℕ → List Inside → Type 0
 HasInsides limits file elements zero insides = insides ≡ []
 HasInsides limits file elements (suc number) insides =
     (before : List Inside) × HasInsides limits file elements number before

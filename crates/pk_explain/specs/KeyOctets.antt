@@ -1,7 +1,7 @@
 -- How many octets the keys of a document have, and how many they have to have.
 use Rattle.std.specs.Prelude.{Bool, List, None, Option, Some, [], cond, drop, false, length, nat_le, nat_lt, slice_get, take, true, ℕ, ◌-◌, ◌==◌, ◌&&◌, ◌∷◌}
 use Rattle.std.specs.Option.{option_or}
-use Rattle.asn_names.specs.declared.element.Element.{Element}
+use Rattle.asn_names.specs.declared.element.NamedElement.{NamedElement}
 use Rattle.asn_outline.specs.declared.announced.Announced.{Announced}
 use Rattle.pk_explain.specs.Blames.{saturating_sum}
 use Rattle.pk_explain.specs.Contents.{contents_in}
@@ -26,11 +26,11 @@ sizes_in Characters contents = None
 sizes_in Octets contents = None
 
 -- the sizes that an element says, which is an object identifier
-abbrev pub said_sizes : List ℕ → Element → Option KeySizes
+abbrev pub said_sizes : List ℕ → NamedElement → Option KeySizes
 said_sizes octets element = sizes_in (sort_of element) (contents_in octets element)
 
 -- the sizes that the last of the elements says which says some; else these
-abbrev pub last_sizes : List ℕ → Option KeySizes → List Element → Option KeySizes
+abbrev pub last_sizes : List ℕ → Option KeySizes → List NamedElement → Option KeySizes
 last_sizes octets sizes [] = sizes
 last_sizes octets sizes (element ∷ elements) =
     last_sizes octets (option_or (said_sizes octets element) sizes) elements
@@ -45,18 +45,18 @@ abbrev pub short_announced : ℕ → Option Announced → Option ℕ
 short_announced at None = None
 short_announced at (Some announced) = short_by at announced.contents announced.length
 
-abbrev pub short_octets : Element → Option ℕ
+abbrev pub short_octets : NamedElement → Option ℕ
 short_octets element = short_announced element.header.at element.header.announced
 
 -- those of the first private one, as long as elements are deeper
-abbrev pub deeper_key_octets : ℕ → List Element → Option ℕ
+abbrev pub deeper_key_octets : ℕ → List NamedElement → Option ℕ
 deeper_key_octets depth [] = None
 deeper_key_octets depth (element ∷ elements) =
     cond (nat_lt depth element.header.depth)
     (cond element.private (short_octets element) (deeper_key_octets depth elements)) None
 
 -- those of the first private one of the first of the elements and all in it
-abbrev pub private_octets : List Element → Option ℕ
+abbrev pub private_octets : List NamedElement → Option ℕ
 private_octets [] = None
 private_octets (element ∷ elements) =
     cond element.private (short_octets element) (deeper_key_octets element.header.depth elements)
@@ -96,7 +96,7 @@ is_bits Octets = false
 
 -- How many octets the key has that an element is or holds, and how many it has to have: of a public key by the
 -- identifiers before it, of a private one by these or, where they say nothing, by those behind.
-abbrev pub sizes_of_element : List ℕ → List Element → List Inside → ℕ → Option Element → Option ℕ × Option ℕ
+abbrev pub sizes_of_element : List ℕ → List NamedElement → List Inside → ℕ → Option NamedElement → Option ℕ × Option ℕ
 sizes_of_element octets elements insides number None = (None, None)
 sizes_of_element octets elements insides number (Some element) =
     elim (is_bits (sort_of element)) [
@@ -111,13 +111,13 @@ sizes_of_element octets elements insides number (Some element) =
       )
     ]
 
-abbrev pub sizes_at : List ℕ → List Element → List Inside → Option ℕ → Option ℕ × Option ℕ
+abbrev pub sizes_at : List ℕ → List NamedElement → List Inside → Option ℕ → Option ℕ × Option ℕ
 sizes_at octets elements insides None = (None, None)
 sizes_at octets elements insides (Some number) =
     sizes_of_element octets elements insides number (slice_get elements number)
 
 -- the same of the private key in a document inside one of the elements: by those before that one
-abbrev pub sizes_inside : List ℕ → List Element → Inside → Option ℕ × Option ℕ
+abbrev pub sizes_inside : List ℕ → List NamedElement → Inside → Option ℕ × Option ℕ
 sizes_inside octets elements inside = (
   private_octets inside.named.elements.items,
   private_size (last_sizes octets None (take inside.container elements)),

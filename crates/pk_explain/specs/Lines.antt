@@ -1,11 +1,11 @@
 -- The lines of a report, one for each element that is told.
 use Rattle.std.specs.Prelude.{Bool, List, None, Option, Some, [], cond, false, length, min, nat_lt, true, unwrap_or, ℕ, ◌+◌, ◌++◌, ◌-◌, ◌^◌, ◌∷◌, ◌≡◌}
 use Rattle.std.specs.Option.{option_map}
-use Rattle.asn_names.specs.declared.element.Element.{Element}
+use Rattle.asn_names.specs.declared.element.NamedElement.{NamedElement}
 use Rattle.asn_names.specs.declared.element.Step.{Step}
 use Rattle.asn_names.specs.declared.element.Step.TheVariants.{Outside}
 use Rattle.asn_outline.specs.declared.announced.Announced.{Announced}
-use Rattle.asn_outline.specs.declared.event.Header.{Header}
+use Rattle.asn_outline.specs.declared.event.ElementHeader.{ElementHeader}
 use Rattle.pk_explain.specs.Contents.{contents_in}
 use Rattle.pk_explain.specs.Public.{Tells, tells_all}
 use Rattle.pk_explain.specs.declared.hidden.Told.{Told}
@@ -31,7 +31,7 @@ told_by_length at (Some announced) =
     cond (nat_lt 6 (announced.contents - at)) None
     (Some (record { header = announced.contents - at; contents = announced.length }))
 
-abbrev pub told_length : Header → Option Length
+abbrev pub told_length : ElementHeader → Option Length
 told_length header = told_by_length header.at header.announced
 
 -- where an element ends by its length and by where its contents end: behind the two end-of-contents octets, where it is
@@ -50,7 +50,7 @@ inside_of true at = Some at
 inside_of false at = None
 
 -- an element's own place, header, tag, form and name
-pub record IsHeaderLine (placed : Placed) (element : Element) (line : Line) : Type 0 where
+pub record IsHeaderLine (placed : Placed) (element : NamedElement) (line : Line) : Type 0 where
   pub at : line.at ≡ placed.at
   pub inside : line.inside ≡ inside_of placed.is_inside element.header.at
   pub depth : line.depth ≡ min (placed.depth + element.header.depth) (2 ^ 64 - 1)
@@ -63,7 +63,7 @@ pub record IsHeaderLine (placed : Placed) (element : Element) (line : Line) : Ty
   pub end : line.end ≡ placed.end
 
 -- its place and its name, and nothing of its length, its form or its contents
-pub record IsPlaceLine (placed : Placed) (element : Element) (line : Line) : Type 0 where
+pub record IsPlaceLine (placed : Placed) (element : NamedElement) (line : Line) : Type 0 where
   pub at : line.at ≡ placed.at
   pub inside : line.inside ≡ inside_of placed.is_inside element.header.at
   pub depth : line.depth ≡ min (placed.depth + element.header.depth) (2 ^ 64 - 1)
@@ -83,23 +83,23 @@ size_between private None end = Nothing
 size_between private (Some begin) None = Nothing
 size_between private (Some begin) (Some end) = cond private (Size (end - begin)) Nothing
 
-abbrev pub IsToldOf : Rule → Element → Option (List ℕ) → Value → Type 0
+abbrev pub IsToldOf : Rule → NamedElement → Option (List ℕ) → Value → Type 0
 IsToldOf rule element None value = value ≡ size_between element.private element.begin element.end
 IsToldOf rule element (Some contents) value = Tells rule element contents value
 
 -- What the line of an element says of its contents.
-abbrev pub IsTold : Rule → List ℕ → Element → Value → Type 0
+abbrev pub IsTold : Rule → List ℕ → NamedElement → Value → Type 0
 IsTold rule octets element value = IsToldOf rule element (contents_in octets element) value
 
 -- a line of its place and name, where it has a place in the type
-abbrev pub AddsPlace : Placed → Element → Step → List Line → List Line → Type 0
+abbrev pub AddsPlace : Placed → NamedElement → Step → List Line → List Line → Type 0
 AddsPlace placed element Outside old new = new ≡ old
 AddsPlace placed element _ old new =
     (line : Line) × (new ≡ old ++ (line ∷ [])) × IsPlaceLine placed element line
 
 -- What the telling of an element with a cause adds to the lines before; `all` says that all octets of its contents are
 -- told.
-abbrev pub AddsLine : Rule → Told → List ℕ → Placed → Element → Option Cause → List Line → List Line → Bool → Type 0
+abbrev pub AddsLine : Rule → Told → List ℕ → Placed → NamedElement → Option Cause → List Line → List Line → Bool → Type 0
 AddsLine rule HeaderTold octets placed element cause old new all =
     (line : Line) × (new ≡ old ++ (line ∷ [])) × IsHeaderLine placed element line
     × IsTold rule octets element line.value × (line.cause ≡ cause) × (all ≡ tells_all line.value)

@@ -1,6 +1,6 @@
 -- The law on the lines of an accepted document: no element is left out.
 use Rattle.std.specs.Prelude.{List, Some, nat_lt, slice_get, true, ℕ, ◌++◌, ◌<◌, ◌∷◌, ◌≡◌, ◌⊎◌}
-use Rattle.asn_names.specs.declared.element.Element.{Element}
+use Rattle.asn_names.specs.declared.element.NamedElement.{NamedElement}
 use Rattle.pk_explain.specs.Causes.{line_cause}
 use Rattle.pk_explain.specs.Lines.{IsHeaderLine, IsTold}
 use Rattle.pk_explain.specs.Listings.{IsListed}
@@ -16,7 +16,7 @@ use Rattle.std.specs.Prelude.{Option}
 
 -- One of the lines is of the element: it has the element's header and this cause, and says of its contents what the
 -- rule has.
-pub record HasLine (octets : List ℕ) (element : Element) (cause : Option Cause) (lines : List Line) : Type 0 where
+pub record HasLine (octets : List ℕ) (element : NamedElement) (cause : Option Cause) (lines : List Line) : Type 0 where
   pub before : List Line
   pub line : Line
   pub behind : List Line
@@ -27,9 +27,9 @@ pub record HasLine (octets : List ℕ) (element : Element) (cause : Option Cause
   pub why : line.cause ≡ cause
 
 -- An element before the one of this number is private, and not so deep.
-pub record HasPrivate (elements : List Element) (number depth : ℕ) : Type 0 where
+pub record HasPrivate (elements : List NamedElement) (number depth : ℕ) : Type 0 where
   pub other : ℕ
-  pub private : Element
+  pub private : NamedElement
   pub earlier : other < number
   pub listed : slice_get elements other ≡ Some private
   pub is : private.private ≡ true
@@ -39,7 +39,7 @@ pub record HasPrivate (elements : List Element) (number depth : ℕ) : Type 0 wh
 abbrev pub NoneIsLeftOut : Type 0
 NoneIsLeftOut =
     (point : Point) (fault : Option Fault) (page : Page) (insides : List Inside) (lines : List Line)
-    → IsListed Accepted point fault page insides lines → (number : ℕ) (element : Element)
+    → IsListed Accepted point fault page insides lines → (number : ℕ) (element : NamedElement)
     → slice_get page.elements number ≡ Some element
     → HasLine page.octets element (line_cause page.elements page.causes number) lines
     ⊎ HasPrivate page.elements number element.header.depth

@@ -5,7 +5,7 @@ use Rattle.std.specs.List.{slice_get}
 use Rattle.std.specs.Option.{is_some}
 use Rattle.tlv_core.specs.declared.fault.Fault.{Fault}
 use Rattle.tlv_core.specs.declared.reason.Reason.{Reason}
-use Rattle.asn_names.specs.declared.element.Element.{Element}
+use Rattle.asn_names.specs.declared.element.NamedElement.{NamedElement}
 use Rattle.asn_outline.specs.declared.announced.Announced.{Announced}
 use Rattle.pk_explain.specs.Causes.{causes_of, line_cause}
 use Rattle.pk_explain.specs.Hidden.{no_point, point_inside, told_in, walk_after, walk_start}
@@ -38,7 +38,7 @@ abbrev pub start_of : List Line → Telling
 start_of lines = telling walk_start [] lines
 
 -- the number of the line around an element; of the outermost one that around its document
-abbrev pub number_around : List ℕ → ℕ → Element → ℕ
+abbrev pub number_around : List ℕ → ℕ → NamedElement → ℕ
 number_around numbers outer element =
     cond (element.header.depth == 0) outer (unwrap_or (slice_get numbers element.around) outer)
 
@@ -51,17 +51,17 @@ abbrev pub is_definite : Option Announced → Bool
 is_definite None = false
 is_definite (Some announced) = is_some announced.length
 
-abbrev pub is_definite_of : Option Element → Bool
+abbrev pub is_definite_of : Option NamedElement → Bool
 is_definite_of None = false
 is_definite_of (Some element) = is_definite element.header.announced
 
 -- the container around an element has a definite length
-abbrev pub is_around_definite : List Element → Element → Bool
+abbrev pub is_around_definite : List NamedElement → NamedElement → Bool
 is_around_definite elements element = is_definite_of (slice_get elements element.around)
 
 -- One element more, with a cause or none: of it the line is added that its place before or behind the fault, in or
 -- beside what is private, gives it.
-pub record IsNext (rule : Rule) (point : Point) (page : Page) (cause : Option Cause) (element : Element)
+pub record IsNext (rule : Rule) (point : Point) (page : Page) (cause : Option Cause) (element : NamedElement)
     (before after : Telling) : Type 0 where
   pub all : Bool
   pub line : AddsLine rule (told_in rule point before.walk element) page.octets
@@ -73,7 +73,7 @@ pub record IsNext (rule : Rule) (point : Point) (page : Page) (cause : Option Ca
   pub walk : after.walk ≡ walk_after rule point before.walk element (told_in rule point before.walk element) all
       (is_around_definite page.elements element)
 
-abbrev pub AddsOne : Rule → Point → Page → Option Cause → Option Element → Telling → Telling → Type 0
+abbrev pub AddsOne : Rule → Point → Page → Option Cause → Option NamedElement → Telling → Telling → Type 0
 AddsOne rule point page cause None before after = after ≡ before
 AddsOne rule point page cause (Some element) before after = IsNext rule point page cause element before after
 
@@ -90,22 +90,22 @@ Lists rule point page (suc number) start end =
     × AddsElement rule point page number before end
 
 -- the number of the first of the elements, counted from here, that doesn't begin before this place
-abbrev pub count_from : ℕ → ℕ → List Element → ℕ
+abbrev pub count_from : ℕ → ℕ → List NamedElement → ℕ
 count_from number place [] = number
 count_from number place (element ∷ elements) =
     cond (nat_le place element.header.at) number (count_from (number + 1) place elements)
 
 -- how many of the first elements begin before this place
-abbrev pub count_before : ℕ → List Element → ℕ
+abbrev pub count_before : ℕ → List NamedElement → ℕ
 count_before place elements = count_from 0 place elements
 
-abbrev pub count_in_first : List Piece → List Element → ℕ
+abbrev pub count_in_first : List Piece → List NamedElement → ℕ
 count_in_first [] elements = length elements
 count_in_first (first ∷ pieces) elements = count_before first.octets elements
 
 -- How many elements are told of a document inside an OCTET STRING: all; where a private key may be, those that begin in
 -- the first segment.
-abbrev pub count_inside : Rule → List Piece → List Element → ℕ
+abbrev pub count_inside : Rule → List Piece → List NamedElement → ℕ
 count_inside rule pieces elements =
     cond (is_guarded rule) (count_in_first pieces elements) (length elements)
 
@@ -129,7 +129,7 @@ is_taken_at point at None = false
 is_taken_at point at (Some end) = nat_le point.at at || nat_le end point.at
 
 -- the contents of an element were taken whole before the fault
-abbrev pub is_taken : Point → Element → Bool
+abbrev pub is_taken : Point → NamedElement → Bool
 is_taken point element = is_taken_at point element.header.at element.end
 
 -- the causes of the elements of a document inside, where those of the file have any
@@ -169,7 +169,7 @@ AddsBehind rule point causes inside number (Some line) wanted before after =
 
 -- Behind an element of a file with these causes, which has the line of this number, the lines of the document inside it
 -- are added: where it was taken whole and the telling hasn't ended.
-abbrev pub AddsDocument : Rule → Point → Option Fault → List (Option Cause) → Option Element → Option Inside → ℕ
+abbrev pub AddsDocument : Rule → Point → Option Fault → List (Option Cause) → Option NamedElement → Option Inside → ℕ
     → Telling → Telling → Type 0
 AddsDocument rule point fault causes None inside number before after = after ≡ before
 AddsDocument rule point fault causes (Some element) None number before after = after ≡ before

@@ -1,7 +1,7 @@
 -- The lines of a document among those of a report, and whether they tell all that stands before a fault.
 use Rattle.std.specs.Prelude.{Bool, List, None, Option, Some, [], cond, false, length, nat_le, nat_lt, not, slice_get, unwrap_or, ℕ, ◌+◌, ◌==◌, ◌&&◌, ◌||◌, ◌∷◌}
 use Rattle.std.specs.Option.{is_none, is_some}
-use Rattle.asn_names.specs.declared.element.Element.{Element}
+use Rattle.asn_names.specs.declared.element.NamedElement.{NamedElement}
 use Rattle.pk_explain.specs.Blames.{is_not_shown}
 use Rattle.pk_explain.specs.Spots.{is_outside_of, is_outside_step}
 use Rattle.pk_explain.specs.declared.ways.Spot.{Spot}
@@ -32,13 +32,13 @@ hides_last container hidden [] = hidden
 hides_last container hidden (line ∷ lines) =
     hides_last container (cond (is_element_of container line) (is_not_shown line.value) hidden) lines
 
-abbrev pub is_behind_told : List Element → Option ℕ → ℕ → Bool → Bool
+abbrev pub is_behind_told : List NamedElement → Option ℕ → ℕ → Bool → Bool
 is_behind_told elements None count hidden = nat_le (length elements) count && not hidden
 is_behind_told elements (Some number) count hidden =
     nat_lt number count || ((number == count) && not hidden && is_outside_of (slice_get elements number))
 
 -- All elements before the one at fault are told, so that what is due there tells nothing else.
-abbrev pub is_near : List Element → Spot → Option ℕ → List Line → Bool
+abbrev pub is_near : List NamedElement → Spot → Option ℕ → List Line → Bool
 is_near elements spot container lines =
     is_behind_told elements spot.element (told_count container 0 lines) (hides_last container false lines)
 
@@ -56,15 +56,15 @@ abbrev pub line_at : Option ℕ → List Line → ℕ → Option ℕ
 line_at container lines at = line_from container at 0 lines
 
 -- the number of the line of an element
-abbrev pub line_of_element : Option ℕ → List Line → Option Element → Option ℕ
+abbrev pub line_of_element : Option ℕ → List Line → Option NamedElement → Option ℕ
 line_of_element container lines None = None
 line_of_element container lines (Some element) = line_at container lines element.header.at
 
-abbrev pub line_of_number : Option ℕ → List Line → List Element → Option ℕ → Option ℕ
+abbrev pub line_of_number : Option ℕ → List Line → List NamedElement → Option ℕ → Option ℕ
 line_of_number container lines elements None = None
 line_of_number container lines elements (Some number) =
     line_of_element container lines (slice_get elements number)
 
 -- the number of the line of the element at fault
-abbrev pub line_of : Option ℕ → List Line → List Element → Spot → Option ℕ
+abbrev pub line_of : Option ℕ → List Line → List NamedElement → Spot → Option ℕ
 line_of container lines elements spot = line_of_number container lines elements spot.element

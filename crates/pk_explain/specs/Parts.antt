@@ -2,7 +2,7 @@
 use Rattle.std.specs.Prelude.{List, None, Option, Some, [], length, true, ℕ, ◌∷◌, ◌≡◌, ◌≤◌}
 use Rattle.std.specs.Borrow.{Bor}
 use Rattle.tlv_core.specs.Limits.{Limits}
-use Rattle.asn_names.specs.declared.element.Element.{Element}
+use Rattle.asn_names.specs.declared.element.NamedElement.{NamedElement}
 use Rattle.asn_names.specs.declared.element.Parting.{Parting}
 use Rattle.asn_shapes.specs.Terms.{bare, term_of}
 use Rattle.asn_shapes.specs.declared.shape.Shape.{Shape}
@@ -35,7 +35,7 @@ pub record IsListing (limits : Limits) (of : Kind) (answer : Answer) (document :
     : Type 0 where
   pub root : Bor Shape
   pub type : term_of root.now ≡ bare (type_of of)
-  pub elements : List Element
+  pub elements : List NamedElement
   pub parting : Parting
   pub is_named : IsNamed limits document root (elements, parting)
   pub insides : List Inside
@@ -50,7 +50,7 @@ pub record IsListing (limits : Limits) (of : Kind) (answer : Answer) (document :
 pub record IsGuarded (limits : Limits) (of : Kind) (document : List ℕ) (lines : List Line) : Type 0 where
   pub root : Bor Shape
   pub type : term_of root.now ≡ bare (type_of of)
-  pub named : List Element × Parting
+  pub named : List NamedElement × Parting
   pub is_named : IsNamed limits document root named
   pub insides : List Inside
   pub are_insides : AreInsides limits document named.0 insides

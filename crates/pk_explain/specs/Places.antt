@@ -1,8 +1,8 @@
 -- Where the elements of a document stand in the file. A document's octets stand there in pieces: those of the file in
 -- one, those inside an OCTET STRING in one for each of its segments.
 use Rattle.std.specs.Prelude.{Bool, List, None, Option, Some, [], cond, min, nat_le, nat_lt, not, true, unwrap_or, ℕ, ◌+◌, ◌-◌, ◌^◌, ◌∷◌, ◌&&◌, ◌==◌, ◌||◌, ◌≡◌}
-use Rattle.asn_names.specs.declared.element.Element.{Element}
-use Rattle.asn_outline.specs.declared.event.Header.{Header}
+use Rattle.asn_names.specs.declared.element.NamedElement.{NamedElement}
+use Rattle.asn_outline.specs.declared.event.ElementHeader.{ElementHeader}
 use Rattle.pk_explain.specs.Lines.{end_behind, is_refused, told_length}
 use Rattle.pk_explain.specs.Public.{is_guarded}
 use Rattle.pk_explain.specs.declared.hidden.Point.{Point}
@@ -16,7 +16,7 @@ use Rattle.pk_reports.specs.declared.report.Length.{Length}
 -- a document whose elements are told: the file, or what one OCTET STRING contains
 pub record Page : Type 0 where
   pub octets : List ℕ
-  pub elements : List Element
+  pub elements : List NamedElement
   -- why they aren't in DER; of a document that is or that is refused there are none
   pub causes : List (Option Cause)
   -- where its octets stand in the file
@@ -75,7 +75,7 @@ end_by_told at (Some length) =
       | Some contents ↦ sum_of (min (at + length.header) (2 ^ 64 - 1)) contents
     ]
 
-abbrev pub end_by_length : Header → Option ℕ
+abbrev pub end_by_length : ElementHeader → Option ℕ
 end_by_length header = end_by_told header.at (told_length header)
 
 -- what ends there was read to its end before the fault
@@ -84,7 +84,7 @@ has_ended point at end = nat_le end point.at || (point.complete && nat_le point.
 
 -- Where an element ends in the file by where its contents end: of a refused document where that is before the fault,
 -- and where a private key may be in it in the first segment.
-abbrev pub end_in_file : Rule → Point → Page → Element → Option ℕ → Option ℕ
+abbrev pub end_in_file : Rule → Point → Page → NamedElement → Option ℕ → Option ℕ
 end_in_file rule point page element None = None
 end_in_file rule point page element (Some end) =
     cond (is_refused rule && not (has_ended point element.header.at end)) None
@@ -96,13 +96,13 @@ first_end None other = other
 first_end (Some end) other = Some end
 
 -- where an element ends: in the file by its length, where that is told; else by its contents
-abbrev pub told_end : Rule → Point → Page → Element → Option ℕ
+abbrev pub told_end : Rule → Point → Page → NamedElement → Option ℕ
 told_end rule point page element =
     first_end (cond page.is_inside None (end_by_length element.header))
     (end_in_file rule point page element element.end)
 
 -- where an element stands, by its document and the number of the line around it
-abbrev pub placed_in : Rule → Point → Page → Element → ℕ → Placed
+abbrev pub placed_in : Rule → Point → Page → NamedElement → ℕ → Placed
 placed_in rule point page element around = record {
   at = place_in_file page.pieces element.header.at;
   end = told_end rule point page element;

@@ -6,7 +6,7 @@ use Rattle.tlv_core.specs.Identifier.{Tag}
 use Rattle.tlv_core.specs.ObjectIdentifier.{IsObjectIdentifier}
 use Rattle.tlv_core.specs.Texts.{oid_text}
 use Rattle.x690.specs.Lists.{same_octets}
-use Rattle.asn_names.specs.declared.element.Element.{Element}
+use Rattle.asn_names.specs.declared.element.NamedElement.{NamedElement}
 use Rattle.asn_names.specs.declared.element.Step.{Step}
 use Rattle.asn_names.specs.declared.element.Step.TheVariants.{Field, Member, Outermost, Outside, Segment}
 use Rattle.asn_shapes.specs.Identifiers.{row_of, usual}
@@ -84,7 +84,7 @@ sort_by tag None = Octets
 sort_by tag (Some shape) = sort_of_type tag shape
 
 -- what the contents of an element are: by its type, by its tag where that is open
-abbrev pub sort_of : Element → Sort
+abbrev pub sort_of : NamedElement → Sort
 sort_of element = sort_by element.header.tag (option_map (λ r. r.now) element.shape)
 
 abbrev pub is_small : List ℕ → Bool
@@ -126,7 +126,7 @@ Says rule sort contents (values.Arcs text) =
 Says rule sort contents (values.Characters octets) = (sort ≡ Characters) × (octets.items ≡ contents)
 
 -- What is told of the contents of an element: their number alone where it is private, or where they aren't public.
-abbrev pub Tells : Rule → Element → List ℕ → Value → Type 0
+abbrev pub Tells : Rule → NamedElement → List ℕ → Value → Type 0
 Tells rule element contents value =
     elim (element.private || not (is_public rule (sort_of element) element.step)) [
       | true ↦ value ≡ values.Size (length contents)

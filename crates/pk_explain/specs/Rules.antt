@@ -1,7 +1,7 @@
 -- How much is told of a document, by the answer to it.
 use Rattle.std.specs.Prelude.{Bool, List, None, Option, Some, [], cond, false, length, true, ℕ, ◌∷◌}
 use Rattle.tlv_core.specs.declared.fault.Fault.{Fault}
-use Rattle.asn_names.specs.declared.element.Element.{Element}
+use Rattle.asn_names.specs.declared.element.NamedElement.{NamedElement}
 use Rattle.asn_names.specs.declared.element.Parting.{Parting}
 use Rattle.pk_explain.specs.Causes.{causes_of}
 use Rattle.pk_explain.specs.Hidden.{no_point, point_of}
@@ -36,13 +36,13 @@ point_at (NotDer place) parting = no_point
 point_at (Refused fault) parting = point_of fault.at fault.why parting
 
 -- why the elements of a sound document aren't in DER
-abbrev pub told_causes : Answer → List ℕ → List Element → List (Option Cause)
+abbrev pub told_causes : Answer → List ℕ → List NamedElement → List (Option Cause)
 told_causes Der document elements = []
 told_causes (NotDer place) document elements = causes_of document elements
 told_causes (Refused fault) document elements = []
 
 -- the file itself, by the answer to it and its elements
-abbrev pub file_page : Answer → List ℕ → List Element → Page
+abbrev pub file_page : Answer → List ℕ → List NamedElement → Page
 file_page answer document elements = record {
   octets = document;
   elements = elements;

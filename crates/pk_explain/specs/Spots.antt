@@ -2,7 +2,7 @@
 use Rattle.std.specs.Prelude.{Bool, List, None, Option, Some, [], cond, drop, false, length, nat_le, suc, true, unwrap_or, zero, ℕ, ◌+◌, ◌++◌, ◌-◌, ◌∷◌, ◌≡◌, ◌==◌, ◌||◌, ◌&&◌, not}
 use Rattle.std.specs.List.{slice_get}
 use Rattle.std.specs.Option.{is_none, option_map}
-use Rattle.asn_names.specs.declared.element.Element.{Element}
+use Rattle.asn_names.specs.declared.element.NamedElement.{NamedElement}
 use Rattle.asn_names.specs.declared.element.Level.{Level}
 use Rattle.asn_names.specs.declared.element.Level.TheVariants as levels
 use Rattle.asn_names.specs.declared.element.Parting.{Parting}
@@ -19,13 +19,13 @@ use Rattle.tlv_core.specs.declared.reason.Reason.TheVariants as reasons
 use Rattle.pk_explain.specs.declared.ways.Spot.{Spot}
 
 -- the number of the first of the elements, counted from here, whose identifier stands at this place
-abbrev pub number_from : ℕ → ℕ → List Element → Option ℕ
+abbrev pub number_from : ℕ → ℕ → List NamedElement → Option ℕ
 number_from number at [] = None
 number_from number at (element ∷ elements) =
     cond (element.header.at == at) (Some number) (number_from (number + 1) at elements)
 
 -- the number of the first private one
-abbrev pub private_from : ℕ → List Element → Option ℕ
+abbrev pub private_from : ℕ → List NamedElement → Option ℕ
 private_from number [] = None
 private_from number (element ∷ elements) =
     cond element.private (Some number) (private_from (number + 1) elements)
@@ -47,16 +47,16 @@ abbrev pub is_sequence_of : Option Shape → Bool
 is_sequence_of None = false
 is_sequence_of (Some shape) = is_sequence_type shape
 
-abbrev pub is_sequence : Element → Bool
+abbrev pub is_sequence : NamedElement → Bool
 is_sequence element = is_sequence_of (option_map (λ r. r.now) element.shape)
 
 -- The number of the key that an element is or holds: in a SEQUENCE the first private element.
-abbrev pub key_by : Option Element → List Element → ℕ → ℕ
+abbrev pub key_by : Option NamedElement → List NamedElement → ℕ → ℕ
 key_by None elements number = number
 key_by (Some element) elements number =
     cond (is_sequence element) (unwrap_or (private_from number (drop number elements)) number) number
 
-abbrev pub key_in : List Element → ℕ → ℕ
+abbrev pub key_in : List NamedElement → ℕ → ℕ
 key_in elements number = key_by (slice_get elements number) elements number
 
 abbrev pub nowhere : Spot
@@ -84,12 +84,12 @@ is_outside_step (Field name) = false
 is_outside_step (Member number) = false
 is_outside_step (Segment number) = false
 
-abbrev pub is_outside_of : Option Element → Bool
+abbrev pub is_outside_of : Option NamedElement → Bool
 is_outside_of None = false
 is_outside_of (Some element) = is_outside_step element.step
 
 -- An element that has its place in the type, or in whose place something else is due.
-abbrev pub where_placed : List Element → ℕ → Parting → Spot
+abbrev pub where_placed : List NamedElement → ℕ → Parting → Spot
 where_placed elements number parting =
     cond (is_outside_of (slice_get elements number)) (record (where_parting parting) { element = Some number })
     (at_element number)
@@ -103,12 +103,12 @@ stops_in (Missing container level) number = false
 stops_in (Stopped None) number = false
 stops_in (Stopped (Some container)) number = container.0 == number
 
-abbrev pub is_unfinished : Option Element → ℕ → Parting → Bool
+abbrev pub is_unfinished : Option NamedElement → ℕ → Parting → Bool
 is_unfinished None number parting = false
 is_unfinished (Some last) number parting = not (stops_in parting number) && is_none last.end
 
 -- the number of the last element, where its length or its contents aren't whole
-abbrev pub unfinished : List Element → Parting → Option ℕ
+abbrev pub unfinished : List NamedElement → Parting → Option ℕ
 unfinished elements parting =
     cond (is_unfinished (slice_get elements (length elements - 1)) (length elements - 1) parting)
     (Some (length elements - 1)) None
@@ -117,13 +117,13 @@ abbrev pub at_or_parting : Option ℕ → Parting → Spot
 at_or_parting None parting = where_parting parting
 at_or_parting (Some number) parting = at_element number
 
-abbrev pub placed_or_parting : List Element → Option ℕ → Parting → Spot
+abbrev pub placed_or_parting : List NamedElement → Option ℕ → Parting → Spot
 placed_or_parting elements None parting = where_parting parting
 placed_or_parting elements (Some number) parting = where_placed elements number parting
 
 -- What a fault of this place and reason is about: of Missing the container; of Truncated the last element, where it
 -- isn't whole; of KeyLength the key; else the element at the place, or what is due in its place.
-abbrev pub spot_at : List Element → Parting → ℕ → Reason → Spot
+abbrev pub spot_at : List NamedElement → Parting → ℕ → Reason → Spot
 spot_at elements parting at reasons.Missing = where_parting parting
 spot_at elements parting at reasons.Truncated = at_or_parting (unfinished elements parting) parting
 spot_at elements parting at reasons.Trailing = nowhere
@@ -139,26 +139,26 @@ own_step (Field name) = Field name ∷ []
 own_step (Member number) = Member number ∷ []
 own_step (Segment number) = Segment number ∷ []
 
-abbrev pub enclosed_of : Option Element → ℕ → Option Element
+abbrev pub enclosed_of : Option NamedElement → ℕ → Option NamedElement
 enclosed_of None number = None
 enclosed_of (Some element) number =
     cond ((element.header.depth == 0) || nat_le number element.around) None (Some element)
 
 -- the element of this number, where another one is around it
-abbrev pub enclosed : List Element → ℕ → Option Element
+abbrev pub enclosed : List NamedElement → ℕ → Option NamedElement
 enclosed elements number = enclosed_of (slice_get elements number) number
 
 -- The steps lead from the outermost element to the one of this number, over so many elements: to the outermost one none
 -- does; to another one those to the element around it, and its own.
-abbrev pub Leads : ℕ → List Element → ℕ → List Step → Type 0
+abbrev pub Leads : ℕ → List NamedElement → ℕ → List Step → Type 0
 Leads zero elements number steps = (enclosed elements number ≡ None) × (steps ≡ [])
 Leads (suc count) elements number steps =
-    (element : Element) × (enclosed elements number ≡ Some element)
+    (element : NamedElement) × (enclosed elements number ≡ Some element)
     × (before : List Step) × Leads count elements element.around before
     × (steps ≡ before ++ own_step element.step)
 
 -- they are the way to an element
-abbrev pub IsWay : List Element → ℕ → List Step → Type 0
+abbrev pub IsWay : List NamedElement → ℕ → List Step → Type 0
 IsWay elements number steps = (count : ℕ) × Leads count elements number steps
 
 -- the step to the field or member that is due in the place of an element of this tag
@@ -172,13 +172,13 @@ due_step (levels.Fields fields) tag = standing_step (standing_in fields.now tag)
 due_step (levels.Members shape least number) tag = Member number ∷ []
 due_step (levels.Segments number) tag = Segment number ∷ []
 
-abbrev pub due_steps : Option Level → Option Element → List Step
+abbrev pub due_steps : Option Level → Option NamedElement → List Step
 due_steps None element = []
 due_steps (Some level) None = []
 due_steps (Some level) (Some element) = due_step level element.header.tag
 
 -- The steps to what a fault is about: to the element; to the field that is due in its place; to the container.
-abbrev pub IsWayBy : List Element → Option ℕ → Option ℕ → Option Level → List Step → Type 0
+abbrev pub IsWayBy : List NamedElement → Option ℕ → Option ℕ → Option Level → List Step → Type 0
 IsWayBy elements (Some container) (Some number) level steps =
     (before : List Step) × IsWay elements container before
     × (steps ≡ before ++ due_steps level (slice_get elements number))
@@ -186,12 +186,12 @@ IsWayBy elements (Some container) None level steps = IsWay elements container st
 IsWayBy elements None (Some number) level steps = IsWay elements number steps
 IsWayBy elements None None level steps = steps ≡ []
 
-abbrev pub IsWayTo : List Element → Spot → List Step → Type 0
+abbrev pub IsWayTo : List NamedElement → Spot → List Step → Type 0
 IsWayTo elements spot steps = IsWayBy elements spot.container spot.element spot.level steps
 
 -- the steps added to those before
-abbrev pub AddsWay : List Element → ℕ → List Step → List Step → Type 0
+abbrev pub AddsWay : List NamedElement → ℕ → List Step → List Step → Type 0
 AddsWay elements number old new = (steps : List Step) × (new ≡ old ++ steps) × IsWay elements number steps
 
-abbrev pub AddsWayTo : List Element → Spot → List Step → List Step → Type 0
+abbrev pub AddsWayTo : List NamedElement → Spot → List Step → List Step → Type 0
 AddsWayTo elements spot old new = (steps : List Step) × (new ≡ old ++ steps) × IsWayTo elements spot steps

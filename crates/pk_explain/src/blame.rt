@@ -3,7 +3,7 @@ ghost use Rattle.std.specs.Prelude.{◌≡◌};
 ghost use Rattle.pk_explain.specs.Blames.{blame_by, found_of, limit_of, over_of, reach_of};
 
 use crate::public_fault::PublicFault;
-use pk_reports::report::{Blame, Container, Found, Line, Value};
+use pk_reports::report::{Blame, Found, Line, ToldContainer, Value};
 use tlv_core::reason::Reason;
 
 /// What is told of a fault of this reason, in a file of so many octets.
@@ -63,7 +63,7 @@ pub(crate) fn found_of(lines: &[Line], number: Option<u64>) -> Option<Found>
 fn over_of(
     why: Reason,
     octets: u64,
-    container: &Option<Container>,
+    container: &Option<ToldContainer>,
     found: Option<Found>,
 ) -> Option<u64>
     ensures { result ≡ over_of why octets container.now found }
@@ -79,7 +79,7 @@ fn over_of(
 }
 
 /// Where an element has to end.
-fn limit_of(why: Reason, octets: u64, container: &Option<Container>) -> Option<u64>
+fn limit_of(why: Reason, octets: u64, container: &Option<ToldContainer>) -> Option<u64>
     ensures { result ≡ limit_of why octets container.now }
 {
     match why {

@@ -9,8 +9,8 @@ ghost use Rattle.pk_explain.specs.Contents.{contents_in};
 
 use crate::inside::element_at;
 use crate::values::{Sort, contents_of, is_field, octets_between, sort_of};
-use asn_names::element::{Element, Step};
-use asn_outline::event::Header;
+use asn_names::element::{NamedElement, Step};
+use asn_outline::event::ElementHeader;
 use asn_shapes::shape::Shape;
 use pk_reports::report::Cause;
 use std::alloc::{AllocError, Global};
@@ -23,7 +23,7 @@ use tlv_core::tag::Class;
 pub(crate) fn causes_of(
     alloc: Global,
     octets: &[u8],
-    elements: &[Element],
+    elements: &[NamedElement],
 ) -> Result<Vec<Option<Cause>>, AllocError>
     ensures { IfOk result (λ causes. causes.items ≡ causes_of octets.now elements.now) }
 {
@@ -36,7 +36,12 @@ pub(crate) fn causes_of(
 }
 
 /// The cause of a SET OF whose members aren't in order.
-fn set_order(causes: &mut Vec<Option<Cause>>, octets: &[u8], elements: &[Element], number: usize)
+fn set_order(
+    causes: &mut Vec<Option<Cause>>,
+    octets: &[u8],
+    elements: &[NamedElement],
+    number: usize,
+)
     ensures { causes.new.items
         ≡ with_order octets.now elements.now causes.old.items number }
 {
@@ -49,7 +54,7 @@ fn set_order(causes: &mut Vec<Option<Cause>>, octets: &[u8], elements: &[Element
 /// Whether the element of this number has no cause and is a SET OF that is out of order.
 fn is_disordered(
     octets: &[u8],
-    elements: &[Element],
+    elements: &[NamedElement],
     causes: &[Option<Cause>],
     number: usize,
 ) -> bool
@@ -73,7 +78,7 @@ fn is_disordered(
 fn is_out_of_order(
     octets: &[u8],
     depth: u64,
-    elements: &[Element],
+    elements: &[NamedElement],
     causes: &[Option<Cause>],
 ) -> bool
     ensures { result ≡ is_out_of_order octets.now depth elements.now causes.now }
@@ -84,7 +89,7 @@ fn is_out_of_order(
 fn own_causes(
     alloc: Global,
     octets: &[u8],
-    elements: &[Element],
+    elements: &[NamedElement],
 ) -> Result<Vec<Option<Cause>>, AllocError>
     ensures { IfOk result (λ causes. causes.items ≡ map (own_cause octets.now) elements.now) }
 {
@@ -100,7 +105,7 @@ fn own_causes(
 /// The first cause of elements as long as they are deeper.
 pub(crate) fn cause_within(
     depth: u64,
-    elements: &[Element],
+    elements: &[NamedElement],
     causes: &[Option<Cause>],
 ) -> Option<Cause>
     ensures { result ≡ cause_within depth elements.now causes.now }
@@ -124,7 +129,7 @@ pub(crate) fn cause_within(
 }
 
 /// Why an element by itself isn't in DER. Of segments nothing is said: the string that they are in has the cause.
-fn own_cause(octets: &[u8], element: &Element) -> Option<Cause>
+fn own_cause(octets: &[u8], element: &NamedElement) -> Option<Cause>
     ensures { result ≡ own_cause octets.now element.now }
 {
     match element.step {
@@ -138,7 +143,7 @@ fn own_cause(octets: &[u8], element: &Element) -> Option<Cause>
 }
 
 /// Whether an element is a string in segments.
-fn is_in_segments(element: &Element) -> bool
+fn is_in_segments(element: &NamedElement) -> bool
     ensures { result ≡ is_in_segments element.now }
 {
     if !element.header.constructed {
@@ -165,7 +170,7 @@ fn is_string(number: u32) -> bool
 }
 
 /// X.690 10.1.
-fn length_cause(header: &Header) -> Option<Cause>
+fn length_cause(header: &ElementHeader) -> Option<Cause>
     ensures { result ≡ length_cause header.now }
 {
     let Some(announced) = header.announced else {
@@ -182,7 +187,7 @@ fn length_cause(header: &Header) -> Option<Cause>
 }
 
 /// X.690 11.1, 11.2.1, 11.5.
-fn contents_cause(octets: &[u8], element: &Element) -> Option<Cause>
+fn contents_cause(octets: &[u8], element: &NamedElement) -> Option<Cause>
     ensures { result ≡ cause_in_contents element.now (contents_in octets.now element.now) }
 {
     let Some(contents) = contents_of(octets, element) else {
@@ -237,7 +242,7 @@ fn unit_of(unused: u8) -> u8
 }
 
 /// Whether an element is a SET OF: by its type, or by its tag where that is open.
-fn is_set(element: &Element) -> bool
+fn is_set(element: &NamedElement) -> bool
     ensures { result ≡ is_set element.now }
 {
     match element.shape {
@@ -251,7 +256,7 @@ fn is_set(element: &Element) -> bool
 }
 
 /// Whether the members of an element that is so deep stand in order, none less than the one before it.
-fn is_ordered(octets: &[u8], depth: u64, elements: &[Element]) -> bool
+fn is_ordered(octets: &[u8], depth: u64, elements: &[NamedElement]) -> bool
     ensures { result ≡ ascends (member_encodings octets.now depth elements.now) }
 {
     let mut before: &[u8] = &[];
@@ -273,7 +278,7 @@ fn is_ordered(octets: &[u8], depth: u64, elements: &[Element]) -> bool
 }
 
 /// The octets of an element of definite length.
-fn encoding_of<'a>(octets: &'a [u8], element: &Element) -> &'a [u8]
+fn encoding_of<'a>(octets: &'a [u8], element: &NamedElement) -> &'a [u8]
     ensures { result.now ≡ encoding_of octets.now element.now }
 {
     let Some(end) = element.end else {

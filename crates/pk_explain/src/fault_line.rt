@@ -11,7 +11,7 @@ use crate::told::{
     is_hidden, is_near, line_at, line_of, line_of_number, told_inside, told_outside,
 };
 use crate::ways::{Spot, spot_at};
-use asn_names::element::{Element, Step};
+use asn_names::element::{NamedElement, Step};
 use asn_names::naming::Named;
 use pk_reports::report::{Line, Value};
 use std::alloc::AllocError;
@@ -34,7 +34,7 @@ pub(crate) fn inside_at<'a>(named: &Named, insides: &'a [Inside], at: u64) -> Op
 }
 
 /// Whether the element of this number stands at a place.
-fn stands_at(elements: &[Element], number: usize, at: u64) -> bool
+fn stands_at(elements: &[NamedElement], number: usize, at: u64) -> bool
     ensures { result ≡ stands_at at (slice_get elements.now number) }
 {
     match element_at(elements, number) {
@@ -162,7 +162,13 @@ fn line_between(
 
 /// The number of the line around the fault: where all before it is told, that of the container; else that of the
 /// element which the document is inside.
-fn around_fault(lines: &[Line], container: u64, elements: &[Element], spot: Spot, outer: u64) -> u64
+fn around_fault(
+    lines: &[Line],
+    container: u64,
+    elements: &[NamedElement],
+    spot: Spot,
+    outer: u64,
+) -> u64
     ensures { result ≡ around_fault lines.now container elements.now spot outer }
 {
     let told = told_inside(lines, container);

@@ -4,7 +4,7 @@ ghost use Rattle.std.specs.Option.{option_map};
 ghost use Rattle.pk_explain.specs.Heads.{after_event, code_of, counted, has_3, heads_of, is_certificate, is_pfx, is_rsa_private_key, is_rsa_public_key, looks_by, looks_by_outline, no_heads, with_header, with_inner, with_member};
 
 use crate::values::octets_between;
-use asn_outline::event::{Event, Header, Stop};
+use asn_outline::event::{ElementHeader, Event, Stop};
 use pk_reports::report::Looks;
 use tlv_core::tag::{Class, Tag};
 
@@ -147,7 +147,7 @@ fn after_event(heads: Heads, event: &Event) -> Heads
     }
 }
 
-fn with_header(heads: Heads, header: &Header) -> Heads
+fn with_header(heads: Heads, header: &ElementHeader) -> Heads
     ensures { result ≡ with_header heads header.now }
 {
     match header.depth {

@@ -4,7 +4,7 @@ ghost use Rattle.std.specs.Option.{option_map};
 ghost use Rattle.pk_explain.specs.Hidden.{depth_if, ends_at, ends_untold, fields_hide, is_behind, is_deeper, is_found_complete, is_member, is_private, is_private_due, is_refused_here, is_unread, is_untold, level_hides, may_hide, no_point, point_inside, point_of, told_by, told_in, walk_after, walk_start};
 
 use crate::values::Rule;
-use asn_names::element::{Element, Level, Parting, Step};
+use asn_names::element::{Level, NamedElement, Parting, Step};
 use asn_shapes::shape::{Fields, Shape};
 use tlv_core::reason::Reason;
 
@@ -151,7 +151,7 @@ fn shape_hides(shape: &'static Shape) -> bool
 }
 
 /// Whether an element is private, or its header may be.
-fn is_private(point: Point, element: &Element) -> bool
+fn is_private(point: Point, element: &NamedElement) -> bool
     ensures { result ≡ is_private point element.now element.now.step }
 {
     match element.step {
@@ -165,14 +165,14 @@ fn is_private(point: Point, element: &Element) -> bool
 }
 
 /// Whether an element is the one that is refused, by what stands before its end.
-fn is_refused_here(point: Point, element: &Element) -> bool
+fn is_refused_here(point: Point, element: &NamedElement) -> bool
     ensures { result ≡ is_refused_here point element.now }
 {
     !point.complete && element.header.at == point.at
 }
 
 /// Whether an element contains a document and wasn't taken whole before the fault.
-fn is_unread(point: Point, element: &Element) -> bool
+fn is_unread(point: Point, element: &NamedElement) -> bool
     ensures { result ≡ is_unread (option_map (λ r. r.now) element.now.shape) point.at
         element.now.header.at element.now.end }
 {
@@ -186,7 +186,7 @@ fn is_unread(point: Point, element: &Element) -> bool
 }
 
 /// Whether an element stands behind the fault.
-fn is_behind(point: Point, walk: Walk, element: &Element) -> bool
+fn is_behind(point: Point, walk: Walk, element: &NamedElement) -> bool
     ensures { result ≡ is_behind point walk.fault element.now }
 {
     if element.header.at <= point.at {
@@ -199,7 +199,7 @@ fn is_behind(point: Point, walk: Walk, element: &Element) -> bool
 }
 
 /// Whether an element is in a private one.
-fn is_deeper(private: Option<u64>, element: &Element) -> bool
+fn is_deeper(private: Option<u64>, element: &NamedElement) -> bool
     ensures { result ≡ is_deeper private element.now }
 {
     match private {
@@ -209,7 +209,7 @@ fn is_deeper(private: Option<u64>, element: &Element) -> bool
 }
 
 /// Whether an element stands behind the first member of a private set.
-fn is_member(members_of: Option<u64>, element: &Element) -> bool
+fn is_member(members_of: Option<u64>, element: &NamedElement) -> bool
     ensures { result ≡ is_member members_of element.now }
 {
     match members_of {
@@ -220,7 +220,7 @@ fn is_member(members_of: Option<u64>, element: &Element) -> bool
 
 /// Whether nothing is told of an element that stands before the end of the telling: of an accepted document where it is
 /// in a private one alone.
-fn is_untold(rule: Rule, point: Point, walk: Walk, element: &Element) -> bool
+fn is_untold(rule: Rule, point: Point, walk: Walk, element: &NamedElement) -> bool
     ensures { result ≡ is_untold rule point walk element.now }
 {
     let deeper = is_deeper(walk.private, element);
@@ -233,7 +233,7 @@ fn is_untold(rule: Rule, point: Point, walk: Walk, element: &Element) -> bool
 }
 
 /// Whether the telling has ended behind an element of which nothing is told: where it stands behind the fault.
-fn ends_untold(rule: Rule, point: Point, walk: Walk, element: &Element) -> bool
+fn ends_untold(rule: Rule, point: Point, walk: Walk, element: &NamedElement) -> bool
     ensures { result ≡ ends_untold rule point walk element.now }
 {
     match rule {
@@ -243,7 +243,7 @@ fn ends_untold(rule: Rule, point: Point, walk: Walk, element: &Element) -> bool
 }
 
 /// What is told of the next element.
-pub(crate) fn told_of(rule: Rule, point: Point, walk: Walk, element: &Element) -> Told
+pub(crate) fn told_of(rule: Rule, point: Point, walk: Walk, element: &NamedElement) -> Told
     ensures { result ≡ told_in rule point walk element.now }
 {
     if walk.ended || is_untold(rule, point, walk, element) {
@@ -273,7 +273,7 @@ pub(crate) fn walk_behind(
     rule: Rule,
     point: Point,
     walk: Walk,
-    element: &Element,
+    element: &NamedElement,
     told: Told,
     all: bool,
     definite: bool,
@@ -317,7 +317,7 @@ fn depth_if(is: bool, depth: u64) -> Option<u64>
 }
 
 /// How deep the element at fault is, behind an element.
-fn fault_behind(point: Point, walk: Walk, element: &Element) -> Option<u64>
+fn fault_behind(point: Point, walk: Walk, element: &NamedElement) -> Option<u64>
     ensures { result ≡ cond (point.complete && (element.now.header.at == point.at))
         (Some element.now.header.depth) walk.fault }
 {

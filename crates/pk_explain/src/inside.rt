@@ -5,7 +5,7 @@ ghost use Rattle.pk_explain.specs.Insides.{AddsInside, AreInsides, HasInsides, I
 
 use crate::places::Piece;
 use crate::values::contents_of;
-use asn_names::element::Element;
+use asn_names::element::NamedElement;
 use asn_names::naming::{Named, name_elements};
 use asn_outline::outline::outline;
 use asn_shapes::shape::Shape;
@@ -46,7 +46,7 @@ pub(crate) fn named_elements(
 pub(crate) fn documents_inside(
     alloc: Global,
     file: &[u8],
-    elements: &[Element],
+    elements: &[NamedElement],
     limits: Limits,
 ) -> Result<Vec<Inside>, AllocError>
     ensures are { IfOk result (λ insides. AreInsides limits file.now elements.now insides.items) }
@@ -65,7 +65,7 @@ fn push_inside(
     alloc: Global,
     all: &mut Vec<Inside>,
     file: &[u8],
-    elements: &[Element],
+    elements: &[NamedElement],
     number: usize,
     limits: Limits,
 ) -> Result<(), AllocError>
@@ -86,7 +86,7 @@ fn push_inside(
 }
 
 /// The element of this number.
-pub(crate) fn element_at(elements: &[Element], number: usize) -> Option<&Element>
+pub(crate) fn element_at(elements: &[NamedElement], number: usize) -> Option<&NamedElement>
     ensures item { option_map (λ r. r.now) result ≡ slice_get elements.now number }
     ensures within { IfSome result (λ _. number < length elements.now) }
 {
@@ -94,7 +94,7 @@ pub(crate) fn element_at(elements: &[Element], number: usize) -> Option<&Element
 }
 
 /// The type of what an element contains, where that is a document and stands whole.
-fn contained(element: &Element) -> Option<&'static Shape>
+fn contained(element: &NamedElement) -> Option<&'static Shape>
     ensures { result ≡ contained element.now }
 {
     match (element.shape, element.end) {
@@ -107,7 +107,7 @@ fn contained(element: &Element) -> Option<&'static Shape>
 fn document_inside(
     alloc: Global,
     file: &[u8],
-    elements: &[Element],
+    elements: &[NamedElement],
     container: usize,
     shape: &'static Shape,
     limits: Limits,
@@ -131,7 +131,7 @@ fn document_inside(
 /// The octets of the first of the elements, or those of all segments in it, and where they stand.
 fn push_segments(
     file: &[u8],
-    elements: &[Element],
+    elements: &[NamedElement],
     octets: &mut Vec<u8>,
     pieces: &mut Vec<Piece>,
 ) -> Result<(), AllocError>
@@ -151,7 +151,7 @@ fn push_segments(
 fn push_deeper(
     file: &[u8],
     depth: u64,
-    elements: &[Element],
+    elements: &[NamedElement],
     octets: &mut Vec<u8>,
     pieces: &mut Vec<Piece>,
 ) -> Result<(), AllocError>
@@ -174,7 +174,7 @@ fn push_deeper(
 /// The octets of a primitive element.
 fn push_contents(
     file: &[u8],
-    element: &Element,
+    element: &NamedElement,
     octets: &mut Vec<u8>,
     pieces: &mut Vec<Piece>,
 ) -> Result<(), AllocError>

@@ -9,7 +9,7 @@ ghost use Rattle.pk_explain.specs.Keys.{sizes_of};
 
 use crate::inside::{Inside, element_at};
 use crate::values::{Sort, contents_of, sort_of};
-use asn_names::element::Element;
+use asn_names::element::NamedElement;
 
 /// The octets of a private key and of a public one, by the object identifier of its algorithm or of its curve. A point
 /// of a curve may be compressed or not, so that its number of octets isn't one.
@@ -82,7 +82,7 @@ pub(crate) fn are_same_octets(identifier: &[u8], contents: &[u8]) -> bool
 }
 
 /// The sizes that the last object identifier among the elements says which says some.
-pub(crate) fn last_sizes(octets: &[u8], elements: &[Element]) -> Option<KeySizes>
+pub(crate) fn last_sizes(octets: &[u8], elements: &[NamedElement]) -> Option<KeySizes>
     ensures { result ≡ last_sizes octets.now None elements.now }
 {
     let mut sizes = None;
@@ -95,7 +95,7 @@ pub(crate) fn last_sizes(octets: &[u8], elements: &[Element]) -> Option<KeySizes
 }
 
 /// The sizes that an element says, which is an object identifier.
-fn said_sizes(octets: &[u8], element: &Element) -> Option<KeySizes>
+fn said_sizes(octets: &[u8], element: &NamedElement) -> Option<KeySizes>
     ensures { result ≡ said_sizes octets.now element.now }
 {
     match sort_of(element) {
@@ -117,7 +117,7 @@ pub(crate) fn or_sizes(sizes: Option<KeySizes>, other: Option<KeySizes>) -> Opti
 }
 
 /// How many octets a key has that is the first private one of the first of the elements and all in it.
-pub(crate) fn private_octets(elements: &[Element]) -> Option<u64>
+pub(crate) fn private_octets(elements: &[NamedElement]) -> Option<u64>
     ensures { result ≡ private_octets elements.now }
 {
     let [element, behind @ ..] = elements else {
@@ -130,7 +130,7 @@ pub(crate) fn private_octets(elements: &[Element]) -> Option<u64>
 }
 
 /// The same among elements as long as they are deeper.
-fn deeper_key_octets(depth: u64, elements: &[Element]) -> Option<u64>
+fn deeper_key_octets(depth: u64, elements: &[NamedElement]) -> Option<u64>
     ensures { result ≡ deeper_key_octets depth elements.now }
 {
     let mut left = elements;
@@ -147,7 +147,7 @@ fn deeper_key_octets(depth: u64, elements: &[Element]) -> Option<u64>
 }
 
 /// The contents octets of an element, where its length is of the short form (X.690 8.1.3.4).
-fn short_octets(element: &Element) -> Option<u64>
+fn short_octets(element: &NamedElement) -> Option<u64>
     ensures { result ≡ short_octets element.now }
 {
     let Some(announced) = element.header.announced else {
@@ -182,7 +182,7 @@ pub(crate) fn public_size(sizes: Option<KeySizes>) -> Option<u64>
 /// identifiers before it, of a private one by these or, where they say nothing, by those behind.
 pub(crate) fn sizes_at(
     octets: &[u8],
-    elements: &[Element],
+    elements: &[NamedElement],
     insides: &[Inside],
     number: Option<usize>,
 ) -> (Option<u64>, Option<u64>)
@@ -206,7 +206,7 @@ pub(crate) fn sizes_at(
 }
 
 /// The octets of a BIT STRING, behind that of the unused bits (X.690 8.6.2).
-fn bits_octets(octets: &[u8], element: &Element) -> Option<u64>
+fn bits_octets(octets: &[u8], element: &NamedElement) -> Option<u64>
     ensures { result ≡ bits_octets (contents_in octets.now element.now) }
 {
     match contents_of(octets, element) {
@@ -232,7 +232,7 @@ fn octets_inside(number: usize, insides: &[Inside], other: Option<u64>) -> Optio
 /// The same of the private key in a document inside one of the elements: by those before that one.
 pub(crate) fn sizes_inside(
     octets: &[u8],
-    elements: &[Element],
+    elements: &[NamedElement],
     inside: &Inside,
 ) -> (Option<u64>, Option<u64>)
     ensures { result ≡ sizes_inside octets.now elements.now inside.now }

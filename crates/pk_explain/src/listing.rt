@@ -16,13 +16,13 @@ use crate::hidden::{Point, Told, Walk, no_point, point_inside, told_of, walk_beh
 use crate::inside::{Inside, element_at};
 use crate::places::{Piece, Placed, Sheet, later_pieces, placed_in, told_length};
 use crate::values::{Rule, contents_of, is_guarded, tells_all, told_value};
-use asn_names::element::{Element, Step};
+use asn_names::element::{NamedElement, Step};
 use pk_reports::report::{Cause, Line, Value};
 use std::alloc::{AllocError, Global};
 use tlv_core::fault::Fault;
 
 /// The line of an element whose header is told.
-fn header_line(placed: Placed, element: &Element, value: Value, cause: Option<Cause>) -> Line
+fn header_line(placed: Placed, element: &NamedElement, value: Value, cause: Option<Cause>) -> Line
     ensures line { IsHeaderLine placed element.now result }
     ensures value { result.value ≡ value }
     ensures cause { result.cause ≡ cause }
@@ -44,7 +44,7 @@ fn header_line(placed: Placed, element: &Element, value: Value, cause: Option<Ca
 }
 
 /// The line of an element of which its place and name are told alone.
-fn place_line(placed: Placed, element: &Element) -> Line
+fn place_line(placed: Placed, element: &NamedElement) -> Line
     ensures { IsPlaceLine placed element.now result }
 {
     Line {
@@ -63,7 +63,7 @@ fn place_line(placed: Placed, element: &Element) -> Line
     }
 }
 
-fn type_name_of(element: &Element) -> &'static str
+fn type_name_of(element: &NamedElement) -> &'static str
     ensures { result.now ≡ unwrap_or (option_map (λ r. r.now) element.now.type_name) [] }
 {
     match element.type_name {
@@ -83,7 +83,7 @@ fn line_value(
     alloc: Global,
     rule: Rule,
     octets: &[u8],
-    element: &Element,
+    element: &NamedElement,
 ) -> Result<Value, AllocError>
     ensures { IfOk result (λ value. IsTold rule octets.now element.now value) }
 {
@@ -94,7 +94,7 @@ fn line_value(
 }
 
 /// How many octets a private element of constructed form has.
-fn size_in_private(element: &Element) -> Value
+fn size_in_private(element: &NamedElement) -> Value
     ensures { result ≡ size_between element.now.private element.now.begin element.now.end }
 {
     match (element.begin, element.end) {
@@ -116,7 +116,7 @@ fn push_header(
     rule: Rule,
     octets: &[u8],
     placed: Placed,
-    element: &Element,
+    element: &NamedElement,
     cause: Option<Cause>,
 ) -> Result<bool, AllocError>
     ensures { IfOk result (λ all. (line : Line)
@@ -133,7 +133,11 @@ fn push_header(
 }
 
 /// Tells an element's place and name, where it has a place in the type.
-fn push_place(lines: &mut Vec<Line>, placed: Placed, element: &Element) -> Result<(), AllocError>
+fn push_place(
+    lines: &mut Vec<Line>,
+    placed: Placed,
+    element: &NamedElement,
+) -> Result<(), AllocError>
     ensures { OnOk result
         (AddsPlace placed element.now element.now.step lines.old.items lines.new.items) }
 {
@@ -169,7 +173,7 @@ fn line_cause(sheet: Sheet<'_>, number: usize) -> Option<Cause>
 }
 
 /// Whether the container around an element has a definite length.
-fn is_around_definite(elements: &[Element], element: &Element) -> bool
+fn is_around_definite(elements: &[NamedElement], element: &NamedElement) -> bool
     ensures { result ≡ is_around_definite elements.now element.now }
 {
     match element_at(elements, element.around as usize) {
@@ -183,7 +187,7 @@ fn is_around_definite(elements: &[Element], element: &Element) -> bool
 
 /// The number of the line around an element, by those of the elements before; of the outermost one that around its
 /// document.
-fn number_around(numbers: &[u64], outer: u64, element: &Element) -> u64
+fn number_around(numbers: &[u64], outer: u64, element: &NamedElement) -> u64
     ensures { result ≡ number_around numbers.now outer element.now }
 {
     if element.header.depth == 0 {
@@ -245,7 +249,7 @@ fn push_line(
     told: Told,
     sheet: Sheet<'_>,
     placed: Placed,
-    element: &Element,
+    element: &NamedElement,
     number: usize,
 ) -> Result<bool, AllocError>
     ensures { IfOk result (λ all.
@@ -306,7 +310,7 @@ fn push_inside(
 }
 
 /// The place of the element of this number, in its document.
-fn place_at(elements: &[Element], number: usize) -> u64 {
+fn place_at(elements: &[NamedElement], number: usize) -> u64 {
     match elements.get(number) {
         Some(element) => element.header.at,
         None => 0,
@@ -314,7 +318,7 @@ fn place_at(elements: &[Element], number: usize) -> u64 {
 }
 
 /// How many elements are told of a document inside an OCTET STRING.
-fn count_inside(rule: Rule, pieces: &[Piece], elements: &[Element]) -> usize
+fn count_inside(rule: Rule, pieces: &[Piece], elements: &[NamedElement]) -> usize
     ensures { result ≡ count_inside rule pieces.now elements.now }
 {
     if is_guarded(rule) {
@@ -324,7 +328,7 @@ fn count_inside(rule: Rule, pieces: &[Piece], elements: &[Element]) -> usize
     }
 }
 
-fn count_in_first(pieces: &[Piece], elements: &[Element]) -> usize
+fn count_in_first(pieces: &[Piece], elements: &[NamedElement]) -> usize
     ensures { result ≡ count_in_first pieces.now elements.now }
 {
     match pieces {
@@ -334,7 +338,7 @@ fn count_in_first(pieces: &[Piece], elements: &[Element]) -> usize
 }
 
 /// How many of the first elements begin before a place.
-fn count_before(place: u64, elements: &[Element]) -> usize
+fn count_before(place: u64, elements: &[NamedElement]) -> usize
     ensures { result ≡ count_before place elements.now }
 {
     for i in 0..elements.len() {
@@ -360,7 +364,7 @@ fn next_inside<'a>(insides: &'a [Inside], number: usize) -> (Option<&'a Inside>,
 }
 
 /// Whether the fault isn't in an element's segments: its contents were taken whole.
-fn is_taken(point: Point, element: &Element) -> bool
+fn is_taken(point: Point, element: &NamedElement) -> bool
     ensures { result ≡ is_taken point element.now }
 {
     match element.end {
@@ -415,7 +419,7 @@ pub(crate) fn lines_of(
 }
 
 /// How many lines there are at most: one of each element, and one of the fault.
-fn most_lines(elements: &[Element], insides: &[Inside]) -> usize {
+fn most_lines(elements: &[NamedElement], insides: &[Inside]) -> usize {
     let mut count = elements.len().saturating_add(1);
     for inside in insides {
         count = count.saturating_add(inside.named.elements.len());

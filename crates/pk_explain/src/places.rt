@@ -5,8 +5,8 @@ ghost use Rattle.pk_explain.specs.Places.{Skips, SkipsIn, end_by_length, end_of,
 
 use crate::hidden::Point;
 use crate::values::{Rule, is_guarded};
-use asn_names::element::Element;
-use asn_outline::event::Header;
+use asn_names::element::NamedElement;
+use asn_outline::event::ElementHeader;
 use pk_reports::report::{Cause, Length};
 
 /// Octets that stand in the file one behind another.
@@ -21,7 +21,7 @@ pub(crate) struct Piece {
 #[derive(Clone, Copy)]
 pub(crate) struct Sheet<'a> {
     pub(crate) octets: &'a [u8],
-    pub(crate) elements: &'a [Element],
+    pub(crate) elements: &'a [NamedElement],
     /// Why they aren't in DER; of a document that is or that is refused there are none.
     pub(crate) causes: &'a [Option<Cause>],
     /// Where its octets stand in the file, in order.
@@ -52,7 +52,7 @@ pub(crate) fn placed_in(
     rule: Rule,
     point: Point,
     sheet: Sheet<'_>,
-    element: &Element,
+    element: &NamedElement,
     around: u64,
 ) -> Placed
     ensures { SkipsIn sheet.entry
@@ -79,7 +79,7 @@ fn place_in_file(sheet: Sheet<'_>, at: u64) -> u64
 
 /// Where an element ends in the file: by its length, else where it ended before the fault. What stands behind a fault
 /// tells nothing, and where a private key may be neither do later segments.
-fn told_end(rule: Rule, point: Point, sheet: Sheet<'_>, element: &Element) -> Option<u64>
+fn told_end(rule: Rule, point: Point, sheet: Sheet<'_>, element: &NamedElement) -> Option<u64>
     ensures { SkipsIn sheet.entry
         → result ≡ told_end rule point (page_of sheet.entry) element.now }
 {
@@ -119,7 +119,7 @@ fn is_refused(rule: Rule) -> bool
 
 /// Where an element ends whose contents end there: behind its end-of-contents octets, where it has an indefinite length
 /// (X.690 8.1.1.1, 8.1.5).
-fn end_behind(element: &Element, end: u64) -> u64
+fn end_behind(element: &NamedElement, end: u64) -> u64
     ensures { result ≡ end_behind element.now.header.announced end }
 {
     match element.header.announced {
@@ -129,7 +129,7 @@ fn end_behind(element: &Element, end: u64) -> u64
 }
 
 /// Where an element of definite length ends by its header.
-pub(crate) fn end_by_length(header: &Header) -> Option<u64>
+pub(crate) fn end_by_length(header: &ElementHeader) -> Option<u64>
     ensures { result ≡ end_by_length header.now }
 {
     let Some(length) = told_length(header) else {
@@ -143,7 +143,7 @@ pub(crate) fn end_by_length(header: &Header) -> Option<u64>
 
 /// The length of an element, where it may be told: where it has at most four octets. A damaged one may have taken
 /// octets of a private element for its own, also where what comes of it is accepted.
-pub(crate) fn told_length(header: &Header) -> Option<Length>
+pub(crate) fn told_length(header: &ElementHeader) -> Option<Length>
     ensures { result ≡ told_length header.now }
 {
     let Some(announced) = header.announced else {

@@ -14,10 +14,10 @@ use crate::keys::{less, sizes_at, sizes_inside};
 use crate::told::{Told, is_near, line_at, line_of, told_inside, told_outside};
 use crate::values::{Rule, is_guarded};
 use crate::ways::{Spot, due_of, enclosed, push_spot_way, push_way, spot_at};
-use asn_names::element::{Element, Step};
+use asn_names::element::{NamedElement, Step};
 use asn_names::naming::Named;
 use asn_shapes::shape::Shape;
-use pk_reports::report::{Container, Due, Found, Line};
+use pk_reports::report::{Due, Found, Line, ToldContainer};
 use std::alloc::{AllocError, Global};
 use tlv_core::fault::Fault;
 use tlv_core::reason::Reason;
@@ -35,7 +35,7 @@ pub(crate) struct PublicFault {
     /// The number of the line whose header is told of it.
     pub(crate) header: Option<u64>,
     /// The container that it is about.
-    pub(crate) container: Option<Container>,
+    pub(crate) container: Option<ToldContainer>,
     /// How many octets follow, where that is told.
     pub(crate) more: Option<u64>,
     /// Of a key of a wrong length its octets, and how many are due.
@@ -127,7 +127,7 @@ fn way_inside(
 }
 
 /// The number of the line of the element at fault, else of one at its place.
-fn line_inside(told: Told<'_>, elements: &[Element], spot: Spot, at: u64) -> Option<u64>
+fn line_inside(told: Told<'_>, elements: &[NamedElement], spot: Spot, at: u64) -> Option<u64>
     ensures { result ≡ option_or (line_of told.entry.container told.entry.lines.now elements.now spot)
         (line_at told.entry.container told.entry.lines.now at) }
 {
@@ -237,7 +237,7 @@ fn way_towards(
     alloc: Global,
     rule: Rule,
     near: bool,
-    elements: &[Element],
+    elements: &[NamedElement],
     spot: Spot,
 ) -> Result<Vec<Step>, AllocError>
     ensures { IfOk result (λ way. IsToldWay near (is_guarded rule) elements.now spot way.items) }
@@ -255,7 +255,13 @@ fn way_towards(
 }
 
 /// What is due, where that may be told.
-fn told_due(near: bool, elements: &[Element], spot: Spot, why: Reason, root: &'static Shape) -> Due
+fn told_due(
+    near: bool,
+    elements: &[NamedElement],
+    spot: Spot,
+    why: Reason,
+    root: &'static Shape,
+) -> Due
     ensures { result ≡ told_due near (due_at elements.now spot why root.entry) }
 {
     if near {
@@ -269,10 +275,10 @@ fn told_due(near: bool, elements: &[Element], spot: Spot, why: Reason, root: &'s
 fn told_container(
     alloc: Global,
     near: bool,
-    elements: &[Element],
+    elements: &[NamedElement],
     spot: Spot,
     why: Reason,
-) -> Result<Option<Container>, AllocError>
+) -> Result<Option<ToldContainer>, AllocError>
     ensures { IfOk result (λ told. IsToldContainer near elements.now why spot told) }
 {
     if near {
@@ -303,7 +309,7 @@ fn number_at_fault(spot: Spot) -> Option<usize>
 }
 
 /// Whether the element or container at fault is in a private one.
-fn is_in_private(elements: &[Element], spot: Spot) -> bool
+fn is_in_private(elements: &[NamedElement], spot: Spot) -> bool
     ensures { result ≡ is_in_private elements.now spot }
 {
     let Some(number) = number_at_fault(spot) else {
@@ -319,7 +325,7 @@ fn is_in_private(elements: &[Element], spot: Spot) -> bool
 #[tactic(auto, using(crate::proofs::Steps::no_public_way, crate::proofs::Steps::public_way))]
 fn push_public_way(
     way: &mut Vec<Step>,
-    elements: &[Element],
+    elements: &[NamedElement],
     number: Option<usize>,
 ) -> Result<(), AllocError>
     ensures { OnOk result (AddsPublicWay elements.now number way.old.items way.new.items) }
@@ -331,7 +337,7 @@ fn push_public_way(
 }
 
 /// The number of the nearest element around the one of this number that isn't private, or its own.
-fn public_around(elements: &[Element], number: usize) -> usize
+fn public_around(elements: &[NamedElement], number: usize) -> usize
     ensures { IsPublicAround elements.now number result }
 {
     let Some(element) = enclosed(elements, number) else {
@@ -346,10 +352,10 @@ fn public_around(elements: &[Element], number: usize) -> usize
 /// Of PastEnd the nearest container of definite length round the element, of Missing the one that has ended.
 fn container_of(
     alloc: Global,
-    elements: &[Element],
+    elements: &[NamedElement],
     spot: Spot,
     why: Reason,
-) -> Result<Option<Container>, AllocError>
+) -> Result<Option<ToldContainer>, AllocError>
     ensures { IfOk result (λ told.
         IsContainerOf elements.now why spot.container spot.element told) }
 {
@@ -359,7 +365,7 @@ fn container_of(
     }
 }
 
-fn container_number(elements: &[Element], spot: Spot, why: Reason) -> Option<usize>
+fn container_number(elements: &[NamedElement], spot: Spot, why: Reason) -> Option<usize>
     ensures { IsNumberOf elements.now why spot.container spot.element result }
 {
     match (why, spot.container, spot.element) {
@@ -371,9 +377,9 @@ fn container_number(elements: &[Element], spot: Spot, why: Reason) -> Option<usi
 
 fn container_at(
     alloc: Global,
-    elements: &[Element],
+    elements: &[NamedElement],
     number: usize,
-) -> Result<Option<Container>, AllocError>
+) -> Result<Option<ToldContainer>, AllocError>
     ensures { IfOk result (λ told. IsContainerAt elements.now (Some number) told) }
 {
     let Some(element) = elements.get(number) else {
@@ -381,7 +387,7 @@ fn container_at(
     };
     let mut way = Vec::new(alloc);
     push_way(&mut way, elements, number)?;
-    Ok(Some(Container {
+    Ok(Some(ToldContainer {
         way,
         at: element.header.at,
         end: announced_end(element),
@@ -389,7 +395,7 @@ fn container_at(
 }
 
 /// Where an element of definite length ends by its header.
-fn announced_end(element: &Element) -> Option<u64>
+fn announced_end(element: &NamedElement) -> Option<u64>
     ensures { result ≡ announced_end element.now }
 {
     match element.header.announced {
@@ -402,7 +408,7 @@ fn announced_end(element: &Element) -> Option<u64>
 }
 
 /// The number of the nearest container of definite length around an element.
-fn definite_around(elements: &[Element], number: usize) -> Option<usize>
+fn definite_around(elements: &[NamedElement], number: usize) -> Option<usize>
     ensures { IsNearest elements.now number result }
 {
     let Some(element) = enclosed(elements, number) else {
@@ -415,7 +421,7 @@ fn definite_around(elements: &[Element], number: usize) -> Option<usize>
     definite_around(elements, around)
 }
 
-fn has_end(elements: &[Element], number: usize) -> bool
+fn has_end(elements: &[NamedElement], number: usize) -> bool
     ensures { result ≡ is_some (end_of (slice_get elements.now number)) }
 {
     match element_at(elements, number) {

@@ -21,7 +21,7 @@ use crate::looks::looks_of;
 use crate::places::{Piece, Sheet};
 use crate::public_fault::{PublicFault, Refusal, public_fault};
 use crate::values::Rule;
-use asn_names::element::{Element, Parting};
+use asn_names::element::{NamedElement, Parting};
 use asn_names::naming::Named;
 use asn_shapes::shape::Shape;
 use pk_documents::kind::Kind;
@@ -154,7 +154,7 @@ fn told_causes(
     alloc: Global,
     octets: &[u8],
     answer: Answer,
-    elements: &[Element],
+    elements: &[NamedElement],
 ) -> Result<Vec<Option<Cause>>, AllocError>
     ensures { IfOk result (λ causes. causes.items ≡ told_causes answer octets.now elements.now) }
 {

@@ -5,7 +5,7 @@ ghost use Rattle.pk_explain.specs.OwnLines.{hides_last, is_element_of, is_fault_
 
 use crate::inside::element_at;
 use crate::ways::{Spot, is_outside};
-use asn_names::element::{Element, Step};
+use asn_names::element::{NamedElement, Step};
 use pk_reports::report::{Line, Value};
 
 /// The lines of a file, or of the document inside its element at a place, among all lines.
@@ -54,7 +54,7 @@ fn is_element_of(line: &Line, container: Option<u64>) -> bool
 }
 
 /// Whether all elements before the one at fault are told, so that what is due there tells nothing else.
-pub(crate) fn is_near(elements: &[Element], spot: Spot, told: Told<'_>) -> bool
+pub(crate) fn is_near(elements: &[NamedElement], spot: Spot, told: Told<'_>) -> bool
     ensures { result ≡ is_near elements.now spot told.entry.container told.entry.lines.now }
 {
     let (count, hidden) = told_elements(told);
@@ -104,7 +104,7 @@ fn is_fault_line(line: &Line) -> bool
 }
 
 /// The number of the line of the element at fault.
-pub(crate) fn line_of(told: Told<'_>, elements: &[Element], spot: Spot) -> Option<u64>
+pub(crate) fn line_of(told: Told<'_>, elements: &[NamedElement], spot: Spot) -> Option<u64>
     ensures { result ≡ line_of told.entry.container told.entry.lines.now elements.now spot }
 {
     line_of_number(told, elements, spot.element)
@@ -113,7 +113,7 @@ pub(crate) fn line_of(told: Told<'_>, elements: &[Element], spot: Spot) -> Optio
 /// The number of the line of the element of this number.
 pub(crate) fn line_of_number(
     told: Told<'_>,
-    elements: &[Element],
+    elements: &[NamedElement],
     number: Option<usize>,
 ) -> Option<u64>
     ensures { result

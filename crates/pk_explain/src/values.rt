@@ -5,7 +5,7 @@ ghost use Rattle.pk_explain.specs.Contents.{between, contents_in};
 ghost use Rattle.pk_explain.specs.declared.values.Rule.{Rule};
 ghost use Rattle.pk_explain.specs.Public.{Says, Tells, is_field, is_guarded, is_public, sort_of, sort_of_leaf, sort_of_number, tells_all};
 
-use asn_names::element::{Element, Step};
+use asn_names::element::{NamedElement, Step};
 use asn_shapes::identifiers::identifier_of;
 use asn_shapes::shape::{Contents, Shape};
 use pk_reports::report::Value;
@@ -38,7 +38,7 @@ pub(crate) enum Sort {
 }
 
 /// What the contents of an element are, by its type; by its tag where that is open.
-pub(crate) fn sort_of(element: &Element) -> Sort
+pub(crate) fn sort_of(element: &NamedElement) -> Sort
     ensures { result ≡ sort_of element.now }
 {
     match element.shape {
@@ -125,7 +125,7 @@ pub(crate) fn is_field(step: Step, name: &str) -> bool
 pub(crate) fn told_value(
     alloc: Global,
     rule: Rule,
-    element: &Element,
+    element: &NamedElement,
     contents: &[u8],
 ) -> Result<Value, AllocError>
     ensures { IfOk result (λ value. Tells rule element.now contents.now value) }
@@ -226,7 +226,7 @@ pub(crate) fn tells_all(value: &Value) -> bool
 }
 
 /// The contents octets of a primitive element that stands whole.
-pub(crate) fn contents_of<'a>(octets: &'a [u8], element: &Element) -> Option<&'a [u8]>
+pub(crate) fn contents_of<'a>(octets: &'a [u8], element: &NamedElement) -> Option<&'a [u8]>
     ensures { option_map (λ r. r.now) result ≡ contents_in octets.now element.now }
 {
     if element.header.constructed {

@@ -5,7 +5,7 @@ ghost use Rattle.pk_explain.specs.Dues.{due_at, number_due, reason_due};
 ghost use Rattle.pk_explain.specs.Spots.{AddsWay, AddsWayTo, at_element, due_step, due_steps, enclosed, is_outside_of, is_sequence, key_in, number_from, own_step, private_from, spot_at, unfinished, where_parting, where_placed};
 
 use crate::inside::element_at;
-use asn_names::element::{Element, Level, Parting, Step};
+use asn_names::element::{Level, NamedElement, Parting, Step};
 use asn_names::naming::Named;
 use asn_shapes::due::{Standing, stands_as};
 use asn_shapes::shape::{Fields, Shape};
@@ -52,7 +52,7 @@ pub(crate) fn spot_at(named: &Named, at: u64, why: Reason) -> Spot
 }
 
 /// The number of the key in the SEQUENCE of this number: of the first private element behind it.
-fn key_in(elements: &[Element], number: usize) -> usize
+fn key_in(elements: &[NamedElement], number: usize) -> usize
     ensures { result ≡ key_in elements.now number }
 {
     match elements.get(number) {
@@ -65,7 +65,7 @@ fn key_in(elements: &[Element], number: usize) -> usize
 }
 
 /// The number of the first private element from this number on.
-fn private_at(elements: &[Element], number: usize) -> Option<usize>
+fn private_at(elements: &[NamedElement], number: usize) -> Option<usize>
     ensures { result ≡ private_from number (drop number elements.now) }
 {
     for i in number..elements.len() {
@@ -76,7 +76,7 @@ fn private_at(elements: &[Element], number: usize) -> Option<usize>
     None
 }
 
-fn is_sequence(element: &Element) -> bool
+fn is_sequence(element: &NamedElement) -> bool
     ensures { result ≡ is_sequence element.now }
 {
     match element.shape {
@@ -96,7 +96,7 @@ fn element_spot(number: usize) -> Spot
 }
 
 /// An element that has its place in the type, or in whose place something else is due.
-fn placed_spot(elements: &[Element], number: usize, parting: &Parting) -> Spot
+fn placed_spot(elements: &[NamedElement], number: usize, parting: &Parting) -> Spot
     ensures { result ≡ where_placed elements.now number parting.now }
 {
     if !is_outside(elements.get(number)) {
@@ -109,7 +109,7 @@ fn placed_spot(elements: &[Element], number: usize, parting: &Parting) -> Spot
 }
 
 /// Whether an element has no place in the type.
-pub(crate) fn is_outside(element: Option<&Element>) -> bool
+pub(crate) fn is_outside(element: Option<&NamedElement>) -> bool
     ensures { result ≡ is_outside_of (option_map (λ r. r.now) element.entry) }
 {
     match element {
@@ -139,7 +139,7 @@ fn parting_spot(parting: &Parting) -> Spot
 }
 
 /// The number of the element whose identifier stands at this place.
-fn number_at(elements: &[Element], at: u64) -> Option<usize>
+fn number_at(elements: &[NamedElement], at: u64) -> Option<usize>
     ensures { result ≡ number_from 0 at elements.now }
 {
     for i in 0..elements.len() {
@@ -151,7 +151,7 @@ fn number_at(elements: &[Element], at: u64) -> Option<usize>
 }
 
 /// The number of the last element, where its length or its contents aren't whole.
-fn unfinished(elements: &[Element], parting: &Parting) -> Option<usize>
+fn unfinished(elements: &[NamedElement], parting: &Parting) -> Option<usize>
     ensures { result ≡ unfinished elements.now parting.now }
 {
     let Some(last) = elements.last() else {
@@ -167,7 +167,12 @@ fn unfinished(elements: &[Element], parting: &Parting) -> Option<usize>
 
 /// What is due: what may stand next in the container at fault; else the outermost type, where another tag stands; else
 /// the element's own type, where that has the wrong form.
-pub(crate) fn due_of(elements: &[Element], spot: Spot, why: Reason, root: &'static Shape) -> Due
+pub(crate) fn due_of(
+    elements: &[NamedElement],
+    spot: Spot,
+    why: Reason,
+    root: &'static Shape,
+) -> Due
     ensures { result ≡ due_at elements.now spot why root.entry }
 {
     match spot.level {
@@ -177,7 +182,7 @@ pub(crate) fn due_of(elements: &[Element], spot: Spot, why: Reason, root: &'stat
     }
 }
 
-fn reason_due(elements: &[Element], spot: Spot, why: Reason, root: &'static Shape) -> Due
+fn reason_due(elements: &[NamedElement], spot: Spot, why: Reason, root: &'static Shape) -> Due
     ensures { result ≡ reason_due elements.now spot why spot.container root.entry }
 {
     match (why, spot.container) {
@@ -188,7 +193,7 @@ fn reason_due(elements: &[Element], spot: Spot, why: Reason, root: &'static Shap
 }
 
 /// A value of the element's own type.
-fn number_due(elements: &[Element], number: Option<usize>) -> Due
+fn number_due(elements: &[NamedElement], number: Option<usize>) -> Due
     ensures { result ≡ number_due elements.now number }
 {
     let Some(number) = number else {
@@ -206,7 +211,7 @@ fn number_due(elements: &[Element], number: Option<usize>) -> Due
 /// The steps from the outermost element to one of the elements, the outermost one's own left out.
 pub(crate) fn push_way(
     way: &mut Vec<Step>,
-    elements: &[Element],
+    elements: &[NamedElement],
     number: usize,
 ) -> Result<(), AllocError>
     ensures { OnOk result (AddsWay elements.now number way.old.items way.new.items) }
@@ -220,7 +225,7 @@ pub(crate) fn push_way(
 }
 
 /// The element of this number, where another one is around it.
-pub(crate) fn enclosed(elements: &[Element], number: usize) -> Option<&Element>
+pub(crate) fn enclosed(elements: &[NamedElement], number: usize) -> Option<&NamedElement>
     ensures enclosed { option_map (λ r. r.now) result ≡ enclosed elements.now number }
     ensures before { IfSome result (λ element. element.now.around < number) }
 {
@@ -248,7 +253,7 @@ fn push_step(way: &mut Vec<Step>, step: Step) -> Result<(), AllocError>
 /// The steps to what a fault is about: to the element; to the field that is due in its place; to the container.
 pub(crate) fn push_spot_way(
     way: &mut Vec<Step>,
-    elements: &[Element],
+    elements: &[NamedElement],
     spot: Spot,
 ) -> Result<(), AllocError>
     ensures { OnOk result (AddsWayTo elements.now spot way.old.items way.new.items) }
@@ -268,7 +273,7 @@ pub(crate) fn push_spot_way(
 fn push_due_steps(
     way: &mut Vec<Step>,
     level: Option<Level>,
-    element: Option<&Element>,
+    element: Option<&NamedElement>,
 ) -> Result<(), AllocError>
     ensures { OnOk result (way.new.items
         ≡ way.old.items ++ due_steps level (option_map (λ r. r.now) element.entry)) }
@@ -280,7 +285,11 @@ fn push_due_steps(
 }
 
 /// The step to the field or member that is due in the place of an element.
-fn push_due_step(way: &mut Vec<Step>, level: Level, element: &Element) -> Result<(), AllocError>
+fn push_due_step(
+    way: &mut Vec<Step>,
+    level: Level,
+    element: &NamedElement,
+) -> Result<(), AllocError>
     ensures { OnOk result (way.new.items
         ≡ way.old.items ++ due_step level element.now.header.tag) }
 {

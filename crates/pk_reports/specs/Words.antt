@@ -6,7 +6,7 @@ use Rattle.tlv_core.specs.declared.reason.Reason.TheVariants as reasons
 use Rattle.pk_reports.specs.declared.report.Answer.{Answer}
 use Rattle.pk_reports.specs.declared.report.Answer.TheVariants.{Der, NotDer, Refused}
 use Rattle.pk_reports.specs.declared.report.Blame.{Blame}
-use Rattle.pk_reports.specs.declared.report.Container.{Container}
+use Rattle.pk_reports.specs.declared.report.ToldContainer.{ToldContainer}
 use Rattle.pk_reports.specs.declared.report.Due.{Due}
 use Rattle.pk_reports.specs.declared.report.Due.TheVariants.{Fields, «Type», Unsaid}
 use Rattle.pk_reports.specs.declared.report.Found.{Found}
@@ -63,7 +63,7 @@ unfoldable pub header_said : Found → List ℕ
 header_said found = tag_said found.tag ++ length_said found.length
 
 -- a container by its path and its place
-unfoldable pub placed : List ℕ → Container → List ℕ
+unfoldable pub placed : List ℕ → ToldContainer → List ℕ
 placed root container = path_text root container.way.items ++ codes " at " ++ decimal container.at
 
 -- the place where an element would end that passes this one by so many octets
@@ -76,16 +76,16 @@ ends_before end over =
     codes ", which it is in, ends at " ++ decimal end ++ codes ": " ++ sized over ++ codes " too many"
 
 -- the container that ends at this place, and whose end an element passes by so many octets
-abbrev pub passed_at : List ℕ → Container → ℕ → Option ℕ → List ℕ
+abbrev pub passed_at : List ℕ → ToldContainer → ℕ → Option ℕ → List ℕ
 passed_at root container over None = []
 passed_at root container over (Some end) =
     would_end end over ++ placed root container ++ ends_before end over
 
-unfoldable pub passed_said : List ℕ → Container → ℕ → List ℕ
+unfoldable pub passed_said : List ℕ → ToldContainer → ℕ → List ℕ
 passed_said root container over = passed_at root container over container.end
 
 -- of an element that has so many contents octets too many, in this container, or in none that ends
-abbrev pub over_said : List ℕ → Option ℕ → Option Container → List ℕ
+abbrev pub over_said : List ℕ → Option ℕ → Option ToldContainer → List ℕ
 over_said root None container = []
 over_said root (Some over) (Some container) = passed_said root container over
 over_said root (Some over) None = codes ": " ++ sized over ++ codes " missing"
@@ -98,7 +98,7 @@ abbrev pub end_said : Option ℕ → List ℕ
 end_said None = []
 end_said (Some end) = codes " at " ++ decimal end
 
-abbrev pub ended : List ℕ → Option Container → List ℕ
+abbrev pub ended : List ℕ → Option ToldContainer → List ℕ
 ended root None = []
 ended root (Some container) = placed root container ++ codes " ends" ++ end_said container.end
 

@@ -121,7 +121,7 @@ pub struct Found {
 
 /// A container that a fault is about, by its way from the outermost element.
 #[derive(Drop)]
-pub struct Container {
+pub struct ToldContainer {
     pub way: Vec<Step>,
     pub at: u64,
     /// The place where it ends, of definite length.
@@ -141,7 +141,7 @@ pub struct Blame {
     /// What stands there, where it may be told.
     pub found: Option<Found>,
     /// Of PastEnd: the container whose end the element passes. Of Missing: the one that has ended.
-    pub container: Option<Container>,
+    pub container: Option<ToldContainer>,
     /// Of Truncated and PastEnd: how many octets the element's announced contents have too many.
     pub over: Option<u64>,
     /// Of Trailing: how many octets follow, where that is told.

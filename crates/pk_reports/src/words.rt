@@ -5,7 +5,7 @@ ghost use Rattle.pk_reports.specs.Words.{blamed_said, container_said, due_of, du
 
 use crate::paths::path;
 use crate::reason_due::reason_due;
-use crate::report::{Answer, Blame, Container, Due, Found, Length, Report};
+use crate::report::{Answer, Blame, Due, Found, Length, Report, ToldContainer};
 use crate::text::{push_number, push_sum};
 use crate::type_words::{push_fields, push_shape, push_tag};
 use std::alloc::{AllocError, Global};
@@ -172,7 +172,7 @@ fn push_passed(
     alloc: Global,
     text: &mut String,
     root: &str,
-    container: &Container,
+    container: &ToldContainer,
     over: u64,
 ) -> Result<(), AllocError>
     ensures { OnOk result (string_bytes text.new ≡ string_bytes text.old
@@ -216,7 +216,7 @@ fn push_way(
     alloc: Global,
     text: &mut String,
     root: &str,
-    container: &Container,
+    container: &ToldContainer,
 ) -> Result<(), AllocError>
     ensures { OnOk result (string_bytes text.new ≡ string_bytes text.old
         ++ placed root.now container.now) }

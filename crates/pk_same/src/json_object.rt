@@ -7,7 +7,7 @@ ghost use Rattle.pk_same.specs.Json.{another_object, called_member, difference_m
 ghost use Rattle.pk_same.specs.Told.{words_of};
 
 use crate::json_text::JsonText;
-use crate::text::Names;
+use crate::text::DocumentNames;
 use crate::told::Told;
 use std::alloc::{AllocError, Global};
 use tlv_core::fault::Fault;
@@ -18,7 +18,7 @@ use tlv_core::reason::Reason;
 pub(crate) struct Heading<'a> {
     pub(crate) version: &'a str,
     pub(crate) kind: &'a str,
-    pub(crate) names: Names<'a>,
+    pub(crate) names: DocumentNames<'a>,
 }
 
 /// Two documents that are the same.

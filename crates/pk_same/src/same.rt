@@ -7,7 +7,7 @@ ghost use Rattle.pk_same.specs.Written.{AreTold, IsCompared, IsTold, IsWritten, 
 use crate::json_object::{Heading, another_json, refused_json, same_json};
 use crate::reading::{is_any, read};
 pub use crate::sameness::Sameness;
-use crate::text::{Names, another_text, refused_text, same_line};
+use crate::text::{DocumentNames, another_text, refused_text, same_line};
 use crate::told::{Sides, Told, first_told, untold};
 use crate::walk::{Encodings, differences};
 use pk_documents::kind::Kind;
@@ -36,7 +36,7 @@ pub fn same_text(
     second: &[u8],
     kind: Kind,
     limits: Limits,
-    names: Names<'_>,
+    names: DocumentNames<'_>,
     form: Style,
 ) -> Result<(String, Sameness), AllocError>
     ensures { IfOk result (λ written. IsWritten form limits kind names.entry.first.now

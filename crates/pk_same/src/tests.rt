@@ -1,7 +1,7 @@
 //! Pairs of documents by OpenSSL 3.0 (`genpkey`, `ec`, `pkcs8`, `req`) and of `examples/`, and what they are to each
 //! other. The fields and the values were worked out by hand from what `openssl asn1parse` says of each.
 use crate::same::{Sameness, Style, same_text};
-use crate::text::Names;
+use crate::text::DocumentNames;
 use pk_documents::kind::Kind;
 use std::test::Fail;
 use tlv_core::limits::Limits;
@@ -187,7 +187,7 @@ static ROWS: [(Kind, &str, &str, &str); 11] = [
 #[test]
 fn pairs(rt: HostRuntime) -> Result<(), Fail> {
     let limits = Limits::new(32, 1048576).ok_or("limits")?;
-    let names = Names {
+    let names = DocumentNames {
         first: "a.der",
         second: "b.der",
     };

@@ -12,7 +12,7 @@ use tlv_core::reason::Reason;
 
 /// The names of two documents as they are written.
 #[derive(Clone, Copy)]
-pub struct Names<'a> {
+pub struct DocumentNames<'a> {
     pub first: &'a str,
     pub second: &'a str,
 }
@@ -28,7 +28,7 @@ pub(crate) fn same_line(alloc: Global) -> Result<String, AllocError>
 #[tactic(auto, unfolding(crate::specs::Texts::refused_text))]
 pub fn refused_text(
     alloc: Global,
-    names: Names<'_>,
+    names: DocumentNames<'_>,
     fault: Option<Fault>,
     other: Option<Fault>,
 ) -> Result<String, AllocError>
@@ -83,7 +83,7 @@ fn push_inside(text: &mut String, inside: Option<(u64, Reason)>) -> Result<(), A
 #[tactic(auto, unfolding(crate::specs::Texts::another_text))]
 pub(crate) fn another_text(
     alloc: Global,
-    names: Names<'_>,
+    names: DocumentNames<'_>,
     told: &[Told],
     more: u64,
 ) -> Result<String, AllocError>
@@ -135,7 +135,7 @@ fn push_more(text: &mut String, more: u64) -> Result<(), AllocError>
 }
 
 /// The values of each field, a line for each document.
-fn push_values(text: &mut String, names: Names<'_>, told: &[Told]) -> Result<(), AllocError>
+fn push_values(text: &mut String, names: DocumentNames<'_>, told: &[Told]) -> Result<(), AllocError>
     ensures { OnOk result (string_bytes text.new ≡ string_bytes text.old
         ++ flat_map (difference_lines names.entry.first.now names.entry.second.now)
         (map words_of told.now)) }

@@ -14,7 +14,7 @@ use asn_shapes::identifiers::identifier_of;
 use pk_documents::document::{Document, Valued, read_whole_document};
 use pk_documents::kind::Kind;
 use pk_same::reading::is_any;
-use pk_same::text::{Names, refused_text};
+use pk_same::text::{DocumentNames, refused_text};
 use std::alloc::{AllocError, Global};
 use tlv_core::fault::{Fault, ReadError};
 use tlv_core::limits::Limits;
@@ -38,7 +38,7 @@ pub fn same_key_text(
     kind: Kind,
     other_kind: Kind,
     limits: Limits,
-    names: Names<'_>,
+    names: DocumentNames<'_>,
 ) -> Result<(String, KeySameness), AllocError>
     ensures { IfOk result (λ written.
         AreCompared ⟦<Document as Valued>⟧.value limits kind other_kind first.now second.now
@@ -92,7 +92,7 @@ fn read(alloc: Global, octets: &[u8], kind: Kind, limits: Limits) -> Result<KeyR
 /// The answer where a document is refused, or both.
 fn refused(
     alloc: Global,
-    names: Names<'_>,
+    names: DocumentNames<'_>,
     fault: Option<Fault>,
     other: Option<Fault>,
 ) -> Result<(String, KeySameness), AllocError>

@@ -2,7 +2,7 @@
 //! with attributes or of version 2 by `asn1parse -genconf` from the octets of the first one.
 use crate::same_key::same_key_text;
 use pk_documents::kind::Kind;
-use pk_same::text::Names;
+use pk_same::text::DocumentNames;
 use std::test::Fail;
 use tlv_core::limits::Limits;
 
@@ -155,7 +155,7 @@ static ROWS: [(Kind, &str, Kind, &str, &str); 19] = [
 #[test]
 fn keys(rt: HostRuntime) -> Result<(), Fail> {
     let limits = Limits::new(32, 1048576).ok_or("limits")?;
-    let names = Names {
+    let names = DocumentNames {
         first: "a.der",
         second: "b.der",
     };

@@ -15,7 +15,7 @@ use asn_values::defined_by::{DefinedBy, Defines};
 use asn_values::dependent::{DependentElement, Independent};
 use asn_values::either::Either;
 use asn_values::implicit::Implicit;
-use asn_values::refused::{Refusal, Refused};
+use asn_values::refused::{Refused, RefusedTag};
 use asn_values::ruled_behind::{FieldRules, RuledBehind};
 use asn_values::tags::context_tag;
 use ber_pull::pull::Pull;
@@ -30,9 +30,9 @@ use tlv_core::target::Target;
 
 /// Under version 0 a public key may not stand.
 #[derive(Drop)]
-pub struct UnderVersion0;
+pub struct PublicKeyUnderVersion0;
 
-impl Refusal for UnderVersion0 {
+impl RefusedTag for PublicKeyUnderVersion0 {
     ghost own = { context_specific 1 };
 
     ghost why = { why.VersionRule };
@@ -48,7 +48,7 @@ impl Refusal for UnderVersion0 {
     }
 }
 
-impl<A: NamesKey> Defines<A> for UnderVersion0 {
+impl<A: NamesKey> Defines<A> for PublicKeyUnderVersion0 {
     ghost path = { 0 ∷ [] };
 
     ghost octets = { (0 ∷ []) ∷ [] };
@@ -83,9 +83,9 @@ impl<A: NamesKey> FieldRules<A, Implicit<1, Bits>> for KeyBits {
 
 /// None under version 0, else the key.
 type ByVersion = DefinedBy<
-    Independent<Refused<UnderVersion0>>,
+    Independent<Refused<PublicKeyUnderVersion0>>,
     RuledBehind<Implicit<1, Bits>, KeyBits>,
-    UnderVersion0,
+    PublicKeyUnderVersion0,
 >;
 
 /// The public key behind the fields before it.

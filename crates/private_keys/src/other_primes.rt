@@ -13,7 +13,7 @@ use asn_values::defined_by::{DefinedBy, Defines};
 use asn_values::dependent::{DependentElement, Independent};
 use asn_values::either::Either;
 use asn_values::list_of_some::ListOfSome;
-use asn_values::refused::{Refusal, Refused};
+use asn_values::refused::{Refused, RefusedTag};
 use asn_values::sequence::Required;
 use asn_values::tags::universal_tag;
 use ber_pull::pull::Pull;
@@ -31,9 +31,9 @@ pub type VersionAndNumbers = (Required<Version<0, 1>>, Numbers);
 
 /// Nothing may stand behind the numbers of a key of version 0.
 #[derive(Drop)]
-pub struct UnderVersion0;
+pub struct PrimesUnderVersion0;
 
-impl Refusal for UnderVersion0 {
+impl RefusedTag for PrimesUnderVersion0 {
     ghost own = { universal 16 };
 
     ghost why = { why.VersionRule };
@@ -49,7 +49,7 @@ impl Refusal for UnderVersion0 {
     }
 }
 
-impl Defines<VersionAndNumbers> for UnderVersion0 {
+impl Defines<VersionAndNumbers> for PrimesUnderVersion0 {
     ghost path = { 0 ∷ [] };
 
     ghost octets = { (0 ∷ []) ∷ [] };
@@ -62,9 +62,9 @@ impl Defines<VersionAndNumbers> for UnderVersion0 {
 
 /// What may stand behind the numbers: nothing under version 0, else at least one prime.
 type Infos = DefinedBy<
-    Independent<Refused<UnderVersion0>>,
+    Independent<Refused<PrimesUnderVersion0>>,
     Independent<ListOfSome<OtherPrimeInfo>>,
-    UnderVersion0,
+    PrimesUnderVersion0,
 >;
 
 /// The primes behind the first two, at least one, under version 1.

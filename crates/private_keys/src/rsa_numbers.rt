@@ -10,7 +10,7 @@ ghost use Rattle.private_keys.specs.RsaKeys.{numbers_of};
 
 use asn_values::fields::Next;
 use asn_values::integer::Int;
-use asn_values::sequence::{Fields, FieldsText, Required};
+use asn_values::sequence::{FieldsText, IndependentFields, Required};
 use ber_pull::pull::Pull;
 use std::alloc::Global;
 use tlv_core::fault::ReadError;
@@ -40,13 +40,13 @@ impl FieldsText for Two {
     }
 }
 
-impl Fields for Two {
+impl IndependentFields for Two {
     fn read<R: Source>(
         alloc: Global,
         pull: &mut Pull<'_, R>,
         next: &mut Next,
     ) -> Result<Two, ReadError> {
-        match <(Required<Int>, Required<Int>) as Fields>::read(alloc, pull, next) {
+        match <(Required<Int>, Required<Int>) as IndependentFields>::read(alloc, pull, next) {
             Ok(listed) => Ok(Two(listed)),
             Err(error) => Err(error),
         }
@@ -75,13 +75,13 @@ impl FieldsText for Four {
     }
 }
 
-impl Fields for Four {
+impl IndependentFields for Four {
     fn read<R: Source>(
         alloc: Global,
         pull: &mut Pull<'_, R>,
         next: &mut Next,
     ) -> Result<Four, ReadError> {
-        match <(Two, Two) as Fields>::read(alloc, pull, next) {
+        match <(Two, Two) as IndependentFields>::read(alloc, pull, next) {
             Ok(listed) => Ok(Four(listed)),
             Err(error) => Err(error),
         }
@@ -133,13 +133,13 @@ impl FieldsText for Numbers {
     }
 }
 
-impl Fields for Numbers {
+impl IndependentFields for Numbers {
     fn read<R: Source>(
         alloc: Global,
         pull: &mut Pull<'_, R>,
         next: &mut Next,
     ) -> Result<Numbers, ReadError> {
-        match <(Four, Four) as Fields>::read(alloc, pull, next) {
+        match <(Four, Four) as IndependentFields>::read(alloc, pull, next) {
             Ok(listed) => Ok(Numbers(listed)),
             Err(error) => Err(error),
         }

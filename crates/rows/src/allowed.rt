@@ -11,7 +11,7 @@ use asn_values::dependent::Independent;
 use asn_values::integer::Int;
 use asn_values::octets::Octets;
 use asn_values::optional_dependent::OptionalDependent;
-use asn_values::refused::{Refusal, Refused};
+use asn_values::refused::{Refused, RefusedTag};
 use asn_values::ruled_behind::{FieldRules, RuledBehind};
 use asn_values::sequence::{Optional, Required, Sequence};
 use asn_values::tags::{context_tag, universal_tag};
@@ -42,7 +42,7 @@ impl Completes<Listed> for AllowedFields {
 #[derive(Drop)]
 pub struct Sealed;
 
-impl Refusal for Sealed {
+impl RefusedTag for Sealed {
     ghost own = { context_specific 0 };
 
     ghost why = { why.LeftOut };
@@ -62,7 +62,7 @@ impl Refusal for Sealed {
 #[derive(Drop)]
 pub struct BehindZero;
 
-impl Refusal for BehindZero {
+impl RefusedTag for BehindZero {
     ghost own = { universal 4 };
 
     ghost why = { why.VersionRule };

@@ -1,7 +1,7 @@
 use Rattle.std.proofs.Common.{rules}
 use Rattle.asn_fields.proofs.FieldAnswers.{with_error}
 use Rattle.asn_fields.proofs.BegunSequence.{after_default, fields_as, stopped_at_default}
-use Rattle.asn_fields.proofs.default_false.DefaultFalseFields.read.Goals as goal
+use Rattle.asn_fields.proofs.default_false.DefaultFalseIndependentFields.read.Goals as goal
 
 pub returns-in_err-field-clause-reads : goal.returns-in_err-field-clause-reads
 returns-in_err-field-clause-reads g c = λ k s whole finish rest ws a.

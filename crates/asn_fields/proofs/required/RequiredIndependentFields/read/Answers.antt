@@ -1,7 +1,7 @@
 use Rattle.std.proofs.Common.{rules}
 use Rattle.asn_fields.proofs.FieldAnswers.{with_error}
 use Rattle.asn_fields.proofs.BegunSequence.{after_due, stopped_at_due}
-use Rattle.asn_fields.proofs.required.RequiredFields.read.Goals as goal
+use Rattle.asn_fields.proofs.required.RequiredIndependentFields.read.Goals as goal
 
 pub returns-in_err-field-clause-reads : goal.returns-in_err-field-clause-reads
 returns-in_err-field-clause-reads g c = λ k s whole finish rest ws a.

@@ -2,7 +2,7 @@ use Rattle.std.proofs.Common.{rules, arith}
 use Rattle.asn_fields.proofs.FieldAnswers.{with_error}
 use Rattle.asn_fields.proofs.BegunSequence.{behind_both}
 use Rattle.asn_fields.proofs.PartTexts.{length_both}
-use Rattle.asn_fields.proofs.field_list.Tuple2Fields.read.Goals as goal
+use Rattle.asn_fields.proofs.field_list.Tuple2IndependentFields.read.Goals as goal
 
 pub returns-in_err-first-clause-reads : goal.returns-in_err-first-clause-reads
 returns-in_err-first-clause-reads g c = λ k s whole finish rest ws a.
