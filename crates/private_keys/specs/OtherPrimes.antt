@@ -12,7 +12,7 @@ abbrev pub prime_of : OtherPrimeFields → Int
 prime_of it = it.0.0.0
 
 abbrev pub exponent_of : OtherPrimeFields → Int
-exponent_of it = it.0.1.0.0.0
+exponent_of it = it.0.1.0.0
 
 abbrev pub coefficient_of : OtherPrimeFields → Int
-coefficient_of it = it.0.1.0.1.0
+coefficient_of it = it.0.1.1.0

@@ -8,8 +8,8 @@ use Rattle.private_keys.specs.declared.rsa_numbers.Numbers.{Numbers}
 -- modulus, publicExponent, privateExponent, prime1, prime2, exponent1, exponent2, coefficient
 abbrev pub numbers_of : Numbers → List Int
 numbers_of n =
-    n.0.0.0.0.0.0.0 ∷ n.0.0.0.0.0.1.0 ∷ n.0.0.0.1.0.0.0 ∷ n.0.0.0.1.0.1.0
-    ∷ n.0.1.0.0.0.0.0 ∷ n.0.1.0.0.0.1.0 ∷ n.0.1.0.1.0.0.0 ∷ n.0.1.0.1.0.1.0 ∷ []
+    n.0.0.0.0.0 ∷ n.0.0.0.1.0 ∷ n.0.0.1.0.0 ∷ n.0.0.1.1.0 ∷ n.0.1.0.0.0 ∷ n.0.1.0.1.0 ∷ n.0.1.1.0.0 ∷ n.0.1.1.1.0
+    ∷ []
 
 -- the members of a list that may stand, none of what may not
 abbrev pub infos : {A B C : Type 0} → (B → List C) → Either A B → List C

@@ -45,7 +45,7 @@ impl OtherPrimeFields {
         ensures stands { leaf_at (1 ∷ []) (⟦<OtherPrimeFields as FieldsText>⟧.values self.now)
             ≡ integer_of result.now }
     {
-        &self.0.1.0.0.0
+        &self.0.1.0.0
     }
 
     /// Its coefficient.
@@ -55,7 +55,7 @@ impl OtherPrimeFields {
         ensures stands { leaf_at (2 ∷ []) (⟦<OtherPrimeFields as FieldsText>⟧.values self.now)
             ≡ integer_of result.now }
     {
-        &self.0.1.0.1.0
+        &self.0.1.1.0
     }
 }
 

@@ -1,6 +1,6 @@
 //! The INTEGERs of an RSAPrivateKey (RFC 8017 A.1.2), two by two.
 //!
-//! Each group of them is a type of its own, so that what stands above rests on one group and not on eight fields.
+//! All of them are a type of its own, so that what stands above rests on one list and not on eight fields.
 ghost use Rattle.std.specs.Prelude.{◌≡◌, ◌∷◌, [], IfSome, slice_get};
 ghost use Rattle.std.specs.Option.{option_map};
 ghost use Rattle.x690.specs.Values.{leaf_at};
@@ -19,74 +19,10 @@ use tlv_core::source::Source;
 use tlv_core::target::Target;
 
 /// Two INTEGERs.
-#[derive(Drop)]
-pub struct Two(pub (Required<Int>, Required<Int>));
-
-impl FieldsText for Two {
-    ghost values = { λ two. ⟦<(Required<Int>, Required<Int>) as FieldsText>⟧.values two.0 };
-
-    ghost listing = { through (λ fields. fields.0) ⟦<(Required<Int>, Required<Int>) as FieldsText>⟧.listing };
-
-    fn size(&self) -> u64 {
-        self.0.size()
-    }
-
-    fn put<W: Target>(&self, sink: &mut Sink<'_, W>) -> Result<(), WriteError> {
-        self.0.put(sink)
-    }
-
-    fn octet(&self, i: u64) -> Option<u8> {
-        self.0.octet(i)
-    }
-}
-
-impl IndependentFields for Two {
-    fn read<R: Source>(
-        alloc: Global,
-        pull: &mut Pull<'_, R>,
-        next: &mut Next,
-    ) -> Result<Two, ReadError> {
-        match <(Required<Int>, Required<Int>) as IndependentFields>::read(alloc, pull, next) {
-            Ok(listed) => Ok(Two(listed)),
-            Err(error) => Err(error),
-        }
-    }
-}
+pub type Two = (Required<Int>, Required<Int>);
 
 /// Four INTEGERs.
-#[derive(Drop)]
-pub struct Four(pub (Two, Two));
-
-impl FieldsText for Four {
-    ghost values = { λ four. ⟦<(Two, Two) as FieldsText>⟧.values four.0 };
-
-    ghost listing = { through (λ fields. fields.0) ⟦<(Two, Two) as FieldsText>⟧.listing };
-
-    fn size(&self) -> u64 {
-        self.0.size()
-    }
-
-    fn put<W: Target>(&self, sink: &mut Sink<'_, W>) -> Result<(), WriteError> {
-        self.0.put(sink)
-    }
-
-    fn octet(&self, i: u64) -> Option<u8> {
-        self.0.octet(i)
-    }
-}
-
-impl IndependentFields for Four {
-    fn read<R: Source>(
-        alloc: Global,
-        pull: &mut Pull<'_, R>,
-        next: &mut Next,
-    ) -> Result<Four, ReadError> {
-        match <(Two, Two) as IndependentFields>::read(alloc, pull, next) {
-            Ok(listed) => Ok(Four(listed)),
-            Err(error) => Err(error),
-        }
-    }
-}
+pub type Four = (Two, Two);
 
 /// modulus, publicExponent, privateExponent, prime1; prime2, exponent1, exponent2, coefficient.
 #[derive(Drop)]
@@ -100,16 +36,16 @@ impl Numbers {
         ensures stands { IfSome result (λ r.
             leaf_at (i ∷ []) (⟦<Numbers as FieldsText>⟧.values self.now) ≡ integer_of r.now) }
     {
-        let (Four((first, second)), Four((third, fourth))) = &self.0;
+        let ((first, second), (third, fourth)) = &self.0;
         match i {
-            0 => Some(&first.0.0.0),
-            1 => Some(&first.0.1.0),
-            2 => Some(&second.0.0.0),
-            3 => Some(&second.0.1.0),
-            4 => Some(&third.0.0.0),
-            5 => Some(&third.0.1.0),
-            6 => Some(&fourth.0.0.0),
-            7 => Some(&fourth.0.1.0),
+            0 => Some(&first.0.0),
+            1 => Some(&first.1.0),
+            2 => Some(&second.0.0),
+            3 => Some(&second.1.0),
+            4 => Some(&third.0.0),
+            5 => Some(&third.1.0),
+            6 => Some(&fourth.0.0),
+            7 => Some(&fourth.1.0),
             _ => None,
         }
     }
