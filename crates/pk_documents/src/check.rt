@@ -10,6 +10,7 @@ ghost use Rattle.pk_documents.specs.Kinds.{type_of};
 use crate::kind::Kind;
 use asn_documents::check::check_value;
 use asn_documents::whole::check_whole;
+use asn_values::boxed::Boxed;
 use pkcs8::encrypted_key::EncryptedKey;
 use pkcs8::key_package::KeyPackage;
 use pkcs8::one_asymmetric_key::OneAsymmetricKey;
@@ -42,7 +43,8 @@ pub fn check<R: Source>(
     ensures frame { R.frame src.new ≡ R.frame src.old }
 {
     match kind {
-        Kind::Key => check_value::<R, OneAsymmetricKey>(alloc, src, limits),
+        // (a key is the largest of them: in a box it is handed up as a pointer)
+        Kind::Key => check_value::<R, Boxed<OneAsymmetricKey>>(alloc, src, limits),
         Kind::Ec => check_value::<R, EcPrivateKey>(alloc, src, limits),
         Kind::Request => check_value::<R, CertificationRequest>(alloc, src, limits),
         Kind::Public => check_value::<R, SubjectPublicKeyInfo>(alloc, src, limits),
@@ -74,7 +76,7 @@ pub fn check_whole_document<R: Source>(
     ensures frame { R.frame src.new ≡ R.frame src.old }
 {
     match kind {
-        Kind::Key => check_whole::<R, OneAsymmetricKey>(alloc, src, limits),
+        Kind::Key => check_whole::<R, Boxed<OneAsymmetricKey>>(alloc, src, limits),
         Kind::Ec => check_whole::<R, EcPrivateKey>(alloc, src, limits),
         Kind::Request => check_whole::<R, CertificationRequest>(alloc, src, limits),
         Kind::Public => check_whole::<R, SubjectPublicKeyInfo>(alloc, src, limits),

@@ -10,6 +10,7 @@ use crate::kind::Kind;
 pub use asn_documents::normalise::NormaliseError;
 use asn_documents::normalise::normalise_value;
 use asn_documents::whole::normalise_whole;
+use asn_values::boxed::Boxed;
 use pkcs8::encrypted_key::EncryptedKey;
 use pkcs8::key_package::KeyPackage;
 use pkcs8::one_asymmetric_key::OneAsymmetricKey;
@@ -46,7 +47,8 @@ pub fn normalise<R: Source, W: Target>(
     ensures frame { R.frame src.new ≡ R.frame src.old }
 {
     match kind {
-        Kind::Key => normalise_value::<R, W, OneAsymmetricKey>(alloc, src, dst, limits),
+        // (a key is the largest of them: in a box it is handed up as a pointer)
+        Kind::Key => normalise_value::<R, W, Boxed<OneAsymmetricKey>>(alloc, src, dst, limits),
         Kind::Ec => normalise_value::<R, W, EcPrivateKey>(alloc, src, dst, limits),
         Kind::Request => normalise_value::<R, W, CertificationRequest>(alloc, src, dst, limits),
         Kind::Public => normalise_value::<R, W, SubjectPublicKeyInfo>(alloc, src, dst, limits),
@@ -79,7 +81,7 @@ pub fn normalise_whole_document<R: Source, W: Target>(
     ensures frame { R.frame src.new ≡ R.frame src.old }
 {
     match kind {
-        Kind::Key => normalise_whole::<R, W, OneAsymmetricKey>(alloc, src, dst, limits),
+        Kind::Key => normalise_whole::<R, W, Boxed<OneAsymmetricKey>>(alloc, src, dst, limits),
         Kind::Ec => normalise_whole::<R, W, EcPrivateKey>(alloc, src, dst, limits),
         Kind::Request => normalise_whole::<R, W, CertificationRequest>(alloc, src, dst, limits),
         Kind::Public => normalise_whole::<R, W, SubjectPublicKeyInfo>(alloc, src, dst, limits),
