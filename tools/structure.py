@@ -1,15 +1,21 @@
 #!/usr/bin/env python3
-"""structure.py [NAME]: how much of the code only hands on, says the same again, or has a name that another thing has.
+"""structure.py [NAME | lines | rooms | --write]: how much only hands on, says the same again, or shares its name.
 
 Each count has a limit; one above it fails. A limit goes down with its count, and never up. With a NAME it lists what
-that count counts. The last line is 'structure: N passed, M failed'."""
+that count counts. The last line is 'structure: N passed, M failed'.
+
+The table of crates in docs/structure.md, with their subjects and files, is compared with the code; --write writes it.
+'lines' draws fifteen lines of the product, always the same of the same code, each with the name of its file, and
+'rooms' says in which crates they stand: whoever has read the page should know that of fourteen."""
 import collections
 import glob
 import os
+import random
 import re
 import sys
 
 TOP = os.path.dirname(os.path.dirname(os.path.realpath(__file__)))
+PAGE = f"{TOP}/docs/structure.md"
 FRAME = ("same_source", "keeps", "read", "onward")
 # A function from its name to its body, or to its end where it has none.
 SIGNATURE = re.compile(r"(?ms)^ *(?:pub(?:\(crate\))? )?fn (\w+)(?:(?!\bfn ).)*?(?=\n *\{\n|;\n)")
@@ -111,6 +117,43 @@ def shared_names():
     return [f"{name}: {', '.join(found)}" for name, found in sorted(places.items()) if len(found) > 1]
 
 
+def drawn():
+    """Fifteen lines that say something: the crate, the file and the line of each."""
+    said = [(crate, os.path.basename(path), line.strip()) for crate in crates() for path, text in sources(crate)
+            for line in text.splitlines() if len(line.strip()) > 30 and not re.match(r" *(//|ghost use|use )", line)]
+    return random.Random(15).sample(said, 15)
+
+
+def subject(crate):
+    """What a crate is, by the first sentence of its documentation."""
+    with open(next(path for name in ("lib", "main") if os.path.exists(path := f"{TOP}/crates/{crate}/src/{name}.rt")),
+              encoding="utf-8") as it:
+        words = " ".join(line[3:].strip() for line in re.match(r"(?://!.*\n)+", it.read())[0].splitlines())
+    return re.match(r".*?[.:](?= [^a-z(]|$)", words)[0].rstrip(".:")
+
+
+def table():
+    """The table of crates of docs/structure.md."""
+    rows = ["| Crate | What it is | Its files |", "|---|---|---|"]
+    for crate in crates():
+        names = [os.path.relpath(path, f"crates/{crate}/src")[:-3] for path, _ in sources(crate)]
+        files = ", ".join(name for name in names if name not in ("lib", "main"))
+        rows.append(f"| `{crate}` | {subject(crate)} | {files} |")
+    return "\n".join(rows) + "\n"
+
+
+def page(write):
+    """Whether the page has the table as it is; where it is to be written, it has it then."""
+    with open(PAGE, encoding="utf-8") as it:
+        text = it.read()
+    begin = text.index("| Crate | What it is |")
+    found = text[begin : text.index("\n\n", begin) + 1]
+    if write and found != table():
+        with open(PAGE, "w", encoding="utf-8") as it:
+            it.write(text.replace(found, table()))
+    return write or found == table()
+
+
 def counts():
     """What each count counts, and how many that are."""
     hands = list(handing())
@@ -126,15 +169,22 @@ def counts():
 
 
 def main(words):
+    if words and words[0] in ("lines", "rooms"):
+        for number, (crate, name, line) in enumerate(drawn(), 1):
+            print(f"{number}. {name}: {line}" if words[0] == "lines" else f"{number}. {crate}")
+        return 0
     found = counts()
-    if words:
+    if words and words[0] != "--write":
         print("\n".join(found[words[0]][1]))
         return 0
     failed = 0
     for name, limit in LIMITS.items():
         failed += found[name][0] > limit
         print(f"{name}: {found[name][0]}, at most {limit}")
-    print(f"structure: {len(LIMITS) - failed} passed, {failed} failed")
+    if not page(words):
+        print("the table of crates in docs/structure.md isn't that of the code: tools/structure.py --write")
+        failed += 1
+    print(f"structure: {len(LIMITS) + 1 - failed} passed, {failed} failed")
     return 1 if failed else 0
 
 
