@@ -11,6 +11,7 @@ use Rattle.clap.specs.declared.error.kind.ErrorKind.TheVariants as errors
 use Rattle.clap.specs.declared.parser.matches.ArgMatches.{ArgMatches}
 use Rattle.clap.specs.declared.parser.matches.Found.{Found}
 use Rattle.clap.proofs.WalkLemmas.{first_value-rows, raw_values-rows}
+use Rattle.pkder.proofs.OneCommand.{MeansSame}
 use Rattle.pkder.proofs.PlainTexts.{controls_plain}
 use Rattle.pkder.specs.CommandLines.{Asks, AsksNothing, BadAction, BadAsked, BadKinds, BadOther, BadPart, BadPlaces, IsFaultOf, IsPlainLine, MeansAsked, MeansBy, MeansNothing, MeansTask, ReadsAction, ReadsPair, ReadsPlaces, TellsPlaces, TellsOwn, TellsWhy, advice_for_command, advised_line, are_of_same, asks_reasons, bad_value_line, both_kinds, command_advised, command_name, controls_line, has_control, is_same, kinds_given, kinds_of, missing_line, no_kind_line, option_advised, other_taken, part_name, program, taken_kind, value_of}
 use Rattle.pk_documents.specs.declared.kind.Kind.{Kind}
@@ -27,27 +28,19 @@ use Rattle.pk_commands.specs.declared.task.Task.{Task}
 
 -- ---- the line
 
-simple : is_simple program ≡ true
-simple = refl
-
-simple_and_free : is_simple_and_free program ≡ true
-simple_and_free = refl
-
 none_among : (kind : ErrorKind) (kinds : Kinds) → IsAmong kind kinds → kinds ≡ [] → ⊥
 none_among kind [] h e = h
 none_among kind (k ∷ ks) h e = cc
 
 -- a line that clap takes
 pub asked : (app : App) (words : List Text) (m : ArgMatches) (r : Result Asked LineFault)
-    → asks_reasons words ≡ false → app ≡ program → HasMatchesOf app words m
+    → asks_reasons words ≡ false → MeansSame words app → HasMatchesOf app words m
     → (is_simple_and_free app ≡ true → FailsBy (fault_of app words) (Ok m))
     → MatchResult r (MeansBy (subcommand_rows_of m)) (MeansNothing (subcommand_rows_of m))
     → MatchResult r (Asks words) (AsksNothing words)
-asked app words m r plain is matches kinds means =
-    let none : fault_of program words ≡ [] =
-    sym (ap (λ a. fault_of a words) is) ∙ kinds (ap is_simple_and_free is ∙ simple_and_free) in
-    let met : subcommand_rows_of m ≡ subcommand_of program words =
-    (matches (ap is_simple is ∙ simple)).1 ∙ ap (λ a. subcommand_of a words) is in
+asked app words m r plain same matches kinds means =
+    let none : fault_of program words ≡ [] = sym same.2 ∙ kinds same.1 in
+    let met : subcommand_rows_of m ≡ subcommand_of program words = (matches same.0).1 ∙ same.3 in
     go r none met means
   where
     go : (r : Result Asked LineFault) → fault_of program words ≡ [] → subcommand_rows_of m ≡ subcommand_of program words
@@ -62,13 +55,13 @@ asked app words m r plain is matches kinds means =
     go (Err (faults.Help text)) none met h = absurd h
     go (Err faults.Memory) none met h = tt
 
-among : (kind : ErrorKind) (app : App) (words : List Text) → app ≡ program
+among : (kind : ErrorKind) (app : App) (words : List Text) → MeansSame words app
     → (is_simple_and_free app ≡ true → (kind ≡ errors.OutOfMemory) ⊎ IsAmong kind (fault_of app words))
     → (kind ≡ errors.OutOfMemory → ⊥) → IsAmong kind (fault_of program words)
-among kind app words is kinds other =
-    elim (kinds (ap is_simple_and_free is ∙ simple_and_free)) [
+among kind app words same kinds other =
+    elim (kinds same.1) [
       | inl memory ↦ absurd (other memory)
-      | inr h ↦ subst (λ a. IsAmong kind (fault_of a words)) is h
+      | inr h ↦ subst (IsAmong kind) same.2 h
     ]
 
 -- ---- what is told of a line that clap refuses
@@ -175,22 +168,22 @@ missing_other errors.OutOfMemory words P other = tt
 
 -- a line that clap refuses
 pub refused : (kind : ErrorKind) (app : App) (words : List Text) (f : LineFault)
-    → asks_reasons words ≡ false → app ≡ program → (is_simple_and_free app ≡ true → (kind ≡ errors.OutOfMemory) ⊎ IsAmong kind (fault_of app words))
+    → asks_reasons words ≡ false → MeansSame words app → (is_simple_and_free app ≡ true → (kind ≡ errors.OutOfMemory) ⊎ IsAmong kind (fault_of app words))
     → IsFaultOf kind words f → AsksNothing words f
-refused kind app words (faults.Line text) plain is kinds other =
-    let h = among kind app words is kinds other.0.0 in (
+refused kind app words (faults.Line text) plain same kinds other =
+    let h = among kind app words same kinds other.0.0 in (
       plain,
       λ asked a. none_among kind (fault_of program words) h a.1,
       inl (kind, h, other.0, other.1, plain_refusal kind words (string_bytes text) other.1),
     )
-refused kind app words (faults.Help text) plain is kinds asked =
+refused kind app words (faults.Help text) plain same kinds asked =
     elim asked [
       | inl h ↦
-          inr (inl (subst (λ k. IsAmong k (fault_of program words)) h (among kind app words is kinds (λ m. cc))))
+          inr (inl (subst (λ k. IsAmong k (fault_of program words)) h (among kind app words same kinds (λ m. cc))))
       | inr h ↦
-          inr (inr (subst (λ k. IsAmong k (fault_of program words)) h (among kind app words is kinds (λ m. cc))))
+          inr (inr (subst (λ k. IsAmong k (fault_of program words)) h (among kind app words same kinds (λ m. cc))))
     ]
-refused kind app words faults.Memory plain is kinds memory = tt
+refused kind app words faults.Memory plain same kinds memory = tt
 
 -- ---- the options
 

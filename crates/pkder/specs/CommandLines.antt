@@ -4,7 +4,7 @@ use Rattle.std.specs.Prelude.{All, ◌≡◌, ◌≤◌, ◌⊎◌, ◌&&◌, �
 use Rattle.std.specs.Char.{is_control}
 use Rattle.std.specs.Char.Escape.{escape_default}
 use Rattle.std.specs.Int.{IsInRange}
-use Rattle.std.specs.List.{filter, flat_map, list_any}
+use Rattle.std.specs.List.{filter, find, flat_map, fold, list_any}
 use Rattle.std.specs.Option.{option_or}
 use Rattle.std.specs.Str.{bytes_eq, chars}
 use Rattle.std.specs.Str.Parse.{IsNumeral, digits_value, without_leading_plus}
@@ -134,14 +134,26 @@ signed_shape = (with_name (with_limit_rules (with_rule (with_rule (new_app (code
 abbrev pub top : App
 top = on_top (λ s. record s { has_version = true; subcommand_required = true }) (new_app (codes "pkder"))
 
+abbrev pub commands : List Shape
+commands = check_shape ∷ explain_shape ∷ show_shape ∷ same_shape ∷ normalise_shape ∷ signed_shape ∷ []
+
+-- the program: all commands
 abbrev pub program : App
-program =
-    with_subcommand
-    (with_subcommand
-    (with_subcommand
-    (with_subcommand (with_subcommand (with_subcommand top check_shape) explain_shape) show_shape) same_shape)
-    normalise_shape)
-    signed_shape
+program = fold with_subcommand top commands
+
+-- the command of this name
+abbrev pub command_named : Text → Option Shape
+command_named word = find (λ s. bytes_eq word s.name) commands
+
+-- the program with this command alone; with all of them where there is none
+abbrev pub program_with : Option Shape → App
+program_with None = program
+program_with (Some command) = with_subcommand top command
+
+-- the program as far as a line needs it: with the command alone that the word behind the program's name names
+abbrev pub program_for : List Text → App
+program_for (name ∷ word ∷ words) = program_with (command_named word)
+program_for words = program
 
 -- ---- the words that are read
 

@@ -1,16 +1,58 @@
 //! The commands and options of the program, and their help.
-ghost use Rattle.std.specs.Prelude.{◌≡◌, IfOk, false};
+ghost use Rattle.std.specs.Prelude.{◌≡◌, IfOk, IfSome, false, map, option_map, string_bytes};
 ghost use Rattle.clap.specs.Words.{app_of, rule_of, shape_of, with_rule};
 ghost use Rattle.clap.specs.declared.builder.command.Command.TheViews.{out-Command as fields_of};
-ghost use Rattle.pkder.specs.CommandLines.{check_shape, depth_rule, explain_shape, file_rule, flag_rule, kind_rule, name_rule, names_rule, normalise_shape, octets_rule, pair_kinds_rule, part_rule, places_rule, program, request_rule, required_rule, same_shape, show_shape, signed_shape, top, with_limit_rules, with_name as app_with_name, with_names as app_with_names, with_pair as app_with_pair, with_json_and_places as app_with_places};
+ghost use Rattle.pkder.specs.CommandLines.{check_shape, command_named as command_shape, depth_rule, explain_shape, file_rule, flag_rule, kind_rule, name_rule, names_rule, normalise_shape, octets_rule, pair_kinds_rule, part_rule, places_rule, program, program_for, request_rule, required_rule, same_shape, show_shape, signed_shape, top, with_limit_rules, with_name as app_with_name, with_names as app_with_names, with_pair as app_with_pair, with_json_and_places as app_with_places};
 
 use crate::help::{CHECK, EXPLAIN, NORMALISE, PROGRAM, SAME, SHOW, SIGNED};
 use clap::{Arg, ArgAction, Command};
 use pk_explain::version::VERSION;
 use std::alloc::{AllocError, Global};
 
+/// The program as far as a line needs it: with the command alone that the word behind the program's name names, else
+/// with all of them.
+pub fn command_for<'a>(alloc: Global, words: &[String]) -> Result<Command<'a>, AllocError>
+    ensures { IfOk result (λ command. app_of command
+        ≡ program_for (map string_bytes words.now)) }
+{
+    let [_, word, ..] = words else {
+        return command(alloc);
+    };
+    match command_named(alloc, word.as_str())? {
+        Some(named) => pkder(alloc).subcommand(named),
+        None => command(alloc),
+    }
+}
+
+/// The command of this name.
+fn command_named<'a>(alloc: Global, word: &str) -> Result<Option<Command<'a>>, AllocError>
+    ensures shape { IfOk result (λ named. option_map shape_of named ≡ command_shape word.now) }
+    ensures local { IfOk result (λ named.
+        IfSome named (λ command. (fields_of command).has_globals ≡ false)) }
+{
+    if word == "check" {
+        return Ok(Some(check(alloc)?));
+    }
+    if word == "explain" {
+        return Ok(Some(explain(alloc)?));
+    }
+    if word == "show" {
+        return Ok(Some(show(alloc)?));
+    }
+    if word == "same" {
+        return Ok(Some(same(alloc)?));
+    }
+    if word == "normalise" {
+        return Ok(Some(normalise(alloc)?));
+    }
+    if word == "signed" {
+        return Ok(Some(signed(alloc)?));
+    }
+    Ok(None)
+}
+
 /// The program: its commands with their options.
-pub fn command<'a>(alloc: Global) -> Result<Command<'a>, AllocError>
+fn command<'a>(alloc: Global) -> Result<Command<'a>, AllocError>
     ensures { IfOk result (λ command. app_of command ≡ program) }
 {
     let check = check(alloc)?;

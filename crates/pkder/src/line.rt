@@ -5,7 +5,7 @@ ghost use Rattle.pkder.specs.CommandLines.{Asks, AsksNothing, BadAction, BadAske
 ghost use Rattle.pkder.specs.declared.line.LineFault.TheVariants.{Memory};
 ghost use Rattle.pk_documents.specs.declared.kind.Kind.TheVariants as kinds;
 
-use crate::command::command;
+use crate::command::command_for;
 use crate::help::REASONS;
 use crate::pair::{Pair, read_pair};
 use crate::refusal::{BadValue, advice_for_kind, refusal_text};
@@ -67,7 +67,7 @@ pub fn asked_of<'a>(alloc: Global, words: &'a [String]) -> Result<Asked<'a>, Lin
     if are_for_reasons(words) {
         return Err(LineFault::Help(REASONS.to_string(alloc)?));
     }
-    let command = command(alloc)?;
+    let command = command_for(alloc, words)?;
     match command.try_get_matches_from(words) {
         Ok(matches) => matched(alloc, &matches),
         Err(error) => Err(fault_of(alloc, words, &error)?),
