@@ -5,19 +5,27 @@ ghost use Rattle.std.specs.Prelude.{◌∷◌, [], refl};
 ghost use Rattle.tlv_core.specs.declared.reason.Reason.TheVariants as why;
 ghost use Rattle.x690.specs.Layouts.{context_specific, universal};
 ghost use Rattle.rows.specs.Rules.{fair_length, honest_left_out, honest_length, honest_version, length_rule};
+ghost use Rattle.asn_fields.specs.Listings.{through};
+ghost use Rattle.x690.specs.TypeTerms.{EndOfFields, SequenceType};
 
 use asn_values::defined_by::{DefinedBy, Defines};
 use asn_values::dependent::Independent;
+use asn_values::fields::Next;
 use asn_values::integer::Int;
 use asn_values::octets::Octets;
 use asn_values::optional_dependent::OptionalDependent;
 use asn_values::refused::{Refused, RefusedTag};
 use asn_values::ruled_behind::{FieldRules, RuledBehind};
-use asn_values::sequence::{Optional, Required, Sequence};
+use asn_values::sequence::{FieldsText, FirstFields, Optional, Required, Sequence, SequenceFields};
 use asn_values::tags::{context_tag, universal_tag};
-use asn_values::unnamed::{Completes, Unnamed};
+use ber_pull::pull::Pull;
+use std::alloc::Global;
+use tlv_core::fault::ReadError;
 use tlv_core::reason::Reason;
+use tlv_core::sink::{Sink, WriteError};
+use tlv_core::source::Source;
 use tlv_core::tag::Tag;
+use tlv_core::target::Target;
 
 /// number, sealed, octets.
 type Listed = OptionalDependent<
@@ -27,12 +35,47 @@ type Listed = OptionalDependent<
 
 /// number, sealed, octets.
 #[derive(Drop)]
-pub struct AllowedFields;
+pub struct AllowedFields(Listed);
 
 /// number, sealed.
 type NumberAndSealed = (Required<Int>, Optional<Refused<Sealed>>);
 
-impl Completes<Listed> for AllowedFields {
+impl FieldsText for AllowedFields {
+    ghost values = { λ fields. ⟦<Listed as FieldsText>⟧.values fields.0 };
+
+    ghost listing = { through (λ fields. fields.0) ⟦<Listed as FieldsText>⟧.listing };
+
+    fn size(&self) -> u64 {
+        self.0.size()
+    }
+
+    fn put<W: Target>(&self, sink: &mut Sink<'_, W>) -> Result<(), WriteError> {
+        self.0.put(sink)
+    }
+
+    fn octet(&self, i: u64) -> Option<u8> {
+        self.0.octet(i)
+    }
+}
+
+impl FirstFields for AllowedFields {
+    fn read_first<R: Source>(
+        alloc: Global,
+        pull: &mut Pull<'_, R>,
+        next: &mut Next,
+    ) -> Result<AllowedFields, ReadError> {
+        match <Listed as FirstFields>::read_first(alloc, pull, next) {
+            Ok(listed) => Ok(AllowedFields(listed)),
+            Err(error) => Err(error),
+        }
+    }
+}
+
+impl SequenceFields for AllowedFields {
+    ghost type_term = { SequenceType (universal 16) (⟦<Listed as FieldsText>⟧.listing.types EndOfFields) };
+
+    ghost listed = { refl };
+
     ghost parted = { refl };
 
     ghost few = { ltb-true _ _ refl };
@@ -114,4 +157,4 @@ impl FieldRules<NumberAndSealed, Octets> for AsLong {
 }
 
 /// A number, and octets that it allows.
-pub type Allowed = Sequence<Unnamed<Listed, AllowedFields>>;
+pub type Allowed = Sequence<AllowedFields>;

@@ -2,15 +2,24 @@
 //! where what is contained has no octets unless the flag is TRUE.
 ghost use Rattle.std.proofs.lemmas.Bool.{ltb-true};
 ghost use Rattle.std.specs.Prelude.{refl};
+ghost use Rattle.asn_fields.specs.Listings.{through};
+ghost use Rattle.x690.specs.TypeTerms.{EndOfFields, SequenceType};
+ghost use Rattle.x690.specs.Layouts.{universal};
 
-use crate::flagged::FlaggedFields;
+use crate::flagged::ByFlag;
 use asn_values::boolean::Bool;
 use asn_values::containing::Containing;
+use asn_values::fields::Next;
 use asn_values::integer::Int;
 use asn_values::octets::Octets;
 use asn_values::ruled_containing::JudgedInside;
-use asn_values::sequence::{Required, Sequence};
-use asn_values::unnamed::{Completes, Unnamed};
+use asn_values::sequence::{FieldsText, FirstFields, Required, Sequence, SequenceFields};
+use ber_pull::pull::Pull;
+use std::alloc::Global;
+use tlv_core::fault::ReadError;
+use tlv_core::sink::{Sink, WriteError};
+use tlv_core::source::Source;
+use tlv_core::target::Target;
 
 /// OCTET STRING (CONTAINING INTEGER).
 pub type ContainedInteger = Containing<Int>;
@@ -22,17 +31,52 @@ pub type ContainedTwice = Containing<ContainedInteger>;
 pub type ContainedLetter = Containing<Letter>;
 
 /// flag, octets.
-type Listed = JudgedInside<Required<Bool>, Octets, FlaggedFields>;
+type Listed = JudgedInside<Required<Bool>, Octets, ByFlag>;
 
 /// flag, octets.
 #[derive(Drop)]
-pub struct LetterFields;
+pub struct LetterFields(Listed);
 
-impl Completes<Listed> for LetterFields {
+impl FieldsText for LetterFields {
+    ghost values = { λ fields. ⟦<Listed as FieldsText>⟧.values fields.0 };
+
+    ghost listing = { through (λ fields. fields.0) ⟦<Listed as FieldsText>⟧.listing };
+
+    fn size(&self) -> u64 {
+        self.0.size()
+    }
+
+    fn put<W: Target>(&self, sink: &mut Sink<'_, W>) -> Result<(), WriteError> {
+        self.0.put(sink)
+    }
+
+    fn octet(&self, i: u64) -> Option<u8> {
+        self.0.octet(i)
+    }
+}
+
+impl FirstFields for LetterFields {
+    fn read_first<R: Source>(
+        alloc: Global,
+        pull: &mut Pull<'_, R>,
+        next: &mut Next,
+    ) -> Result<LetterFields, ReadError> {
+        match <Listed as FirstFields>::read_first(alloc, pull, next) {
+            Ok(listed) => Ok(LetterFields(listed)),
+            Err(error) => Err(error),
+        }
+    }
+}
+
+impl SequenceFields for LetterFields {
+    ghost type_term = { SequenceType (universal 16) (⟦<Listed as FieldsText>⟧.listing.types EndOfFields) };
+
+    ghost listed = { refl };
+
     ghost parted = { refl };
 
     ghost few = { ltb-true _ _ refl };
 }
 
 /// A flag, and inside an OCTET STRING octets that go with it.
-pub type Letter = Sequence<Unnamed<Listed, LetterFields>>;
+pub type Letter = Sequence<LetterFields>;
