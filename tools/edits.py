@@ -1,10 +1,12 @@
 #!/usr/bin/env python3
 """edits.py WORD..: bugs planted in the code, which the proofs must refuse, and the record that all were refused.
 
-  --check      says in a second, and proves nothing, which crates' records are stale: 'records: N passed, M failed'
-  --quarter    tries the crates whose records are stale, and a quarter of all, which goes round with the commits; of the
-               edits that are kept as refused it tries one of each crate, which goes round, too
-  --stale      tries the crates whose records are stale, but no edit that is kept as refused, and writes the record
+  --check      says in seconds, and proves nothing, which crates' records are stale: 'records: N passed, M failed'
+  --quarter    tries the edits whose records are stale, and a quarter of all crates, which goes round with the commits;
+               of the edits that are kept as refused it tries one of each crate, which goes round, too
+  --stale [NAME ..]
+               tries the edits whose records are stale, of all crates or these, but none that is kept as refused, and
+               writes the record
   --all        tries all crates anew, and writes the record
   NAME ..      tries these crates, and writes the record; NAME/EDIT tries one edit, and writes nothing
   --jobs N     how many processors to use (all)
@@ -28,9 +30,11 @@ Searches get half of their counts (--margin): most of an edit's time is a search
 edit which is refused and not a long proof, a function in which a search gave up has to be proved as it stands with half
 of them, too; where it isn't, its edits are tried with all of them.
 
-The record, tools/edits_refused.tsv, has for each crate how many edits were refused, and the sum of the program logic
-(not of the kit that it comes in), the crate's files and its table. What the crate stands on isn't in it: a contract
-below that gets too weak to refuse an edit is found by the quarter that comes to the crate, and so is a false record.
+The record, tools/edits_refused.tsv, has for each file of a crate how many edits of it were refused, and the sum of the
+program logic (not of the kit that it comes in), of what the proofs of the file's functions rest on in the crate
+(tools/reach.py), and of the edits. An edit of code in several files is recorded by all of these; any other by the word
+'all', and rests on the whole crate. What the crate stands on isn't in it: a contract below that gets too weak to refuse
+an edit is found by the quarter that comes to the crate, and so is a false record.
 
 What was refused is kept, round by round, for later runs on this machine, in clones too, in pkder/refused_edits of the
 user's folder for caches ($XDG_CACHE_HOME, or ~/.cache): by the sum of the edit, its crate, all crates below, the
@@ -52,6 +56,8 @@ import tempfile
 import threading
 import tomllib
 
+from reach import PARTS, Reach, text_of
+
 TOOLS = os.path.dirname(os.path.realpath(__file__))
 RECORD = "tools/edits_refused.tsv"
 KEPT = os.path.join(os.environ.get("XDG_CACHE_HOME") or os.path.expanduser("~/.cache"), "pkder/refused_edits")
@@ -59,7 +65,6 @@ KEPT = os.path.join(os.environ.get("XDG_CACHE_HOME") or os.path.expanduser("~/.c
 # is said of it must begin.
 CONTROL, CONTROL_CRATE = "tools/edits_control.toml", "tlv_core"
 CONTROLLED = {"refused": "refused: ", "proved": "NOT REFUSED", "bad": "BAD EDIT", "named": "refused by a name alone"}
-PARTS = ("src", "specs", "proofs")
 NAME = re.compile(r"[A-Za-z0-9_-]+")
 HALF = "--margin"
 # So many edits in rounds side by side are worth a check of what they are in as it stands.
@@ -79,11 +84,6 @@ def say(text):
         print(text, flush=True)
 
 
-def text_of(file):
-    with open(file, encoding="utf-8") as it:
-        return it.read()
-
-
 class Crate:
     """A crate by its line in crates.txt."""
 
@@ -93,17 +93,16 @@ class Crate:
         self.name, *self.words = head.split()
         self.folder, self.below = f"crates/{self.name}", []
 
-    def files(self):
-        """The files of its parts by their paths in its folder, in order."""
-        walked = (found for part in PARTS for found in os.walk(f"{self.folder}/{part}"))
-        return sorted(os.path.relpath(f"{at}/{it}", self.folder) for at, _, names in walked for it in names)
+    def texts(self):
+        """The texts of its files by their paths in its folder, in order."""
+        return Reach(self.folder, self.name).texts
 
     def edits(self):
         return edits_in(f"{self.folder}/edits.toml")
 
     def cycles(self):
         """The cycle of each function that is in one, by its name: such functions have one proof."""
-        texts = "".join(text_of(f"{self.folder}/{it}") for it in self.files() if it.startswith("src/"))
+        texts = "".join(text for it, text in self.texts().items() if it.startswith("src/"))
         return {name: cycle for cycle, name in re.findall(r"#\[cycle\((\w+)\)\][^;{]*?\bfn (\w+)", texts)}
 
 
@@ -136,6 +135,10 @@ class Edit:
     def is_of_code(self):
         """Whether it changes code alone, of functions that it names."""
         return bool(self.functions) and all(it["file"].startswith("src/") for it in self.changes)
+
+    def recorded_by(self):
+        """The files of a record's row, or 'all'."""
+        return ",".join(sorted({it["file"] for it in self.changes})) if not self.why and self.is_of_code() else "all"
 
 
 def edits_in(file):
@@ -170,48 +173,65 @@ def applied(edits, folder):
 
 
 class Record:
-    """How many edits of each crate were refused, and at what sum."""
+    """How many edits were refused, and at what sum, by their crate and files: {crate: {files: (count, sum)}}."""
 
     def __init__(self, crates):
         said = subprocess.run(["rt", "version"], stdout=subprocess.PIPE, text=True, check=True).stdout
         logic = re.search(r"\blogic (\w+)", said)
         if not logic:
             sys.exit(f"`rt version` names no logic: {said.strip()}")
-        self.logic, self.toolchain, rows = logic[1], said.strip(), []
+        self.logic, self.toolchain, self.rows = logic[1], said.strip(), {}
         if os.path.isfile(RECORD):
-            rows = [it.split("\t") for it in text_of(RECORD).splitlines() if not it.startswith("#")]
-        self.rows = {name: (int(count), of_all) for name, count, of_all in rows}
+            for name, *row in (it.split("\t") for it in text_of(RECORD).splitlines() if not it.startswith("#")):
+                self.rows.setdefault(name, {})[row[0]] = tuple(row[1:])
         self.crates = {it.name: it for it in crates.values() if os.path.isfile(f"{it.folder}/edits.toml")}
-        self.due = {name: self.sum_of(it) for name, it in self.crates.items()}
+        self.due = {name: self.rows_of(it) for name, it in self.crates.items()}
 
-    def sum_of(self, crate, files=("edits.toml",)):
-        """The sum of a crate and these files of it."""
+    def sum_of(self, crate, texts, *more):
+        """The sum of a crate, these files of it and what else is said."""
         made = hashlib.sha256(f"{self.logic}\n{crate.line}\n".encode())
-        for file in [*crate.files(), *files]:
-            text = text_of(f"{crate.folder}/{file}").encode()
-            made.update(b"%s %d\n%s" % (file.encode(), len(text), text))
+        for file, text in [*texts.items(), *(("", it) for it in more)]:
+            made.update(b"%s %d\n%s" % (file.encode(), len(text.encode()), text.encode()))
         return made.hexdigest()
 
     def sum_of_all(self, crate):
-        """The sum of all that a verdict on edits of a crate stands on: this script, the toolchain, it and all below."""
-        sums = [self.sum_of(it, files=()) for it in [*crate.below, crate]]
+        """The sum of what a verdict on its edits stands on: this script, the toolchain, the crate and all below."""
+        sums = [self.sum_of(it, it.texts()) for it in [*crate.below, crate]]
         return hashlib.sha256("\n".join([text_of(__file__), self.toolchain, *sums]).encode()).hexdigest()
+
+    def rows_of(self, crate):
+        """The rows that a crate has where all its edits are refused."""
+        reach, edits = Reach(crate.folder, crate.name), crate.edits()
+        keys = sorted({it.recorded_by() for it in edits})
+        named = {it: [one for one in edits if one.recorded_by() == it] for it in keys}
+        texts = {it: reach.texts if it == "all" else reach.of(it.split(",")) for it in named}
+        return {
+            it: (str(len(some)), self.sum_of(crate, texts[it], *(f"{one.name} {one.changes}" for one in some)))
+            for it, some in named.items()
+        }
+
+    def stale_in(self, name):
+        """Which rows of a crate's record are stale, or are of nothing."""
+        known, due = self.rows.get(name, {}), self.due.get(name, {})
+        return [it for it in sorted({*known, *due}) if known.get(it) != due.get(it)]
 
     def why_stale(self, name):
         """What is wrong with the record of a crate, or None."""
+        stale = self.stale_in(name)
         if name not in self.rows:
             return "has no record"
         if name not in self.due:
             return "has a record, and no edits"
-        count, of_all = self.rows[name]
-        if of_all != self.due[name]:
-            return "has changed since its edits were tried"
-        known = len(self.crates[name].edits())
-        return None if count == known else f"has {known} edits, its record {count}"
+        files = ", ".join(stale[:3]) + f" and {len(stale) - 3} more" * (len(stale) > 3)
+        return f"has changed since the edits of {files} were tried" if stale else None
 
     def stale(self):
         """The crates whose records are stale, and why."""
         return {it: why for it in {**self.due, **self.rows} if (why := self.why_stale(it))}
+
+    def stale_edits(self, name):
+        stale = self.stale_in(name)
+        return [it for it in self.crates[name].edits() if it.recorded_by() in stale]
 
     def commits(self):
         words = ["git", "rev-list", "--count", "HEAD"]
@@ -226,18 +246,25 @@ class Record:
         """The edit whose turn it is: the next one whenever the quarter comes to its crate again."""
         return edits[self.commits() // 4 % len(edits)]
 
-    def note(self, crate, refused):
-        """Records of a crate how many edits were refused just now, None where not all were."""
-        if self.sum_of(crate) != self.due[crate.name]:
+    def note(self, crate, refused, others):
+        """Records of a crate which of its edits are refused, and which others were tried."""
+        if self.rows_of(crate) != self.due[crate.name]:
             say(f"{crate.name} was changed meanwhile, so nothing is recorded")
             return
-        self.rows.pop(crate.name, None)
-        if refused is not None:
-            self.rows[crate.name] = refused, self.due[crate.name]
-        rows = (f"{it}\t{count}\t{of_all}\n" for it, (count, of_all) in sorted(self.rows.items()) if it in self.due)
+        rows = {it: row for it, row in self.rows.get(crate.name, {}).items() if it in self.due[crate.name]}
+        named = {it: {one for one in crate.edits() if one.recorded_by() == it} for it in self.due[crate.name]}
+        for files, edits in named.items():
+            names = {it.name for it in edits}
+            if names & others:
+                rows.pop(files, None)
+            elif names <= refused:
+                rows[files] = self.due[crate.name][files]
+        self.rows[crate.name] = rows
         with open(f"{RECORD}.new", "w", encoding="utf-8") as it:
-            it.write("# crate\tedits that were refused\tthe sum of what that stands on (tools/edits.py)\n")
-            it.writelines(rows)
+            it.write("# crate\tfiles\tedits of them that were refused\tthe sum of what that stands on\n")
+            for name in sorted({*self.rows} & {*self.due}):
+                rows = sorted(self.rows[name].items())
+                it.writelines("\t".join([name, files, *row]) + "\n" for files, row in rows)
         os.replace(f"{RECORD}.new", RECORD)
 
     def check(self):
@@ -560,9 +587,12 @@ class Refused:
     def sum_of(self, edit):
         return hashlib.sha256(f"{self.of_all} {edit.name} {edit.changes}".encode()).hexdigest()
 
+    def has(self, edit):
+        return self.sum_of(edit) in self.known
+
     def left(self, edits, again=()):
         """Those of these edits that are to be tried: all that aren't kept, and these once more."""
-        kept = [it for it in edits if self.sum_of(it) in self.known]
+        kept = [it for it in edits if self.has(it)]
         more = "".join(f", and {it.name} is tried again" for it in again if it in kept)
         say(f"{self.crate.name}: {len(kept)} of its {len(edits)} edits were refused here before{more}")
         return [it for it in edits if it not in kept or it in again]
@@ -571,7 +601,7 @@ class Refused:
         """Keeps which edits were refused just now, by what was said of each."""
         refused = {self.sum_of(it) for it, text in ended.items() if is_well(text)}
         # (what tells one of them falsely may tell others so)
-        is_false = any(self.sum_of(it) in self.known for it, text in ended.items() if not is_well(text))
+        is_false = any(self.has(it) for it, text in ended.items() if not is_well(text))
         if self.record.sum_of_all(self.crate) != self.of_all:
             return
         # (another run may have kept some of its own meanwhile)
@@ -624,17 +654,17 @@ def in_turn(crates, lines):
         say(f"{it.name}: a crate below isn't proved, so none of its edits is tried")
 
 
-def note_all(record, came, kept, sizes):
-    """Keeps and records what came of crates, {crate: what is said of each edit}, and says which record was false. The
-    sizes are how many edits those crates have that are recorded."""
+def note_all(record, came, kept, recorded):
+    """Keeps and records what came of crates, {crate: what is said of each edit}, and says which record was false."""
     for crate, ended in came.items():
-        is_all_well = all(map(is_well, ended.values()))
-        if not is_all_well and crate.name in record.rows and not record.why_stale(crate.name):
+        failed = [it for it, text in ended.items() if not is_well(text)]
+        if {it.recorded_by() for it in failed} - {*record.stale_in(crate.name)}:
             say(f"FALSE RECORD: {crate.name}: its record says that all of its edits are refused")
         if crate.name in kept:
             kept[crate.name].keep(ended)
-        if crate.name in sizes:
-            record.note(crate, sizes[crate.name] if is_all_well else None)
+        if crate.name in recorded:
+            refused = {it.name for it in crate.edits() if kept[crate.name].has(it)}
+            record.note(crate, refused, {it.name for it in failed})
 
 
 def run(record, chosen, jobs, mode, lines=("all",)):
@@ -642,7 +672,7 @@ def run(record, chosen, jobs, mode, lines=("all",)):
     crates = crates_here()
     kept = {it: Refused(record, crates[it]) for it in chosen}
     share = Share(jobs, kept)
-    sizes = {} if mode in ("--quarter", "EDIT") else {it: len(edits) for it, edits in chosen.items()}
+    recorded = () if mode in ("--quarter", "EDIT") else {*chosen}
     wanted = {crates[it]: edits for it, edits in chosen.items()}
     for it, edits in wanted.items() if mode in ("--quarter", "--stale") else ():
         wanted[it] = kept[it.name].left(edits, [record.of_turn(edits)] if mode == "--quarter" and edits else [])
@@ -658,7 +688,7 @@ def run(record, chosen, jobs, mode, lines=("all",)):
             for text in waiting[running[came]].values():
                 counts[is_well(text)] += 1
             if share.is_controlled:
-                note_all(record, waiting, kept, sizes)
+                note_all(record, waiting, kept, recorded)
                 waiting = {}
     if not share.is_controlled:
         say("the control failed, so nothing that is said here counts")
@@ -689,18 +719,20 @@ def main(words):
         jobs, words = int(words[at + 1]), words[:at] + words[at + 2 :]
     is_beside, words = "--beside" in words, [it for it in words if it != "--beside"]
     modes, names = [it for it in words if it.startswith("--")], [it for it in words if not it.startswith("--")]
-    if len(modes) + bool(names) != 1 or not {*modes} <= {"--check", "--quarter", "--stale", "--all"}:
+    is_one = len(modes) + bool(names) == 1 or modes == ["--stale"]
+    if not is_one or not {*modes} <= {"--check", "--quarter", "--stale", "--all"}:
         sys.exit(__doc__)
     record = Record(crates_here())
     if modes == ["--check"]:
         return record.check()
-    if names:
+    if names and not modes:
         return run(record, asked(names, record), jobs, "EDIT" if any("/" in it for it in names) else "NAME")
-    picked = [] if modes == ["--all"] else [it for it in record.stale() if it in record.due]
+    picked = [it for it in record.stale() if it in record.due and (not names or it in names)]
     picked = {*record.due} if modes == ["--all"] else {*picked, *(record.quarter() if modes == ["--quarter"] else [])}
     if not picked:
         return record.check()
-    edits = {it: record.crates[it].edits() for it in picked}
+    whole = picked if modes == ["--all"] else record.quarter() if modes == ["--quarter"] else ()
+    edits = {it: record.crates[it].edits() if it in whole else record.stale_edits(it) for it in picked}
     lines = sys.stdin if is_beside else ("all",)
     return run(record, edits, jobs, modes[0], lines)
 

@@ -39,6 +39,54 @@ CONTROL = (
     ("bad-one", "far", "    4", "    UNREADABLE"),
 )
 EDITS = (("one", "far", "    4", "    BUG"), ("two", "A::new", "        1", "        BUG"))
+# A crate of several files, and what of its record gets stale, beside the row of all files, when one changes.
+FILES = """== src/lib.rt
+#![tactic(auto)]
+mod a;
+== src/a.rt
+use crate::b::high;
+
+pub fn low() -> u8
+    ensures { P }
+{
+    high() + 1
+}
+== src/b.rt
+ghost use Rattle.upper.specs.Means.{P};
+
+pub fn high() -> u8
+    ensures { P }
+{
+    2
+}
+== src/c.rt
+pub fn apart() -> u8 {
+    3
+}
+== specs/Means.antt
+P = Zero
+== specs/Others.antt
+Q = Zero
+== proofs/a/low/Answers.antt
+use Rattle.upper.proofs.Lemmas.{lemma}
+== proofs/Lemmas.antt
+lemma = tt
+"""
+ABOVE, BELOW, BOTH = "src/a.rt", "src/b.rt", "src/a.rt,src/b.rt"
+CHANGES = (
+    ("its own body", "src/a.rt", "() + 1", "() + 1 - 0", [ABOVE, BOTH]),
+    ("the body of what it calls", "src/b.rt", "  2", "  1 + 1", [BOTH, BELOW]),
+    ("the contract of what it calls", "src/b.rt", "{ P }", "{ P P }", [ABOVE, BOTH, BELOW]),
+    ("a definition of that contract", "specs/Means.antt", "Zero", "Succ Zero", [ABOVE, BOTH, BELOW]),
+    ("a definition that none names", "specs/Others.antt", "Zero", "Succ Zero", []),
+    ("its answers", "proofs/a/low/Answers.antt", "use", "-- told\nuse", [ABOVE, BOTH]),
+    ("a lemma of them", "proofs/Lemmas.antt", "tt", "(tt)", [ABOVE, BOTH]),
+    ("a file that none names", "src/c.rt", "apart", "astray", []),
+    ("an impl that none names", "src/c.rt", "pub fn", "impl Told for Word {}\n\npub fn", [ABOVE, BOTH, BELOW]),
+    ("methods of another file's type", "src/c.rt", "pub fn", "impl<T> Word<T> {}\n\npub fn", [ABOVE, BOTH, BELOW]),
+    ("an impl for its own type", "src/c.rt", "pub fn", "struct Own;\n\nimpl Told for Own {}\n\npub fn", []),
+    ("what holds for all files", "src/lib.rt", "(auto)", "(none)", [ABOVE, BOTH, BELOW]),
+)
 
 
 def table(edits):
@@ -65,7 +113,8 @@ class Repository:
             self.write(f"crates/{name}/edits.toml", table(EDITS))
         self.write("crates.txt", "tlv_core:\nmiddle: tlv_core\nupper: tlv_core middle hex\n")
         self.write("tools/edits_control.toml", table(CONTROL))
-        shutil.copy(f"{TOOLS}/edits.py", f"{self.top}/tools/edits.py")
+        for name in ("edits.py", "reach.py"):
+            shutil.copy(f"{TOOLS}/{name}", f"{self.top}/tools/{name}")
         self.git("init", "-q")
         self.commit()
 
@@ -102,9 +151,10 @@ class Repository:
         return ran.returncode, self.said.strip().split("\n")[-1]
 
     def forge(self, text):
-        """Does this with the script as `e` and its record as `r`."""
+        """Does this with the script as `e` and its record as `r`, and returns what it prints."""
         text = f"import sys; sys.path.insert(0, 'tools'); import edits as e; r = e.Record(e.crates_here()); {text}"
-        subprocess.run([sys.executable, "-c", text], cwd=self.top, env=self.env, check=True)
+        words = [sys.executable, "-c", text]
+        return subprocess.run(words, cwd=self.top, env=self.env, check=True, stdout=subprocess.PIPE, text=True).stdout
 
     def see(self, what, came, due, *parts):
         """Holds status, last line, and what else is said to what they must be."""
@@ -125,12 +175,33 @@ def try_records(it):
     it.see("another logic", it.run("--check", STAND_IN_LOGIC="ff"), (1, "records: 0 passed, 3 failed"))
     it.change("crates/tlv_core/src/lib.rt", "\n    4", "\n    5 - 1;\n    4")
     it.see("a body", it.run("--check"), (1, "records: 2 passed, 1 failed"), "tlv_core has changed")
-    it.see("its crate alone", it.run("--stale"), (0, "edits: 3 passed, 0 failed"), "(?!.*edit middle)edit tlv_core")
+    it.see("another crate", it.run("--stale", "upper"), (1, "records: 2 passed, 1 failed"))
+    came = it.run("--stale", "tlv_core")
+    it.see("its crate alone", came, (0, "edits: 3 passed, 0 failed"), "(?!.*edit middle)edit tlv_core")
     it.write("crates/middle/edits.toml", table(EDITS[:1]))
     it.see("a table", it.run("--check"), (1, "records: 2 passed, 1 failed"), "middle has changed")
     it.see("a crate below", it.run("--stale"), (0, "edits: 2 passed, 0 failed"), "middle: 0 of its 1 edits were")
     it.write("crates/middle/edits.toml", table(EDITS))
     it.see("an edit that was refused", it.run("--stale"), (0, "edits: 2 passed, 0 failed"), "1 of its 2 edits were")
+
+
+def try_files(it):
+    """Which edits of a crate are tried again when a file of it changes."""
+    for file, text in re.findall(r"^== (\S+)\n((?:(?!== ).*\n)*)", FILES, re.M):
+        it.write(f"crates/upper/{file}", text)
+    form = "[[{}]]\nfunction = '{}'\nfile = '{}'\nold = '{}'\nnew = 'BUG'\n"
+    above, below = ("a::low", "src/a.rt", " 1"), ("b::high", "src/b.rt", " 2")
+    edits = (("above", *above), ("below", *below), ("both", *above), ("both", *below))
+    of_all = "[anywhere]\nfile = 'src/a.rt'\nold = ' 1'\nnew = 'BUG'\n"
+    it.write("crates/upper/edits.toml", of_all + "\n".join(form.format(*one) for one in edits))
+    it.see("each is tried", it.run("--stale"), (0, "edits: 5 passed, 0 failed"))
+    for what, file, old, new, stale in CHANGES:
+        it.change(f"crates/upper/{file}", old, new)
+        it.see(what, it.forge("print(*r.stale_in('upper'))").split(), ["all", *stale])
+        it.change(f"crates/upper/{file}", new, old)
+    it.change("crates/upper/src/b.rt", "    2", "    0;\n    2")
+    it.see("those of a body", it.run("--stale"), (0, "edits: 4 passed, 0 failed"), "upper: 0 of its 3 edits were")
+    it.see("all are recorded again", it.run("--check"), (0, "records: 3 passed, 0 failed"))
 
 
 def try_edits(it):
@@ -139,7 +210,7 @@ def try_edits(it):
     it.write("crates/middle/edits.toml", table((*EDITS[:1], proved)))
     it.see("one that proves", it.run("--stale"), (1, "edits: 1 passed, 1 failed"), "middle/none: NOT REFUSED")
     it.see("isn't recorded", it.run("--check"), (1, "records: 2 passed, 1 failed"), "middle has no record")
-    it.forge("r.note(r.crates['middle'], 2)")
+    it.forge("r.note(r.crates['middle'], {'one', 'none'}, {*()})")
     it.see("a false record isn't seen", it.run("--check"), (0, "records: 3 passed, 0 failed"))
     it.see("it is, once tried", it.run("--all"), (1, "edits: 6 passed, 1 failed"), "FALSE RECORD: middle")
     it.see("and is gone", it.run("--check"), (1, "records: 2 passed, 1 failed"), "middle has no record")
@@ -177,7 +248,8 @@ def try_kept(it):
     it.change("crates/tlv_core/src/lib.rt", "5 - 1", "6 - 2")
     it.see("a crate below", it.run("--quarter"), (0, "edits: 5 passed, 0 failed"), "middle: 0 of its 2")
     it.write("crates/middle/edits.toml", table((*EDITS[:1], ("none", "A::new", "        1", "        1 "))))
-    it.forge("c = r.crates['middle']; r.note(c, 2); e.Refused(r, c).keep({it: 'refused: ' for it in c.edits()})")
+    it.forge("r.note(r.crates['middle'], {'one', 'none'}, {*()})")
+    it.forge("c = r.crates['middle']; e.Refused(r, c).keep({it: 'refused: ' for it in c.edits()})")
     it.see("forged", it.run("--quarter"), (0, "edits: 3 passed, 0 failed"), "middle: 2 of its 2 .*, and one is")
     it.commit(4)
     came = it.run("--quarter")
@@ -223,7 +295,7 @@ def try_quarters(it):
 def main():
     with tempfile.TemporaryDirectory() as folder:
         it = Repository(folder)
-        for trial in (try_records, try_edits, try_kept, try_stopped, try_quarters):
+        for trial in (try_records, try_edits, try_kept, try_stopped, try_quarters, try_files):
             trial(it)
         print(f"try_edits: {it.count - len(it.wrong)} passed, {len(it.wrong)} failed")
         return 1 if it.wrong else 0
