@@ -6,8 +6,8 @@ use Rattle.tlv_core.specs.declared.fault.ReadError.{ReadError}
 use Rattle.tlv_core.specs.declared.fault.ReadError.TheVariants.{Fault as FaultRead, Memory as MemoryRead, Read as ReadAt}
 use Rattle.x690.specs.Values.{Value}
 use Rattle.pk_documents.specs.declared.document.Document.{Document}
+use Rattle.pk_documents.specs.KindRows.{is_key}
 use Rattle.pk_documents.specs.declared.kind.Kind.{Kind}
-use Rattle.pk_documents.specs.declared.kind.Kind.TheVariants as kinds
 use Rattle.pk_same.specs.Written.{IsWritten}
 use Rattle.pk_same.specs.declared.same.Style.{Style}
 use Rattle.pk_same.specs.declared.same.Style.TheVariants.{Json, Text}
@@ -46,15 +46,6 @@ compared_status (WriteFailed count) = 3
 compared_status Memory = 3
 
 -- ---- what is written
-
--- documents of this kind are private keys
-abbrev pub is_key : Kind → Bool
-is_key kinds.Key = true
-is_key kinds.Ec = true
-is_key kinds.Request = false
-is_key kinds.Public = false
-is_key kinds.Encrypted = false
-is_key kinds.Package = false
 
 -- Behind what is told of two private keys that aren't the same document stands whether they are the same key.
 abbrev pub note_by : Sameness → Kind → Bool

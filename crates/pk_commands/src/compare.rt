@@ -1,6 +1,6 @@
 //! What two inputs are to each other, of which each has to be one document.
 ghost use Rattle.std.specs.Prelude.{◌≡◌, ◌++◌, IfOk, MatchBool, codes, false, string_bytes};
-ghost use Rattle.pk_commands.specs.Comparisons.{Answers, AnswersDocument, AnswersKey, AnsweredPair, ComparedAs, ComparedFailed, IsNote, IsTold, IsUntold, RepliedComparing, first_unread, has_first_failed, has_note, has_second_failed, is_key, key_note, key_status, note_by, said_name, sameness_status, second_unread};
+ghost use Rattle.pk_commands.specs.Comparisons.{Answers, AnswersDocument, AnswersKey, AnsweredPair, ComparedAs, ComparedFailed, IsNote, IsTold, IsUntold, RepliedComparing, first_unread, has_first_failed, has_note, has_second_failed, key_note, key_status, note_by, said_name, sameness_status, second_unread};
 ghost use Rattle.std.specs.Io.KnownBytes.{Keeps};
 
 use crate::comparison::{Compared, Comparison, PairNames, Question};
@@ -212,18 +212,8 @@ fn note_by(sameness: Sameness, kind: Kind) -> bool
     ensures { result ≡ note_by sameness kind }
 {
     match sameness {
-        Sameness::Another => is_key(kind),
+        Sameness::Another => kind.is_key(),
         Sameness::Same | Sameness::Refused(_, _) => false,
-    }
-}
-
-/// Whether documents of this kind are private keys.
-fn is_key(kind: Kind) -> bool
-    ensures { result ≡ is_key kind }
-{
-    match kind {
-        Kind::Key | Kind::Ec => true,
-        Kind::Request | Kind::Public | Kind::Encrypted | Kind::Package => false,
     }
 }
 

@@ -1,4 +1,5 @@
 pub mod DocumentValues
+pub mod KindRows
 pub mod KindsApart
 pub mod LawfulKinds
 pub mod PartsStand

@@ -1,3 +1,4 @@
 pub mod Documents
+pub mod KindRows
 pub mod Kinds
 pub mod RequestParts

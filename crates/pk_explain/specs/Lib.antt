@@ -10,7 +10,6 @@ pub mod Hidden
 pub mod Insides
 pub mod KeyOctets
 pub mod Keys
-pub mod Kinds
 pub mod Lines
 pub mod ListingLaws
 pub mod Listings

@@ -9,12 +9,11 @@ use Rattle.tlv_core.specs.declared.reason.Reason.TheVariants as reasons
 use Rattle.asn_outline.specs.Outlines.{IsOutline}
 use Rattle.asn_outline.specs.declared.event.Event.{Event}
 use Rattle.asn_outline.specs.declared.event.Stop.{Stop}
+use Rattle.pk_documents.specs.KindRows.{kinds, labels_of, type_name_of, word_of}
 use Rattle.pk_documents.specs.Kinds.{type_of}
 use Rattle.pk_documents.specs.declared.kind.Kind.{Kind}
-use Rattle.pk_documents.specs.declared.kind.Kind.TheVariants.{Ec, Encrypted, Key, Package, Public, Request}
 use Rattle.pk_explain.specs.Answers.{IsAnswer}
 use Rattle.pk_explain.specs.Heads.{looks_by_outline}
-use Rattle.pk_explain.specs.Kinds.{type_name_of, word_of}
 use Rattle.pk_explain.specs.Rules.{is_refusal}
 use Rattle.pk_reports.specs.declared.report.Answer.{Answer}
 use Rattle.pk_reports.specs.declared.report.Answer.TheVariants.{Der, NotDer, Refused}
@@ -44,13 +43,11 @@ is_looked_at (Refused fault) = is_kind_like fault.why && nat_lt fault.at 64
 abbrev pub begin_with : List ℕ → List ℕ → Bool
 begin_with prefix octets = bytes_eq (take (length prefix) octets) prefix
 
--- the labels of RFC 7468 and of common tools
-abbrev pub labels : List (List ℕ)
-labels =
-    codes "PRIVATE KEY" ∷ codes "ENCRYPTED PRIVATE KEY" ∷ codes "EC PRIVATE KEY" ∷ codes "RSA PRIVATE KEY"
-    ∷ codes "DSA PRIVATE KEY" ∷ codes "OPENSSH PRIVATE KEY" ∷ codes "PUBLIC KEY" ∷ codes "RSA PUBLIC KEY"
-    ∷ codes "CERTIFICATE REQUEST" ∷ codes "NEW CERTIFICATE REQUEST" ∷ codes "CERTIFICATE" ∷ codes "X509 CRL"
-    ∷ codes "EC PARAMETERS" ∷ []
+-- labels of what is of no kind (RFC 7468, and common tools)
+abbrev pub other_labels : List (List ℕ)
+other_labels =
+    codes "RSA PRIVATE KEY" ∷ codes "DSA PRIVATE KEY" ∷ codes "OPENSSH PRIVATE KEY" ∷ codes "RSA PUBLIC KEY"
+    ∷ codes "CERTIFICATE" ∷ codes "X509 CRL" ∷ codes "EC PARAMETERS" ∷ []
 
 -- the text begins with the label, and behind it stand five hyphens
 abbrev pub is_labelled : List ℕ → List ℕ → Bool
@@ -61,9 +58,19 @@ abbrev pub label_among : List (List ℕ) → List ℕ → List ℕ
 label_among [] text = []
 label_among (label ∷ later) text = cond (is_labelled label text) label (label_among later text)
 
+-- a label that was found, or else another one
+abbrev pub or_label : List ℕ → List ℕ → List ℕ
+or_label [] other = other
+or_label (octet ∷ octets) other = octet ∷ octets
+
+-- the label with which the text begins, of these kinds or else of what is of no kind
+abbrev pub label_of : List Kind → List ℕ → List ℕ
+label_of [] text = label_among other_labels text
+label_of (kind ∷ later) text = or_label (label_among (labels_of kind) text) (label_of later text)
+
 -- the label of a PEM text, which stands behind 11 octets (RFC 7468 section 3)
 abbrev pub pem_label : List ℕ → Option (List ℕ)
-pem_label octets = cond (begin_with (codes "-----BEGIN ") octets) (Some (label_among labels (drop 11 octets))) None
+pem_label octets = cond (begin_with (codes "-----BEGIN ") octets) (Some (label_of kinds (drop 11 octets))) None
 
 -- the octet is one of these two or between them
 abbrev pub is_within : ℕ → ℕ → ℕ → Bool
@@ -90,10 +97,6 @@ looks_by_text octets =
     cond (length octets == 0) looks.Empty
     (cond (list_all is_hexadecimal (take 16 octets)) looks.Hexadecimal
     (cond (begin_with (codes "M") octets && list_all is_base64 (take 16 octets)) looks.Base64 looks.Unknown))
-
--- the kinds in the order in which they are tried
-abbrev pub kinds : List Kind
-kinds = Key ∷ Ec ∷ Request ∷ Public ∷ Encrypted ∷ Package ∷ []
 
 -- Where octets are refused as a document of a kind, a later kind is found, or none; else this one is.
 abbrev pub FoundBy : Bool → Kind → Option Kind → Type 0 → Type 0

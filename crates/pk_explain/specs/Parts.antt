@@ -6,6 +6,7 @@ use Rattle.asn_names.specs.declared.element.NamedElement.{NamedElement}
 use Rattle.asn_names.specs.declared.element.Parting.{Parting}
 use Rattle.asn_shapes.specs.Terms.{bare, term_of}
 use Rattle.asn_shapes.specs.declared.shape.Shape.{Shape}
+use Rattle.pk_documents.specs.KindRows.{may_be_private, type_name_of, word_of}
 use Rattle.pk_documents.specs.Kinds.{type_of}
 use Rattle.pk_documents.specs.declared.kind.Kind.{Kind}
 use Rattle.pk_explain.specs.Answers.{IsAnswer}
@@ -13,7 +14,6 @@ use Rattle.pk_explain.specs.Blames.{blame_by}
 use Rattle.pk_explain.specs.FaultLines.{AddsFault}
 use Rattle.pk_explain.specs.Faults.{IsKnownBy, refused_for}
 use Rattle.pk_explain.specs.Insides.{AreInsides, HasInsides, IsNamed}
-use Rattle.pk_explain.specs.Kinds.{may_be_private, type_name_of, word_of}
 use Rattle.pk_explain.specs.Listings.{IsListed}
 use Rattle.pk_explain.specs.Looks.{LooksLike}
 use Rattle.pk_explain.specs.Notes.{most_notes, notes_by}

@@ -1,8 +1,8 @@
 //! The kinds of documents, by their words and their types.
 ghost use Rattle.std.specs.Prelude.{◌≡◌};
 ghost use Rattle.asn_shapes.specs.Terms.{bare, term_of};
+ghost use Rattle.pk_documents.specs.KindRows.{type_name_of, word_of};
 ghost use Rattle.pk_documents.specs.Kinds.{type_of};
-ghost use Rattle.pk_explain.specs.Kinds.{may_be_private, type_name_of, word_of};
 
 use asn_shapes::documents;
 use asn_shapes::shape::Shape;
@@ -28,32 +28,9 @@ pub(crate) fn words_of(kind: Kind) -> KindWords
     ensures word { result.word.now ≡ word_of kind }
     ensures type_name { result.type_name.now ≡ type_name_of kind }
 {
+    let row = kind.row();
     KindWords {
-        word: match kind {
-            Kind::Key => "key",
-            Kind::Ec => "ec",
-            Kind::Request => "request",
-            Kind::Public => "public",
-            Kind::Encrypted => "encrypted",
-            Kind::Package => "package",
-        },
-        type_name: match kind {
-            Kind::Key => "OneAsymmetricKey",
-            Kind::Ec => "ECPrivateKey",
-            Kind::Request => "CertificationRequest",
-            Kind::Public => "SubjectPublicKeyInfo",
-            Kind::Encrypted => "EncryptedPrivateKeyInfo",
-            Kind::Package => "AsymmetricKeyPackage",
-        },
-    }
-}
-
-/// Whether documents of the kind hold a private key, in plain or encrypted.
-pub(crate) fn is_private(kind: Kind) -> bool
-    ensures { result ≡ may_be_private kind }
-{
-    match kind {
-        Kind::Request | Kind::Public => false,
-        Kind::Key | Kind::Ec | Kind::Encrypted | Kind::Package => true,
+        word: row.word,
+        type_name: row.type_name,
     }
 }

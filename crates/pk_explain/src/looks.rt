@@ -2,13 +2,14 @@
 ghost use Rattle.std.specs.Prelude.{IfOk, None, map, ◌≡◌};
 ghost use Rattle.std.specs.List.{list_all};
 ghost use Rattle.std.specs.Option.{option_map};
-ghost use Rattle.pk_explain.specs.Looks.{IsDocument, IsFirst, IsLook, IsOtherDocument, LooksLike, is_base64, is_hexadecimal, is_kind_like, is_labelled, is_looked_at, kinds, label_among, pem_label, looks_by_text};
+ghost use Rattle.pk_documents.specs.KindRows.{kinds};
+ghost use Rattle.pk_explain.specs.Looks.{IsDocument, IsFirst, IsLook, IsOtherDocument, LooksLike, is_base64, is_hexadecimal, is_kind_like, is_labelled, is_looked_at, label_among, label_of, pem_label, looks_by_text};
 
 use crate::answer::answer_of;
 use crate::heads::looks_by_outline;
 use crate::kinds::words_of;
 use asn_outline::outline::outline;
-use pk_documents::kind::Kind;
+use pk_documents::kind::{KINDS, Kind};
 use pk_reports::report::{Answer, Looks};
 use std::alloc::{AllocError, Global};
 use tlv_core::limits::Limits;
@@ -76,27 +77,38 @@ fn pem_label(octets: &[u8]) -> Option<&'static str>
     ensures { option_map (λ r. r.now) result ≡ pem_label octets.now }
 {
     match octets.strip_prefix(b"-----BEGIN ") {
-        Some(text) => Some(label_among(text, &LABELS)),
+        Some(text) => Some(label_of(text, &KINDS)),
         None => None,
     }
 }
 
-/// The labels of RFC 7468 and of common tools.
-static LABELS: [&str; 13] = [
-    "PRIVATE KEY",
-    "ENCRYPTED PRIVATE KEY",
-    "EC PRIVATE KEY",
+/// Labels of what is of no kind (RFC 7468, and common tools).
+static OTHER_LABELS: [&str; 7] = [
     "RSA PRIVATE KEY",
     "DSA PRIVATE KEY",
     "OPENSSH PRIVATE KEY",
-    "PUBLIC KEY",
     "RSA PUBLIC KEY",
-    "CERTIFICATE REQUEST",
-    "NEW CERTIFICATE REQUEST",
     "CERTIFICATE",
     "X509 CRL",
     "EC PARAMETERS",
 ];
+
+/// The label with which the text begins, of these kinds or else of what is of no kind.
+fn label_of(text: &[u8], kinds: &[Kind]) -> &'static str
+    ensures { result.now ≡ label_of kinds.now text.now }
+{
+    match kinds {
+        [] => label_among(text, &OTHER_LABELS),
+        [kind, later @ ..] => {
+            let label = label_among(text, kind.row().labels);
+            if label.is_empty() {
+                label_of(text, later)
+            } else {
+                label
+            }
+        }
+    }
+}
 
 /// The first of the labels with which the text begins.
 fn label_among(text: &[u8], labels: &'static [&'static str]) -> &'static str
@@ -198,15 +210,7 @@ fn other_kind(
 ) -> Result<Option<Kind>, AllocError>
     ensures { IfOk result (λ found. IsFirst limits octets.now asked kinds found) }
 {
-    let kinds = [
-        Kind::Key,
-        Kind::Ec,
-        Kind::Request,
-        Kind::Public,
-        Kind::Encrypted,
-        Kind::Package,
-    ];
-    first_kind(alloc, octets, asked, limits, &kinds)
+    first_kind(alloc, octets, asked, limits, &KINDS)
 }
 
 /// The first of these kinds.

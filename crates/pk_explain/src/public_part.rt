@@ -1,8 +1,8 @@
 //! The public part of a document: all that a report is made of.
 ghost use Rattle.std.specs.Prelude.{List, ◌≡◌, IfOk, true};
+ghost use Rattle.pk_documents.specs.KindRows.{may_be_private};
 ghost use Rattle.pk_explain.specs.FaultLines.{AddsFault};
 ghost use Rattle.pk_explain.specs.Faults.{IsKnownBy, refused_for};
-ghost use Rattle.pk_explain.specs.Kinds.{may_be_private};
 ghost use Rattle.pk_explain.specs.Listings.{IsListed};
 ghost use Rattle.pk_explain.specs.Parts.{IsPublicPart};
 ghost use Rattle.pk_explain.specs.Public.{is_guarded};
@@ -15,7 +15,7 @@ use crate::causes::causes_of;
 use crate::fault_line::push_fault_line;
 use crate::hidden::{Point, no_point, point_of};
 use crate::inside::{Inside, documents_inside, named_elements};
-use crate::kinds::{is_private, shape_of, words_of};
+use crate::kinds::{shape_of, words_of};
 use crate::listing::lines_of;
 use crate::looks::looks_of;
 use crate::places::{Piece, Sheet};
@@ -87,7 +87,7 @@ fn rule_of(kind: Kind, answer: Answer) -> Rule
 {
     match answer {
         Answer::Der | Answer::NotDer(_) => Rule::Accepted,
-        Answer::Refused(_) if is_private(kind) => Rule::Guarded,
+        Answer::Refused(_) if kind.may_be_private() => Rule::Guarded,
         Answer::Refused(_) => Rule::Refused,
     }
 }

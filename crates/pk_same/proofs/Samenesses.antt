@@ -4,9 +4,9 @@ use Rattle.tlv_core.specs.Limits.{Limits}
 use Rattle.tlv_core.specs.declared.fault.Fault.{Fault}
 use Rattle.x690.specs.DerTexts.{der}
 use Rattle.x690.specs.TypeTerms.{TypeTerm}
+use Rattle.pk_documents.specs.KindRows.{word_of}
 use Rattle.pk_documents.specs.Kinds.{type_of}
 use Rattle.pk_documents.specs.declared.kind.Kind.{Kind}
-use Rattle.pk_explain.specs.Kinds.{word_of}
 use Rattle.pk_explain.specs.Written.{version}
 use Rattle.pk_same.specs.Sameness.{AreApart, AreRefused, AreSame, IsAccepted, IsJudged, IsReading, encoding_of, fault_of}
 use Rattle.pk_same.specs.Written.{IsCompared, IsWritten, refused_written}

@@ -3,9 +3,9 @@ use Rattle.std.specs.Prelude.{List, Option, length, map, ℕ, ◌++◌, ◌-◌,
 use Rattle.json.specs.Print.{print}
 use Rattle.tlv_core.specs.Limits.{Limits}
 use Rattle.tlv_core.specs.declared.fault.Fault.{Fault}
+use Rattle.pk_documents.specs.KindRows.{word_of}
 use Rattle.pk_documents.specs.Kinds.{type_of}
 use Rattle.pk_documents.specs.declared.kind.Kind.{Kind}
-use Rattle.pk_explain.specs.Kinds.{word_of}
 use Rattle.pk_explain.specs.Reports.{IsReportOf}
 use Rattle.pk_explain.specs.Written.{version}
 use Rattle.pk_reports.specs.JsonLists.{first_ones}

@@ -1,6 +1,5 @@
 //! What two documents are to each other, as it is written.
 ghost use Rattle.std.specs.Prelude.{◌≡◌, IfOk, map, string_bytes};
-ghost use Rattle.pk_explain.specs.Kinds.{word_of};
 ghost use Rattle.pk_same.specs.Told.{words_of};
 ghost use Rattle.pk_same.specs.Written.{AreTold, IsCompared, IsTold, IsWritten, another_written, refused_written, same_written};
 
@@ -44,7 +43,7 @@ pub fn same_text(
 {
     let heading = Heading {
         version: VERSION,
-        kind: word_of(kind),
+        kind: kind.row().word,
         names,
     };
     let reading = read(alloc, first, kind, limits)?;
@@ -56,20 +55,6 @@ pub fn same_text(
     }
     let one = reading.encoding();
     compared(alloc, one, other.encoding(), kind, limits, heading, form)
-}
-
-/// The kind by the word of the program.
-fn word_of(kind: Kind) -> &'static str
-    ensures { result.now ≡ word_of kind }
-{
-    match kind {
-        Kind::Key => "key",
-        Kind::Ec => "ec",
-        Kind::Request => "request",
-        Kind::Public => "public",
-        Kind::Encrypted => "encrypted",
-        Kind::Package => "package",
-    }
 }
 
 /// The answer where a document is refused, or both.

@@ -34,6 +34,8 @@ use Rattle.pkcs10.specs.Infos.{request_attributes_of, subject_key_of, subject_of
 use Rattle.pkcs10.specs.Requests.{request_info_of, signature_algorithm_of, signature_of}
 use Rattle.pkcs10.specs.Infos.{CertificationRequestInfo}
 use Rattle.pkcs10.specs.Requests.{CertificationRequest}
+use Rattle.pk_documents.specs.Documents.{kind_of}
+use Rattle.pk_documents.specs.KindRows.{word_of}
 use Rattle.pk_documents.specs.declared.document.Document.{Document}
 use Rattle.pk_documents.specs.declared.document.Document.TheVariants as documents
 use Rattle.pk_show.specs.Lines.{any_text, bits_said, line, octets_line, optional, parameters_text}
@@ -153,13 +155,15 @@ unfoldable pub package_lines : KeyPackage → List ℕ
 package_lines it =
     line (codes "keys: ") (decimal (length (list_items (keys_of it)))) ++ flat_map key_lines (list_items (keys_of it))
 
+-- what a document is, but for its kind
+abbrev pub part_lines : Document → List ℕ
+part_lines (documents.Key key) = key_lines key
+part_lines (documents.Ec key) = ec_lines (codes "private key: ") (codes "curve: ") (codes "public key: ") key
+part_lines (documents.Request request) = request_lines request
+part_lines (documents.Public key) = public_key_lines (codes "algorithm: ") (codes "parameters: ") key
+part_lines (documents.Encrypted key) = encrypted_lines key
+part_lines (documents.Package keys) = package_lines keys
+
 -- A document: its kind, and the lines of what it is.
 abbrev pub document_lines : Document → List ℕ
-document_lines (documents.Key key) = line (codes "kind: ") (codes "key") ++ key_lines key
-document_lines (documents.Ec key) =
-    line (codes "kind: ") (codes "ec") ++ ec_lines (codes "private key: ") (codes "curve: ") (codes "public key: ") key
-document_lines (documents.Request request) = line (codes "kind: ") (codes "request") ++ request_lines request
-document_lines (documents.Public key) =
-    line (codes "kind: ") (codes "public") ++ public_key_lines (codes "algorithm: ") (codes "parameters: ") key
-document_lines (documents.Encrypted key) = line (codes "kind: ") (codes "encrypted") ++ encrypted_lines key
-document_lines (documents.Package keys) = line (codes "kind: ") (codes "package") ++ package_lines keys
+document_lines document = line (codes "kind: ") (word_of (kind_of document)) ++ part_lines document

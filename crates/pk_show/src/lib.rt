@@ -6,8 +6,10 @@
 //! Proved: the text of a document is `document_lines` of `specs/Shown.antt`, wherever there is memory for it.
 #![tactic(auto)]
 
-ghost use Rattle.std.specs.Prelude.{◌≡◌, ◌++◌, IfOk, OnOk, string_bytes};
-ghost use Rattle.pk_show.specs.Shown.{document_lines};
+ghost use Rattle.std.specs.Prelude.{◌≡◌, ◌++◌, IfOk, OnOk, codes, string_bytes};
+ghost use Rattle.pk_documents.specs.KindRows.{word_of};
+ghost use Rattle.pk_show.specs.Lines.{line};
+ghost use Rattle.pk_show.specs.Shown.{document_lines, part_lines};
 
 mod attributes;
 mod keys;
@@ -20,6 +22,7 @@ use crate::keys::{push_ec_key, push_encrypted_key, push_package, push_public_key
 use crate::requests::push_request;
 use crate::shown::Shown;
 use pk_documents::document::Document;
+use pk_documents::kind::Kind;
 use std::alloc::{AllocError, Global};
 
 /// What the document is, in lines, each ended by a line feed. Private octets are told by their number alone.
@@ -35,30 +38,36 @@ fn push_document(alloc: Global, text: &mut String, document: &Document) -> Resul
     ensures { OnOk result (string_bytes text.new ≡ string_bytes text.old
         ++ document_lines document.now) }
 {
+    push_kind(text, document.kind())?;
+    push_parts(alloc, text, document)
+}
+
+/// The line that says the kind.
+#[tactic(auto, unfolding(crate::specs::Lines::line))]
+fn push_kind(text: &mut String, kind: Kind) -> Result<(), AllocError>
+    ensures { OnOk result (string_bytes text.new ≡ string_bytes text.old
+        ++ line (codes "kind: ") (word_of kind)) }
+{
+    text.push_str("kind: ")?;
+    text.push_str(kind.row().word)?;
+    text.push_str("\n")
+}
+
+/// The lines behind that one.
+fn push_parts(alloc: Global, text: &mut String, document: &Document) -> Result<(), AllocError>
+    ensures { OnOk result (string_bytes text.new ≡ string_bytes text.old
+        ++ part_lines document.now) }
+{
     match document {
-        Document::Key(key) => {
-            text.push_str("kind: key\n")?;
-            key.push_lines(alloc, text)
-        }
+        Document::Key(key) => key.push_lines(alloc, text),
         Document::Ec(key) => {
-            text.push_str("kind: ec\n")?;
             push_ec_key(alloc, text, "private key: ", "curve: ", "public key: ", key)
         }
-        Document::Request(request) => {
-            text.push_str("kind: request\n")?;
-            push_request(alloc, text, request)
-        }
+        Document::Request(request) => push_request(alloc, text, request),
         Document::Public(key) => {
-            text.push_str("kind: public\n")?;
             push_public_key(alloc, text, "algorithm: ", "parameters: ", key)
         }
-        Document::Encrypted(key) => {
-            text.push_str("kind: encrypted\n")?;
-            push_encrypted_key(alloc, text, key)
-        }
-        Document::Package(keys) => {
-            text.push_str("kind: package\n")?;
-            push_package(alloc, text, keys)
-        }
+        Document::Encrypted(key) => push_encrypted_key(alloc, text, key),
+        Document::Package(keys) => push_package(alloc, text, keys),
     }
 }

@@ -14,8 +14,10 @@ use Rattle.clap.specs.declared.builder.action.ArgAction.TheVariants.{Append, Set
 use Rattle.clap.specs.declared.error.kind.ErrorKind.{ErrorKind}
 use Rattle.clap.specs.declared.error.kind.ErrorKind.TheVariants as errors
 use Rattle.tlv_core.specs.Limits.{IsLimits, Limits}
+use Rattle.pk_documents.specs.KindRows.{is_key, kind_named, word_of}
 use Rattle.pk_documents.specs.declared.kind.Kind.{Kind}
 use Rattle.pk_documents.specs.declared.kind.Kind.TheVariants as kinds
+use Rattle.pk_documents.specs.declared.kind.TheConstants.{KEY_WORDS, WORDS}
 use Rattle.pk_documents.specs.declared.request_part.Part.{Part}
 use Rattle.pk_documents.specs.declared.request_part.Part.TheVariants as parts
 use Rattle.pk_explain.specs.declared.written.Form.{Form}
@@ -43,7 +45,7 @@ kind_rule =
 
 -- the kind that `signed` may be told
 abbrev pub request_rule : Rule
-request_rule = record kind_rule { required = false; defaults = codes "request" ∷ [] }
+request_rule = record kind_rule { required = false; defaults = word_of kinds.Request ∷ [] }
 
 abbrev pub part_rule : Rule
 part_rule =
@@ -164,17 +166,6 @@ command_name (Explain form) = codes "explain"
 command_name Normalise = codes "normalise"
 command_name (Signed part) = codes "signed"
 
--- Each kind has one name or two, and a request three.
-abbrev pub kind_named : Text → Option Kind
-kind_named text =
-    if bytes_eq text (codes "key") || bytes_eq text (codes "pkcs8") then Some kinds.Key
-    else (if bytes_eq text (codes "ec") || bytes_eq text (codes "sec1") then Some kinds.Ec
-    else (if bytes_eq text (codes "request") || (bytes_eq text (codes "csr") || bytes_eq text (codes "pkcs10"))
-    then Some kinds.Request
-    else (if bytes_eq text (codes "public") || bytes_eq text (codes "spki") then Some kinds.Public
-    else (if bytes_eq text (codes "encrypted") then Some kinds.Encrypted
-    else (if bytes_eq text (codes "package") then Some kinds.Package else None)))))
-
 abbrev pub part_name : Part → Text
 part_name parts.Info = codes "info"
 part_name parts.Algorithm = codes "algorithm"
@@ -263,9 +254,8 @@ Means name rows order = MeansTask name rows order.task × ReadsNames rows order 
 
 -- a kind of private keys
 abbrev pub key_kind : Option Kind → Option Kind
-key_kind (Some kinds.Key) = Some kinds.Key
-key_kind (Some kinds.Ec) = Some kinds.Ec
-key_kind _ = None
+key_kind (Some kind) = if is_key kind then Some kind else None
+key_kind None = None
 
 -- a kind, where private keys are asked for one of theirs
 abbrev pub taken_kind : Bool → Text → Option Kind
@@ -412,7 +402,7 @@ option_advised (word ∷ words) = option_or (option_map (advised_line word) (adv
 
 abbrev pub no_kind_line : Text
 no_kind_line =
-    codes "error: no kind is named: --kind is key, ec, request, public, encrypted or package" ++ line_feed ++ line_feed
+    codes "error: no kind is named: --kind is " ++ WORDS.now ++ (line_feed ++ line_feed)
     ++ tip (codes "pkder check --kind key FILE") ++ more
 
 -- the command is `same`, which clap says more of
@@ -462,15 +452,14 @@ BadLimit rows bad = BadDepth rows bad ⊎ (IsDepth (value_of (codes "depth") row
 
 abbrev pub BadKind : List Row → BadValue → Type 0
 BadKind rows bad =
-    Names bad (codes "--kind <KIND>") (value_of (codes "kind") rows)
-    (codes "key, ec, request, public, encrypted or package")
+    Names bad (codes "--kind <KIND>") (value_of (codes "kind") rows) WORDS.now
     × (kind_named (value_of (codes "kind") rows) ≡ None)
     × (bad.advice.now ≡ advice_for_kind (value_of (codes "kind") rows))
 
 -- a kind that isn't `request`, of a command that reads requests alone
 abbrev pub BadRequest : List Row → BadValue → Type 0
 BadRequest rows bad =
-    Names bad (codes "--kind <KIND>") (value_of (codes "kind") rows) (codes "request")
+    Names bad (codes "--kind <KIND>") (value_of (codes "kind") rows) (word_of kinds.Request)
     × (kind_named (value_of (codes "kind") rows) ≡ Some kinds.Request → ⊥)
     × (bad.advice.now ≡ [])
 
@@ -528,8 +517,8 @@ abbrev pub BadOrder : Text → List Row → BadValue → Type 0
 BadOrder name rows bad = BadTask name rows bad ⊎ (((task : Task) × MeansTask name rows task) × BadInput rows bad)
 
 abbrev pub wanted_kinds : Bool → Text
-wanted_kinds true = codes "key or ec"
-wanted_kinds false = codes "key, ec, request, public, encrypted or package"
+wanted_kinds true = KEY_WORDS.now
+wanted_kinds false = WORDS.now
 
 -- a kind that isn't taken of documents, or of private keys
 abbrev pub BadTaken : Bool → Text → BadValue → Type 0

@@ -14,7 +14,6 @@ use pk_commands::opener::Opener;
 use pk_commands::outcome::Outcome;
 use pk_commands::streams::{answer, write_named_line};
 use pk_commands::task::Task;
-use pk_documents::kind::Kind;
 use std::alloc::{AllocError, Global};
 use std::io::{BufReader, ErrorKind};
 use std::process::ExitCode;
@@ -75,7 +74,7 @@ fn make_file<R: Source>(
 ) -> Result<Outcome, Unmade>
     requires { R.has_failed src.old ≡ false }
 {
-    let new = NewFile::beside(rt, to, is_private(task.kind))?;
+    let new = NewFile::beside(rt, to, task.kind.has_plain_keys())?;
     let writer = match new.writer() {
         Ok(writer) => writer,
         Err(error) => {
@@ -89,14 +88,6 @@ fn make_file<R: Source>(
         _ => new.remove(rt),
     }
     Ok(outcome)
-}
-
-/// Whether documents of this kind have private keys.
-fn is_private(kind: Kind) -> bool {
-    match kind {
-        Kind::Key | Kind::Ec | Kind::Package => true,
-        Kind::Request | Kind::Public | Kind::Encrypted => false,
-    }
 }
 
 /// Prints what came of a document, behind its name, and answers the status.

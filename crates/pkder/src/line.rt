@@ -1,7 +1,8 @@
 //! What a command line asks for.
 ghost use Rattle.std.specs.Prelude.{◌≡◌, ◌≤◌, ℕ, IfErr, IfOk, MatchOption, MatchResult, Some, codes, map, string_bytes};
 ghost use Rattle.clap.specs.Words.{found_of, kind_of, rows_of, subcommand_rows_of};
-ghost use Rattle.pkder.specs.CommandLines.{Asks, AsksNothing, BadAction, BadAsked, BadOrder, BadKind, BadKindOf, BadLimit, BadPart, BadPlaces, BadRequest, BadTask, DoesAction, IsFaultOf, IsNumber, Means, MeansAsked, MeansBy, MeansNothing, MeansTask, ReadsForm, ReadsKind, ReadsLimits, ReadsPlaces, asks_reasons, has_second_dash as has_dash_again, is_given, kind_named as named_kind, names_of, part_name, value_of};
+ghost use Rattle.pk_documents.specs.KindRows.{kind_named};
+ghost use Rattle.pkder.specs.CommandLines.{Asks, AsksNothing, BadAction, BadAsked, BadOrder, BadKind, BadKindOf, BadLimit, BadPart, BadPlaces, BadRequest, BadTask, DoesAction, IsFaultOf, IsNumber, Means, MeansAsked, MeansBy, MeansNothing, MeansTask, ReadsForm, ReadsKind, ReadsLimits, ReadsPlaces, asks_reasons, has_second_dash as has_dash_again, is_given, names_of, part_name, value_of};
 ghost use Rattle.pkder.specs.declared.line.LineFault.TheVariants.{Memory};
 ghost use Rattle.pk_documents.specs.declared.kind.Kind.TheVariants as kinds;
 
@@ -12,7 +13,7 @@ use crate::refusal::{BadValue, advice_for_kind, refusal_text};
 use clap::error::ErrorKind;
 use clap::{ArgMatches, Error};
 use pk_commands::task::{Action, Task};
-use pk_documents::kind::Kind;
+use pk_documents::kind::{Kind, WORDS};
 use pk_documents::request_part::Part;
 use pk_explain::written::Form;
 use std::alloc::{AllocError, Global};
@@ -286,14 +287,14 @@ fn read_kind<'a>(action: Action, options: &ArgMatches<'a>) -> Result<Kind, BadVa
 /// The kind that is named.
 fn read_any_kind<'a>(options: &ArgMatches<'a>) -> Result<Kind, BadValue<'a>>
     ensures { MatchResult result
-        (λ kind. named_kind (value_of (codes "kind") (rows_of (found_of options.now))) ≡ Some kind)
+        (λ kind. kind_named (value_of (codes "kind") (rows_of (found_of options.now))) ≡ Some kind)
         (BadKind (rows_of (found_of options.now))) }
 {
     let text = value(options, "kind");
-    kind_named(text).ok_or(BadValue {
+    Kind::named(text).ok_or(BadValue {
         option: "--kind <KIND>",
         value: text,
-        wanted: "key, ec, request, public, encrypted or package",
+        wanted: WORDS,
         advice: advice_for_kind(text),
     })
 }
@@ -301,17 +302,17 @@ fn read_any_kind<'a>(options: &ArgMatches<'a>) -> Result<Kind, BadValue<'a>>
 /// The kind that is named, where it is that of requests.
 fn read_request<'a>(options: &ArgMatches<'a>) -> Result<Kind, BadValue<'a>>
     ensures { MatchResult result
-        (λ kind. (named_kind (value_of (codes "kind") (rows_of (found_of options.now))) ≡ Some kind)
+        (λ kind. (kind_named (value_of (codes "kind") (rows_of (found_of options.now))) ≡ Some kind)
         × (kind ≡ kinds.Request))
         (BadRequest (rows_of (found_of options.now))) }
 {
     let text = value(options, "kind");
-    match kind_named(text) {
+    match Kind::named(text) {
         Some(Kind::Request) => Ok(Kind::Request),
         _ => Err(BadValue {
             option: "--kind <KIND>",
             value: text,
-            wanted: "request",
+            wanted: Kind::Request.row().word,
             advice: "",
         }),
     }
@@ -374,27 +375,6 @@ pub fn value<'a>(options: &ArgMatches<'a>, id: &str) -> &'a str
     ensures { result.now ≡ value_of id.now (rows_of (found_of options.now)) }
 {
     options.get_str(id).unwrap_or("")
-}
-
-/// The kind of this name.
-pub fn kind_named(name: &str) -> Option<Kind>
-    ensures { result ≡ named_kind name.now }
-{
-    if name == "key" || name == "pkcs8" {
-        Some(Kind::Key)
-    } else if name == "ec" || name == "sec1" {
-        Some(Kind::Ec)
-    } else if name == "request" || (name == "csr" || name == "pkcs10") {
-        Some(Kind::Request)
-    } else if name == "public" || name == "spki" {
-        Some(Kind::Public)
-    } else if name == "encrypted" {
-        Some(Kind::Encrypted)
-    } else if name == "package" {
-        Some(Kind::Package)
-    } else {
-        None
-    }
 }
 
 /// The part of this name.

@@ -3,11 +3,11 @@ ghost use Rattle.std.specs.Prelude.{◌≡◌, ◌&&◌, IfErr, MatchResult, Som
 ghost use Rattle.clap.specs.Words.{found_of, rows_of};
 ghost use Rattle.pkder.specs.CommandLines.{BadComparison, BadKinds, BadOther, BadPair, BadQuestion, BadTaken, ReadsComparison, ReadsPair, is_dash, is_of_keys, key_kind as key_kind_of, kinds_given, kinds_of, other_taken, question_by, question_of, taken_kind as taken_kind_of};
 
-use crate::line::{is_flagged, kind_named, read_limits, value};
+use crate::line::{is_flagged, read_limits, value};
 use crate::refusal::{BadValue, advice_for_kind};
 use clap::ArgMatches;
 use pk_commands::comparison::{Comparison, Question};
-use pk_documents::kind::Kind;
+use pk_documents::kind::{KEY_WORDS, Kind, WORDS};
 use pk_same::same::Style;
 
 /// Two documents to compare.
@@ -141,19 +141,19 @@ fn taken_kind<'a>(key: bool, text: &'a str) -> Result<Kind, BadValue<'a>>
     ensures { MatchResult result (λ kind. taken_kind_of key text.entry.now ≡ Some kind)
         (BadTaken key text.entry.now) }
 {
-    let named = kind_named(text);
+    let named = Kind::named(text);
     if key {
         return key_kind(named).ok_or(BadValue {
             option: "--kind <KIND>",
             value: text,
-            wanted: "key or ec",
+            wanted: KEY_WORDS,
             advice: "",
         });
     }
     named.ok_or(BadValue {
         option: "--kind <KIND>",
         value: text,
-        wanted: "key, ec, request, public, encrypted or package",
+        wanted: WORDS,
         advice: advice_for_kind(text),
     })
 }
@@ -163,8 +163,7 @@ fn key_kind(kind: Option<Kind>) -> Option<Kind>
     ensures { result ≡ key_kind_of kind }
 {
     match kind {
-        Some(Kind::Key) => Some(Kind::Key),
-        Some(Kind::Ec) => Some(Kind::Ec),
+        Some(kind) if kind.is_key() => Some(kind),
         _ => None,
     }
 }

@@ -7,15 +7,8 @@ ghost use Rattle.pkder.specs.CommandLines.{TellsOwn, advice_for_command as comma
 
 use clap::Error;
 use clap::error::ErrorKind;
+use pk_documents::kind::WORDS;
 use std::alloc::{AllocError, Global};
-
-const NO_KIND: &str = "\
-error: no kind is named: --kind is key, ec, request, public, encrypted or package
-
-  tip: pkder check --kind key FILE
-
-For more information, try '--help'.
-";
 
 /// A value that its option doesn't have.
 #[derive(Clone, Copy)]
@@ -74,8 +67,20 @@ fn missing_text(alloc: Global, words: &[String], error: &Error) -> Result<String
     if are_of_same(words) {
         error.to_string(alloc)
     } else {
-        NO_KIND.to_string(alloc)
+        no_kind_text(alloc)
     }
+}
+
+/// That a kind is missing, and which ones there are.
+fn no_kind_text(alloc: Global) -> Result<String, AllocError>
+    ensures { IfOk result (λ text. string_bytes text ≡ no_kind_line) }
+{
+    let mut text = String::from_str(alloc, "error: no kind is named: --kind is ")?;
+    text.push_str(WORDS)?;
+    text.push_str("\n\n")?;
+    push_tip(&mut text, "pkder check --kind key FILE")?;
+    text.push_str("For more information, try '--help'.\n")?;
+    Ok(text)
 }
 
 /// Whether the command is `same`.

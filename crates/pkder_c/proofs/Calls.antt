@@ -2,6 +2,7 @@
 use Rattle.std.proofs.Common.{◌≡◌, Bool, Err, IfErr, IfOk, List, Ok, Option, Result, inl, inr, subst, sym, ℕ}
 use Rattle.tlv_core.specs.Limits.{IsLimits, Limits}
 use Rattle.x690.specs.Values.{Value}
+use Rattle.pk_documents.specs.KindRows.{number_of as kind_number}
 use Rattle.pk_documents.specs.Kinds.{type_of}
 use Rattle.pk_documents.specs.declared.document.Document.{Document}
 use Rattle.pk_documents.specs.declared.kind.Kind.{Kind}
@@ -11,7 +12,7 @@ use Rattle.pk_explain.specs.Written.{IsFieldOf, IsWritten}
 use Rattle.pk_explain.specs.declared.written.Form.{Form}
 use Rattle.pk_reports.specs.declared.report.Answer.{Answer}
 use Rattle.pkder_c.specs.Calls.{AreLines, Checked, Compared, FieldRefused, IsField, IsPartText, IsPlace, IsReport, IsSame, IsText, KindRefused, PairRefused, PartRefused, Put, PutReport, ReportRefused, Reported, Wrote}
-use Rattle.pkder_c.specs.Numbers.{IsFormNumber, IsFormOf, kind_number, part_number}
+use Rattle.pkder_c.specs.Numbers.{IsFormNumber, IsFormOf, part_number}
 use Rattle.pkder_c.specs.Outcomes.{checked_outcome, compared_outcome, refused_outcome, uncompared_outcome}
 use Rattle.pkder_c.specs.Wholes.{IsWhole, WholeChecked, WholeFault, WholeLines, WholePairRefused, WholePart, WholeRefused, WholeSame, WholeText}
 use Rattle.pkder_c.specs.declared.outcome.PkderOutcome.{PkderOutcome}

@@ -4,6 +4,7 @@ use Rattle.tlv_core.specs.Limits.{IsLimits, Limits}
 use Rattle.tlv_core.specs.Reasons.{name_of, number_of}
 use Rattle.tlv_core.specs.declared.reason.Reason.{Reason}
 use Rattle.x690.specs.Values.{Value}
+use Rattle.pk_documents.specs.KindRows.{IsKindNumber, number_of as kind_number}
 use Rattle.pk_documents.specs.Kinds.{type_of}
 use Rattle.pk_documents.specs.declared.document.Document.{Document}
 use Rattle.pk_documents.specs.declared.kind.Kind.{Kind}
@@ -12,7 +13,7 @@ use Rattle.pk_documents.specs.declared.request_part.Part.{Part}
 use Rattle.pk_explain.specs.Written.{IsFieldOf, IsWritten}
 use Rattle.pk_explain.specs.declared.written.Form.{Form}
 use Rattle.pk_reports.specs.declared.report.Answer.{Answer}
-use Rattle.pkder_c.specs.Numbers.{IsFormNumber, IsFormOf, IsKindNumber, IsPartNumber, IsReasonNumber, kind_number, part_number}
+use Rattle.pkder_c.specs.Numbers.{IsFormNumber, IsFormOf, IsPartNumber, IsReasonNumber, part_number}
 use Rattle.pkder_c.specs.Outcomes.{accepted_outcome, checked_outcome, compared_outcome, refused_outcome, reported_outcome, too_small_outcome, uncompared_outcome, unreported_outcome}
 use Rattle.pkder_c.specs.Wholes.{IsWhole, WholeChecked, WholeFault, WholeLines, WholePart, WholeSame, WholeText}
 use Rattle.pkder_c.specs.declared.outcome.PkderOutcome.{PkderOutcome}

@@ -1,22 +1,9 @@
--- The numbers of kinds, parts, forms and reasons.
+-- The numbers of parts, forms and reasons.
 use Rattle.std.specs.Prelude.{ℕ, ◌+◌, ◌≡◌, ◌≤◌, cond}
-use Rattle.pk_documents.specs.declared.kind.Kind.{Kind}
-use Rattle.pk_documents.specs.declared.kind.Kind.TheVariants as kinds
 use Rattle.pk_documents.specs.declared.request_part.Part.{Part}
 use Rattle.pk_documents.specs.declared.request_part.Part.TheVariants as parts
 use Rattle.pk_explain.specs.Written.{places_told}
 use Rattle.pk_explain.specs.declared.written.Form.{Form}
-
-abbrev pub kind_number : Kind → ℕ
-kind_number kinds.Key = 1
-kind_number kinds.Ec = 2
-kind_number kinds.Request = 3
-kind_number kinds.Public = 4
-kind_number kinds.Encrypted = 5
-kind_number kinds.Package = 6
-
-abbrev pub IsKindNumber : ℕ → Type 0
-IsKindNumber number = (1 ≤ number) × (number ≤ 6)
 
 abbrev pub part_number : Part → ℕ
 part_number parts.Info = 1

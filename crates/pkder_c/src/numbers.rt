@@ -2,7 +2,8 @@
 ghost use Rattle.std.specs.Prelude.{◌≡◌, ◌↔◌, IfSome, IsSome};
 ghost use Rattle.tlv_core.specs.Limits.{IsLimits};
 ghost use Rattle.tlv_core.specs.Reasons.{number_of};
-ghost use Rattle.pkder_c.specs.Numbers.{IsFormNumber, IsFormOf, IsKindNumber, IsPartNumber, IsReasonNumber, kind_number, part_number};
+ghost use Rattle.pk_documents.specs.KindRows.{IsKindNumber, number_of as kind_number};
+ghost use Rattle.pkder_c.specs.Numbers.{IsFormNumber, IsFormOf, IsPartNumber, IsReasonNumber, part_number};
 
 use pk_documents::kind::Kind;
 use pk_documents::request_part::Part;
@@ -15,15 +16,7 @@ pub fn kind_of(number: u32) -> Option<Kind>
     ensures kind { IfSome result (λ kind. kind_number kind ≡ number) }
     ensures exactly { IsSome result ↔ IsKindNumber number }
 {
-    match number {
-        1 => Some(Kind::Key),
-        2 => Some(Kind::Ec),
-        3 => Some(Kind::Request),
-        4 => Some(Kind::Public),
-        5 => Some(Kind::Encrypted),
-        6 => Some(Kind::Package),
-        _ => None,
-    }
+    Kind::numbered(number)
 }
 
 /// The part of a request that has this number.

@@ -1,7 +1,8 @@
 use Rattle.std.proofs.Common.{Err, IfOk, List, None, Ok, Option, Result, subst, ℕ, ◌≡◌}
 use Rattle.tlv_core.specs.Limits.{Limits}
+use Rattle.pk_documents.specs.KindRows.{kinds}
 use Rattle.pk_documents.specs.declared.kind.Kind.{Kind}
-use Rattle.pk_explain.specs.Looks.{IsDocument, IsFirst, IsOtherDocument, kinds}
+use Rattle.pk_explain.specs.Looks.{IsDocument, IsFirst, IsOtherDocument}
 use Rattle.pk_reports.specs.declared.report.Looks.{Looks}
 use Rattle.pk_explain.proofs.looks.look_at_document.Goals as goal
 

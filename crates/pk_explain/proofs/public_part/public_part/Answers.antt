@@ -1,8 +1,8 @@
 use Rattle.std.proofs.Common.{length, rules, subst}
+use Rattle.pk_documents.specs.KindRows.{may_be_private}
 use Rattle.pk_explain.specs.FaultLines.{AddsFault}
 use Rattle.pk_explain.specs.Faults.{IsKnownBy, refused_for}
 use Rattle.pk_explain.specs.Insides.{AreInsides, HasInsides}
-use Rattle.pk_explain.specs.Kinds.{may_be_private}
 use Rattle.pk_explain.specs.Listings.{IsListed}
 use Rattle.pk_explain.specs.Rules.{fault_of, file_page, point_at}
 use Rattle.pk_explain.specs.Tellings.{TellsAll}

@@ -11,8 +11,8 @@ returns-then-is_any c =
     let first = c.args.first.now in
     let second = c.args.second.now in
     refused_result (λ it. string_bytes it.0) (λ it. it.1) c.refused.result c.args.form l c.args.kind
-    c.args.names.first.now c.args.names.second.now first second _ c.word_of.result.now c.fault-fault.result
-    c.fault-other_fault.result refl c.word_of.ensures
+    c.args.names.first.now c.args.names.second.now first second _ c.row.result.word.now c.fault-fault.result
+    c.fault-other_fault.result refl c.row.ensures.word
     (record {
       judged =
           subst (IsJudged l type first) (sym c.fault-fault.ensures)
@@ -33,7 +33,7 @@ returns c =
     let none = neither _ _ (sym c.is_any.ensures ∙ c.if-is_any.false) in
     compared_result (λ it. string_bytes it.0) (λ it. it.1) c.compared.result c.args.form l c.args.kind
     c.args.names.first.now c.args.names.second.now first second c.encoding-one.result.now c.encoding.result.now _
-    c.word_of.result.now refl c.word_of.ensures
+    c.row.result.word.now refl c.row.ensures.word
     (subst (IsAccepted l type first) (sym c.encoding-one.ensures)
     (accepted l type first c.in_ok-reading.reading c.in_ok-reading.ensures
     (sym (ap is_some c.fault-fault.ensures) ∙ none.0)))
