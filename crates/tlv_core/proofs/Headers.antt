@@ -120,3 +120,35 @@ identifier_high tag form h = go (nat_lt tag.number 31) (grind (arith, nat_tests)
 pub base128_are : (n : ℕ) → base128 n ≡ leading_base128 (n / 128) (n / 128) ++ ((n % 128) ∷ [])
 unfolding base128
 base128_are n = ap (λ s. s ++ ((n % 128) ∷ [])) (leading_steps n (n / 128) (n / 128) (omega arith) (omega arith))
+
+-- the header of a tag below 31
+pub low_header : (tag : Tag) (form : Bool) (n : ℕ) → tag.number < 31
+    → length (der_header tag form n) ≡ suc (length (shortest_length n))
+unfolding der_header
+low_header tag form n h = ap (λ s. length (s ++ shortest_length n)) (identifier_low tag form h)
+
+pub identifier_short : (tag : Tag) (form : Bool) → tag.number < 268435456 → length (identifier tag form) ≤ 5
+identifier_short tag form h = go (nat_lt tag.number 31) refl
+  where
+    go : (b : Bool) → nat_lt tag.number 31 ≡ b → length (identifier tag form) ≤ 5
+    go true e =
+        let z : length (identifier tag form) ≡ 1 = ap length (identifier_low tag form (grind (arith, nat_tests))) in
+        omega arith
+    go false e =
+        let z : length (identifier tag form) ≡ suc (length (base128 tag.number)) =
+        ap length (identifier_high tag form (grind (arith, nat_tests))) in
+        let digits = leading_base128 (tag.number / 128) (tag.number / 128) in
+        let y = ap length (base128_are tag.number) ∙ length-append digits ((tag.number % 128) ∷ []) in
+        omega (arith, y, three_leading (tag.number / 128) (omega arith))
+
+-- a header has at most 14 octets
+pub header_short : (tag : Tag) (form : Bool) (n : ℕ) → tag.number < 268435456 → n < 18446744073709551616
+    → length (der_header tag form n) ≤ 14
+unfolding der_header
+header_short tag form n h k =
+    omega (
+      arith,
+      length-append (identifier tag form) (shortest_length n),
+      identifier_short tag form h,
+      shortest_short n k,
+    )

@@ -2,7 +2,7 @@
 ghost use Rattle.std.specs.Prelude.{◌≡◌, ◌≤◌, ◌⊎◌, length, Bool, IfSome, IsNone};
 ghost use Rattle.tlv_core.specs.Header.{der_header};
 
-use crate::header::{Header, lead};
+use crate::header::{Header, lead, number_size};
 use crate::tag::Tag;
 
 /// The header of an element with `content` contents octets: its identifier and the shortest length.
@@ -33,5 +33,11 @@ pub fn short_header(tag: Tag, constructed: bool, content: u64) -> Option<[u8; 2]
 pub fn header_size(tag: Tag, content: u64) -> u64
     ensures { (constructed : Bool) → result ≡ length (der_header tag constructed content) }
 {
-    header(tag, false, content).octets().len() as u64
+    if tag.number() >= 31 {
+        return header(tag, false, content).octets().len() as u64;
+    }
+    if content < 128 {
+        return 2;
+    }
+    2 + u64::from(number_size(content))
 }

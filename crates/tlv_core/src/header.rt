@@ -115,7 +115,7 @@ pub(crate) fn lead(tag: Tag, constructed: bool, low: u8) -> u8
 }
 
 /// How many octets a number has, without leading zeros.
-fn number_size(n: u64) -> u8
+pub(crate) fn number_size(n: u64) -> u8
     ensures { result ≡ length (number_octets n n) }
 {
     if n == 0 { 0 } else { 1 + number_size(n / 256) }
