@@ -37,12 +37,15 @@ impl<'a, R: Source> Keeping<'a, R> {
 
 impl<R: Source> Source for Keeping<'_, R> {
     ghost use Rattle.asn_documents.specs.Keepings.{source, failed, frame};
+    ghost use Rattle.tlv_core.specs.Sources.{none_at_hand};
 
     ghost remaining = { λ keeping. R.remaining (source keeping) };
 
     ghost has_failed = { λ keeping. failed keeping };
 
     ghost frame = { λ keeping. frame keeping };
+
+    ghost at_hand = { λ _. none_at_hand };
 
     fn read(&mut self, room: &mut [u8]) -> Result<usize, Failed> {
         if self.kept.reserve(room.len()).is_err() {
@@ -65,6 +68,12 @@ impl<R: Source> Source for Keeping<'_, R> {
     fn failed(&self) -> bool {
         self.failed
     }
+
+    fn held(&self) -> &[u8] {
+        &[]
+    }
+
+    fn pass(&mut self, _count: usize) {}
 }
 
 ghost use Rattle.std.specs.Prelude.{◌++◌, ◌+◌, ◌≤◌, length};

@@ -1,5 +1,5 @@
 -- Contents that come in pieces.
-use Rattle.std.proofs.Common.{◌≡◌, ◌≤◌, ℕ, zero, suc, ◌+◌, ◌<◌, ⊎_elim, if◌then◌else◌, Bool, true, false, List, [], ◌∷◌, ◌++◌, length, take, take_all, take-take, Option, Some, None, sym, ◌∙◌, ap, ap₂, subst, arith, append_assoc, append-nil}
+use Rattle.std.proofs.Common.{◌≡◌, ◌≤◌, ℕ, zero, suc, ◌+◌, ◌<◌, ⊎_elim, if◌then◌else◌, Bool, true, false, List, [], ◌∷◌, ◌++◌, length, take, take_all, take-take, Option, Some, None, refl, sym, ◌∙◌, ap, ap₂, subst, arith, append_assoc, append-nil}
 use Rattle.std.proofs.Math.Seq.{take-append-add, take-append_seam}
 use Rattle.std.proofs.lemmas.List.{length-append, take-append-le}
 use Rattle.tlv_core.specs.declared.fault.Fault.{Fault}
@@ -9,10 +9,10 @@ use Rattle.tlv_core.specs.declared.fault.ReadError.TheVariants as errors
 use Rattle.tlv_core.specs.declared.reason.Reason.TheVariants.{Truncated}
 use Rattle.x690.specs.Points.{fault}
 use Rattle.x690.specs.ReadHeaders.{next_octets}
-use Rattle.x690.specs.Reading.{Done, Halted, Took, run, ◌>>=◌}
+use Rattle.x690.specs.Reading.{Ask, Done, Halted, Took, run, ◌>>=◌}
 use Rattle.x690.specs.Reads.{Needs, NoMemory, ReadFailed, Reads, Refused, Said}
 use Rattle.ber_pull.specs.Hears.{Hears, heard_error}
-use Rattle.ber_pull.proofs.Hearing.{gives_error, hears_ended, hears_failed_at, takes_both}
+use Rattle.ber_pull.proofs.Hearing.{gives_error, hears_as, hears_done, hears_ended, hears_error, hears_failed_at, hears_then, takes_both}
 use Rattle.x690.proofs.Needs.{cut_in_two}
 use Rattle.x690.proofs.Runs.{halt_bind, run_bind}
 
@@ -168,3 +168,23 @@ still_there a n old new more e h is =
 pub chosen : {A : Type 0} (b : Bool) (x y z : A) → b ≡ true → z ≡ (if b then x else y) → z ≡ x
 chosen true x y z e h = h
 chosen false x y z e h = cc
+
+-- One octet alone.
+
+alone : (n : ℕ) → n ≡ 1 → Ask Done >>= (λ octet. Done (octet ∷ [])) ≡ next_octets n
+unfolding next_octets ◌>>=◌
+alone zero h = absurd (omega arith)
+alone (suc zero) h = refl
+alone (suc (suc n)) h = absurd (omega arith)
+
+pub alone_came : (n x k i : ℕ) (s u : Option (List ℕ)) → n ≡ 1 → Hears (Ask Done) k s (Said x) i u
+    → Hears (next_octets n) k s (Said (x ∷ [])) i u
+alone_came n x k i s u e h =
+    hears_as _ _ _ _ _ _ _ (alone n e)
+    (hears_then (Ask Done) (λ octet. Done (octet ∷ [])) x (Said (x ∷ [])) k i i s u u h (hears_done _ _ _))
+
+pub alone_stopped : (n k i : ℕ) (e : ReadError) (s u : Option (List ℕ)) → n ≡ 1
+    → Hears {A = ℕ} (Ask Done) k s (heard_error e) i u
+    → Hears (next_octets n) k s (heard_error e) i u
+alone_stopped n k i e s u one h =
+    hears_as _ _ _ _ _ _ _ (alone n one) (hears_error (Ask Done) (λ octet. Done (octet ∷ [])) e k i s u h)

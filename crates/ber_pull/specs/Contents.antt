@@ -1,5 +1,5 @@
 -- Contents that come in pieces.
-use Rattle.std.specs.Prelude.{List, MatchResult, Result, length, ℕ, ◌+◌, ◌++◌, ◌<◌, ◌≡◌, ◌≤◌}
+use Rattle.std.specs.Prelude.{List, MatchResult, None, Option, Result, Some, [], length, ℕ, ◌+◌, ◌++◌, ◌<◌, ◌∷◌, ◌≡◌, ◌≤◌}
 use Rattle.std.specs.Io.KnownBytes.{Consumes}
 use Rattle.tlv_core.specs.declared.fault.ReadError.{ReadError}
 use Rattle.tlv_core.specs.declared.source.Source.{Ghosts}
@@ -7,6 +7,11 @@ use Rattle.x690.specs.ReadHeaders.{next_octets}
 use Rattle.ber_pull.specs.Hears.{heard_error}
 use Rattle.ber_pull.specs.View.{Answers, told}
 use Rattle.ber_pull.specs.declared.pull.Pull.{Pull}
+
+-- the contents that are told apart where they are one octet
+abbrev pub octet_or : List ℕ → Option ℕ → List ℕ
+octet_or others (Some octet) = octet ∷ []
+octet_or others None = others
 
 -- the octets that were taken stand behind those that came before: at least one, and at most so many
 pub record PieceCame {R : Type 0} {s : Ghosts R} (old new : Pull R s) (before after : List ℕ) (most : ℕ) : Type 0 where

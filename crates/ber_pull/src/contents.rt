@@ -1,5 +1,5 @@
 //! Contents octets, in pieces into a buffer that grows with what came.
-ghost use Rattle.std.specs.Prelude.{◌≡◌, ◌<◌, ◌≤◌, ◌+◌, ◌-◌, ℕ, None, Some, IfOk, IfSome, IsSome, OnOk, length};
+ghost use Rattle.std.specs.Prelude.{◌≡◌, ◌<◌, ◌≤◌, ◌+◌, ◌-◌, ◌^◌, ◌↔◌, ℕ, None, Some, IfOk, IfSome, IsSome, IsTrue, OnOk, length};
 ghost use Rattle.x690.specs.ReadHeaders.{next_octets, primitive_contents};
 ghost use Rattle.ber_pull.specs.Calls.{read_primitive};
 ghost use Rattle.ber_pull.specs.Hears.{heard};
@@ -23,8 +23,8 @@ const SHORT: usize = 32;
 const MIDDLE: usize = 160;
 
 impl<R: Source> Pull<'_, R> {
-    ghost use Rattle.ber_pull.specs.View.{FailsThere, answered, standing, SameSource, Repeats, ReadsFail, Onward, Answers, Moves, Uses, Frame};
-    ghost use Rattle.ber_pull.specs.Contents.{AddsPiece};
+    ghost use Rattle.ber_pull.specs.View.{FailsThere, answered, standing, source, SameSource, Repeats, ReadsFail, Onward, Answers, Moves, Uses, Frame};
+    ghost use Rattle.ber_pull.specs.Contents.{AddsPiece, octet_or};
 
     /// The contents of the primitive element that `next_tag` gave.
     ///
@@ -72,6 +72,58 @@ impl<R: Source> Pull<'_, R> {
         }
     }
 
+    /// The contents of the primitive element that `next_tag` gave, where they are one octet: no memory is asked for it.
+    /// `None` where they are others, which stand in `others` then, in place of what it holds.
+    ///
+    /// Faults: those of `primitive`.
+    pub fn primitive_octet(&mut self, others: &mut Vec<u8>) -> Result<Option<u8>, ReadError>
+        requires { (standing self.old).error ≡ None → IsSome (standing self.old).given }
+        ensures frame { Frame self.old self.new result }
+        ensures repeats { Repeats self.old self.new result }
+        ensures reads { (g : Given) → (standing self.old).error ≡ None
+            → (standing self.old).given ≡ Some g
+            → Answers self.old self.new (read_primitive (standing self.old) g)
+            (heard (octet_or others.new.items) result) }
+        ensures others { IfOk result (λ octet. octet ≡ None → length others.new.items ≡ 1 → ⊥) }
+        ensures stands { OnOk result (Uses self.old self.new) }
+        ensures fails { FailsThere self.old self.new result }
+    {
+        if self.state.has_failed() {
+            return Err(self.state.failure());
+        }
+        let given = self.state.given().unwrap();
+        if given.constructed {
+            return Err(self.stop(given.at, Reason::WrongForm));
+        }
+        match self.octet_or_others(others, given.at) {
+            Ok(octet) => Ok(octet),
+            Err(Halted) => Err(self.state.failure()),
+        }
+    }
+
+    /// The same, where its identifier stands at `start`.
+    #[inline(always)]
+    fn octet_or_others(&mut self, others: &mut Vec<u8>, start: u32) -> Result<Option<u8>, Halted>
+        requires { (standing self.old).error ≡ None }
+        ensures frame { Frame self.old self.new (answered self.new result) }
+        ensures reads { Answers self.old self.new
+            (primitive_contents (standing self.old).limits (enclosing (standing self.old)) start)
+            (heard (octet_or others.new.items) (answered self.new result)) }
+        ensures others { IfOk result (λ octet. octet ≡ None → length others.new.items ≡ 1 → ⊥) }
+        ensures stands { OnOk result (Uses self.old self.new) }
+        ensures fails { FailsThere self.old self.new (answered self.new result) }
+    {
+        let count = self.definite_length(start)?;
+        if count == 1 {
+            let octet = self.next_octet()?;
+            self.state.use_given();
+            return Ok(Some(octet));
+        }
+        self.contents(others, count)?;
+        self.state.use_given();
+        Ok(None)
+    }
+
     /// The length and the contents of the primitive element whose identifier at `start` is given.
     #[inline(always)]
     pub(crate) fn primitive_contents(
@@ -100,6 +152,7 @@ impl<R: Source> Pull<'_, R> {
         ensures same_source { SameSource self.old self.new }
         ensures reads { Answers self.old self.new (next_octets count)
             (heard (λ _. octets.new.items) (answered self.new result)) }
+        ensures all { OnOk result (length octets.new.items ≡ count) }
         ensures stands { Moves self.old self.new (answered self.new result) }
         ensures read { ReadsFail self.old self.new (answered self.new result) }
         ensures onward { Onward self.old self.new }
@@ -107,7 +160,8 @@ impl<R: Source> Pull<'_, R> {
         let size = count as usize;
         octets.clear();
         // (of what a length only claims no more than a piece)
-        if octets.reserve_exact(size.min(PIECE)).is_err() {
+        let sure = PIECE.max(self.src.held().len());
+        if octets.reserve_exact(size.min(sure)).is_err() {
             return Err(self.halt_without_memory());
         }
         while octets.len() < size {
@@ -121,6 +175,7 @@ impl<R: Source> Pull<'_, R> {
     fn piece(&mut self, octets: &mut Vec<u8>, most: usize) -> Result<(), Halted>
         requires live { (standing self.old).error ≡ None }
         requires some { 0 < most }
+        requires short { most < 2 ^ 32 }
         requires within { (standing self.old).taken + most ≤ (standing self.old).limits.octets }
         ensures same_source { SameSource self.old self.new }
         ensures adds { AddsPiece self.old self.new octets.old.items octets.new.items most
@@ -129,6 +184,9 @@ impl<R: Source> Pull<'_, R> {
         ensures read { ReadsFail self.old self.new (answered self.new result) }
         ensures onward { Onward self.old self.new }
     {
+        if self.has_octets_at_hand() {
+            return self.copy_held(octets, most);
+        }
         if most <= SHORT {
             let mut room = [0u8; SHORT];
             return self.fill(octets, &mut room[..most]);
@@ -138,6 +196,39 @@ impl<R: Source> Pull<'_, R> {
             return self.fill(octets, &mut room[..most]);
         }
         self.fill_behind(octets, most.min(PIECE))
+    }
+
+    /// The next octet needs no read.
+    #[inline(always)]
+    fn has_octets_at_hand(&self) -> bool
+        ensures { IsTrue result ↔ (0 < length (R.at_hand (source self.now))) }
+    {
+        !self.src.held().is_empty()
+    }
+
+    /// The same, of those that the source has at hand.
+    #[inline(always)]
+    fn copy_held(&mut self, octets: &mut Vec<u8>, most: usize) -> Result<(), Halted>
+        requires live { (standing self.old).error ≡ None }
+        requires some { 0 < most }
+        requires short { most < 2 ^ 32 }
+        requires held { 0 < length (R.at_hand (source self.old)) }
+        requires within { (standing self.old).taken + most ≤ (standing self.old).limits.octets }
+        ensures same_source { SameSource self.old self.new }
+        ensures adds { AddsPiece self.old self.new octets.old.items octets.new.items most
+            (answered self.new result) }
+        ensures stands { Moves self.old self.new (answered self.new result) }
+        ensures read { ReadsFail self.old self.new (answered self.new result) }
+        ensures onward { Onward self.old self.new }
+    {
+        let held = self.src.held();
+        let size = most.min(held.len());
+        if octets.extend_from_slice(&held[..size]).is_err() {
+            return Err(self.halt_without_memory());
+        }
+        self.src.pass(size);
+        self.state.take(size as u32);
+        Ok(())
     }
 
     /// Some of the next octets, at least one and at most as many as the room, behind those that came before.

@@ -4,6 +4,7 @@ ghost use Rattle.tlv_core.specs.Identifier.{IsTag};
 ghost use Rattle.tlv_core.specs.declared.fault.ReadError.TheVariants.{Fault as refused};
 ghost use Rattle.tlv_core.specs.declared.reason.Reason.TheVariants.{Truncated};
 ghost use Rattle.x690.specs.Points.{ends_with_zeros, fault};
+ghost use Rattle.x690.specs.Reading.{Ask, Done};
 ghost use Rattle.x690.specs.ReadHeaders.{ContainerEnds, fit_contents, header_octet, read_big_endian, read_high_number, read_definite_length, read_length, read_number, read_tag_number};
 ghost use Rattle.ber_pull.specs.Calls.{read_end_of_contents};
 ghost use Rattle.ber_pull.specs.Hears.{heard};
@@ -47,6 +48,24 @@ impl<R: Source> Pull<'_, R> {
         if !self.state.has_room(1) {
             return Err(self.no_room(start, 1));
         }
+        self.next_octet()
+    }
+
+    /// The next octet, which stays within the limit.
+    #[inline(always)]
+    pub(crate) fn next_octet(&mut self) -> Result<u8, Halted>
+        requires live { (standing self.old).error ≡ None }
+        requires within { (standing self.old).taken + 1 ≤ (standing self.old).limits.octets }
+        ensures same_source { SameSource self.old self.new }
+        ensures reads { Answers self.old self.new (Ask Done)
+            (heard (λ x. x) (answered self.new result)) }
+        ensures stands { Moves self.old self.new (answered self.new result) }
+        ensures advances { OnOk result ((standing self.new).taken ≡ (standing self.old).taken + 1) }
+        ensures octet { IfOk result (λ x. x < 256) }
+        ensures read { ReadsFail self.old self.new (answered self.new result) }
+        ensures memory { AsksNoMemory self.old (answered self.new result) }
+        ensures onward { Onward self.old self.new }
+    {
         let mut room = [0u8; 1];
         match self.src.read(&mut room) {
             Ok(0) => Err(self.truncated()),

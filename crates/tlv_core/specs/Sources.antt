@@ -12,6 +12,10 @@ no_frame = []
 abbrev pub reader_of : {R : Type 0} {s : Ghosts R} → FromRead R s → R
 reader_of source = source.inner
 
+-- octets that have to be read, of a source that has none at hand
+abbrev pub none_at_hand : List ℕ
+none_at_hand = []
+
 -- it tells the octets that its reader tells
 abbrev pub is_telling : {R : Type 0} {s : Ghosts R} → FromRead R s → Bool
 is_telling source = source.telling

@@ -1,7 +1,7 @@
 //! Readers that say what they still tell, and whether they have failed.
-ghost use Rattle.std.specs.Prelude.{◌≡◌, ◌<◌, ◌≤◌, ◌↔◌, ℕ, Bool, true, false, Option, None, Some, List, [], IfOk, IsErr, IsSome};
+ghost use Rattle.std.specs.Prelude.{◌≡◌, ◌<◌, ◌≤◌, ◌↔◌, ℕ, Bool, true, false, Option, None, Some, List, [], IfOk, IsErr, IsSome, length, take};
 ghost use Rattle.std.specs.Io.{ReadsAtMost};
-ghost use Rattle.std.specs.Io.KnownBytes.{ReadConsumes};
+ghost use Rattle.std.specs.Io.KnownBytes.{Consumes, ReadConsumes};
 
 use std::io::Read;
 
@@ -20,6 +20,9 @@ pub trait Source {
     /// What no read changes, as numbers: the names of the references that it holds, and what it tells in its life.
     ghost frame: { Self → List ℕ };
 
+    /// The next octets, as many as it has at hand: they need no read.
+    ghost at_hand: { Self → List ℕ };
+
     /// Puts the next octets into `room` and answers their number: 0 only where `room` or what is left is empty.
     /// `Failed` where it has failed; the octets that it told are then still told.
     fn read(&mut self, room: &mut [u8]) -> Result<usize, Failed>
@@ -34,6 +37,19 @@ pub trait Source {
     /// Whether it has failed.
     fn failed(&self) -> bool
         ensures { result ≡ has_failed self.now };
+
+    /// The next octets that it has at hand; none, where they have to be read.
+    fn held(&self) -> &[u8]
+        ensures { result.now ≡ at_hand self.now };
+
+    /// Passes so many of the octets that it has at hand.
+    fn pass(&mut self, count: usize)
+        requires { count ≤ length (at_hand self.old) }
+        ensures octets { Consumes (remaining self.old) (remaining self.new)
+            (take count (at_hand self.old)) }
+        ensures failed { has_failed self.new ≡ has_failed self.old }
+        ensures frame { frame self.new ≡ frame self.old }
+        ensures silent { remaining self.old ≡ None → remaining self.new ≡ None };
 }
 
 /// A slice tells its octets and never fails.
@@ -43,6 +59,8 @@ impl Source for &[u8] {
     ghost has_failed = { λ _. false };
 
     ghost frame = { λ _. [] };
+
+    ghost at_hand = { λ octets. octets.now };
 
     fn read(&mut self, room: &mut [u8]) -> Result<usize, Failed> {
         if room.len() == 1 && !self.is_empty() {
@@ -58,6 +76,14 @@ impl Source for &[u8] {
 
     fn failed(&self) -> bool {
         false
+    }
+
+    fn held(&self) -> &[u8] {
+        self
+    }
+
+    fn pass(&mut self, count: usize) {
+        *self = &self[count..];
     }
 }
 
@@ -110,13 +136,15 @@ impl<R: Read> FromRead<R> {
 }
 
 impl<R: Read> Source for FromRead<R> {
-    ghost use Rattle.tlv_core.specs.Sources.{reader_of, is_telling, read_failed, told_by, no_frame};
+    ghost use Rattle.tlv_core.specs.Sources.{reader_of, is_telling, read_failed, told_by, no_frame, none_at_hand};
 
     ghost remaining = { λ source. told_by (is_telling source) (R.remaining (reader_of source)) };
 
     ghost has_failed = { λ source. read_failed source };
 
     ghost frame = { λ _. no_frame };
+
+    ghost at_hand = { λ _. none_at_hand };
 
     // The trait's clauses, and `reader`: whether or not it tells, it hands on what its reader gives.
     fn read(&mut self, room: &mut [u8]) -> Result<usize, Failed>
@@ -144,6 +172,12 @@ impl<R: Read> Source for FromRead<R> {
     fn failed(&self) -> bool {
         self.failed
     }
+
+    fn held(&self) -> &[u8] {
+        &[]
+    }
+
+    fn pass(&mut self, _count: usize) {}
 }
 
 /// For tests: gives at most `piece` octets per read, and after the last one its end or a failure.
@@ -178,13 +212,15 @@ impl<'a> Pieces<'a> {
 }
 
 impl Source for Pieces<'_> {
-    ghost use Rattle.tlv_core.specs.Sources.{octets_left, pieces_failed, piece_size, fails_at_end, no_frame};
+    ghost use Rattle.tlv_core.specs.Sources.{octets_left, pieces_failed, piece_size, fails_at_end, no_frame, none_at_hand};
 
     ghost remaining = { λ source. Some (octets_left source) };
 
     ghost has_failed = { λ source. pieces_failed source };
 
     ghost frame = { λ _. no_frame };
+
+    ghost at_hand = { λ _. none_at_hand };
 
     // The trait's clauses, and what the numbers of `new` say.
     fn read(&mut self, room: &mut [u8]) -> Result<usize, Failed>
@@ -214,4 +250,10 @@ impl Source for Pieces<'_> {
     fn failed(&self) -> bool {
         self.broken
     }
+
+    fn held(&self) -> &[u8] {
+        &[]
+    }
+
+    fn pass(&mut self, _count: usize) {}
 }
