@@ -4,7 +4,7 @@ ghost use Rattle.tlv_core.specs.Header.{der_header};
 ghost use Rattle.tlv_core.specs.Sinks.{count, Puts};
 ghost use Rattle.asn_elements.specs.Framing.{StandsAt};
 
-use tlv_core::der::{header, short_header};
+use tlv_core::der::{header, header_size, short_header};
 use tlv_core::sink::{Sink, WriteError};
 use tlv_core::tag::Tag;
 use tlv_core::target::Target;
@@ -35,10 +35,7 @@ pub fn element_size(tag: Tag, content: u64) -> u64
     ensures { (constructed : Bool)
         → result ≡ length (der_header tag constructed content) + content }
 {
-    match short_header(tag, false, content) {
-        Some(octets) => octets.len() as u64 + content,
-        None => header(tag, false, content).octets().len() as u64 + content,
-    }
+    header_size(tag, content) + content
 }
 
 /// Writes the header of an element with so many contents octets.

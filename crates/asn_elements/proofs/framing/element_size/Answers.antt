@@ -1,15 +1,14 @@
-use Rattle.std.proofs.Common.{arith, ap, false, length}
-use Rattle.x690_laws.proofs.LengthsOfTexts.{header_form}
+use Rattle.std.proofs.Common.{arith, false}
+use Rattle.tlv_core.proofs.Headers.{header_short}
 use Rattle.asn_elements.proofs.framing.element_size.Goals as goal
 
-pub returns-in-Some : goal.returns-in-Some
-returns-in-Some c =
-    λ form. omega (arith, header_form c.args.tag form false c.args.content, ap length c.in-Some.ensures.octets)
+pub overflow_add-result : goal.overflow_add-result
+overflow_add-result c =
+    omega (
+      arith,
+      c.header_size.ensures false,
+      header_short c.args.tag false c.args.content (omega arith) (omega arith),
+    )
 
-pub returns-in-None : goal.returns-in-None
-returns-in-None c = λ form. omega (
-  arith,
-  header_form c.args.tag form false c.args.content,
-  ap length c.octets.ensures,
-  ap length c.header.ensures.octets,
-)
+pub returns : goal.returns
+returns c = λ form. omega (arith, c.header_size.ensures form)
