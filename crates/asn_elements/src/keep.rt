@@ -22,6 +22,10 @@ pub fn keep<R: Source, T: Drop>(
     ensures stops { IfErr result (λ e. (e ≡ Memory) × (source pull.new ≡ source pull.old)
         × (standing pull.new ≡ failed_with e (standing pull.old))) }
 {
+    // (the first one gets room for itself alone: most containers have one member)
+    if items.is_empty() && items.reserve_exact(1).is_err() {
+        return Err(pull.no_memory());
+    }
     match items.push(item) {
         Ok(()) => Ok(()),
         Err(_) => Err(pull.no_memory()),
