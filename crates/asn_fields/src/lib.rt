@@ -1,8 +1,8 @@
 //! SEQUENCEs by their fields (X.690 8.9), and explicit tags (8.14).
 //!
 //! A SEQUENCE is kept as the list of its fields, in the order of the ASN.1: a type round that list has names for them
-//! (`sequence::SequenceFields`; `unnamed::Unnamed` has none), and `sequence::Sequence` of it is the SEQUENCE, with its
-//! text and its reader. In the list stand
+//! (`sequence::SequenceFields`), and `sequence::Sequence` of it is the SEQUENCE, with its text and its reader. In the
+//! list stand
 //!
 //! - `required::Required`, `optional::Optional` and `default_false::DefaultFalse`, whose types say all;
 //! - last, one field whose type or rule goes by the earlier ones: `dependent::Dependent` or, where it may be absent,
@@ -40,4 +40,3 @@ pub mod ruled_containing;
 pub mod ruled_sequence;
 pub mod sequence;
 pub mod tagged;
-pub mod unnamed;

@@ -27,7 +27,7 @@ pub use asn_elements::{
 };
 pub use asn_fields::{
     defined_by, dependent, either, field_list, fields, optional_dependent, parts, refused, ruled,
-    ruled_behind, ruled_containing, ruled_sequence, sequence, tagged, unnamed,
+    ruled_behind, ruled_containing, ruled_sequence, sequence, tagged,
 };
 pub use asn_lists::{list, list_of_some, set_of};
 pub use asn_open_values::any;
