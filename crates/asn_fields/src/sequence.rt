@@ -101,28 +101,9 @@ impl<K: SequenceFields> Element for Sequence<K> {
     }
 
     fn read<R: Source>(alloc: Global, pull: &mut Pull<'_, R>) -> Result<Sequence<K>, ReadError> {
-        let fields = read_sequence::<R, K>(alloc, pull)?;
+        let fields = read_sequence_as::<R, K>(alloc, pull, universal_tag(16))?;
         Ok(Sequence { fields })
     }
-}
-
-/// Reads the SEQUENCE that is given, of these fields and no others.
-///
-/// Faults: those of `read_sequence_as`.
-pub fn read_sequence<R: Source, F: FirstFields>(
-    alloc: Global,
-    pull: &mut Pull<'_, R>,
-) -> Result<F, ReadError>
-    requires { (standing pull.old).error ≡ None → IsSome (standing pull.old).given }
-    ensures frame { Frame pull.old pull.new result }
-    ensures repeats { Repeats pull.old pull.new result }
-    ensures reads { AnswersSequence pull.old pull.new (universal 16)
-        (F.listing.types EndOfFields) F.values result }
-    ensures short { IfOk result (λ fields. length (texts_of (F.values fields)) ≤ F.listing.most * 2 ^ 32) }
-    ensures known { IfOk result (λ fields. F.listing.known fields ≡ true) }
-    ensures stands { OnOk result (Uses pull.old pull.new) }
-{
-    read_sequence_as(alloc, pull, universal_tag(16))
 }
 
 /// Reads the SEQUENCE that is given, of these fields and no others, under this tag.

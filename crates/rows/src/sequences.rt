@@ -4,7 +4,8 @@ use crate::line::Line;
 use crate::reading::{Reading, Told};
 use asn_values::boolean::Bool;
 use asn_values::integer::Int;
-use asn_values::sequence::{DefaultFalse, FirstFields, Optional, Required, read_sequence};
+use asn_values::sequence::{DefaultFalse, FirstFields, Optional, Required, read_sequence_as};
+use asn_values::tags::universal_tag;
 use ber_pull::pull::Pull;
 use std::alloc::{AllocError, Global};
 use std::marker::PhantomData;
@@ -77,7 +78,7 @@ fn sequence<R: Source, F: FirstFields>(
     pull: &mut Pull<'_, R>,
 ) -> Result<F, ReadError> {
     match pull.next_tag()? {
-        Some(_) => read_sequence(alloc, pull),
+        Some(_) => read_sequence_as(alloc, pull, universal_tag(16)),
         None => Err(pull.refuse(0, Reason::Missing, None)),
     }
 }
