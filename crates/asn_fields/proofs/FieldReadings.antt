@@ -11,7 +11,7 @@ use Rattle.x690.specs.Layouts.{same_tag}
 use Rattle.x690.specs.Lists.{one_of}
 use Rattle.x690.specs.Points.{Enclosing, fault}
 use Rattle.x690.specs.ReadHeaders.{ContainerEnds, ElementStands, Next, entered, in_container, next_tag, read_length}
-use Rattle.x690.specs.ReadTypes.{apply_rule, is_this_leaf, read_fields, read_type}
+use Rattle.x690.specs.ReadTypes.{IsClosed, apply_rule, is_this_leaf, read_fields, read_type}
 use Rattle.x690.specs.Reading.{Done, Reading, Where, choose, require, run, ◌>>=◌}
 use Rattle.x690.specs.Reads.{Heard, Refused, Said}
 use Rattle.x690.specs.TypeTerms.{Default, DefinedByType, EndOfFields, Fields, Optional, Required, Rule, RuledType, SequenceType, TypeTerm, fits_tag}
@@ -101,6 +101,32 @@ take_alike : (l : Limits) (T : TypeTerm) (earlier : List Value) (c : Enclosing) 
 unfolding read_take read_due ◌>>=◌
 take_alike l T earlier c (ContainerEnds p) = λ k s. refl
 take_alike l T earlier c (ElementStands p tag constructed) = require_then (fits_tag T tag) _ _ _ _ (λ k s. refl)
+
+-- a type that looks at no earlier field is read the same behind any
+pub take_any : (l : Limits) (T : TypeTerm) (earlier : List Value) (c : Enclosing) (next : Next) → IsClosed T
+    → read_take l T [] c next ≡ read_take l T earlier c next
+unfolding read_take
+take_any l T earlier c (ContainerEnds p) closed = refl
+take_any l T earlier c (ElementStands p tag constructed) closed =
+    ap (require (fits_tag T tag) (fault p WrongTag)) (sym (closed l earlier c p tag constructed))
+
+pub due_any : (l : Limits) (T : TypeTerm) (earlier : List Value) (c : Enclosing) (next : Next) → IsClosed T
+    → read_due l T [] c next ≡ read_due l T earlier c next
+unfolding read_due
+due_any l T earlier c (ContainerEnds p) closed = refl
+due_any l T earlier c (ElementStands p tag constructed) closed =
+    ap (λ r. require (fits_tag T tag) (fault p WrongTag) (r >>= λ v. next_tag l c >>= λ n. Done (v, n)))
+    (sym (closed l earlier c p tag constructed))
+
+pub optional_any : (l : Limits) (T : TypeTerm) (earlier : List Value) (c : Enclosing) (next : Next) → IsClosed T
+    → read_optional l T [] c next ≡ read_optional l T earlier c next
+unfolding read_optional
+optional_any l T earlier c (ContainerEnds p) closed = refl
+optional_any l T earlier c (ElementStands p tag constructed) closed =
+    ap
+    (λ r. choose (fits_tag T tag) (r >>= λ v. next_tag l c >>= λ n. Done (Some v, n))
+    (Done (None, ElementStands p tag constructed)))
+    (sym (closed l earlier c p tag constructed))
 
 -- the field that is ruled, and the one that the rule judges
 ruled_alike : (l : Limits) (rule : Rule) (T : TypeTerm) (earlier : List Value) (c : Enclosing) (p : ℕ)

@@ -62,12 +62,12 @@ pub stands_there : (T : TypeTerm) (n : Option (Tag × Bool)) (t : Tag × Bool) �
 stands_there T n t is on off = let turned : true ≡ false = sym on ∙ sym (ap (may_stand T) is) ∙ off in cc
 
 -- behind any earlier fields
-pub field_tagged_behind : (T : TypeTerm) (earlier : List Value) (s : Standing) (p : ℕ) (t : Tag) (form : Bool)
+pub field_tagged : (T : TypeTerm) (earlier : List Value) (s : Standing) (p : ℕ) (t : Tag) (form : Bool)
     (v w : Value) (q : ℕ) (o u : Option (List ℕ))
     → BeginsBefore s (ElementStands p t form)
     → Hears (read_type s.limits T earlier (enclosing s) p t form) s.taken o (Said v) q u → Same v w
     → may_begin T (value_tag w) ≡ true
-field_tagged_behind T earlier s p t form v w q o u b x same =
+field_tagged T earlier s p t form v w q o u b x same =
     let given = hears_given (read_type s.limits T earlier (enclosing s) p t form) v s.taken q o u x in
     let fits = b.0 in
     let laid =
@@ -76,10 +76,3 @@ field_tagged_behind T earlier s p t form v w q o u b x same =
     fits_tagged s.limits.depth T earlier laid.tree v laid.fact ∙ text_tag v w (canonical v w same) in
     sym (fits_may T (value_tag w))
     ∙ subst (λ z. fits_tag T z ≡ true) tag (begins_fits s.limits.depth T earlier laid.tree v laid.fact)
-
-pub field_tagged : (T : TypeTerm) (s : Standing) (p : ℕ) (t : Tag) (form : Bool) (v w : Value) (q : ℕ)
-    (o u : Option (List ℕ))
-    → BeginsBefore s (ElementStands p t form)
-    → Hears (read_type s.limits T [] (enclosing s) p t form) s.taken o (Said v) q u → Same v w
-    → may_begin T (value_tag w) ≡ true
-field_tagged T s p t form v w q o u b x same = field_tagged_behind T [] s p t form v w q o u b x same

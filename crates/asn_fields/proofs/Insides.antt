@@ -1,21 +1,17 @@
 -- Where a reader stands while it reads the fields of a container.
 use Rattle.std.specs.Option.{is_some}
-use Rattle.std.proofs.Common.{Bool, IsSome, List, None, Ok, Option, Result, Some, [], ap, false, refl, subst, sym, ℕ, ◌∙◌, ◌∷◌, ◌≡◌}
+use Rattle.std.proofs.Common.{Bool, IsSome, List, None, Ok, Option, Result, Some, ap, false, refl, subst, sym, ℕ, ◌∙◌, ◌∷◌, ◌≡◌}
 use Rattle.tlv_core.specs.Identifier.{Tag}
 use Rattle.tlv_core.specs.declared.fault.ReadError.{ReadError}
 use Rattle.x690.specs.Points.{Enclosing}
 use Rattle.x690.specs.ReadHeaders.{DefiniteLength, IndefiniteLength, LengthForm, Next, next_tag}
-use Rattle.x690.specs.ReadTypes.{IsClosed, read_type}
 use Rattle.x690.specs.Reading.{Done, choose}
-use Rattle.x690.specs.Reads.{Heard}
-use Rattle.x690.specs.TypeTerms.{TypeTerm}
-use Rattle.x690.specs.Values.{Value}
 use Rattle.ber_pull.specs.Calls.{read_next}
 use Rattle.ber_pull.specs.Hears.{Hears, heard, next_at}
 use Rattle.ber_pull.specs.Standing.{IsAtEnd, Standing, after_next, container_of, enclosing, is_ended, opening, place, used}
 use Rattle.ber_pull.specs.declared.state.Container.TheVariants.{Definite, Ended, Indefinite}
 use Rattle.ber_pull.specs.declared.state.Container.{Container}
-use Rattle.ber_pull.proofs.Hearing.{hears_as, hears_at, hears_done}
+use Rattle.ber_pull.proofs.Hearing.{hears_at, hears_done}
 use Rattle.asn_fields.specs.Insides.{BeginsBefore, Inside, Within, given_by}
 
 -- A container that was opened isn't ended.
@@ -136,15 +132,3 @@ pub field_given : (outer : Standing) (inside : Enclosing) (s : Standing) (p : �
     → Inside outer inside s (next_at p n) → n ≡ Some t
     → s.given ≡ Some (record { at = p; tag = t.0; constructed = t.1 })
 field_given outer inside s p n t a e = inside_given outer inside s (next_at p n) a ∙ ap (λ w. given_by (next_at p w)) e
-
--- and is read at the point inside, as behind any earlier fields
-pub field_as : (outer : Standing) (inside : Enclosing) (s : Standing) (next : Next) (T : TypeTerm)
-    (earlier : List Value) (p : ℕ) (tag : Tag) (constructed : Bool) (h : Heard Value) (k i : ℕ) (o u : Option (List ℕ))
-    → IsClosed T → Inside outer inside s next
-    → Hears (read_type s.limits T [] (enclosing s) p tag constructed) k o h i u
-    → Hears (read_type outer.limits T earlier inside p tag constructed) k o h i u
-field_as outer inside s next T earlier p tag constructed h k i o u closed a x =
-    hears_as _ _ h k i o u
-    (ap (λ l. read_type l T [] (enclosing s) p tag constructed) (inside_limits outer inside s next a)
-    ∙ ap (λ c. read_type outer.limits T [] c p tag constructed) a.point
-    ∙ sym (closed outer.limits earlier inside p tag constructed)) x

@@ -28,12 +28,12 @@ begins_here l c k p (Some t) s o u x fits =
     (fits, (let at = next.at in let place = next.place in omega arith))
 
 -- behind any earlier fields
-pub field_short_behind : (T : TypeTerm) (earlier : List Value) (s : Standing) (p : ℕ) (t : Tag) (form : Bool)
+pub field_short : (T : TypeTerm) (earlier : List Value) (s : Standing) (p : ℕ) (t : Tag) (form : Bool)
     (v w : Value) (q : ℕ) (o u : Option (List ℕ))
     → BeginsBefore s (ElementStands p t form)
     → Hears (read_type s.limits T earlier (enclosing s) p t form) s.taken o (Said v) q u → Same v w
     → length (der w) < 2 ^ 32
-field_short_behind T earlier s p t form v w q o u b x same =
+field_short T earlier s p t form v w q o u b x same =
     let given = hears_given (read_type s.limits T earlier (enclosing s) p t form) v s.taken q o u x in
     let fits = b.0 in
     let few = fits.octets_fit in
@@ -42,9 +42,3 @@ field_short_behind T earlier s p t form v w q o u b x same =
     let is = ap length (canonical v w same) in
     let below = short.below in
     omega arith
-
-pub field_short : (T : TypeTerm) (s : Standing) (p : ℕ) (t : Tag) (form : Bool) (v w : Value) (q : ℕ)
-    (o u : Option (List ℕ))
-    → BeginsBefore s (ElementStands p t form)
-    → Hears (read_type s.limits T [] (enclosing s) p t form) s.taken o (Said v) q u → Same v w → length (der w) < 2 ^ 32
-field_short T s p t form v w q o u b x same = field_short_behind T [] s p t form v w q o u b x same

@@ -1,5 +1,5 @@
 -- Fields with one behind them that depends on them are told apart by their texts.
-use Rattle.std.proofs.Common.{◌≡◌, ◌∙◌, ◌+◌, ◌++◌, ◌&&◌, ◌∷◌, Bool, List, None, Option, Some, [], append_assoc, ap, false, map, refl, subst, sym, true, ℕ}
+use Rattle.std.proofs.Common.{◌≡◌, ◌∙◌, ◌+◌, ◌++◌, ◌&&◌, ◌∷◌, Bool, List, None, Option, Some, [], append_assoc, ap, false, map, subst, sym, true, ℕ}
 use Rattle.std.specs.Option.{option_map}
 use Rattle.x690.specs.DerTexts.{der}
 use Rattle.x690.specs.Lists.{Each, one_of}

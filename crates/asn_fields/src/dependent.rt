@@ -12,7 +12,7 @@ ghost use Rattle.ber_pull.specs.View.{standing, AsksNoMemory, Unmoved, Uses, Fra
 ghost use Rattle.asn_fields.specs.Apart.{may_begin};
 ghost use Rattle.asn_fields.specs.Fields.{IsInside, LeavesWithin, StaysInside, stands_next};
 ghost use Rattle.asn_fields.specs.Dependents.{AnswersBehind, RequiredBehind, OneTextBehind, OptionalBehind, TakesBehind, suits_where_there};
-ghost use Rattle.asn_fields.specs.Listings.{through};
+ghost use Rattle.asn_fields.specs.Listings.{nothing, through};
 ghost use Rattle.asn_fields.specs.DependentLaws.{dependent};
 
 use crate::fields::{Next, ahead};
@@ -74,6 +74,28 @@ pub trait DependentElement<A: FieldsText>: Sized + Drop {
         ensures { result ≡ slice_get (der (value self.now)) i };
 }
 
+/// The fields before an element that no other field bears on.
+#[derive(Drop)]
+pub struct NoFields;
+
+impl FieldsText for NoFields {
+    ghost values = { λ none. [] };
+
+    ghost listing = { nothing };
+
+    fn size(&self) -> u64 {
+        0
+    }
+
+    fn put<W: Target>(&self, sink: &mut Sink<'_, W>) -> Result<(), WriteError> {
+        sink.put(&[])
+    }
+
+    fn octet(&self, _i: u64) -> Option<u8> {
+        None
+    }
+}
+
 /// An element of a type that no other field bears on.
 #[derive(Drop)]
 pub struct Independent<T: Drop>(pub T);
@@ -117,7 +139,8 @@ impl<A: FieldsText, T: Element> DependentElement<A> for Independent<T> {
 /// A field that is due behind these, by itself: what stands behind it is looked at by `ahead`.
 ///
 /// Faults: `Missing` at the end of the container, `WrongTag` at another element; those of the field.
-fn take_dependent<R: Source, A: FieldsText, F: DependentElement<A>>(
+#[inline(always)]
+pub(crate) fn take_dependent<R: Source, A: FieldsText, F: DependentElement<A>>(
     alloc: Global,
     pull: &mut Pull<'_, R>,
     next: Next,
@@ -149,6 +172,7 @@ fn take_dependent<R: Source, A: FieldsText, F: DependentElement<A>>(
 ///
 /// Faults: `Missing` at the end of the container, `WrongTag` at another element; those of the field, and of
 /// `Pull::next_tag` behind it.
+#[inline(always)]
 pub fn due_dependent<R: Source, A: FieldsText, F: DependentElement<A>>(
     alloc: Global,
     pull: &mut Pull<'_, R>,
@@ -175,6 +199,7 @@ pub fn due_dependent<R: Source, A: FieldsText, F: DependentElement<A>>(
 /// A field behind these that may be absent.
 ///
 /// Faults: those of the field where it stands here, and of `Pull::next_tag` behind it.
+#[inline(always)]
 pub fn optional_dependent<R: Source, A: FieldsText, F: DependentElement<A>>(
     alloc: Global,
     pull: &mut Pull<'_, R>,

@@ -4,7 +4,8 @@
 //! then `end`. Its proof is a list of the rules of `proofs/BegunSequence.antt` in the same order: `after_` each call that gave
 //! a value, which keep in a record what was read so far and what is left, and `answered`, or `stopped_at_` the call
 //! that failed, where it returns. A rule on a field is tested between `take` and `ahead`, which `due` is put together
-//! from; one on the whole value behind `end`. `take`, `due` and `optional` also tell that the text of a field is short.
+//! from; one on the whole value behind `end`. `take`, `due` and `optional` also tell that the text of a field is short;
+//! they are the calls of `dependent`, where no field stands before.
 ghost use Rattle.std.specs.Prelude.{◌≡◌, ◌<◌, ◌^◌, IfOk, IfSome, IsSome, None, Ok, OnOk, false, length};
 ghost use Rattle.x690.specs.DerTexts.{der};
 ghost use Rattle.asn_fields.specs.FieldReadings.{read_end};
@@ -13,6 +14,7 @@ ghost use Rattle.ber_pull.specs.View.{standing, AsksNoMemory, Repeats, Unmoved, 
 ghost use Rattle.asn_fields.specs.Apart.{BeginsAs};
 ghost use Rattle.asn_fields.specs.Fields.{AnswersAhead, AnswersBegin, AnswersDue, AnswersInside, AnswersOptional, AnswersTake, IsInside, LeavesContainer, LeavesWithin, StandsAhead, StandsInto, StaysInside, next_of, stands_next};
 
+use crate::dependent::{Independent, NoFields, due_dependent, optional_dependent, take_dependent};
 use asn_elements::element::Element;
 use asn_elements::leaf_reading::expect_tag;
 use ber_pull::pull::Pull;
@@ -92,14 +94,8 @@ pub fn take<R: Source, T: Element>(
     ensures stands { OnOk result (LeavesWithin pull.old pull.new next) }
     ensures memory { stands_next T.type_term next ≡ false → AsksNoMemory pull.old result }
 {
-    let fits = match next.tag {
-        Some((tag, _)) => T::fits(tag),
-        None => return Err(pull.refuse(next.at, Reason::Missing, None)),
-    };
-    if !fits {
-        return Err(pull.refuse(next.at, Reason::WrongTag, None));
-    }
-    T::read(alloc, pull)
+    let Independent(field) = take_dependent(alloc, pull, next, &NoFields)?;
+    Ok(field)
 }
 
 /// A field that is due.
@@ -119,8 +115,7 @@ pub fn due<R: Source, T: Element>(
     ensures stands { OnOk result (StaysInside pull.old pull.new next.old next.new) }
     ensures memory { stands_next T.type_term next.old ≡ false → AsksNoMemory pull.old result }
 {
-    let field = take::<R, T>(alloc, pull, *next)?;
-    *next = ahead(pull)?;
+    let Independent(field) = due_dependent(alloc, pull, next, &NoFields)?;
     Ok(field)
 }
 
@@ -142,16 +137,11 @@ pub fn optional<R: Source, T: Element>(
     ensures absent { stands_next T.type_term next.old ≡ false
         → (result ≡ Ok None) × Unmoved pull.old pull.new × (next.new ≡ next.old) }
 {
-    let fits = match next.tag {
-        Some((tag, _)) => T::fits(tag),
-        None => return Ok(None),
-    };
-    if !fits {
-        return Ok(None);
+    let found = optional_dependent(alloc, pull, next, &NoFields)?;
+    match found {
+        Some(Independent(field)) => Ok(Some(field)),
+        None => Ok(None),
     }
-    let field = T::read(alloc, pull)?;
-    *next = ahead(pull)?;
-    Ok(Some(field))
 }
 
 /// The end of the container.

@@ -7,8 +7,8 @@ use Rattle.asn_fields.proofs.Insides.{field_given, stands_some, used_within}
 use Rattle.ber_pull.specs.declared.state.Given.{Given}
 use Rattle.asn_fields.specs.Fields.{next_of}
 use Rattle.asn_fields.specs.Insides.{BeginsBefore}
-use Rattle.asn_fields.proofs.FieldTags.{field_tagged_behind, stands_there}
-use Rattle.asn_fields.proofs.ShortFields.{field_short_behind}
+use Rattle.asn_fields.proofs.FieldTags.{field_tagged, stands_there}
+use Rattle.asn_fields.proofs.ShortFields.{field_short}
 use Rattle.asn_fields.proofs.FieldAnswers.{with_error}
 use Rattle.x690_laws.proofs.ReadingOfElements.{each_refl}
 use Rattle.asn_fields.proofs.Dependents.{there_as}
@@ -94,7 +94,7 @@ returns-clause-short g c =
     let given : Given = record { at = at; tag = c.in-Some.tag; constructed = c.in-Some.field-0-1 } in
     let read = c.in_ok-field.ensures.reads fields given (each_refl fields) c.requires.fine
     (field_given outer inside c.args.pull.now.state at n t a c.in-Some.is) in
-    field_short_behind g.F.DependentElement.type_term fields c.args.pull.now.state at c.in-Some.tag c.in-Some.field-0-1
+    field_short g.F.DependentElement.type_term fields c.args.pull.now.state at c.in-Some.tag c.in-Some.field-0-1
     read.0
     (g.F.DependentElement.value c.in_ok-field.field) _ _ _
     (subst (λ w. BeginsBefore c.args.pull.now.state (next_at at w)) c.in-Some.is a.begins) read.2 read.1
@@ -111,7 +111,7 @@ returns-clause-begins g c =
     let given : Given = record { at = at; tag = c.in-Some.tag; constructed = c.in-Some.field-0-1 } in
     let read = c.in_ok-field.ensures.reads fields given (each_refl fields) c.requires.fine
     (field_given outer inside c.args.pull.now.state at n t a c.in-Some.is) in
-    field_tagged_behind g.F.DependentElement.type_term fields c.args.pull.now.state at c.in-Some.tag c.in-Some.field-0-1
+    field_tagged g.F.DependentElement.type_term fields c.args.pull.now.state at c.in-Some.tag c.in-Some.field-0-1
     read.0
     (g.F.DependentElement.value c.in_ok-field.field) _ _ _
     (subst (λ w. BeginsBefore c.args.pull.now.state (next_at at w)) c.in-Some.is a.begins) read.2 read.1

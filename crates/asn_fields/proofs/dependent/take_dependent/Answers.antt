@@ -13,9 +13,9 @@ use Rattle.ber_pull.proofs.Hearing.{hears_stop}
 use Rattle.asn_fields.proofs.Insides.{field_given}
 use Rattle.asn_fields.specs.Apart.{may_begin}
 use Rattle.asn_fields.specs.Fields.{next_of}
-use Rattle.asn_fields.proofs.FieldTags.{field_tagged_behind, stands_there}
+use Rattle.asn_fields.proofs.FieldTags.{field_tagged, stands_there}
 use Rattle.asn_fields.proofs.FieldAnswers.{of_value, value_through}
-use Rattle.asn_fields.proofs.ShortFields.{field_short_behind}
+use Rattle.asn_fields.proofs.ShortFields.{field_short}
 use Rattle.asn_fields.proofs.Dependents.{there_as}
 use Rattle.asn_fields.proofs.dependent.take_dependent.Goals as goal
 
@@ -59,7 +59,7 @@ returns-clause-short g c =
     of_value c.read.result g.F.DependentElement.value _ _ _ _ _
     (λ field. length (der (g.F.DependentElement.value field)) < 2 ^ 32)
     (λ x v same h.
-    field_short_behind g.F.DependentElement.type_term fields c.args.pull.now.state at c.in-Some.tag c.in-Some.field-0-1
+    field_short g.F.DependentElement.type_term fields c.args.pull.now.state at c.in-Some.tag c.in-Some.field-0-1
     v
     (g.F.DependentElement.value x) _ _ _
     (subst (λ w. BeginsBefore c.args.pull.now.state (next_at at w)) c.in-Some.is a.begins) h same)
@@ -77,7 +77,7 @@ returns-clause-begins g c =
     of_value c.read.result g.F.DependentElement.value _ _ _ _ _
     (λ field. may_begin g.F.DependentElement.type_term (value_tag (g.F.DependentElement.value field)) ≡ true)
     (λ x v same h.
-    field_tagged_behind g.F.DependentElement.type_term fields c.args.pull.now.state at c.in-Some.tag c.in-Some.field-0-1
+    field_tagged g.F.DependentElement.type_term fields c.args.pull.now.state at c.in-Some.tag c.in-Some.field-0-1
     v
     (g.F.DependentElement.value x) _ _ _
     (subst (λ w. BeginsBefore c.args.pull.now.state (next_at at w)) c.in-Some.is a.begins) h same)

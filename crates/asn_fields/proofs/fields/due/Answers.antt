@@ -1,38 +1,23 @@
-use Rattle.std.proofs.Common.{rules}
-use Rattle.asn_fields.proofs.FieldReadings.{take_then}
-use Rattle.ber_pull.proofs.Hearing.{hears_done, hears_error, hears_then}
-use Rattle.asn_fields.proofs.Insides.{within_none}
+use Rattle.std.proofs.Common.{[], rules}
+use Rattle.ber_pull.proofs.Hearing.{hears_as}
 use Rattle.asn_fields.specs.Fields.{next_of}
 use Rattle.asn_fields.proofs.FieldAnswers.{with_error}
+use Rattle.asn_fields.proofs.FieldReadings.{due_any}
 use Rattle.asn_fields.proofs.fields.due.Goals as goal
 
 pub returns-in_err-field-clause-reads : goal.returns-in_err-field-clause-reads
 returns-in_err-field-clause-reads g c = λ earlier outer inside a.
     with_error _ _ c.from_residual.result c.in_err-field.field-0.0 (search rules)
-    (take_then _ _ _ _ _ _ _ _ _ _ (hears_error _ _ _ _ _ _ _ (c.in_err-field.ensures.reads earlier outer inside a)))
-
-pub ahead-requires-clause-used : goal.ahead-requires-clause-used
-ahead-requires-clause-used g c =
-    let outer = c.requires.inside.0 in
-    let inside = c.requires.inside.1 in
-    within_none outer inside c.take.new.pull.state (c.in_ok-field.ensures.stands outer inside c.requires.inside.2)
-
-pub returns-in_err-next-clause-reads : goal.returns-in_err-next-clause-reads
-returns-in_err-next-clause-reads g c = λ earlier outer inside a.
-    let read = c.in_ok-field.ensures.reads earlier outer inside a in
-    with_error _ _ c.from_residual-in_err-next.result c.in_err-next.field-0.0 (search rules)
-    (take_then _ _ _ _ _ _ _ _ _ _
-    (hears_then _ _ read.0 _ _ _ _ _ _ _ read.2
-    (hears_error _ _ _ _ _ _ _
-    (c.in_err-next.ensures.reads outer inside (c.in_ok-field.ensures.stands outer inside a)))))
+    (hears_as _ _ _ _ _ _ _
+    (due_any outer.limits g.T.Element.type_term earlier inside (next_of c.args.next.now) g.met.T.Element.closed)
+    (c.in_err-field.ensures.reads [] tt outer inside a))
 
 pub returns-clause-reads : goal.returns-clause-reads
 returns-clause-reads g c = λ earlier outer inside a.
-    let read = c.in_ok-field.ensures.reads earlier outer inside a in
-    let behind = c.in_ok-next.ensures.reads outer inside (c.in_ok-field.ensures.stands outer inside a) in (
+    let read = c.in_ok-field.ensures.reads [] tt outer inside a in (
       read.0,
       read.1,
-      take_then _ _ _ _ _ _ _ _ _ _
-          (hears_then _ _ read.0 _ _ _ _ _ _ _ read.2
-          (hears_then _ _ (next_of c.in_ok-next.field-0) _ _ _ _ _ _ _ behind (hears_done _ _ _))),
+      hears_as _ _ _ _ _ _ _
+          (due_any outer.limits g.T.Element.type_term earlier inside (next_of c.args.next.now) g.met.T.Element.closed)
+          read.2,
     )
