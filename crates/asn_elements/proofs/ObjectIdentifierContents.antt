@@ -1,5 +1,5 @@
 -- The contents of object identifiers.
-use Rattle.std.proofs.Common.{◌≡◌, Bool, List, false, refl, true, ℕ}
+use Rattle.std.proofs.Common.{◌≡◌, List, refl, true, ℕ}
 use Rattle.tlv_core.specs.ObjectIdentifier.{IsObjectIdentifier}
 use Rattle.x690.specs.Contents as kinds
 use Rattle.x690.specs.Contents.{LeafContents}
@@ -15,10 +15,3 @@ identifier_on o h = contents_on kinds.ObjectIdentifier (universal 6) o o (h, ref
 pub identifier_from : (o : List ℕ) → is_object_identifier o ≡ true → IsObjectIdentifier o
 unfolding LeafContents
 identifier_from o h = (contents_fit kinds.ObjectIdentifier (universal 6) o h).0
-
-pub identifier_off : (o : List ℕ) → (IsObjectIdentifier o → ⊥) → is_object_identifier o ≡ false
-identifier_off o h = go (is_object_identifier o) refl
-  where
-    go : (b : Bool) → is_object_identifier o ≡ b → is_object_identifier o ≡ false
-    go true e = absurd (h (identifier_from o e))
-    go false e = e

@@ -6,7 +6,7 @@ use Rattle.tlv_core.specs.declared.fault.ReadError.{ReadError}
 use Rattle.tlv_core.specs.declared.source.Source.{Ghosts}
 use Rattle.x690.specs.Contents as kinds
 use Rattle.x690.specs.Contents.{LeafKind}
-use Rattle.x690.specs.ReadContents.{all_members, is_integer_contents, read_leaf}
+use Rattle.x690.specs.ReadContents.{all_members, is_integer_contents, is_object_identifier, read_leaf}
 use Rattle.x690.specs.ReadHeaders.{Ended}
 use Rattle.x690.specs.ReadTypes.{read_type}
 use Rattle.x690.specs.Lists.{Each}
@@ -35,6 +35,7 @@ abbrev pub kind_of : SimpleType → LeafKind
 kind_of coded.Boolean = kinds.Boolean
 kind_of coded.Integer = kinds.Integer
 kind_of coded.Null = kinds.Null
+kind_of coded.ObjectIdentifier = kinds.ObjectIdentifier
 kind_of coded.BitString = kinds.BitString
 kind_of coded.OctetString = kinds.OctetString
 kind_of coded.Utf8String = kinds.Utf8String
@@ -49,6 +50,7 @@ abbrev pub HasContents : SimpleType → List ℕ → Type 0
 HasContents coded.Boolean contents = (contents ≡ 0 ∷ []) ⊎ (contents ≡ 255 ∷ [])
 HasContents coded.Integer contents = is_integer_contents contents ≡ true
 HasContents coded.Null contents = contents ≡ []
+HasContents coded.ObjectIdentifier contents = is_object_identifier contents ≡ true
 HasContents coded.BitString contents = (0 < length contents) × IsDerBits contents
 HasContents coded.OctetString contents = Unit {0}
 HasContents coded.Utf8String contents = is_utf8 contents ≡ true

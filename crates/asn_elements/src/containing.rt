@@ -13,7 +13,7 @@ ghost use Rattle.asn_elements.specs.Contained.{AnswersContained};
 use crate::der_text::DerText;
 use crate::element::Element;
 use crate::framing::{Stands, element_size, find_octet, put_header};
-use crate::leaf_reading::{SimpleType, expect_tag, read_leaf};
+use crate::leaf_reading::{SimpleType, expect_tag, read_leaf_into};
 use crate::tags::{is_same_tag, universal_tag};
 use crate::whole::read_whole;
 use ber_pull::pull::Pull;
@@ -44,7 +44,8 @@ pub fn read_contained<R: Source, T: Element>(
 {
     let at = expect_tag(pull, own)?;
     let limits = pull.limits();
-    let octets = read_leaf(alloc, pull, SimpleType::OctetString)?;
+    let mut octets = Vec::new(alloc);
+    read_leaf_into(alloc, pull, SimpleType::OctetString, &mut octets)?;
     match read_whole(alloc, &octets, limits) {
         Ok(value) => Ok(value),
         Err(ReadError::Fault(fault)) => {

@@ -1,7 +1,6 @@
 //! INTEGER (X.690 8.3).
 ghost use Rattle.x690_laws.proofs.TextsTellApart.{leaf_one_text};
 ghost use Rattle.std.specs.Prelude.{◌≡◌, ◌↔◌, ◌≤◌, ◌<◌, ◌^◌, Err, IfOk, IsSome, IsTrue, None, OnOk, Some, length, true};
-ghost use Rattle.tlv_core.specs.Identifier.{Tag as Identified};
 ghost use Rattle.asn_elements.specs.declared.build.BuildError.TheVariants.{Bad, TooBig};
 ghost use Rattle.x690_laws.proofs.TypesClosed.{leaf_closed};
 ghost use Rattle.x690.specs.Contents.{Integer, IsInteger};
@@ -11,10 +10,9 @@ ghost use Rattle.x690.specs.Layouts.{universal};
 ghost use Rattle.x690.specs.TypeTerms.{LeafType};
 ghost use Rattle.x690.specs.Values.{Leaf};
 ghost use Rattle.ber_pull.specs.Contents.{octet_or};
-ghost use Rattle.ber_pull.specs.Hears.{heard};
-ghost use Rattle.ber_pull.specs.View.{standing, Repeats, Answers, Uses, Frame};
+ghost use Rattle.ber_pull.specs.View.{standing, Repeats, Uses, Frame};
 ghost use Rattle.ber_pull.specs.declared.state.Given.{Given};
-ghost use Rattle.asn_elements.specs.Reading.{AnswersValue, read_given, read_given_leaf};
+ghost use Rattle.asn_elements.specs.Reading.{AnswersValue, read_given};
 
 use crate::build::BuildError;
 use crate::der_text::DerText;
@@ -90,28 +88,7 @@ pub fn read_integer_octet<R: Source>(
     ensures others { IfOk result (λ octet. octet ≡ None → length others.new.items ≡ 1 → ⊥) }
     ensures stands { OnOk result (Uses pull.old pull.new) }
 {
-    expect_tag(pull, own)?;
-    let octet = read_octet(pull, others)?;
-    Ok(octet)
-}
-
-/// The same, whatever its tag.
-#[inline(always)]
-fn read_octet<R: Source>(
-    pull: &mut Pull<'_, R>,
-    others: &mut Vec<u8>,
-) -> Result<Option<u8>, ReadError>
-    requires { (standing pull.old).error ≡ None → IsSome (standing pull.old).given }
-    ensures frame { Frame pull.old pull.new result }
-    ensures repeats { Repeats pull.old pull.new result }
-    ensures reads { (own : Identified) (g : Given) → (standing pull.old).error ≡ None
-        → (standing pull.old).given ≡ Some g
-        → Answers pull.old pull.new (read_given_leaf Integer own (standing pull.old) g)
-        (heard (λ octet. Leaf own (octet_or others.new.items octet)) result) }
-    ensures others { IfOk result (λ octet. octet ≡ None → length others.new.items ≡ 1 → ⊥) }
-    ensures stands { OnOk result (Uses pull.old pull.new) }
-{
-    let at = pull.at();
+    let at = expect_tag(pull, own)?;
     let octet = pull.primitive_octet(others)?;
     if octet.is_none() && !is_integer(others) {
         return Err(pull.refuse(at, Reason::BadInteger, None));

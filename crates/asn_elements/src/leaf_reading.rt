@@ -22,16 +22,18 @@ use ber_pull::pull::Pull;
 use simdutf8::is_utf8;
 use std::alloc::Global;
 use tlv_core::fault::ReadError;
+use tlv_core::oid::is_object_identifier;
 use tlv_core::reason::Reason;
 use tlv_core::source::Source;
 use tlv_core::tag::Tag;
 
-/// The kinds of leaves, OBJECT IDENTIFIER apart.
+/// The kinds of leaves.
 #[derive(Clone, Copy)]
 pub enum SimpleType {
     Boolean,
     Integer,
     Null,
+    ObjectIdentifier,
     BitString,
     OctetString,
     Utf8String,
@@ -85,6 +87,7 @@ fn is_contents(kind: SimpleType, contents: &[u8]) -> bool
         SimpleType::Boolean => contents.len() == 1,
         SimpleType::Integer => is_integer(contents),
         SimpleType::Null => contents.is_empty(),
+        SimpleType::ObjectIdentifier => is_object_identifier(contents),
         SimpleType::BitString => is_bit_segment(contents),
         SimpleType::OctetString => is_string(false, contents),
         SimpleType::Utf8String => is_string(true, contents),
@@ -100,6 +103,7 @@ fn bad_contents(kind: SimpleType) -> Reason
         SimpleType::Boolean => Reason::BadBoolean,
         SimpleType::Integer => Reason::BadInteger,
         SimpleType::Null => Reason::BadNull,
+        SimpleType::ObjectIdentifier => Reason::BadOid,
         SimpleType::BitString => Reason::BadBits,
         SimpleType::OctetString | SimpleType::Utf8String => Reason::BadText,
     }
@@ -231,32 +235,12 @@ pub fn read_leaf_into<R: Source>(
         SimpleType::BitString => *contents = read_bits_leaf(alloc, pull)?,
         SimpleType::OctetString => read_octets_leaf(alloc, pull, false, contents)?,
         SimpleType::Utf8String => read_octets_leaf(alloc, pull, true, contents)?,
-        SimpleType::Boolean | SimpleType::Integer | SimpleType::Null => read_primitive_leaf(
-            pull, kind, contents,
-        )?,
+        SimpleType::Boolean
+        | SimpleType::Integer
+        | SimpleType::Null
+        | SimpleType::ObjectIdentifier => read_primitive_leaf(pull, kind, contents)?,
     }
     Ok(())
-}
-
-/// The DER contents of the leaf that is given, whatever its tag.
-pub fn read_leaf<R: Source>(
-    alloc: Global,
-    pull: &mut Pull<'_, R>,
-    kind: SimpleType,
-) -> Result<Vec<u8>, ReadError>
-    requires { (standing pull.old).error ≡ None → IsSome (standing pull.old).given }
-    ensures frame { Frame pull.old pull.new result }
-    ensures repeats { Repeats pull.old pull.new result }
-    ensures reads { (own : Identified) (g : Given) → (standing pull.old).error ≡ None
-        → (standing pull.old).given ≡ Some g
-        → Answers pull.old pull.new (read_given_leaf (kind_of kind) own (standing pull.old) g)
-        (heard (λ v. Leaf own v.items) result) }
-    ensures contents { IfOk result (λ v. HasContents kind v.items) }
-    ensures stands { OnOk result (Uses pull.old pull.new) }
-{
-    let mut contents = Vec::new(alloc);
-    read_leaf_into(alloc, pull, kind, &mut contents)?;
-    Ok(contents)
 }
 
 /// The DER contents of the leaf that is given, of this tag and kind.
@@ -278,6 +262,7 @@ pub fn read_leaf_as<R: Source>(
     ensures stands { OnOk result (Uses pull.old pull.new) }
 {
     expect_tag(pull, own)?;
-    let contents = read_leaf(alloc, pull, kind)?;
+    let mut contents = Vec::new(alloc);
+    read_leaf_into(alloc, pull, kind, &mut contents)?;
     Ok(contents)
 }

@@ -18,7 +18,7 @@ ghost use Rattle.asn_elements.specs.Reading.{kind_of, string_kind};
 use crate::der_text::DerText;
 use crate::element::Element;
 use crate::leaf::{leaf_octet, leaf_size, put_leaf};
-use crate::leaf_reading::{SimpleType, read_leaf};
+use crate::leaf_reading::{SimpleType, read_leaf_into};
 use crate::tags::{is_same_tag, universal_tag};
 use ber_pull::pull::Pull;
 use std::alloc::Global;
@@ -136,7 +136,8 @@ impl Element for Text {
 
     fn read<R: Source>(alloc: Global, pull: &mut Pull<'_, R>) -> Result<Text, ReadError> {
         let tag = expect_string(pull)?;
-        let octets = read_leaf(alloc, pull, kind_by_tag(tag))?;
+        let mut octets = Vec::new(alloc);
+        read_leaf_into(alloc, pull, kind_by_tag(tag), &mut octets)?;
         Ok(Text { tag, octets })
     }
 }

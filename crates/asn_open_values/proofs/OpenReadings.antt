@@ -6,7 +6,7 @@ use Rattle.tlv_core.specs.declared.fault.ReadError.{ReadError}
 use Rattle.tlv_core.specs.declared.fault.ReadError.TheVariants as errors
 use Rattle.tlv_core.specs.declared.reason.Reason.TheVariants.{LeftOut, WrongForm}
 use Rattle.tlv_core.specs.declared.source.Source.{Ghosts}
-use Rattle.x690.specs.Contents.{LeafKind, ObjectIdentifier}
+use Rattle.x690.specs.Contents.{LeafKind}
 use Rattle.x690.specs.DerTexts.{der}
 use Rattle.x690.specs.OpenValues as forms
 use Rattle.x690.specs.OpenValues.{open_form}
@@ -206,17 +206,13 @@ octets_by deep s g tag form e f is h =
     ap (λ z. read_given_contents z tag s g) is
     ∙ (ap (λ t. read_given_octets t s g) e ∙ plain_is deep s g (ap form_of (sym is) ∙ (h ∙ ap open_form e)) f)
 
-pub leaf_by : (deep : ℕ) (s : Standing) (g : Given) (tag : Tag) (form : OpenForm) → tag ≡ g.tag
-    → ((kind : SimpleType) × (form ≡ coded.Leaf kind)) ⊎ (form ≡ coded.Identifier) → form_of form ≡ open_form tag
+pub leaf_by : (deep : ℕ) (s : Standing) (g : Given) (tag : Tag) (kind : SimpleType) (form : OpenForm) → tag ≡ g.tag
+    → form ≡ coded.Leaf kind → form_of form ≡ open_form tag
     → read_given_contents form tag s g ≡ read_given_open (suc deep) s g
-leaf_by deep s g tag form e (inl (kind, is)) h =
+leaf_by deep s g tag kind form e is h =
     ap (λ z. read_given_contents z tag s g) is
     ∙ (ap (λ t. read_given_leaf (kind_of kind) t s g) e
     ∙ leaf_is (kind_of kind) deep s g (ap form_of (sym is) ∙ (h ∙ ap open_form e)))
-leaf_by deep s g tag form e (inr is) h =
-    ap (λ z. read_given_contents z tag s g) is
-    ∙ (ap (λ t. read_given_leaf ObjectIdentifier t s g) e
-    ∙ leaf_is ObjectIdentifier deep s g (ap form_of (sym is) ∙ (h ∙ ap open_form e)))
 
 -- a form that has no kind
 pub no_kind : (form : OpenForm) (own : Tag) (s : Standing) (g : Given)

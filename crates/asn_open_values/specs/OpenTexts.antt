@@ -3,7 +3,6 @@ use Rattle.std.specs.Prelude.{Bool, IfSome, List, MatchResult, Result, false, le
 use Rattle.tlv_core.specs.Identifier.{Tag}
 use Rattle.tlv_core.specs.declared.fault.ReadError.{ReadError}
 use Rattle.tlv_core.specs.declared.source.Source.{Ghosts}
-use Rattle.x690.specs.Contents as kinds
 use Rattle.x690.specs.DerTexts.{der, texts_of}
 use Rattle.x690.specs.OpenValues as forms
 use Rattle.x690.specs.ReadContents.{all_members, read_open}
@@ -24,7 +23,6 @@ use Rattle.asn_open_values.specs.declared.open_form.OpenForm.TheVariants as code
 
 abbrev pub form_of : OpenForm → forms.OpenForm
 form_of (coded.Leaf kind) = forms.OpenLeaf (kind_of kind)
-form_of coded.Identifier = forms.OpenLeaf kinds.ObjectIdentifier
 form_of coded.Sequence = forms.OpenSequence
 form_of coded.SetOf = forms.OpenSetOf
 form_of coded.Plain = forms.OpenPlain
@@ -41,7 +39,6 @@ read_given_octets own s g = read_primitive s g >>= λ contents. Done (Leaf own c
 -- the element that is given, as a leaf of this tag: by its kind where the form has one, else its octets as they are
 abbrev pub read_given_contents : OpenForm → Tag → Standing → Given → Reading Value
 read_given_contents (coded.Leaf kind) own s g = read_given_leaf (kind_of kind) own s g
-read_given_contents coded.Identifier own s g = read_given_leaf kinds.ObjectIdentifier own s g
 read_given_contents coded.Sequence own s g = read_given_octets own s g
 read_given_contents coded.SetOf own s g = read_given_octets own s g
 read_given_contents coded.Plain own s g = read_given_octets own s g

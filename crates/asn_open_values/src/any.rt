@@ -16,7 +16,7 @@ ghost use Rattle.asn_open_values.specs.KeptValues.{identifier_kept, text_kept};
 use crate::open_value::append_open;
 use asn_elements::der_text::DerText;
 use asn_elements::element::Element;
-use asn_elements::object_identifier::read_identifier;
+use asn_elements::leaf_reading::{SimpleType, read_leaf_into};
 use asn_elements::tags::{is_same_tag, universal_tag};
 use ber_pull::pull::Pull;
 use std::alloc::Global;
@@ -107,13 +107,13 @@ impl Element for Any {
         let Some((tag, constructed)) = pull.next_tag()? else {
             unreachable!()
         };
+        let mut room = Vec::new(alloc);
         if is_same_tag(universal_tag(6), tag) {
-            let oid = read_identifier(alloc, pull)?;
+            read_leaf_into(alloc, pull, SimpleType::ObjectIdentifier, &mut room)?;
             return Ok(Any {
-                kept: Kept::Identifier(oid),
+                kept: Kept::Identifier(Oid::from_checked(room)),
             });
         }
-        let mut room = Vec::new(alloc);
         let mut text = Vec::new(alloc);
         append_open(alloc, pull, &mut room, &mut text, tag, constructed)?;
         Ok(Any {

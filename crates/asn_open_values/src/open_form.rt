@@ -10,8 +10,6 @@ use tlv_core::tag::{Class, Tag};
 #[derive(Clone, Copy)]
 pub enum OpenForm {
     Leaf(SimpleType),
-    /// An OBJECT IDENTIFIER.
-    Identifier,
     Sequence,
     SetOf,
     /// Octets where it is primitive, elements in order where it is constructed.
@@ -33,7 +31,7 @@ pub fn open_form(tag: Tag) -> OpenForm
         3 => OpenForm::Leaf(SimpleType::BitString),
         4 | 7 | 18..=28 | 30 => OpenForm::Leaf(SimpleType::OctetString),
         5 => OpenForm::Leaf(SimpleType::Null),
-        6 => OpenForm::Identifier,
+        6 => OpenForm::Leaf(SimpleType::ObjectIdentifier),
         12 => OpenForm::Leaf(SimpleType::Utf8String),
         16 => OpenForm::Sequence,
         17 => OpenForm::SetOf,

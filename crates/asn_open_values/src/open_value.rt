@@ -10,7 +10,6 @@ ghost use Rattle.ber_pull.specs.Standing.{failed_with};
 ghost use Rattle.ber_pull.specs.View.{standing, source, Repeats, Answers, Uses, Frame};
 ghost use Rattle.ber_pull.specs.declared.state.Given.{Given};
 ghost use Rattle.asn_elements.specs.Framing.{framed};
-ghost use Rattle.asn_open_values.specs.declared.open_form.OpenForm.TheVariants.{Identifier};
 ghost use Rattle.asn_elements.specs.Members.{StandIn};
 ghost use Rattle.asn_open_values.specs.OpenTexts.{AnswersText, AnswersTexts, IsNext, StandBehind, read_given_container, read_given_contents, read_given_open, read_given_open_members};
 
@@ -18,7 +17,6 @@ use crate::open_form::{OpenForm, open_form};
 use crate::texts::in_order;
 use asn_elements::keep::keep;
 use asn_elements::leaf_reading::read_leaf_into;
-use asn_elements::object_identifier::read_identifier_into;
 use ber_pull::pull::Pull;
 use std::alloc::{AllocError, Global};
 use tlv_core::der::{header, short_header};
@@ -89,7 +87,6 @@ fn read_contents<R: Source>(
 {
     match form {
         OpenForm::Leaf(kind) => read_leaf_into(alloc, pull, kind, contents),
-        OpenForm::Identifier => read_identifier_into(pull, contents),
         OpenForm::Sequence | OpenForm::SetOf | OpenForm::Plain | OpenForm::Refused => {
             pull.primitive_into(contents)
         }
@@ -290,7 +287,7 @@ pub fn append_open<R: Source>(
             let at = pull.at();
             Err(pull.refuse(at, Reason::LeftOut, None))
         }
-        OpenForm::Leaf(_) | OpenForm::Identifier => append_leaf(alloc, pull, room, text, tag, form),
+        OpenForm::Leaf(_) => append_leaf(alloc, pull, room, text, tag, form),
         OpenForm::Sequence => append_sequence(alloc, pull, room, text, tag),
         OpenForm::SetOf => append_set(alloc, pull, room, text, tag),
         OpenForm::Plain if constructed => append_sequence(alloc, pull, room, text, tag),

@@ -177,7 +177,7 @@ append_open-returns-in-Leaf-clause-reads g t c = λ deep given fine is bound.
     (refl, refl) next.0.depth_fits deep given fine is bound
     (λ d s. read_given_contents c.open_form-form.result c.args.tag s given) _ _ _
     (λ d.
-    leaf_by d c.args.pull.now.state given c.args.tag c.open_form-form.result
+    leaf_by d c.args.pull.now.state given c.args.tag _ c.open_form-form.result
     (sym tied.0) c.in-Leaf.is c.open_form-form.ensures)
     (λ d fine' is' bound'. c.append_leaf.ensures.reads given fine' is')
 

@@ -38,27 +38,28 @@ returns-in_err-tag-clause-reads g c = λ given fine is.
     (λ text. Leaf text.tag text.octets.items) c.from_residual.result c.in_err-tag.field-0.0 (search rules)
     (hears_as _ _ _ _ _ _ _ (sym (string_is c.args.pull.now.state given)) (c.in_err-tag.ensures.stops given fine is _))
 
-pub returns-in_err-octets-clause-reads : goal.returns-in_err-octets-clause-reads
-returns-in_err-octets-clause-reads g c = λ given fine is.
+pub returns-in_err-read_leaf_into-clause-reads : goal.returns-in_err-read_leaf_into-clause-reads
+returns-in_err-read_leaf_into-clause-reads g c = λ given fine is.
     let ok = c.in_ok-tag.ensures in
-    value_err c.args.pull.now c.read_leaf.new.pull (read_given string_types c.args.pull.now.state given)
-    (λ text. Leaf text.tag text.octets.items) c.from_residual-in_err-octets.result c.in_err-octets.field-0.0
+    value_err c.args.pull.now c.read_leaf_into.new.pull (read_given string_types c.args.pull.now.state given)
+    (λ text. Leaf text.tag text.octets.items)
+    c.from_residual-in_err-read_leaf_into.result c.in_err-read_leaf_into.field-0.0
     (search rules)
-    (leaf_read c.args.pull.now c.expect_string.new.pull c.read_leaf.new.pull given c.in_ok-tag.tag
+    (leaf_read c.args.pull.now c.expect_string.new.pull c.read_leaf_into.new.pull given c.in_ok-tag.tag
     (kind_of c.kind_by_tag.result) _ ok.same (ok.is given fine is) ok.string c.kind_by_tag.ensures
-    (c.in_err-octets.ensures.reads c.in_ok-tag.tag given
+    (c.in_err-read_leaf_into.ensures.reads c.in_ok-tag.tag given
     (fine_still c.args.pull.now c.expect_string.new.pull ok.same fine)
     (given_still c.args.pull.now c.expect_string.new.pull given ok.same is)))
 
 pub returns-clause-reads : goal.returns-clause-reads
 returns-clause-reads g c = λ given fine is.
     let ok = c.in_ok-tag.ensures in
-    let value = Leaf c.in_ok-tag.tag c.in_ok-octets.octets.items in (
+    let value = Leaf c.in_ok-tag.tag c.read_leaf_into.new.contents.items in (
       value,
       equivalence.same_refl value,
-      leaf_read c.args.pull.now c.expect_string.new.pull c.read_leaf.new.pull given c.in_ok-tag.tag
+      leaf_read c.args.pull.now c.expect_string.new.pull c.read_leaf_into.new.pull given c.in_ok-tag.tag
           (kind_of c.kind_by_tag.result) _ ok.same (ok.is given fine is) ok.string c.kind_by_tag.ensures
-          (c.in_ok-octets.ensures.reads c.in_ok-tag.tag given
+          (c.in_ok-read_leaf_into.ensures.reads c.in_ok-tag.tag given
           (fine_still c.args.pull.now c.expect_string.new.pull ok.same fine)
           (given_still c.args.pull.now c.expect_string.new.pull given ok.same is)),
     )
