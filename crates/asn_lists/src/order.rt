@@ -70,7 +70,7 @@ fn is_in_order<T: DerText>(alloc: Global, items: &[T], octets: &[u8]) -> Result<
     ensures { IfOk result (λ answer. IsTrue answer
         ↔ IsSorted (slice_cmp nat_cmp) (map der (map T.value items.now))) }
 {
-    let (starts, _) = starts_of(alloc, items)?;
+    let (starts, _) = starts_of(alloc, items, 0)?;
     Ok(ascend(octets, &starts))
 }
 

@@ -1,5 +1,5 @@
 // Members one after another, with where the text of each begins.
-ghost use Rattle.std.specs.Prelude.{◌≡◌, ◌+◌, ◌^◌, ◌<◌, ◌≤◌, IfOk, IfSome, IsNone, false, get_or, length, map, slice_get};
+ghost use Rattle.std.specs.Prelude.{◌≡◌, ◌+◌, ◌^◌, ◌<◌, ◌≤◌, ◌∷◌, IfOk, IfSome, IsNone, drop, false, get_or, length, map, slice_get};
 ghost use Rattle.tlv_core.specs.Sinks.{count, is_broken, Puts};
 ghost use Rattle.x690.specs.DerTexts.{texts_of};
 ghost use Rattle.asn_elements.specs.Framing.{framed};
@@ -12,19 +12,35 @@ use tlv_core::sink::{Sink, WriteError};
 use tlv_core::tag::Tag;
 use tlv_core::target::{Target, ToWrite};
 
-/// Where the text of each item begins, and the length of all.
-pub fn starts_of<T: DerText>(alloc: Global, items: &[T]) -> Result<(Vec<u64>, u64), AllocError>
-    requires { length (texts_of (map T.value items.now)) < 2 ^ 63 }
-    ensures starts { IfOk result (λ r. r.0.items ≡ starts_from 0 (map T.value items.now)) }
-    ensures content { IfOk result (λ r. r.1 ≡ length (texts_of (map T.value items.now))) }
+/// Where the text of each item begins, the first at `place`, and where all end.
+pub fn starts_of<T: DerText>(
+    alloc: Global,
+    items: &[T],
+    place: u64,
+) -> Result<(Vec<u64>, u64), AllocError>
+    requires { place + length (texts_of (map T.value items.now)) < 2 ^ 63 }
+    ensures starts { IfOk result (λ r. r.0.items ≡ starts_from place (map T.value items.now)) }
+    ensures end { IfOk result (λ r. r.1 ≡ place + length (texts_of (map T.value items.now))) }
 {
     let mut starts = Vec::with_capacity(alloc, items.len())?;
-    let mut content = 0u64;
+    let mut end = place;
     for item in items {
-        starts.push(content)?;
-        content += item.size();
+        starts.push(end)?;
+        end += item.size();
     }
-    Ok((starts, content))
+    Ok((starts, end))
+}
+
+/// Where the text of each item behind the first begins, and the length of all.
+fn later_starts<T: DerText>(alloc: Global, items: &[T]) -> Result<(Vec<u64>, u64), AllocError>
+    requires { length (texts_of (map T.value items.now)) < 2 ^ 63 }
+    ensures starts { IfOk result (λ r. r.0.items ≡ drop 1 (starts_from 0 (map T.value items.now))) }
+    ensures content { IfOk result (λ r. r.1 ≡ length (texts_of (map T.value items.now))) }
+{
+    match items.split_first() {
+        None => Ok((Vec::new(alloc), 0)),
+        Some((first, later)) => starts_of(alloc, later, first.size()),
+    }
 }
 
 /// The length of the texts of the items.
@@ -85,20 +101,18 @@ pub fn contents_length<T: DerText>(items: &[T]) -> Option<u64>
     Some(content)
 }
 
-/// The last start that isn't past the place.
+/// How many of the starts aren't past the place.
 pub fn find(starts: &[u64], at: u64) -> usize
-    requires some { 0 < length starts.now }
-    requires first { get_or starts.now 0 0 ≤ at }
-    ensures within { result < length starts.now }
-    ensures before { get_or starts.now result 0 ≤ at }
-    ensures after { result + 1 < length starts.now → at < get_or starts.now (result + 1) 0 }
+    ensures within { result ≤ length starts.now }
+    ensures before { get_or (0 ∷ starts.now) result 0 ≤ at }
+    ensures after { result < length starts.now → at < get_or starts.now result 0 }
 {
     let mut low = 0;
     let mut high = starts.len();
-    while high - low > 1 {
+    while low < high {
         let middle = low + (high - low) / 2;
         if starts[middle] <= at {
-            low = middle;
+            low = middle + 1;
         } else {
             high = middle;
         }
@@ -106,13 +120,14 @@ pub fn find(starts: &[u64], at: u64) -> usize
     low
 }
 
-/// Members, with where the text of each begins and the length of all.
+/// Members, with where the text of each behind the first begins and the length of all.
 #[derive(Drop)]
 pub struct Row<T: DerText> {
     pub items: Vec<T>,
+    /// (none of one member, as most containers have)
     pub starts: Vec<u64>,
     pub content: u64,
-    pub ghost begins: { starts.items ≡ starts_from 0 (map T.value items.items) },
+    pub ghost begins: { starts.items ≡ drop 1 (starts_from 0 (map T.value items.items)) },
     pub ghost counted: { content ≡ length (texts_of (map T.value items.items)) },
     pub ghost small: { content < 2 ^ 63 },
 }
@@ -122,7 +137,7 @@ impl<T: DerText> Row<T> {
         requires { length (texts_of (map T.value items.items)) < 2 ^ 63 }
         ensures { IfOk result (λ r. r.items ≡ items) }
     {
-        let (starts, content) = starts_of(alloc, &items)?;
+        let (starts, content) = later_starts(alloc, &items)?;
         Ok(Row {
             items,
             starts,
@@ -160,7 +175,8 @@ impl<T: DerText> Row<T> {
                 }
                 let starts: &[u64] = &self.starts;
                 let k = find(starts, at);
-                self.items[k].octet(at - starts[k])
+                let start = if k == 0 { 0 } else { starts[k - 1] };
+                self.items[k].octet(at - start)
             }
         }
     }
