@@ -75,16 +75,11 @@ none_longer (suc count) start x y more =
     go true h = h
     go false h = refl
 
-pub of_no_octets : (least most : ℕ) (contents : List ℕ) → length contents < 1
+pub of_others : (least most : ℕ) (contents : List ℕ) → (length contents ≡ 1 → ⊥)
     → false ≡ one_of contents (versions least most)
-of_no_octets least most [] h = none_empty (suc most - least) least
-of_no_octets least most (x ∷ more) h = absurd (omega arith)
-
-pub of_more_octets : (least most : ℕ) (contents : List ℕ) → 2 ≤ length contents
-    → false ≡ one_of contents (versions least most)
-of_more_octets least most [] h = absurd (omega arith)
-of_more_octets least most (x ∷ []) h = absurd (omega arith)
-of_more_octets least most (x ∷ y ∷ more) h = none_longer (suc most - least) least x y more
+of_others least most [] h = none_empty (suc most - least) least
+of_others least most (x ∷ []) h = absurd (h refl)
+of_others least most (x ∷ y ∷ more) h = none_longer (suc most - least) least x y more
 
 -- the rule, of an INTEGER with these contents
 module _ (allowed : List (List ℕ)) (contents : List ℕ) (v : Value) (same : Same v (Leaf (universal 2) contents)) where

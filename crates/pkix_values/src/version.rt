@@ -12,7 +12,7 @@ ghost use Rattle.pkix_values.specs.Versions.{versions};
 
 use asn_values::der_text::DerText;
 use asn_values::element::Element;
-use asn_values::integer::Int;
+use asn_values::integer::read_integer_octet;
 use asn_values::tags::{is_same_tag, universal_tag};
 use ber_pull::pull::Pull;
 use std::alloc::Global;
@@ -62,17 +62,6 @@ fn is_version<const LEAST: u8, const MOST: u8>(number: u8) -> bool
     number < 128
 }
 
-/// The number with these contents of an INTEGER, where the type has it.
-fn number_of<const LEAST: u8, const MOST: u8>(contents: &[u8]) -> Option<u8>
-    ensures listed { is_some result ≡ one_of contents.now (versions LEAST MOST) }
-    ensures is { IfSome result (λ number. contents.now ≡ number ∷ []) }
-{
-    match contents {
-        [number] if is_version::<LEAST, MOST>(*number) => Some(*number),
-        _ => None,
-    }
-}
-
 impl<const LEAST: u8, const MOST: u8> DerText for Version<LEAST, MOST> {
     ghost use Rattle.pkix_values.specs.VersionNumbers.{version_number};
 
@@ -113,10 +102,10 @@ impl<const LEAST: u8, const MOST: u8> Element for Version<LEAST, MOST> {
         pull: &mut Pull<'_, R>,
     ) -> Result<Version<LEAST, MOST>, ReadError> {
         let at = pull.at();
-        let integer = Int::read(alloc, pull)?;
-        let Some(number) = number_of::<LEAST, MOST>(integer.contents()) else {
-            return Err(pull.refuse(at, Reason::Version, None));
-        };
-        Ok(Version { number })
+        let mut others = Vec::new(alloc);
+        match read_integer_octet(pull, universal_tag(2), &mut others)? {
+            Some(number) if is_version::<LEAST, MOST>(number) => Ok(Version { number }),
+            _ => Err(pull.refuse(at, Reason::Version, None)),
+        }
     }
 }
