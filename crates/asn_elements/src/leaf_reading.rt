@@ -244,6 +244,7 @@ pub fn read_leaf_into<R: Source>(
 }
 
 /// The DER contents of the leaf that is given, of this tag and kind.
+#[inline(always)]
 pub fn read_leaf_as<R: Source>(
     alloc: Global,
     pull: &mut Pull<'_, R>,

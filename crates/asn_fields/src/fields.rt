@@ -33,20 +33,8 @@ pub struct Next {
 }
 
 /// What stands behind the element that was read, or first in the container that was entered.
-pub fn ahead<R: Source>(pull: &mut Pull<'_, R>) -> Result<Next, ReadError>
-    requires fine { (standing pull.old).error ≡ None }
-    requires used { (standing pull.old).given ≡ None }
-    ensures frame { Frame pull.old pull.new result }
-    ensures reads { AnswersAhead pull.old pull.new result }
-    ensures stands { IfOk result (StandsAhead pull.old pull.new) }
-    ensures memory { AsksNoMemory pull.old result }
-{
-    look_ahead(pull)
-}
-
-/// The same, within the function that calls it.
 #[inline(always)]
-fn look_ahead<R: Source>(pull: &mut Pull<'_, R>) -> Result<Next, ReadError>
+pub fn ahead<R: Source>(pull: &mut Pull<'_, R>) -> Result<Next, ReadError>
     requires fine { (standing pull.old).error ≡ None }
     requires used { (standing pull.old).given ≡ None }
     ensures frame { Frame pull.old pull.new result }
@@ -72,7 +60,7 @@ pub fn begin<R: Source>(pull: &mut Pull<'_, R>, tag: Tag) -> Result<Next, ReadEr
 {
     expect_tag(pull, tag)?;
     pull.enter()?;
-    let next = look_ahead(pull)?;
+    let next = ahead(pull)?;
     Ok(next)
 }
 

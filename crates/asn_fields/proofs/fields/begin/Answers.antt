@@ -71,5 +71,5 @@ returns-clause-stands g c =
     let within = opens_within opens.0 c.enter.new.self.state.taken c.args.pull.now.state c.enter.new.self.state
     (opens.1 ∙ ap (λ z. opening opens.0 (used c.enter.new.self.state.taken z)) same.0) in
     let inside = c.in_ok-next.ensures.stands c.args.pull.now.state (enclosing c.enter.new.self.state) within in
-    subst (λ e. Inside c.args.pull.now.state e c.look_ahead.new.pull.state (next_of c.in_ok-next.next))
+    subst (λ e. Inside c.args.pull.now.state e c.ahead.new.pull.state (next_of c.in_ok-next.next))
     (sym inside.point) inside
