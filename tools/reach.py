@@ -77,10 +77,12 @@ class Reach:
         text = self.texts[file]
         if file == self.top:
             text = re.sub(rf"^use ({'|'.join(self.modules)})\b", r"use crate::\1", text, flags=re.M)
+        # (of an import of several names each)
+        text = re.sub(r"\bcrate::\{([^}]*)", lambda it: re.sub(r"(?:^|,)\s*", " crate::", it[1]), text)
         paths = re.findall(rf"\bRattle\.{self.name}((?:\.[\w+]+)+)|\bcrate((?:::\w+)+)", text)
         paths = [(dotted.split(".") if dotted else colons.split("::"))[1:] for dotted, colons in paths]
         found = {self.named(it[0], it[1:]) if it[0] in PARTS and it[1:] else self.module(it) for it in paths}
-        return {*found, *self.modules.values()} if re.search(r"\b(?:super|self)::", text) else found
+        return {*found, *self.modules.values()} if re.search(r"\b(?:super|self)::|\bcrate::\*", text) else found
 
     @functools.cache
     def contracts(self, file):

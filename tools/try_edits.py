@@ -44,7 +44,7 @@ FILES = """== src/lib.rt
 #![tactic(auto)]
 mod a;
 == src/a.rt
-use crate::b::high;
+use crate::{b::high, lib::LEAST};
 
 pub fn low() -> u8
     ensures { P }
