@@ -1,5 +1,6 @@
 -- What is seen of a source that keeps what it gives.
-use Rattle.std.specs.Prelude.{ℕ, Bool, List, [], ◌∷◌, ◌++◌, None, Option, Some, length}
+use Rattle.std.specs.Prelude.{ℕ, Bool, List, [], ◌∷◌, ◌++◌, ◌-◌, None, Option, Some, length, take}
+use Rattle.std.specs.Vec.{vec_capacity, vec_len}
 use Rattle.tlv_core.specs.declared.source.Source.{Ghosts}
 use Rattle.asn_documents.specs.declared.keeping.Keeping.{Keeping}
 
@@ -14,6 +15,11 @@ kept keeping = keeping.kept.now.items
 
 abbrev pub failed : {R : Type 0} {s : Ghosts R} → Keeping R s → Bool
 failed keeping = keeping.failed
+
+-- the octets that its source has at hand, as many as there is room for
+abbrev pub held : {R : Type 0} {s : Ghosts R} → Keeping R s → List ℕ
+held {R} {s} keeping =
+    take (vec_capacity keeping.kept.now - vec_len keeping.kept.now) (s.at_hand keeping.src.now)
 
 -- what was kept and what is still told, where it is told
 abbrev pub whole : List ℕ → Option (List ℕ) → List ℕ

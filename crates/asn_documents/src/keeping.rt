@@ -36,8 +36,7 @@ impl<'a, R: Source> Keeping<'a, R> {
 }
 
 impl<R: Source> Source for Keeping<'_, R> {
-    ghost use Rattle.asn_documents.specs.Keepings.{source, failed, frame};
-    ghost use Rattle.tlv_core.specs.Sources.{none_at_hand};
+    ghost use Rattle.asn_documents.specs.Keepings.{source, failed, frame, held};
 
     ghost remaining = { λ keeping. R.remaining (source keeping) };
 
@@ -45,7 +44,7 @@ impl<R: Source> Source for Keeping<'_, R> {
 
     ghost frame = { λ keeping. frame keeping };
 
-    ghost at_hand = { λ _. none_at_hand };
+    ghost at_hand = { λ keeping. held keeping };
 
     fn read(&mut self, room: &mut [u8]) -> Result<usize, Failed> {
         if self.kept.reserve(room.len()).is_err() {
@@ -69,11 +68,17 @@ impl<R: Source> Source for Keeping<'_, R> {
         self.failed
     }
 
+    // (passing octets can't ask for memory: those that there is no room for have to be read)
     fn held(&self) -> &[u8] {
-        &[]
+        let held = self.src.held();
+        let room = self.kept.capacity() - self.kept.len();
+        &held[..held.len().min(room)]
     }
 
-    fn pass(&mut self, _count: usize) {}
+    fn pass(&mut self, count: usize) {
+        keep(self.kept, &self.src.held()[..count]);
+        self.src.pass(count);
+    }
 }
 
 ghost use Rattle.std.specs.Prelude.{◌++◌, ◌+◌, ◌≤◌, length};
