@@ -17,7 +17,7 @@ use tlv_core::limits::Limits;
 use tlv_core::source::Source;
 
 /// How many octets are kept before room is asked for again.
-const FIRST: usize = 256;
+const FIRST: usize = 1024;
 
 /// Reads one value of a type, and answers the number of octets taken and the first place where they differ from its DER
 /// text: `None` where they are in DER. The octets are kept as they come; not one octet past the value is taken.
