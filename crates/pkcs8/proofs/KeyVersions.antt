@@ -16,8 +16,7 @@ use Rattle.asn_fields.specs.declared.either.Either.{Either}
 use Rattle.asn_fields.specs.declared.either.Either.TheVariants.{First, Second}
 use Rattle.asn_fields.specs.Dependents.{suits_as, suits_where_there}
 use Rattle.asn_elements.specs.declared.bits.Bits.{Bits}
-use Rattle.pkcs8.specs.Seen.{bits_in, bits_of}
-use Rattle.pkcs8.specs.declared.public_key.PublicKey.{PublicKey}
+use Rattle.pkcs8.specs.Seen.{PublicKey, bits_in, bits_of}
 
 pub both_first : (a b : Bool) → (a && b) ≡ true → a ≡ true
 both_first true b e = refl

@@ -2,15 +2,27 @@
 use Rattle.std.specs.Prelude.{List, None, Option, Some, [], false, true, ℕ, ◌∷◌, ◌≡◌}
 use Rattle.asn_elements.specs.Implicits.{value_under}
 use Rattle.asn_elements.specs.declared.bits.Bits.{Bits}
+use Rattle.asn_elements.specs.declared.boxed.Boxed.{Boxed}
+use Rattle.asn_elements.specs.declared.containing.Containing.{Containing}
+use Rattle.asn_elements.specs.declared.der_text.DerText.{Ghosts}
+use Rattle.asn_elements.specs.declared.implicit.Implicit.{Implicit}
 use Rattle.asn_elements.specs.declared.octets.Octets.{Octets}
+use Rattle.asn_fields.specs.declared.defined_by.DefinedBy.{DefinedBy}
+use Rattle.asn_fields.specs.declared.dependent.Independent.{Independent}
 use Rattle.asn_fields.specs.declared.either.Either.TheVariants.{First, Second}
 use Rattle.asn_fields.specs.declared.either.Either.{Either}
+use Rattle.asn_fields.specs.declared.refused.Refused.{Refused}
+use Rattle.asn_fields.specs.declared.ruled_behind.RuledBehind.{RuledBehind}
+use Rattle.asn_fields.specs.declared.ruled_containing.RuledContaining.{RuledContaining}
 use Rattle.pkix_definitions.specs.Identifiers.{ec_public_key, rfc8410_algorithms, rsa_encryption}
 use Rattle.x690.specs.Lists.{one_of}
-use Rattle.pkcs8.specs.declared.private_key.ContainedKey.{ContainedKey}
 use Rattle.pkcs8.specs.declared.private_key.PrivateKey.{PrivateKey}
 use Rattle.pkcs8.specs.declared.private_key.PrivateKey.TheVariants.{Carried, Curve, Ec, Rsa}
-use Rattle.pkcs8.specs.declared.public_key.PublicKey.{PublicKey}
+use Rattle.pkcs8.specs.declared.private_key.UnderCurve.{UnderCurve}
+use Rattle.pkcs8.specs.declared.private_key.UnderEc.{UnderEc}
+use Rattle.pkcs8.specs.declared.private_key.UnderRsa.{UnderRsa}
+use Rattle.pkcs8.specs.declared.public_key.KeyBits.{KeyBits}
+use Rattle.pkcs8.specs.declared.public_key.PublicKeyUnderVersion0.{PublicKeyUnderVersion0}
 use Rattle.private_keys.specs.declared.curve_key.CurveKey.{CurveKey}
 use Rattle.private_keys.specs.declared.ec_private_key.EcPrivateKey.{EcPrivateKey}
 use Rattle.private_keys.specs.RsaParts.{RsaPrivateKey}
@@ -27,9 +39,14 @@ key_seen (Rsa key) = Second (Second (First key.now))
 key_seen (Carried octets) = Second (Second (Second octets.now))
 
 -- what is there
-abbrev pub key_in : ContainedKey → AnyKey
+abbrev pub key_in : {ec_text : Ghosts EcPrivateKey} {curve_text : Ghosts CurveKey} {rsa_text : Ghosts (Boxed RsaPrivateKey)}
+    → DefinedBy (RuledContaining EcPrivateKey UnderEc ec_text)
+    (DefinedBy (RuledContaining CurveKey UnderCurve curve_text)
+    (DefinedBy (Independent (Containing (Boxed RsaPrivateKey) rsa_text)) (Independent Octets) UnderRsa) UnderCurve)
+    UnderEc
+    → AnyKey
 key_in contained =
-    elim contained.0.value [
+    elim contained.value [
       | First ec ↦ First ec.string.inner
       | Second others ↦ elim others.value [
         | First curve ↦ Second (First curve.string.inner)
@@ -50,9 +67,15 @@ GoesWith algorithm (Second (Second (Second octets))) =
     × (one_of algorithm rfc8410_algorithms ≡ false)
     × (one_of algorithm (rsa_encryption ∷ []) ≡ false)
 
--- the bits of a public key, none of what is refused
+-- publicKey, as it is kept
+abbrev pub PublicKey : Type 0
+PublicKey =
+    DefinedBy (Independent (Refused PublicKeyUnderVersion0)) (RuledBehind (Implicit 1 Bits) KeyBits)
+    PublicKeyUnderVersion0
+
+-- its bits, none of what is refused
 abbrev pub bits_in : PublicKey → Option Bits
-bits_in key = elim key.0.value [ First refused ↦ None | Second ruled ↦ Some (value_under ruled.value) ]
+bits_in key = elim key.value [ First refused ↦ None | Second ruled ↦ Some (value_under ruled.value) ]
 
 -- where there may be one
 abbrev pub bits_of : Option PublicKey → Option Bits

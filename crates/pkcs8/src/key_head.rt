@@ -5,6 +5,7 @@ ghost use Rattle.pkix_definitions.proofs.Fairs.{fair_ec_parameters};
 ghost use Rattle.pkix_definitions.proofs.LawfulTypes.{honest_ec_parameters};
 ghost use Rattle.pkix_definitions.specs.Identifiers.{ec_public_key, rsa_encryption};
 ghost use Rattle.pkix_definitions.specs.Rules.{container_curve, ec_parameters_rule};
+ghost use Rattle.pkix_values.specs.Algorithms.{algorithm_of};
 ghost use Rattle.pkcs8.specs.Keys.{curve_octets, identifier_of};
 ghost use Rattle.x690.specs.Lists.{one_of};
 ghost use Rattle.x690.specs.Values.{leaf_at};
@@ -28,18 +29,23 @@ use tlv_core::target::Target;
 
 /// Fields that begin with the version and the algorithm of a private key.
 pub trait NamesKey: FieldsText {
-    /// The version.
-    fn version(&self) -> u8
-        ensures { leaf_at (0 ∷ []) (Self.values self.now) ≡ result ∷ [] };
+    /// These two.
+    fn head(&self) -> &KeyHead
+        ensures version { leaf_at (0 ∷ []) (Self.values self.now) ≡ result.now.0.0.0.number ∷ [] }
+        ensures algorithm { leaf_at (1 ∷ 0 ∷ []) (Self.values self.now)
+            ≡ algorithm_of result.now.0.1.0.value }
+        ensures curve { container_curve (Self.values self.now)
+            ≡ container_curve (⟦<KeyHead as FieldsText>⟧.values result.now) };
+}
 
-    /// The algorithm.
-    fn algorithm(&self) -> &Oid
-        ensures { leaf_at (1 ∷ 0 ∷ []) (Self.values self.now) ≡ result.now };
-
-    /// The curve, which id-ecPublicKey has as its parameters.
-    fn curve(&self) -> Option<&Oid>
-        ensures { container_curve (Self.values self.now)
-            ≡ curve_octets (option_map (λ r. r.now) result) };
+/// Whether it is version 0, v1.
+pub fn is_version_0(number: u8) -> bool
+    ensures { result ≡ one_of (number ∷ []) ((0 ∷ []) ∷ []) }
+{
+    match number {
+        0 => true,
+        _ => false,
+    }
 }
 
 /// Whether it is id-ecPublicKey (RFC 5480 section 2.1.1).
@@ -106,38 +112,44 @@ pub struct KeyHead(Listed);
 
 impl KeyHead {
     /// The version's number.
-    pub fn number(&self) -> u8
+    pub fn version(&self) -> u8
         ensures { result ≡ self.now.0.0.0.number }
     {
         self.0.0.0.number()
     }
 
-    /// The algorithm.
+    /// The algorithm, with its parameters.
     pub fn algorithm_identifier(&self) -> &AlgorithmIdentifier
         ensures { result.now ≡ self.now.0.1.0.value }
     {
         self.0.1.0.value()
     }
-}
 
-impl NamesKey for KeyHead {
-    #[tactic(auto, unfolding(x690::specs::Values::leaf_at))]
-    fn version(&self) -> u8 {
-        self.0.0.0.number()
-    }
-
-    #[tactic(auto, unfolding(x690::specs::Values::leaf_at))]
-    fn algorithm(&self) -> &Oid {
+    /// The algorithm.
+    pub fn algorithm(&self) -> &Oid
+        ensures { result.now ≡ algorithm_of self.now.0.1.0.value }
+    {
         self.algorithm_identifier().algorithm()
     }
 
-    fn curve(&self) -> Option<&Oid> {
+    /// The curve, which id-ecPublicKey has as its parameters.
+    pub fn curve(&self) -> Option<&Oid>
+        ensures { container_curve (⟦<KeyHead as FieldsText>⟧.values self.now)
+            ≡ curve_octets (option_map (λ r. r.now) result) }
+    {
         let algorithm = self.algorithm_identifier();
         if is_ec_public_key(algorithm.algorithm()) {
             named_in(algorithm.parameters())
         } else {
             None
         }
+    }
+}
+
+impl NamesKey for KeyHead {
+    #[tactic(auto, unfolding(x690::specs::Values::leaf_at))]
+    fn head(&self) -> &KeyHead {
+        self
     }
 }
 

@@ -9,14 +9,13 @@ ghost use Rattle.pkix_definitions.specs.DocumentTypes.{OneAsymmetricKey as OneAs
 ghost use Rattle.pkix_definitions.specs.Rules.{key_version_rule};
 ghost use Rattle.pkcs8.specs.Seen.{GoesWith, key_seen};
 ghost use Rattle.pkix_values.specs.Algorithms.{algorithm_of};
-ghost use Rattle.x690.specs.Lists.{one_of};
 ghost use Rattle.asn_fields.specs.Listings.{through};
 ghost use Rattle.x690.specs.Layouts.{universal};
 ghost use Rattle.x690.specs.TypeTerms.{EndOfFields, SequenceType};
 
-use crate::key_head::{KeyHead, NamesKey};
+use crate::key_head::{KeyHead, NamesKey, is_version_0};
 use crate::private_key::{ContainedKey, PrivateKey};
-use crate::public_key::PublicKey;
+use crate::public_key::{PublicKey, key_bits};
 use asn_values::bits::Bits;
 use asn_values::dependent::Dependent;
 use asn_values::der_text::DerText;
@@ -32,7 +31,6 @@ use pkix_values::algorithm::AlgorithmIdentifier;
 use pkix_values::attribute::Attribute;
 use std::alloc::Global;
 use tlv_core::fault::ReadError;
-use tlv_core::oid::Oid;
 use tlv_core::reason::Reason;
 use tlv_core::sink::{Sink, WriteError};
 use tlv_core::source::Source;
@@ -51,18 +49,8 @@ pub struct KeyBody(BodyListed);
 
 impl NamesKey for KeyBody {
     #[tactic(auto, unfolding(x690::specs::Values::leaf_at))]
-    fn version(&self) -> u8 {
-        self.0.0.earlier().version()
-    }
-
-    #[tactic(auto, unfolding(x690::specs::Values::leaf_at))]
-    fn algorithm(&self) -> &Oid {
-        self.0.0.earlier().algorithm()
-    }
-
-    #[tactic(auto, unfolding(x690::specs::Values::leaf_at))]
-    fn curve(&self) -> Option<&Oid> {
-        self.0.0.earlier().curve()
+    fn head(&self) -> &KeyHead {
+        self.0.0.earlier()
     }
 }
 
@@ -170,23 +158,13 @@ impl RuledFields for KeyFields {
     ghost alone = { λ earlier. refl };
 
     fn judge(&self) -> Option<Reason> {
-        if is_version_0(self.body().0.0.earlier().number()) {
+        if is_version_0(self.body().0.0.earlier().version()) {
             return None;
         }
         match self.public_key() {
             Some(_) => None,
             None => Some(Reason::VersionRule),
         }
-    }
-}
-
-/// Whether it is version 0, v1.
-fn is_version_0(number: u8) -> bool
-    ensures { result ≡ one_of (number ∷ []) ((0 ∷ []) ∷ []) }
-{
-    match number {
-        0 => true,
-        _ => false,
     }
 }
 
@@ -207,7 +185,7 @@ impl OneAsymmetricKey {
     pub fn version(&self) -> u8
         ensures { result ≡ key_version_of self.now }
     {
-        self.body().0.0.earlier().number()
+        self.body().0.0.earlier().version()
     }
 
     /// What the key is for.
@@ -222,7 +200,7 @@ impl OneAsymmetricKey {
         ensures value { key_seen result ≡ private_key_of self.now }
         ensures goes_with { GoesWith (algorithm_of (key_algorithm_of self.now)) (key_seen result) }
     {
-        self.body().0.0.field().key()
+        PrivateKey::in_field(self.body().0.0.field())
     }
 
     /// What is said of the key, in the order of the texts. Attributes that are absent aren't the same as none of them.
@@ -241,7 +219,7 @@ impl OneAsymmetricKey {
         ensures stands { is_some result ≡ (key_version_of self.now == 1) }
     {
         match self.0.value().public_key() {
-            Some(key) => key.bits(),
+            Some(key) => key_bits(key),
             None => None,
         }
     }
@@ -265,7 +243,7 @@ impl DerText for OneAsymmetricKey {
     }
 }
 
-#[tactic(auto, unfolding(pkix_definitions::specs::DocumentTypes::OneAsymmetricKey))]
+#[tactic(auto, unfolding(pkix_definitions::specs::DocumentTypes::OneAsymmetricKey, pkix_definitions::specs::DocumentTypes::RSAPrivateKey))]
 impl Element for OneAsymmetricKey {
     ghost type_term = { OneAsymmetricKeyType };
 

@@ -31,11 +31,11 @@ returns-in-Some-clause-stands c =
     let version = fields.earlier.0.0.earlier.0.0.0 in
     let stands : is_some (bits_of fields.field) ≡ not (one_of (version.number ∷ []) ((0 ∷ []) ∷ [])) =
     stands_by (one_of (version.number ∷ []) ((0 ∷ []) ∷ [])) _ fields.field fields.suits
-    (λ k s. seen_by_version _ _ (λ ruled. value_under ruled.value) _ k.0.value s) (passes c.args.self.now) in
+    (λ k s. seen_by_version _ _ (λ ruled. value_under ruled.value) _ k.value s) (passes c.args.self.now) in
     let field =
     c.public_key.ensures ∙ ap (λ f. f.0.field) (c.deref.ensures ∙ ap (λ r. r.fields) c.value.ensures.value) in
-    shown_where_there (λ r. r.now) c.bits.result
-    ∙ ap is_some (c.bits.ensures ∙ ap bits_of (sym c.in-Some.is ∙ field))
+    shown_where_there (λ r. r.now) c.key_bits.result
+    ∙ ap is_some (c.key_bits.ensures ∙ ap bits_of (sym c.in-Some.is ∙ field))
     ∙ stands
     ∙ is_1 version.number version.allowed
 
@@ -47,7 +47,7 @@ returns-in-None-clause-stands c =
     let version = fields.earlier.0.0.earlier.0.0.0 in
     let stands : is_some (bits_of fields.field) ≡ not (one_of (version.number ∷ []) ((0 ∷ []) ∷ [])) =
     stands_by (one_of (version.number ∷ []) ((0 ∷ []) ∷ [])) _ fields.field fields.suits
-    (λ k s. seen_by_version _ _ (λ ruled. value_under ruled.value) _ k.0.value s) (passes c.args.self.now) in
+    (λ k s. seen_by_version _ _ (λ ruled. value_under ruled.value) _ k.value s) (passes c.args.self.now) in
     let field =
     c.public_key.ensures ∙ ap (λ f. f.0.field) (c.deref.ensures ∙ ap (λ r. r.fields) c.value.ensures.value) in
     ap (λ f. is_some (bits_of f)) (sym c.in-None.is ∙ field) ∙ stands ∙ is_1 version.number version.allowed

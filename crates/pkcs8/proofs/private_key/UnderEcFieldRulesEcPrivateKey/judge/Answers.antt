@@ -10,7 +10,7 @@ returns-then-eq g c =
     sym (another_curve (λ t. t.inner) (λ t. bit_string_of t.inner) (key.0.0.0.number ∷ []) (octets_of key.0.1.0)
     (g.A.FieldsText.values c.args.earlier.now)
     key.1.0.0 key.1.1.0 c.contents_of-own.result.now c.contents_of.result.now true
-    (c.contents_of-own.ensures ∙ ap curve_octets c.curve.ensures) (c.curve-due.ensures ∙ sym c.contents_of.ensures)
+    (c.contents_of-own.ensures ∙ ap curve_octets c.curve.ensures) (c.head.ensures.curve ∙ c.curve-due.ensures ∙ sym c.contents_of.ensures)
     (search rules) (search rules))
 
 pub returns-else-eq : goal.returns-else-eq
@@ -19,7 +19,7 @@ returns-else-eq g c =
     sym (another_curve (λ t. t.inner) (λ t. bit_string_of t.inner) (key.0.0.0.number ∷ []) (octets_of key.0.1.0)
     (g.A.FieldsText.values c.args.earlier.now)
     key.1.0.0 key.1.1.0 c.contents_of-own.result.now c.contents_of.result.now false
-    (c.contents_of-own.ensures ∙ ap curve_octets c.curve.ensures) (c.curve-due.ensures ∙ sym c.contents_of.ensures)
+    (c.contents_of-own.ensures ∙ ap curve_octets c.curve.ensures) (c.head.ensures.curve ∙ c.curve-due.ensures ∙ sym c.contents_of.ensures)
     (search rules) (search rules))
 
 pub returns-then-has_length_on : goal.returns-then-has_length_on
@@ -27,11 +27,13 @@ returns-then-has_length_on g c =
     let key = c.args.field.now.0.value.fields.0 in
     sym (of_no_curve (λ t. t.inner) (λ t. bit_string_of t.inner) (key.0.0.0.number ∷ []) (octets_of key.0.1.0)
     (g.A.FieldsText.values c.args.earlier.now) key.1.0.0 key.1.1.0 c.contents_of-own.result.now _ true
-    (c.contents_of-own.ensures ∙ ap curve_octets c.curve.ensures) c.curve-due.ensures (search rules) (search rules))
+    (c.contents_of-own.ensures ∙ ap curve_octets c.curve.ensures) (c.head.ensures.curve ∙ c.curve-due.ensures)
+    (search rules) (search rules))
 
 pub returns-else-has_length_on : goal.returns-else-has_length_on
 returns-else-has_length_on g c =
     let key = c.args.field.now.0.value.fields.0 in
     sym (of_no_curve (λ t. t.inner) (λ t. bit_string_of t.inner) (key.0.0.0.number ∷ []) (octets_of key.0.1.0)
     (g.A.FieldsText.values c.args.earlier.now) key.1.0.0 key.1.1.0 c.contents_of-own.result.now _ false
-    (c.contents_of-own.ensures ∙ ap curve_octets c.curve.ensures) c.curve-due.ensures (search rules) (search rules))
+    (c.contents_of-own.ensures ∙ ap curve_octets c.curve.ensures) (c.head.ensures.curve ∙ c.curve-due.ensures)
+    (search rules) (search rules))

@@ -1,7 +1,7 @@
 use Rattle.std.proofs.Common.{rules, ◌∙◌, [], ap, sym}
 use Rattle.pkcs8.specs.Keys.{curve_octets, identifier_of}
 use Rattle.pkcs8.proofs.Curves.{curve_elsewhere, curve_here}
-use Rattle.pkcs8.proofs.key_head.KeyHeadNamesKey.curve.Goals as goal
+use Rattle.pkcs8.proofs.key_head.KeyHead.curve.Goals as goal
 
 pub returns-then-is_ec_public_key : goal.returns-then-is_ec_public_key
 returns-then-is_ec_public_key c =
