@@ -22,7 +22,7 @@ from packing import NUMBER, TOP
 
 ARCHIVE = f"pkder-{NUMBER}-x86_64-linux"
 STATIC, DYNAMIC, MADE_BY = (f"{TOP}/tools/out/{it}" for it in ("pkder-static", "pkder-glibc", "MADE-BY"))
-MADE_OF = ("crates", "crates.txt", "tools/static_program.sh", "tools/words_for_musl.c")
+MADE_OF = ("crates", "crates.txt", "tools/static_program.sh", "tools/for_musl.c")
 LIBRARIES = tuple(f"{TOP}/{it}" for it in build.MADE[1:])
 # what packing needs, and the package of Debian that has it
 TOOLS = {"musl-gcc": "musl-tools", "objcopy": "binutils", "cc": "gcc", "dpkg-buildpackage": "dpkg-dev",

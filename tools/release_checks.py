@@ -26,6 +26,8 @@ from packing import ABOUT, NUMBER, TOP
 
 PROGRAM, LIBRARY = f"{TOP}/{build.PROGRAM}", release.LIBRARIES[-1]
 KEY = f"{TOP}/examples/long-lengths.der"
+# What tools/static_program.sh links.
+MUSL = "/usr/lib/x86_64-linux-musl/libc.a"
 IN_PYTHON = """import sys, pkder
 print(pkder._library._name)
 print(pkder.check(pkder.Kind.KEY, open(sys.argv[1], "rb").read()))"""
@@ -140,6 +142,25 @@ def measured():
         yield f"{os.path.basename(file)} needs {found}, and should need {due}", found == due
 
 
+def names_in(file, *flags):
+    """The names that nm tells of a file, those that a linker may pass over left out."""
+    told = subprocess.run(["nm", *flags, file], capture_output=True, text=True, check=True).stdout
+    return set(re.findall(r"(?m) [^w\W] (\w+)(?:@.*)?$", told))
+
+
+def of_musl(work):
+    """Whether musl, with tools/for_musl.c, has the calls that the program asks of the C library: else the archive's
+    program can't be linked. (What begins with two underscores is between glibc and itself.)"""
+    if not shutil.which("musl-gcc") or not os.path.isfile(MUSL):
+        print("left out: no musl (Debian: musl-tools)")
+        return
+    own = f"{work}/for_musl.o"
+    subprocess.run(["musl-gcc", "-std=c11", "-c", "-o", own, "tools/for_musl.c"], check=True)
+    there = names_in(own, "--defined-only") | names_in(MUSL, "--defined-only")
+    asked = {it for it in names_in(PROGRAM, "-D", "--undefined-only") if not it.startswith("__")}
+    yield f"musl has all that the program asks for, but not {sorted(asked - there)}", asked and asked <= there
+
+
 def of_debian(work):
     """Whether Debian's lists have what tools/install.sh puts in place: each file in one, and no other."""
     root = f"{work}/root"
@@ -186,6 +207,7 @@ def looks(work):
     yield from opened_wheel(next(it for it in first if it.endswith(".whl")), work)
     yield from opened_sources(sources)
     yield from measured()
+    yield from of_musl(work)
     yield from of_debian(work)
     yield from on_first_processor()
 

@@ -29,7 +29,7 @@ compiled() {
 
 linked_with_musl() {
     objcopy --redefine-sym main=program_main "$out/pkder.o" "$out/renamed.o"
-    musl-gcc -std=c11 -O2 -Wall -Wextra -fPIE -c -o "$out/words.o" "$top/tools/words_for_musl.c"
+    musl-gcc -std=c11 -O2 -Wall -Wextra -fPIE -c -o "$out/words.o" "$top/tools/for_musl.c"
     ld -static -pie --no-dynamic-linker -s -z text -z relro -z now -z noexecstack -o "$out/pkder-static" \
         "$musl/rcrt1.o" "$musl/crti.o" "$out/renamed.o" "$out/words.o" "$kit/c/libos_c.a" "$kit/c/liblibc_c.a" \
         "$musl/libc.a" "$(cc -print-libgcc-file-name)" "$musl/crtn.o"

@@ -1,9 +1,14 @@
-/* The words of the command line for a program that is linked with musl, in the place of what the toolchain has for
- * glibc: that takes them where .init_array is run, to which musl hands none. The program's own main has another name
- * there (tools/static_program.sh). Not proved: what the program's proofs assume of the two calls has to be read here. */
+/* What a program that is linked with musl has in the place of what the toolchain has for glibc. Not proved: what the
+ * program's proofs assume of these calls has to be read here.
+ *
+ * The words of the command line: the toolchain's own calls take them where .init_array is run, to which musl hands
+ * none. The program's own main has another name there (tools/static_program.sh). */
+#define _DEFAULT_SOURCE
 #include <stddef.h>
 #include <stdint.h>
+#include <sys/syscall.h>
 #include <sys/types.h>
+#include <unistd.h>
 
 static size_t count;
 static char **words;
@@ -30,6 +35,11 @@ ssize_t rattle_arg(size_t at, uint8_t *dst, size_t room) {
         dst[size] = (uint8_t)words[at][size];
     }
     return (ssize_t)size;
+}
+
+/* What a file is. musl has this call since 1.2.5, and Debian 12 has 1.2.3. */
+__attribute__((weak)) int statx(int folder, const char *path, int flags, unsigned int mask, void *told) {
+    return (int)syscall(SYS_statx, folder, path, flags, mask, told);
 }
 
 int main(int argc, char **argv) {
