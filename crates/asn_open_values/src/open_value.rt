@@ -37,8 +37,8 @@ fn push_element(
         ++ (der_header tag constructed (length contents.now) ++ contents.now)) }
 {
     let length = contents.len() as u64;
-    // (one growth for both)
-    text.reserve(contents.len() + 4)?;
+    // (one growth for both: behind a tag below 31 stand five octets of length at most)
+    text.reserve(contents.len() + 6)?;
     match short_header(tag, constructed, length) {
         Some(octets) => text.extend_from_slice(&octets)?,
         None => text.extend_from_slice(header(tag, constructed, length).octets())?,
