@@ -1,7 +1,6 @@
 -- What makes a private key, by its algorithm.
 use Rattle.std.specs.Prelude.{List, None, Option, Some, [], slice_get, ℕ}
-use Rattle.asn_elements.specs.Leaves.{integer_of, octets_of}
-use Rattle.asn_elements.specs.declared.integer.Int.{Int}
+use Rattle.asn_elements.specs.Leaves.{octets_of}
 use Rattle.asn_fields.specs.declared.either.Either.TheVariants.{First, Second}
 use Rattle.pkix_definitions.specs.Identifiers.{ec_public_key}
 use Rattle.pkix_values.specs.Algorithms.{algorithm_of, parameters_of}
@@ -32,9 +31,9 @@ parts_seen (seen.Rsa modulus exponent) = Rsa modulus.now exponent.now
 parts_seen (seen.Carried algorithm) = Carried algorithm.now
 
 -- the contents octets of a number, where it is there
-abbrev pub number_octets : Option Int → List ℕ
+abbrev pub number_octets : Option (List ℕ) → List ℕ
 number_octets None = []
-number_octets (Some number) = integer_of number
+number_octets (Some contents) = contents
 
 -- modulus and publicExponent
 abbrev pub rsa_parts : RsaPrivateKey → Parts

@@ -1,13 +1,11 @@
 //! What makes a private key, by its algorithm.
 ghost use Rattle.std.specs.Prelude.{[], ◌≡◌, ◌∷◌};
 ghost use Rattle.std.specs.Option.{option_map};
-ghost use Rattle.asn_elements.specs.Leaves.{integer_of};
 ghost use Rattle.pkix_definitions.specs.Identifiers.{ec_public_key};
 ghost use Rattle.pkix_values.specs.Algorithms.{parameters_of};
 ghost use Rattle.pkcs8.specs.Keys.{curve_octets, identifier_of};
 ghost use Rattle.pk_same_key.specs.Parts.{asymmetric_parts, document_parts, ec_parts, number_octets, parts_seen, rsa_parts};
 
-use asn_values::integer::Int;
 use pk_documents::document::Document;
 use pkcs8::one_asymmetric_key::OneAsymmetricKey;
 use pkcs8::private_key::PrivateKey;
@@ -95,11 +93,11 @@ fn rsa_parts(key: &RsaPrivateKey) -> KeyParts<'_>
 }
 
 /// The contents octets of a number, where it is there.
-fn number_octets<'a>(number: Option<&'a Int>) -> &'a [u8]
+fn number_octets<'a>(number: Option<&'a [u8]>) -> &'a [u8]
     ensures { result.now ≡ number_octets (option_map (λ r. r.now) number.entry) }
 {
     match number {
-        Some(number) => number.contents(),
+        Some(contents) => contents,
         None => &[],
     }
 }

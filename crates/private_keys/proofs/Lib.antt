@@ -1,1 +1,3 @@
+pub mod NumberReading
+pub mod RsaNumbers
 pub mod Rules

@@ -1,9 +1,10 @@
--- The rule on EC private keys.
-use Rattle.std.proofs.Common.{◌≡◌, ◌∙◌, ◌++◌, List, [], ◌∷◌, Option, Some, None, ℕ, Bool, ap, false, length, refl, sym, true}
+-- The rules on EC and RSA private keys.
+use Rattle.std.proofs.Common.{◌≡◌, ◌∙◌, ◌++◌, ◌||◌, List, [], ◌∷◌, Option, Some, None, ℕ, Bool, ap, false, length, refl, sym, true}
 use Rattle.std.specs.Option.{option_map}
-use Rattle.tlv_core.specs.declared.reason.Reason.TheVariants.{KeyLength}
+use Rattle.tlv_core.specs.declared.reason.Reason.TheVariants.{KeyLength, VersionRule}
 use Rattle.x690.specs.Layouts.{context_specific, universal}
-use Rattle.pkix_definitions.specs.Rules.{ec_rule, else_refused, has_length}
+use Rattle.pkix_definitions.specs.Paths.{first_field, version_0}
+use Rattle.pkix_definitions.specs.Rules.{ec_rule, else_refused, has_length, leaf_is_one_of, rsa_version_rule}
 use Rattle.x690.specs.Values.{Leaf, Sequence, Value, leaf_at, values_of}
 use Rattle.asn_fields.specs.FieldReadings.{with_field}
 use Rattle.private_keys.specs.EcKeys.{named_length}
@@ -36,3 +37,14 @@ module _ {A B : Type 0} (f : A → List ℕ) (g : B → List ℕ) (number key : 
       go : (b : Bool) → else_refused b KeyLength ≡ None → b ≡ true
       go true e = refl
       go false e = cc
+
+-- an RSA private key of ten fields may have any version
+pub rsa_of_more : (a b c d e f g h i j : Value)
+    → rsa_version_rule []
+    (Sequence (universal 16) (values_of (a ∷ b ∷ c ∷ d ∷ e ∷ f ∷ g ∷ h ∷ i ∷ j ∷ []))) ≡ None
+rsa_of_more a b c d e f g h i j =
+    any (leaf_is_one_of first_field (version_0 ∷ []) (a ∷ b ∷ c ∷ d ∷ e ∷ f ∷ g ∷ h ∷ i ∷ j ∷ []))
+  where
+    any : (is_first : Bool) → else_refused (is_first || true) VersionRule ≡ None
+    any true = refl
+    any false = refl

@@ -3,4 +3,5 @@ pub mod EcKeys
 pub mod EcParts
 pub mod OtherPrimes
 pub mod RsaKeys
+pub mod RsaNumbers
 pub mod RsaParts

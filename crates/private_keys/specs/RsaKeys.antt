@@ -1,15 +1,13 @@
 -- What clauses see of RSA private keys.
-use Rattle.std.specs.Prelude.{List, None, Option, Some, [], ◌∷◌}
-use Rattle.asn_elements.specs.declared.integer.Int.{Int}
+use Rattle.std.specs.Prelude.{List, None, Option, Some, [], ℕ}
 use Rattle.asn_fields.specs.declared.either.Either.{Either}
 use Rattle.asn_fields.specs.declared.either.Either.TheVariants.{First, Second}
+use Rattle.private_keys.specs.RsaNumbers.{first_of, number_in}
 use Rattle.private_keys.specs.declared.rsa_numbers.Numbers.{Numbers}
 
--- modulus, publicExponent, privateExponent, prime1, prime2, exponent1, exponent2, coefficient
-abbrev pub numbers_of : Numbers → List Int
-numbers_of n =
-    n.0.0.0.0.0 ∷ n.0.0.0.1.0 ∷ n.0.0.1.0.0 ∷ n.0.0.1.1.0 ∷ n.0.1.0.0.0 ∷ n.0.1.0.1.0 ∷ n.0.1.1.0.0 ∷ n.0.1.1.1.0
-    ∷ []
+-- modulus, publicExponent, privateExponent, prime1, prime2, exponent1, exponent2, coefficient: the contents of each
+abbrev pub numbers_of : Numbers → List (List ℕ)
+numbers_of n = first_of (number_in n.text.items n.begins n.ends) 8
 
 -- the members of a list that may stand, none of what may not
 abbrev pub infos : {A B C : Type 0} → (B → List C) → Either A B → List C

@@ -10,7 +10,6 @@ use Rattle.asn_fields.specs.declared.ruled.Ruled.{Ruled}
 use Rattle.asn_fields.specs.declared.ruled_sequence.RuleOfFields.{RuleOfFields}
 use Rattle.asn_fields.specs.declared.sequence.Sequence.{Sequence}
 use Rattle.asn_lists.specs.Containers.{list_items}
-use Rattle.asn_elements.specs.declared.integer.Int.{Int}
 use Rattle.pkix_values.specs.VersionNumbers.{version_number}
 use Rattle.private_keys.specs.RsaKeys.{numbers_of, other_primes}
 use Rattle.private_keys.specs.OtherPrimes.{OtherPrimeInfo}
@@ -43,7 +42,7 @@ abbrev pub rsa_version_of : RsaFields → ℕ
 rsa_version_of it = version_number it.0.earlier.0.0
 
 -- modulus, publicExponent, privateExponent, prime1, prime2, exponent1, exponent2, coefficient
-abbrev pub rsa_numbers_of : RsaFields → List Int
+abbrev pub rsa_numbers_of : RsaFields → List (List ℕ)
 rsa_numbers_of it = numbers_of it.0.earlier.1
 
 -- otherPrimeInfos, none where they aren't there

@@ -6,12 +6,13 @@
 //! DER texts; `same` is the same value.
 //!
 //! `rsa_numbers` and `other_primes` are parts of the list of an RSA key's fields. Each is a type of its own, so that
-//! what stands above rests on one name and not on all that it is put together of.
+//! what stands above rests on one name and not on all that it is put together of. `number_reading` reads one number.
 #![tactic(auto)]
 
 pub mod curve_key;
 pub mod curves;
 pub mod ec_private_key;
+mod number_reading;
 pub mod other_prime_info;
 mod other_primes;
 mod rsa_numbers;

@@ -7,7 +7,6 @@ ghost use Rattle.asn_elements.specs.Leaves.{integer_of};
 ghost use Rattle.asn_fields.specs.Listings.{through};
 ghost use Rattle.pkix_definitions.proofs.Sequences.{other_prime_is};
 
-use crate::rsa_numbers::Two;
 use asn_values::fields::Next;
 use asn_values::integer::Int;
 use asn_values::sequence::{FieldsText, FirstFields, Required, Sequence, SequenceFields};
@@ -19,7 +18,7 @@ use tlv_core::source::Source;
 use tlv_core::target::Target;
 
 /// prime, exponent, coefficient.
-type Listed = (Required<Int>, Two);
+type Listed = (Required<Int>, (Required<Int>, Required<Int>));
 
 /// prime, exponent, coefficient.
 #[derive(Drop)]

@@ -1,16 +1,18 @@
-//! The INTEGERs of an RSAPrivateKey (RFC 8017 A.1.2), two by two.
+//! The INTEGERs of an RSAPrivateKey (RFC 8017 A.1.2), in one piece of memory.
 //!
 //! All of them are a type of its own, so that what stands above rests on one list and not on eight fields.
-ghost use Rattle.std.specs.Prelude.{◌≡◌, ◌∷◌, [], IfSome, slice_get};
+ghost use Rattle.std.specs.Prelude.{◌≡◌, ◌<◌, ◌≤◌, ◌∷◌, [], ℕ, IfSome, length, slice_get, slice_index, true};
 ghost use Rattle.std.specs.Option.{option_map};
+ghost use Rattle.x690.specs.Contents.{IsInteger};
+ghost use Rattle.x690.specs.DerTexts.{texts_of};
+ghost use Rattle.x690.specs.ReadContents.{is_integer_contents};
 ghost use Rattle.x690.specs.Values.{leaf_at};
-ghost use Rattle.asn_elements.specs.Leaves.{integer_of};
 ghost use Rattle.asn_fields.specs.Listings.{through};
-ghost use Rattle.private_keys.specs.RsaKeys.{numbers_of};
+ghost use Rattle.private_keys.specs.RsaNumbers.{eight, number_in, values_in};
 
+use crate::number_reading::append_integer;
 use asn_values::fields::Next;
-use asn_values::integer::Int;
-use asn_values::sequence::{FieldsText, IndependentFields, Required};
+use asn_values::sequence::{FieldsText, IndependentFields};
 use ber_pull::pull::Pull;
 use std::alloc::Global;
 use tlv_core::fault::ReadError;
@@ -18,54 +20,57 @@ use tlv_core::sink::{Sink, WriteError};
 use tlv_core::source::Source;
 use tlv_core::target::Target;
 
-/// Two INTEGERs.
-pub type Two = (Required<Int>, Required<Int>);
-
-/// Four INTEGERs.
-pub type Four = (Two, Two);
-
-/// modulus, publicExponent, privateExponent, prime1; prime2, exponent1, exponent2, coefficient.
+/// modulus, publicExponent, privateExponent, prime1, prime2, exponent1, exponent2, coefficient: the DER encodings one
+/// behind another, and the places where the contents of each begin and end.
 #[derive(Drop)]
-pub struct Numbers(pub (Four, Four));
+pub struct Numbers {
+    text: Vec<u8>,
+    begins: [usize; 8],
+    ends: [usize; 8],
+    ghost stand: { text.items ≡ texts_of (values_in text.items begins ends 8) },
+    ghost within: { (i : ℕ) → i < 8 → (slice_index begins i ≤ slice_index ends i)
+        × (slice_index ends i ≤ length text.items) },
+    ghost integers: { (i : ℕ) → i < 8
+        → is_integer_contents (number_in text.items begins ends i) ≡ true },
+}
 
 impl Numbers {
-    /// The number at this place, counted from 0.
-    #[tactic(auto, unfolding(x690::specs::Values::leaf_at))]
-    pub fn get(&self, i: usize) -> Option<&Int>
+    ghost use Rattle.private_keys.specs.RsaKeys.{numbers_of};
+
+    /// The contents of the number at this place, counted from 0.
+    pub fn get(&self, i: usize) -> Option<&[u8]>
         ensures value { option_map (λ r. r.now) result ≡ slice_get (numbers_of self.now) i }
+        ensures is { IfSome result (λ r. IsInteger r.now) }
         ensures stands { IfSome result (λ r.
-            leaf_at (i ∷ []) (⟦<Numbers as FieldsText>⟧.values self.now) ≡ integer_of r.now) }
+            leaf_at (i ∷ []) (⟦<Numbers as FieldsText>⟧.values self.now) ≡ r.now) }
     {
-        let ((first, second), (third, fourth)) = &self.0;
-        match i {
-            0 => Some(&first.0.0),
-            1 => Some(&first.1.0),
-            2 => Some(&second.0.0),
-            3 => Some(&second.1.0),
-            4 => Some(&third.0.0),
-            5 => Some(&third.1.0),
-            6 => Some(&fourth.0.0),
-            7 => Some(&fourth.1.0),
-            _ => None,
+        if i < 8 {
+            Some(&self.text[self.begins[i]..self.ends[i]])
+        } else {
+            None
         }
     }
 }
 
 impl FieldsText for Numbers {
-    ghost values = { λ numbers. ⟦<(Four, Four) as FieldsText>⟧.values numbers.0 };
+    ghost values = { λ n. values_in n.text.items n.begins n.ends 8 };
 
-    ghost listing = { through (λ fields. fields.0) ⟦<(Four, Four) as FieldsText>⟧.listing };
+    ghost listing = { through (λ n. number_in n.text.items n.begins n.ends) eight };
 
     fn size(&self) -> u64 {
-        self.0.size()
+        self.text.len() as u64
     }
 
     fn put<W: Target>(&self, sink: &mut Sink<'_, W>) -> Result<(), WriteError> {
-        self.0.put(sink)
+        sink.put(&self.text)
     }
 
     fn octet(&self, i: u64) -> Option<u8> {
-        self.0.octet(i)
+        if i < self.text.len() as u64 {
+            Some(self.text[i as usize])
+        } else {
+            None
+        }
     }
 }
 
@@ -75,9 +80,14 @@ impl IndependentFields for Numbers {
         pull: &mut Pull<'_, R>,
         next: &mut Next,
     ) -> Result<Numbers, ReadError> {
-        match <(Four, Four) as IndependentFields>::read(alloc, pull, next) {
-            Ok(listed) => Ok(Numbers(listed)),
-            Err(error) => Err(error),
+        let mut room = Vec::new(alloc);
+        let mut text = Vec::new(alloc);
+        let mut begins = [0; 8];
+        let mut ends = [0; 8];
+        for i in 0..8 {
+            begins[i] = append_integer(alloc, pull, next, &mut room, &mut text)?;
+            ends[i] = text.len();
         }
+        Ok(Numbers { text, begins, ends })
     }
 }

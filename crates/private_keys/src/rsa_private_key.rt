@@ -1,17 +1,17 @@
 //! RSAPrivateKey of RFC 8017 A.1.2.
 ghost use Rattle.std.proofs.lemmas.Bool.{ltb-true};
-ghost use Rattle.std.specs.Prelude.{◌≡◌, length, refl, slice_get};
+ghost use Rattle.std.specs.Prelude.{◌≡◌, IfSome, length, refl, slice_get};
 ghost use Rattle.std.specs.Option.{option_map};
 ghost use Rattle.pkix_definitions.specs.Rules.{rsa_version_rule};
 ghost use Rattle.pkix_definitions.proofs.Fairs.{fair_rsa_version};
 ghost use Rattle.pkix_definitions.proofs.LawfulTypes.{honest_rsa_version};
+ghost use Rattle.x690.specs.Contents.{IsInteger};
 ghost use Rattle.x690.specs.Layouts.{universal};
 ghost use Rattle.x690.specs.TypeTerms.{EndOfFields, SequenceType};
 ghost use Rattle.asn_fields.specs.Listings.{through};
 
 use crate::other_primes::{OtherPrimes, VersionAndNumbers};
 use asn_values::fields::Next;
-use asn_values::integer::Int;
 use asn_values::optional_dependent::OptionalDependent;
 use asn_values::ruled_sequence::{RuledFields, RuledSequence};
 use asn_values::sequence::{FieldsText, FirstFields, SequenceFields};
@@ -40,9 +40,11 @@ impl RsaFields {
         self.0.earlier().0.0.number()
     }
 
-    /// modulus, publicExponent, privateExponent, prime1, prime2, exponent1, exponent2 and coefficient, counted from 0.
-    pub fn number(&self, i: usize) -> Option<&Int>
-        ensures { option_map (λ r. r.now) result ≡ slice_get (rsa_numbers_of self.now) i }
+    /// The contents of modulus, publicExponent, privateExponent, prime1, prime2, exponent1, exponent2 and coefficient,
+    /// counted from 0.
+    pub fn number(&self, i: usize) -> Option<&[u8]>
+        ensures value { option_map (λ r. r.now) result ≡ slice_get (rsa_numbers_of self.now) i }
+        ensures is { IfSome result (λ r. IsInteger r.now) }
     {
         self.0.earlier().1.get(i)
     }

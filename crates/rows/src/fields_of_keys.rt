@@ -53,7 +53,7 @@ impl Described for RsaPrivateKey {
         line.number("version", usize::from(self.version()))?;
         for i in 0..9 {
             match self.number(i) {
-                Some(number) => line.octets("number", number.contents())?,
+                Some(contents) => line.octets("number", contents)?,
                 None => line.part("no number")?,
             }
         }
