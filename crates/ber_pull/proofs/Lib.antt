@@ -7,3 +7,4 @@ pub mod Pieces
 pub mod Joining
 pub mod Walk
 pub mod Strings
+pub mod AtHand

@@ -4,4 +4,5 @@ pub mod Calls
 pub mod View
 pub mod Lengths
 pub mod Contents
+pub mod AtHand
 pub mod Segments

@@ -139,6 +139,9 @@ impl<R: Source> Pull<'_, R> {
         ensures stands { OnOk result (Uses self.old self.new) }
         ensures fails { FailsThere self.old self.new (answered self.new result) }
     {
+        if let Some(extent) = self.extent_at_hand() {
+            return self.copy_extent(octets, extent);
+        }
         let count = self.definite_length(start)?;
         self.contents(octets, count)?;
         self.state.use_given();

@@ -10,6 +10,7 @@
 //! that is kept.
 #![tactic(auto)]
 
+mod at_hand;
 pub mod bits;
 mod contents;
 mod header;
