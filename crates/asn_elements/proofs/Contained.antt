@@ -1,5 +1,5 @@
 -- What is answered of what an OCTET STRING contains.
-use Rattle.std.proofs.Common.{◌≡◌, Bool, List, Option, Some, [], ℕ, ap, false, refl, subst, sym, true}
+use Rattle.std.proofs.Common.{◌≡◌, Bool, Err, List, Ok, Option, Result, Some, [], ℕ, ap, false, refl, subst, sym, true}
 use Rattle.tlv_core.specs.Identifier.{Tag}
 use Rattle.tlv_core.specs.Limits.{Limits}
 use Rattle.tlv_core.specs.declared.fault.Fault.{Fault}
@@ -19,17 +19,20 @@ use Rattle.x690.specs.Values.{Leaf, Same, Value, leaf_contents}
 use Rattle.x690.proofs.Runs.{bind_assoc}
 use Rattle.x690_laws.proofs.ValuesSame.{equivalence}
 use Rattle.x690_laws.proofs.TextsAsLayouts.{same_der}
+use Rattle.tlv_core.specs.declared.source.Source.{Ghosts}
+use Rattle.ber_pull.specs.Calls.{read_primitive}
 use Rattle.ber_pull.specs.Hears.{Hears, heard_error}
+use Rattle.ber_pull.specs.Standing.{Standing, enclosing}
+use Rattle.ber_pull.specs.View.{Answers}
+use Rattle.ber_pull.specs.declared.pull.Pull.{Pull}
+use Rattle.ber_pull.specs.declared.state.Given.{Given}
 use Rattle.ber_pull.proofs.Hearing.{hears_as, hears_done, hears_error, hears_fail, hears_on, hears_same, hears_then}
 use Rattle.asn_elements.specs.ContainingClosed.{reader_closed}
 use Rattle.asn_elements.proofs.Insides.{contained_fault}
+use Rattle.asn_elements.specs.Reading.{AnswersValue, read_given_leaf}
 use Rattle.asn_elements.specs.Whole.{HaltsInside, read_inside}
-use Rattle.asn_elements.specs.Contained.{read_contained}
-
--- under the same limits, of the same octets
-pub inside_still : (Holds : Limits → List ℕ → Type 0) (l l' : Limits) (o o' : List ℕ) → l' ≡ l → o' ≡ o → Holds l' o'
-    → Holds l o
-inside_still Holds l l' o o' limits octets h = subst (λ w. Holds w o) limits (subst (Holds l') octets h)
+use Rattle.asn_elements.specs.Contained.{read_contained, read_given_contained}
+use Rattle.asn_elements.proofs.LeafReadings.{judged, leaf_is}
 
 -- A type that doesn't look at the earlier fields of its container reads the same behind any.
 inside_any : (l : Limits) (T : TypeTerm) (earlier : List Value) (p : ℕ) (octets : List ℕ) → IsClosed T
@@ -55,6 +58,41 @@ module _ (l : Limits) (own : Tag) (T : TypeTerm) (earlier : List Value) (c : Enc
       hears_on _ _ _ _ _ _ _ _ on
       (hears_then _ (λ value. read_inside l T earlier p (leaf_contents value)) (Leaf own octets) h k j i s t u x
       (hears_as _ _ _ _ _ _ _ (sym (inside_any l T earlier p octets closed)) y))
+
+-- The octets of one whose contents are at hand,
+pub octets_at_hand : (own : Tag) (s : Standing) (g : Given) (octets : List ℕ) (k j : ℕ) (t u : Option (List ℕ))
+    → g.constructed ≡ false → Hears (read_primitive s g) k t (Said octets) j u
+    → Hears (read_given_leaf OctetString own s g) k t (Said (Leaf own octets)) j u
+octets_at_hand own s g octets k j t u primitive x =
+    hears_as _ _ _ _ _ _ _ (leaf_is OctetString own s g (λ h. cc))
+    (hears_then (read_primitive s g) (judged OctetString own g.at) octets (Said (Leaf own octets)) k j j t u u x
+    (hears_on _ _ _ _ _ _ _ _ refl (hears_done _ _ _)))
+
+-- and then what reading them as a document came to.
+pub settles : {R A : Type 0} {s : Ghosts R} (old mid new : Pull R s) (own : Tag) (T : TypeTerm) (earlier : List Value)
+    (g : Given) (octets : List ℕ) (value : A → Value) (r : Result A ReadError)
+    → IsClosed T → same_tag own g.tag ≡ true
+    → Answers old mid (read_given_leaf OctetString own old.state g) (Said (Leaf own octets))
+    → AnswersValue mid new (read_inside old.state.limits T [] g.at octets) value r
+    → AnswersValue old new (read_given_contained own T earlier old.state g) value r
+settles old mid new own T earlier g octets value (Ok x) closed on leaf came = (
+  came.0,
+  came.1,
+  contained_then old.state.limits own T earlier (enclosing old.state) g.at g.tag g.constructed on octets (Said came.0)
+      _ _ _ _ _ _ closed leaf came.2,
+)
+settles old mid new own T earlier g octets value (Err e) closed on leaf came =
+    contained_then old.state.limits own T earlier (enclosing old.state) g.at g.tag g.constructed on octets (heard_error e)
+    _ _ _ _ _ _ closed leaf came
+
+-- an answer under the same limits, at the same place
+pub settled_still : {R A : Type 0} {s : Ghosts R} (mid new : Pull R s) (T : TypeTerm) (l l' : Limits) (at at' : ℕ)
+    (octets : List ℕ) (value : A → Value) (r : Result A ReadError) → l' ≡ l → at' ≡ at
+    → AnswersValue mid new (read_inside l' T [] at' octets) value r
+    → AnswersValue mid new (read_inside l T [] at octets) value r
+settled_still mid new T l l' at at' octets value r limits place x =
+    subst (λ w. AnswersValue mid new (read_inside w T [] at octets) value r) limits
+    (subst (λ w. AnswersValue mid new (read_inside l' T [] w octets) value r) place x)
 
 pub inside_said : (l : Limits) (T : TypeTerm) (p : ℕ) (octets : List ℕ) (v : Value) (k : ℕ) (s : Option (List ℕ))
     → ((place : ℕ) → read_inside l T [] place octets ≡ Done v) → Hears (read_inside l T [] p octets) k s (Said v) k s

@@ -1,5 +1,5 @@
 -- What an OCTET STRING contains, read as a document of its own.
-use Rattle.std.specs.Prelude.{Bool, List, None, Result, Some, ℕ, ◌≡◌}
+use Rattle.std.specs.Prelude.{Bool, List, MatchResult, None, Result, Some, ℕ, ◌≡◌}
 use Rattle.tlv_core.specs.Identifier.{Tag}
 use Rattle.tlv_core.specs.Limits.{Limits}
 use Rattle.tlv_core.specs.declared.fault.ReadError.{ReadError}
@@ -16,7 +16,7 @@ use Rattle.ber_pull.specs.Standing.{Standing, enclosing}
 use Rattle.ber_pull.specs.declared.pull.Pull.{Pull}
 use Rattle.ber_pull.specs.declared.state.Given.{Given}
 use Rattle.asn_elements.specs.Reading.{AnswersValue}
-use Rattle.asn_elements.specs.Whole.{read_inside}
+use Rattle.asn_elements.specs.Whole.{HaltsInside, IsValueInside, read_inside}
 
 -- the value that an OCTET STRING of this tag contains, whose identifier is taken
 abbrev pub read_contained : Limits → Tag → TypeTerm → List Value → Enclosing → ℕ → Tag → Bool → Reading Value
@@ -36,3 +36,8 @@ abbrev pub AnswersContained : {R A : Type 0} {s : Ghosts R} → Pull R s → Pul
 AnswersContained old new own type value result =
     (earlier : List Value) (g : Given) → old.state.error ≡ None → old.state.given ≡ Some g
     → AnswersValue old new (read_given_contained own type earlier old.state g) value result
+
+-- what octets came to that were read as a document of their own
+abbrev pub CameInside : {A : Type 0} → Limits → TypeTerm → List ℕ → (A → Value) → Result A ReadError → Type 0
+CameInside limits type octets value read =
+    MatchResult read (λ x. IsValueInside limits type octets (value x)) (HaltsInside limits type octets)

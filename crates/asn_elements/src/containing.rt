@@ -1,14 +1,17 @@
 //! OCTET STRINGs that contain an element (X.690 8.7, X.682 11).
 ghost use Rattle.x690_laws.proofs.TextsTellApart.{leaf_one_text};
-ghost use Rattle.std.specs.Prelude.{◌≡◌, ◌+◌, ◌<◌, ◌^◌, IfOk, IsSome, None, OnOk, length, refl, slice_get};
+ghost use Rattle.std.specs.Prelude.{◌≡◌, ◌+◌, ◌<◌, ◌^◌, List, [], IfErr, IfOk, IsSome, None, Ok, OnOk, false, length, refl, slice_get, ℕ};
+ghost use Rattle.tlv_core.specs.Limits.{Limits};
 ghost use Rattle.tlv_core.specs.Sinks.{count, Puts};
 ghost use Rattle.x690.specs.DerTexts.{der};
 ghost use Rattle.x690.specs.Layouts.{universal};
 ghost use Rattle.x690.specs.TypeTerms.{ContainingType, no_rule};
 ghost use Rattle.x690.specs.Values.{Leaf};
-ghost use Rattle.ber_pull.specs.View.{standing, Repeats, Uses, Frame};
+ghost use Rattle.ber_pull.specs.View.{standing, Repeats, Unmoved, Uses, Frame};
 ghost use Rattle.asn_elements.specs.ContainingClosed.{containing_closed};
-ghost use Rattle.asn_elements.specs.Contained.{AnswersContained};
+ghost use Rattle.asn_elements.specs.Contained.{AnswersContained, CameInside};
+ghost use Rattle.asn_elements.specs.Reading.{AnswersValue};
+ghost use Rattle.asn_elements.specs.Whole.{IsFailedRead, read_inside};
 
 use crate::der_text::DerText;
 use crate::element::Element;
@@ -44,9 +47,36 @@ pub fn read_contained<R: Source, T: Element>(
 {
     let at = expect_tag(pull, own)?;
     let limits = pull.limits();
+    // (octets at hand are read where they stand: no copy of what may be private)
+    if let Some(octets) = pull.contents_at_hand() {
+        let read = read_whole(alloc, octets, limits);
+        pull.pass_contents();
+        return settled(pull, at, read);
+    }
     let mut octets = Vec::new(alloc);
     read_leaf_into(alloc, pull, SimpleType::OctetString, &mut octets)?;
-    match read_whole(alloc, &octets, limits) {
+    let read = read_whole(alloc, &octets, limits);
+    settled(pull, at, read)
+}
+
+/// What the octets of an OCTET STRING at a place came to, read as a document: a fault of theirs is inside it.
+#[inline(always)]
+fn settled<R: Source, T: Element>(
+    pull: &mut Pull<'_, R>,
+    at: u64,
+    read: Result<T, ReadError>,
+) -> Result<T, ReadError>
+    requires fine { (standing pull.old).error ≡ None }
+    requires of_octets { IfErr read (IsFailedRead false) }
+    ensures frame { Frame pull.old pull.new result }
+    ensures reads { (limits : Limits) (octets : List ℕ)
+        → CameInside limits T.type_term octets T.value read
+        → AnswersValue pull.old pull.new (read_inside limits T.type_term [] at octets)
+        T.value result }
+    ensures same { OnOk result (Unmoved pull.old pull.new) }
+    ensures value { IfOk result (λ x. read ≡ Ok x) }
+{
+    match read {
         Ok(value) => Ok(value),
         Err(ReadError::Fault(fault)) => {
             Err(pull.refuse(at, Reason::Inner, Some((fault.at, fault.why))))
