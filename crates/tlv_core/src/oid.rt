@@ -4,7 +4,7 @@ ghost use Rattle.tlv_core.specs.Identifier.{base128};
 ghost use Rattle.tlv_core.specs.ObjectIdentifier.{ObjectIdentifierOctets, IsObjectIdentifier, LaterOctets};
 ghost use Rattle.tlv_core.specs.declared.oid.OidError.TheVariants.{Bad, Memory};
 
-use crate::subidentifier::{first_subidentifier, push_subidentifier};
+use crate::subidentifier::{first_subidentifier, push_subidentifier, subidentifier_size};
 use std::alloc::{AllocError, AllocFailed, Global};
 use std::marker::Model;
 use thiserror::Error;
@@ -194,15 +194,17 @@ fn leading_subidentifier(arcs: &[u128]) -> Option<u128>
 pub fn is_object_identifier(octets: &[u8]) -> bool
     ensures { IsTrue result ↔ IsObjectIdentifier octets.now }
 {
-    let Some((_, used)) = first_subidentifier(octets) else {
+    let first = subidentifier_size(octets);
+    if first == 0 {
         return false;
-    };
-    let mut rest = &octets[used..];
+    }
+    let mut rest = &octets[first..];
     while !rest.is_empty() {
-        let Some((_, used)) = first_subidentifier(rest) else {
+        let next = subidentifier_size(rest);
+        if next == 0 {
             return false;
-        };
-        rest = &rest[used..];
+        }
+        rest = &rest[next..];
     }
     true
 }

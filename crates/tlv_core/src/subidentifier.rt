@@ -55,6 +55,30 @@ fn wide_subidentifier(octets: &[u8]) -> Option<(u128, usize)>
     None
 }
 
+/// How many octets the first subidentifier has: 0 where none stands there. Most have one or two.
+#[inline(always)]
+pub(crate) fn subidentifier_size(octets: &[u8]) -> usize
+    ensures within { result ≤ length octets.now }
+    ensures some { 0 < result → (n : ℕ) × (n < 2 ^ 128) × (take result octets.now ≡ base128 n) }
+    ensures none { result ≡ 0 → (n : ℕ) (rest : List ℕ) → n < 2 ^ 128
+        → octets.now ≡ base128 n ++ rest → ⊥ }
+{
+    if octets.is_empty() {
+        return 0;
+    }
+    let first = octets[0];
+    if first < 128 {
+        return 1;
+    }
+    if first > 128 && octets.len() > 1 && octets[1] < 128 {
+        return 2;
+    }
+    match first_subidentifier(octets) {
+        Some((_, size)) => size,
+        None => 0,
+    }
+}
+
 /// Puts the base-128 digits of the number behind the octets, each with bit 8 set.
 fn push_leading_base128(octets: &mut Vec<u8>, number: u128) -> Result<(), AllocError>
     ensures { IfOk result (λ _. octets.new.items ≡ octets.old.items
