@@ -50,6 +50,7 @@ pub fn ahead<R: Source>(pull: &mut Pull<'_, R>) -> Result<Next, ReadError>
 /// Into the element whose identifier was given: what stands first in it.
 ///
 /// Faults, at the identifier: `WrongTag`, those of `Pull::enter`; those of `Pull::next_tag`.
+#[inline(always)]
 pub fn begin<R: Source>(pull: &mut Pull<'_, R>, tag: Tag) -> Result<Next, ReadError>
     requires { (standing pull.old).error ≡ None → IsSome (standing pull.old).given }
     ensures frame { Frame pull.old pull.new result }
