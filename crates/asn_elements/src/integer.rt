@@ -72,6 +72,7 @@ impl Int {
 
 /// The contents of the INTEGER that is given, of this tag, where they are one octet: no memory is asked for it. `None`
 /// where they are others, which stand in `others` then, in place of what it holds.
+#[inline(always)]
 pub fn read_integer_octet<R: Source>(
     pull: &mut Pull<'_, R>,
     own: Tag,

@@ -1,5 +1,5 @@
 //! Lengths and contents that a source has at hand are looked at in one piece, where reading them would succeed.
-ghost use Rattle.std.specs.Prelude.{◌≡◌, ◌<◌, ◌≤◌, ◌+◌, ◌^◌, ◌++◌, ℕ, List, None, Some, Ok, IfSome, OnOk, drop, length, take};
+ghost use Rattle.std.specs.Prelude.{◌≡◌, ◌<◌, ◌≤◌, ◌+◌, ◌^◌, ◌++◌, ◌∷◌, [], ℕ, List, None, Some, Ok, IfSome, OnOk, drop, length, take};
 ghost use Rattle.tlv_core.specs.Length.{SpellsLength};
 ghost use Rattle.x690.specs.ReadHeaders.{primitive_contents};
 ghost use Rattle.x690.specs.Reading.{Took, run};
@@ -20,7 +20,7 @@ pub struct Extent {
     /// How many length octets there are.
     from: usize,
     /// How many contents octets.
-    size: usize,
+    pub(crate) size: usize,
 }
 
 /// The definite length that octets begin with, where it has three octets or fewer (X.690 8.1.3.4, 8.1.3.5).
@@ -129,6 +129,24 @@ impl<R: Source> Pull<'_, R> {
         self.src.pass(end);
         self.state.take(end as u32);
         self.state.use_given();
+    }
+
+    /// Takes a length and contents of one octet that are at hand.
+    #[inline(always)]
+    pub(crate) fn pass_octet(&mut self, extent: Extent) -> u8
+        requires live { (standing self.old).error ≡ None }
+        requires stand { StandAtHand (standing self.old) (R.at_hand (source self.old))
+            extent.from extent.size }
+        requires one { extent.size ≡ 1 }
+        ensures frame { Frame self.old self.new (Ok (tt {0})) }
+        ensures reads { (place : ℕ) → Answers self.old self.new
+            (primitive_contents (standing self.old).limits (enclosing (standing self.old)) place)
+            (Said (result ∷ [])) }
+        ensures stands { Uses self.old self.new }
+    {
+        let octet = self.src.held()[extent.from];
+        self.pass_extent(extent);
+        octet
     }
 
     /// Contents that are at hand, in place of what the vector holds, which gets room for them alone.

@@ -76,6 +76,7 @@ impl<R: Source> Pull<'_, R> {
     /// `None` where they are others, which stand in `others` then, in place of what it holds.
     ///
     /// Faults: those of `primitive`.
+    #[inline(always)]
     pub fn primitive_octet(&mut self, others: &mut Vec<u8>) -> Result<Option<u8>, ReadError>
         requires { (standing self.old).error ≡ None → IsSome (standing self.old).given }
         ensures frame { Frame self.old self.new result }
@@ -113,6 +114,11 @@ impl<R: Source> Pull<'_, R> {
         ensures stands { OnOk result (Uses self.old self.new) }
         ensures fails { FailsThere self.old self.new (answered self.new result) }
     {
+        if let Some(extent) = self.extent_at_hand() {
+            if extent.size == 1 {
+                return Ok(Some(self.pass_octet(extent)));
+            }
+        }
         let count = self.definite_length(start)?;
         if count == 1 {
             let octet = self.next_octet()?;
