@@ -16,8 +16,11 @@ use tlv_core::fault::ReadError;
 use tlv_core::limits::Limits;
 use tlv_core::source::Source;
 
-/// How many octets are kept before room is asked for again.
+/// How many octets there is room for from the first on, where a source has none at hand.
 const FIRST: usize = 1024;
+
+/// The same at most, where it has some: it may have more than the document.
+const MOST: usize = 4096;
 
 /// Reads one value of a type, and answers the number of octets taken and the first place where they differ from its DER
 /// text: `None` where they are in DER. The octets are kept as they come; not one octet past the value is taken.
@@ -38,7 +41,7 @@ pub fn check_value<R: Source, T: Element>(
         (IsFailedRead (R.has_failed src.new)) }
     ensures frame { R.frame src.new ≡ R.frame src.old }
 {
-    let mut octets = first_room(alloc);
+    let mut octets = first_room(alloc, src);
     let mut keeping = Keeping::new(src, &mut octets);
     let answer = read_keeping::<R, T>(alloc, &mut keeping, limits);
     match answer {
@@ -52,11 +55,15 @@ pub fn check_value<R: Source, T: Element>(
     }
 }
 
-/// Room for as many octets as a short document has, where there is memory for them.
-fn first_room(alloc: Global) -> Vec<u8>
+/// Room for as many octets as the source has at hand, or as a short document has, where there is memory for them.
+fn first_room<R: Source>(alloc: Global, src: &R) -> Vec<u8>
     ensures { result.items ≡ [] }
 {
-    match Vec::with_capacity(alloc, FIRST) {
+    let room = match src.held().len() {
+        0 => FIRST,
+        held => held.min(MOST),
+    };
+    match Vec::with_capacity(alloc, room) {
         Ok(room) => room,
         Err(_) => Vec::new(alloc),
     }
