@@ -39,7 +39,11 @@ pub fn read_value<R: Source, T: Element>(
         (IsFailedRead (R.has_failed src.new)) }
     ensures frame { R.frame src.new ≡ R.frame src.old }
 {
-    let (value, taken) = read_element::<R, T>(alloc, src, limits)?;
+    // (not by `?`, which moves a great value once more)
+    let (value, taken) = match read_element::<R, T>(alloc, src, limits) {
+        Ok(read) => read,
+        Err(error) => return Err(error),
+    };
     let most = u64::from(limits.octets());
     // A DER text has at most twice the octets of its document, so a short one's value needs no walk for its size.
     if taken > most / 2 && value.size() > most {

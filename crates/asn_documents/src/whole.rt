@@ -64,7 +64,10 @@ pub fn read_whole_input<R: Source, T: Element>(
         (IsFailedRead (R.has_failed src.new)) }
     ensures frame { R.frame src.new ≡ R.frame src.old }
 {
-    let (value, taken) = read_value::<R, T>(alloc, src, limits)?;
+    let (value, taken) = match read_value::<R, T>(alloc, src, limits) {
+        Ok(read) => read,
+        Err(error) => return Err(error),
+    };
     expect_end(src, taken)?;
     Ok((value, taken))
 }

@@ -301,7 +301,10 @@ fn read_as<R: Source, T: DocumentOf + Element>(
         (IsFailedRead (R.has_failed src.new)) }
     ensures frame { R.frame src.new ≡ R.frame src.old }
 {
-    let (value, taken) = read_value::<R, T>(alloc, src, limits)?;
+    let (value, taken) = match read_value::<R, T>(alloc, src, limits) {
+        Ok(read) => read,
+        Err(error) => return Err(error),
+    };
     Ok((value.document(), taken))
 }
 
@@ -323,6 +326,9 @@ fn read_whole_as<R: Source, T: DocumentOf + Element>(
         (IsFailedRead (R.has_failed src.new)) }
     ensures frame { R.frame src.new ≡ R.frame src.old }
 {
-    let (value, taken) = read_whole_input::<R, T>(alloc, src, limits)?;
+    let (value, taken) = match read_whole_input::<R, T>(alloc, src, limits) {
+        Ok(read) => read,
+        Err(error) => return Err(error),
+    };
     Ok((value.document(), taken))
 }
