@@ -1,5 +1,6 @@
 -- What the rules say of the keys that are contained.
-use Rattle.std.proofs.Common.{◌≡◌, ◌∙◌, ◌==◌, Bool, List, None, Option, Some, ap, false, length, refl, sym, true, ℕ}
+use Rattle.std.proofs.Common.{◌≡◌, ◌∙◌, ◌==◌, Bool, List, None, Option, Some, ap, false, length, not, refl, sym, true, ℕ}
+use Rattle.std.specs.Bool.{then_some}
 use Rattle.std.specs.Option.{option_map}
 use Rattle.tlv_core.specs.declared.reason.Reason.TheVariants.{Curve, KeyLength}
 use Rattle.tlv_core.specs.declared.reason.Reason.{Reason}
@@ -17,6 +18,11 @@ ruled_by own due key =
       | false ↦ else_refused (same_octets own due) Curve
       | true ↦ else_refused (has_length (length_under curve_lengths due) (length key)) KeyLength
     ]
+
+-- a reason where a test fails
+pub some_is : (test : Bool) (why : Reason) → then_some (not test) why ≡ else_refused test why
+some_is true why = refl
+some_is false why = refl
 
 module _ {A B : Type 0} (f : A → List ℕ) (g : B → List ℕ) (number key : List ℕ) (earlier : List Value) where
   inner_rule_is : (o : Option A) (p : Option B)

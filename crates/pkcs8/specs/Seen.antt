@@ -2,9 +2,6 @@
 use Rattle.std.specs.Prelude.{List, None, Option, Some, [], false, true, ℕ, ◌∷◌, ◌≡◌}
 use Rattle.asn_elements.specs.Implicits.{value_under}
 use Rattle.asn_elements.specs.declared.bits.Bits.{Bits}
-use Rattle.asn_elements.specs.declared.boxed.Boxed.{Boxed}
-use Rattle.asn_elements.specs.declared.containing.Containing.{Containing}
-use Rattle.asn_elements.specs.declared.der_text.DerText.{Ghosts}
 use Rattle.asn_elements.specs.declared.implicit.Implicit.{Implicit}
 use Rattle.asn_elements.specs.declared.octets.Octets.{Octets}
 use Rattle.asn_fields.specs.declared.defined_by.DefinedBy.{DefinedBy}
@@ -13,14 +10,11 @@ use Rattle.asn_fields.specs.declared.either.Either.TheVariants.{First, Second}
 use Rattle.asn_fields.specs.declared.either.Either.{Either}
 use Rattle.asn_fields.specs.declared.refused.Refused.{Refused}
 use Rattle.asn_fields.specs.declared.ruled_behind.RuledBehind.{RuledBehind}
-use Rattle.asn_fields.specs.declared.ruled_containing.RuledContaining.{RuledContaining}
 use Rattle.pkix_definitions.specs.Identifiers.{ec_public_key, rfc8410_algorithms, rsa_encryption}
 use Rattle.x690.specs.Lists.{one_of}
+use Rattle.pkcs8.specs.declared.private_key.ContainedKey.{ContainedKey}
 use Rattle.pkcs8.specs.declared.private_key.PrivateKey.{PrivateKey}
 use Rattle.pkcs8.specs.declared.private_key.PrivateKey.TheVariants.{Carried, Curve, Ec, Rsa}
-use Rattle.pkcs8.specs.declared.private_key.UnderCurve.{UnderCurve}
-use Rattle.pkcs8.specs.declared.private_key.UnderEc.{UnderEc}
-use Rattle.pkcs8.specs.declared.private_key.UnderRsa.{UnderRsa}
 use Rattle.pkcs8.specs.declared.public_key.KeyBits.{KeyBits}
 use Rattle.pkcs8.specs.declared.public_key.PublicKeyUnderVersion0.{PublicKeyUnderVersion0}
 use Rattle.private_keys.specs.declared.curve_key.CurveKey.{CurveKey}
@@ -39,14 +33,9 @@ key_seen (Rsa key) = Second (Second (First key.now))
 key_seen (Carried octets) = Second (Second (Second octets.now))
 
 -- what is there
-abbrev pub key_in : {ec_text : Ghosts EcPrivateKey} {curve_text : Ghosts CurveKey} {rsa_text : Ghosts (Boxed RsaPrivateKey)}
-    → DefinedBy (RuledContaining EcPrivateKey UnderEc ec_text)
-    (DefinedBy (RuledContaining CurveKey UnderCurve curve_text)
-    (DefinedBy (Independent (Containing (Boxed RsaPrivateKey) rsa_text)) (Independent Octets) UnderRsa) UnderCurve)
-    UnderEc
-    → AnyKey
+abbrev pub key_in : ContainedKey → AnyKey
 key_in contained =
-    elim contained.value [
+    elim contained.0.value [
       | First ec ↦ First ec.string.inner
       | Second others ↦ elim others.value [
         | First curve ↦ Second (First curve.string.inner)

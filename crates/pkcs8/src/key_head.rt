@@ -42,10 +42,7 @@ pub trait NamesKey: FieldsText {
 pub fn is_version_0(number: u8) -> bool
     ensures { result ≡ one_of (number ∷ []) ((0 ∷ []) ∷ []) }
 {
-    match number {
-        0 => true,
-        _ => false,
-    }
+    number == 0
 }
 
 /// Whether it is id-ecPublicKey (RFC 5480 section 2.1.1).
@@ -177,9 +174,10 @@ impl FirstFields for KeyHead {
         pull: &mut Pull<'_, R>,
         next: &mut Next,
     ) -> Result<KeyHead, ReadError> {
-        match <Listed as FirstFields>::read_first(alloc, pull, next) {
-            Ok(listed) => Ok(KeyHead(listed)),
-            Err(error) => Err(error),
-        }
+        let listed = match <Listed as FirstFields>::read_first(alloc, pull, next) {
+            Ok(listed) => listed,
+            Err(error) => return Err(error),
+        };
+        Ok(KeyHead(listed))
     }
 }

@@ -78,10 +78,11 @@ impl FirstFields for KeyBody {
         pull: &mut Pull<'_, R>,
         next: &mut Next,
     ) -> Result<KeyBody, ReadError> {
-        match <BodyListed as FirstFields>::read_first(alloc, pull, next) {
-            Ok(listed) => Ok(KeyBody(listed)),
-            Err(error) => Err(error),
-        }
+        let listed = match <BodyListed as FirstFields>::read_first(alloc, pull, next) {
+            Ok(listed) => listed,
+            Err(error) => return Err(error),
+        };
+        Ok(KeyBody(listed))
     }
 }
 
@@ -130,10 +131,11 @@ impl FirstFields for KeyFields {
         pull: &mut Pull<'_, R>,
         next: &mut Next,
     ) -> Result<KeyFields, ReadError> {
-        match <Listed as FirstFields>::read_first(alloc, pull, next) {
-            Ok(listed) => Ok(KeyFields(listed)),
-            Err(error) => Err(error),
-        }
+        let listed = match <Listed as FirstFields>::read_first(alloc, pull, next) {
+            Ok(listed) => listed,
+            Err(error) => return Err(error),
+        };
+        Ok(KeyFields(listed))
     }
 }
 
@@ -257,9 +259,10 @@ impl Element for OneAsymmetricKey {
         alloc: Global,
         pull: &mut Pull<'_, R>,
     ) -> Result<OneAsymmetricKey, ReadError> {
-        match RuledSequence::<KeyFields>::read(alloc, pull) {
-            Ok(key) => Ok(OneAsymmetricKey(key)),
-            Err(error) => Err(error),
-        }
+        let key = match RuledSequence::<KeyFields>::read(alloc, pull) {
+            Ok(key) => key,
+            Err(error) => return Err(error),
+        };
+        Ok(OneAsymmetricKey(key))
     }
 }

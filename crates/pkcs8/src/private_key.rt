@@ -5,6 +5,7 @@ ghost use Rattle.std.specs.Prelude.{◌≡◌, ◌<◌, ◌∷◌, [], length};
 ghost use Rattle.asn_elements.specs.Leaves.{octets_of};
 ghost use Rattle.pkix_definitions.proofs.Fairs.{fair_inner_curve, fair_inner_ec};
 ghost use Rattle.pkix_definitions.proofs.LawfulTypes.{honest_inner_curve, honest_inner_ec};
+ghost use Rattle.pkix_definitions.specs.DocumentTypes.{private_key};
 ghost use Rattle.pkix_definitions.specs.Identifiers.{curve_lengths, ec_public_key, length_under, rfc8410_algorithms, rfc8410_lengths, rsa_encryption};
 ghost use Rattle.pkix_definitions.specs.Rules.{has_length, inner_curve_rule, inner_ec_rule};
 ghost use Rattle.pkcs8.specs.Keys.{curve_octets};
@@ -14,18 +15,25 @@ use crate::key_head::{NamesKey, is_ec_public_key, is_rsa_encryption};
 use asn_values::boxed::Boxed;
 use asn_values::containing::Containing;
 use asn_values::defined_by::{DefinedBy, Defines};
-use asn_values::dependent::Independent;
+use asn_values::dependent::{DependentElement, Independent};
 use asn_values::either::Either;
 use asn_values::octets::Octets;
 use asn_values::ruled_behind::FieldRules;
 use asn_values::ruled_containing::RuledContaining;
+use ber_pull::pull::Pull;
 use pkix_values::identifiers::public_key_length;
 use private_keys::curve_key::CurveKey;
 use private_keys::curves::private_key_length;
 use private_keys::ec_private_key::EcPrivateKey;
 use private_keys::rsa_private_key::RsaPrivateKey;
+use std::alloc::Global;
+use tlv_core::fault::ReadError;
 use tlv_core::oid::Oid;
 use tlv_core::reason::Reason;
+use tlv_core::sink::{Sink, WriteError};
+use tlv_core::source::Source;
+use tlv_core::tag::Tag;
+use tlv_core::target::Target;
 
 /// Under id-ecPublicKey an ECPrivateKey, which names no other curve than the container; where it names none, it has the
 /// length that goes with the container's.
@@ -59,11 +67,7 @@ impl<A: NamesKey> FieldRules<A, EcPrivateKey> for UnderEc {
                 Some(Reason::Curve)
             };
         }
-        if has_length_on(due, field.key()) {
-            None
-        } else {
-            Some(Reason::KeyLength)
-        }
+        (!has_length_on(due, field.key())).then_some(Reason::KeyLength)
     }
 }
 
@@ -113,11 +117,7 @@ impl<A: NamesKey> FieldRules<A, CurveKey> for UnderCurve {
     ghost honest = { honest_inner_curve };
 
     fn judge(earlier: &A, field: &CurveKey) -> Option<Reason> {
-        if has_length_under(earlier.head().algorithm(), field.key()) {
-            None
-        } else {
-            Some(Reason::KeyLength)
-        }
+        (!has_length_under(earlier.head().algorithm(), field.key())).then_some(Reason::KeyLength)
     }
 }
 
@@ -147,9 +147,9 @@ impl<A: NamesKey> Defines<A> for UnderRsa {
     }
 }
 
-/// The private key behind the fields before it. Under all other algorithms than these the octets are carried. An RSA
-/// key is great, and takes room in no other.
-pub type ContainedKey = DefinedBy<
+/// What stands under the algorithm: under all others than these the octets are carried. An RSA key is great, and takes
+/// room in no other.
+type ByAlgorithm = DefinedBy<
     RuledContaining<EcPrivateKey, UnderEc>,
     DefinedBy<
         RuledContaining<CurveKey, UnderCurve>,
@@ -158,6 +158,10 @@ pub type ContainedKey = DefinedBy<
     >,
     UnderEc,
 >;
+
+/// The private key behind the fields before it.
+#[derive(Drop)]
+pub struct ContainedKey(pub ByAlgorithm);
 
 /// A private key, by what its octets contain.
 pub enum PrivateKey<'a> {
@@ -176,7 +180,7 @@ impl<'a> PrivateKey<'a> {
     pub fn in_field(contained: &'a ContainedKey) -> PrivateKey<'a>
         ensures { key_seen result ≡ key_in contained.now }
     {
-        match contained.value() {
+        match contained.0.value() {
             Either::First(ec) => PrivateKey::Ec(ec.value()),
             Either::Second(others) => match others.value() {
                 Either::First(curve) => PrivateKey::Curve(curve.value()),
@@ -186,5 +190,44 @@ impl<'a> PrivateKey<'a> {
                 },
             },
         }
+    }
+}
+
+#[tactic(auto, unfolding(pkix_definitions::specs::DocumentTypes::RSAPrivateKey))]
+impl<A: NamesKey> DependentElement<A> for ContainedKey {
+    ghost type_term = { private_key };
+
+    ghost value = { λ x. ⟦<ByAlgorithm as DependentElement<A>>⟧.value x.0 };
+
+    ghost suits = { λ vs x. ⟦<ByAlgorithm as DependentElement<A>>⟧.suits vs x.0 };
+
+    ghost one_text = { λ vs ws x y. ⟦<ByAlgorithm as DependentElement<A>>⟧.one_text vs ws x.0 y.0 };
+
+    fn fits(tag: Tag) -> bool {
+        <ByAlgorithm as DependentElement<A>>::fits(tag)
+    }
+
+    fn read<R: Source>(
+        alloc: Global,
+        pull: &mut Pull<'_, R>,
+        earlier: &A,
+    ) -> Result<ContainedKey, ReadError> {
+        let key = match <ByAlgorithm as DependentElement<A>>::read(alloc, pull, earlier) {
+            Ok(key) => key,
+            Err(error) => return Err(error),
+        };
+        Ok(ContainedKey(key))
+    }
+
+    fn size(&self) -> u64 {
+        <ByAlgorithm as DependentElement<A>>::size(&self.0)
+    }
+
+    fn put<W: Target>(&self, sink: &mut Sink<'_, W>) -> Result<(), WriteError> {
+        <ByAlgorithm as DependentElement<A>>::put(&self.0, sink)
+    }
+
+    fn octet(&self, i: u64) -> Option<u8> {
+        <ByAlgorithm as DependentElement<A>>::octet(&self.0, i)
     }
 }

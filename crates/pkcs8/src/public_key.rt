@@ -63,11 +63,7 @@ impl<A: NamesKey> FieldRules<A, Implicit<1, Bits>> for KeyBits {
     ghost honest = { honest_key_bits (1 ∷ 0 ∷ []) };
 
     fn judge(earlier: &A, field: &Implicit<1, Bits>) -> Option<Reason> {
-        if is_key_of(earlier.head().algorithm(), field.value()) {
-            None
-        } else {
-            Some(Reason::KeyLength)
-        }
+        (!is_key_of(earlier.head().algorithm(), field.value())).then_some(Reason::KeyLength)
     }
 }
 

@@ -14,4 +14,4 @@ returns-clause-goes_with c =
     let same : key_seen c.in_field.result ≡ private_key_of it = search rules in
     subst (GoesWith (algorithm_of (key_algorithm_of it))) (sym same)
     (goes_with (algorithm_of (key_algorithm_of it)) (λ m. m.value) (λ n. n.value) (λ e. e.string.inner)
-    (λ k. k.string.inner) (λ r. r.0.inner.0.value) (λ o. o.0) _ _ _ _ key.field.value key.suits)
+    (λ k. k.string.inner) (λ r. r.0.inner.0.value) (λ o. o.0) _ _ _ _ key.field.0.value key.suits)
