@@ -1,3 +1,4 @@
 pub mod Behind
 pub mod Members
+pub mod PublicTexts
 pub mod RequestValues
