@@ -1,11 +1,9 @@
-pub mod Files
-pub mod Guarded
+pub mod Disclosing
 pub mod Listed
 pub mod Ordered
 pub mod Outlined
 pub mod Pieces
 pub mod Repeats
-pub mod Reported
 pub mod Sound
 pub mod Steps
 pub mod Taken

@@ -1,52 +1,40 @@
 -- The walks over the elements of a document and of a file.
-use Rattle.std.proofs.Common.{List, Option, Some, ap, drop, sym, subst, ℕ, [], ◌∙◌, ◌++◌, ◌∷◌, length, slice_get, ◌+◌, ◌≡◌}
+use Rattle.std.proofs.Common.{List, None, Option, Some, ap, drop, sym, subst, ℕ, [], ◌∙◌, ◌++◌, ◌∷◌, length, slice_get, ◌+◌, ◌≡◌}
 use Rattle.std.proofs.Math.Numerals.{add-one}
-use Rattle.tlv_core.specs.declared.fault.Fault.{Fault}
 use Rattle.std.specs.Borrow.{Bor}
 use Rattle.asn_shapes.specs.declared.shape.Shape.{Shape}
-use Rattle.pk_explain.specs.Hidden.{walk_start}
 use Rattle.pk_explain.specs.Insides.{AddsContained, AddsInside, HasInsides, IsDocumentIn, contained, contained_at}
-use Rattle.pk_explain.specs.declared.hidden.Walk.{Walk}
 use Rattle.pk_reports.specs.declared.report.Line.{Line}
 use Rattle.pk_explain.specs.Listings.{AddsDocument, AddsElement, Lists, ListsFile, Telling, behind_inside, first_inside, start_of, telling}
 use Rattle.pk_explain.specs.Places.{Page}
-use Rattle.pk_explain.specs.declared.hidden.Point.{Point}
 use Rattle.pk_explain.specs.declared.inside.Inside.{Inside}
-use Rattle.pk_explain.specs.declared.values.Rule.{Rule}
 use Rattle.asn_names.specs.declared.element.NamedElement.{NamedElement}
 use Rattle.tlv_core.specs.Limits.{Limits}
 
-pub started : (walk : Walk) (numbers : List ℕ) (lines : List Line) → walk ≡ walk_start → numbers ≡ []
-    → telling walk numbers lines ≡ start_of lines
-started walk numbers lines w n = ap (λ one. telling one numbers lines) w ∙ ap (λ some. telling walk_start some lines) n
+pub started : (hidden : Option ℕ) (numbers : List ℕ) (lines : List Line) → hidden ≡ None → numbers ≡ []
+    → telling hidden numbers lines ≡ start_of lines
+started hidden numbers lines w n =
+    ap (λ one. telling one numbers lines) w ∙ ap (λ some. telling None some lines) n
 
-pub one_more : (rule : Rule) (point : Point) (page : Page) (number : ℕ) (start before end : Telling)
-    → Lists rule point page number start before → AddsElement rule point page number before end
-    → Lists rule point page (number + 1) start end
-one_more rule point page number start before end lists adds =
-    subst (λ n. Lists rule point page n start end) (sym (add-one number)) (before, lists, adds)
+pub one_more : (page : Page) (number : ℕ) (start before end : Telling) → Lists page number start before
+    → AddsElement page number before end → Lists page (number + 1) start end
+one_more page number start before end lists adds =
+    subst (λ n. Lists page n start end) (sym (add-one number)) (before, lists, adds)
 
-pub file_more : (rule : Rule) (point : Point) (fault : Option Fault) (page : Page) (insides : List Inside) (number : ℕ)
-    (others left : List Inside) (inside : Option Inside) (line : ℕ) (before mid end : Telling)
-    → ListsFile rule point fault page insides number others before
-    → AddsElement rule point page number before mid → inside ≡ first_inside others number
-    → line ≡ length before.lines
-    → AddsDocument rule point fault page.causes (slice_get page.elements number) inside line mid end
-    → left ≡ behind_inside others number → ListsFile rule point fault page insides (number + 1) left end
-file_more rule point fault page insides number others left inside line before mid end lists adds e l document b =
-    subst (λ n. ListsFile rule point fault page insides n left end) (sym (add-one number)) (
+pub file_more : (page : Page) (insides : List Inside) (number : ℕ) (others left : List Inside) (inside : Option Inside)
+    (line : ℕ) (before mid end : Telling) → ListsFile page insides number others before
+    → AddsElement page number before mid → inside ≡ first_inside others number → line ≡ length before.lines
+    → AddsDocument page.causes inside line mid end → left ≡ behind_inside others number
+    → ListsFile page insides (number + 1) left end
+file_more page insides number others left inside line before mid end lists adds e l document b =
+    subst (λ n. ListsFile page insides n left end) (sym (add-one number)) (
       others,
       before,
       mid,
       lists,
       adds,
-      subst
-          (λ at.
-          AddsDocument rule point fault page.causes (slice_get page.elements number) (first_inside others number) at mid
-          end)
-          l
-          (subst (λ one. AddsDocument rule point fault page.causes (slice_get page.elements number) one line mid end) e
-          document),
+      subst (λ at. AddsDocument page.causes (first_inside others number) at mid end) l
+          (subst (λ one. AddsDocument page.causes one line mid end) e document),
       b,
     )
 

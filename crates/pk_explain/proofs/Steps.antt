@@ -1,13 +1,17 @@
 -- The steps from the outermost element to another one.
-use Rattle.std.proofs.Common.{Bool, List, None, Option, Some, ℕ, [], ap, false, inl, inr, refl, subst, suc, sym, true, zero, ◌++◌, ◌∙◌, ◌≡◌}
+use Rattle.std.proofs.Common.{Bool, List, None, Option, Some, ℕ, [], ap, cond, false, inl, inr, refl, subst, suc, sym, true, zero, ◌++◌, ◌∙◌, ◌≡◌}
 use Rattle.std.proofs.lemmas.List.{append-nil, append_assoc}
 use Rattle.std.specs.List.{slice_get}
 use Rattle.std.specs.Option.{is_some}
 use Rattle.asn_names.specs.declared.element.NamedElement.{NamedElement}
+use Rattle.asn_names.specs.declared.element.Parting.{Parting}
 use Rattle.asn_names.specs.declared.element.Step.{Step}
+use Rattle.tlv_core.specs.declared.fault.Fault.{Fault}
+use Rattle.tlv_core.specs.declared.reason.Reason.{Reason}
 use Rattle.pk_explain.specs.Blames.{IsNearest, end_of}
-use Rattle.pk_explain.specs.Faults.{AddsPublicWay, IsInnerWay, IsPublicAround, IsPublicWay, IsToldWay, IsWayInside, is_private_of, number_at_fault}
-use Rattle.pk_explain.specs.Spots.{AddsWay, AddsWayTo, IsWayBy, IsWayTo, due_steps, enclosed, own_step}
+use Rattle.pk_explain.specs.Disclosures.{AddsFaultWay, AddsInnerWay, IsFaultWayIn, IsToldWay, is_near, names_in}
+use Rattle.pk_explain.specs.Insides.{inside_at}
+use Rattle.pk_explain.specs.Spots.{AddsWay, AddsWayTo, IsWayBy, IsWayTo, due_steps, enclosed, own_step, spot_at}
 use Rattle.pk_explain.specs.declared.inside.Inside.{Inside}
 use Rattle.pk_explain.specs.declared.ways.Spot.{Spot}
 
@@ -56,69 +60,70 @@ pub later_nearest : (elements : List NamedElement) (number : ℕ) (element : Nam
 later_nearest elements number element found inner has later =
     (suc later.0, (element, inner, inr (has, later.1)))
 
--- what is known of the nearest element that isn't private
-pub outermost_public : (elements : List NamedElement) (number : ℕ) → enclosed elements number ≡ None
-    → IsPublicAround elements number number
-outermost_public elements number top = (zero, (ap is_private_of top, refl))
+-- the way to what a fault in the file is about
+pub way_outside : (elements : List NamedElement) (parting : Parting) (insides : List Inside) (fault : Fault)
+    (old new : List Step) → fault.inside ≡ None
+    → AddsWayTo elements (spot_at elements parting fault.at fault.why) old new
+    → AddsFaultWay elements parting insides fault old new
+way_outside elements parting insides fault old new none adds = (
+  adds.0,
+  adds.1,
+  subst (λ inner. IsFaultWayIn elements parting fault inner (inside_at elements insides fault.at) adds.0) (sym none)
+      adds.2,
+)
 
-pub own_public : (elements : List NamedElement) (number : ℕ) (element : NamedElement) → enclosed elements number ≡ Some element
-    → element.private ≡ false → IsPublicAround elements number number
-own_public elements number element inner public = (zero, (ap is_private_of inner ∙ public, refl))
+-- the same of one inside an element that no document is known of
+pub way_around : (elements : List NamedElement) (parting : Parting) (insides : List Inside) (fault : Fault)
+    (inner : ℕ × Reason) (found : Option Inside) (old new : List Step) → fault.inside ≡ Some inner
+    → found ≡ inside_at elements insides fault.at → found ≡ None
+    → AddsWayTo elements (spot_at elements parting fault.at fault.why) old new
+    → AddsFaultWay elements parting insides fault old new
+way_around elements parting insides fault inner found old new some is none adds = (
+  adds.0,
+  adds.1,
+  subst (λ one. IsFaultWayIn elements parting fault one (inside_at elements insides fault.at) adds.0) (sym some)
+      (subst (λ inside. IsFaultWayIn elements parting fault (Some inner) inside adds.0) (sym none ∙ is) adds.2),
+)
 
-pub later_public : (elements : List NamedElement) (number : ℕ) (element : NamedElement) (found : ℕ)
-    → enclosed elements number ≡ Some element → element.private ≡ true → IsPublicAround elements element.around found
-    → IsPublicAround elements number found
-later_public elements number element found inner private later =
-    (suc later.0, (element, inner, private, later.1))
+-- of one inside an element the way to that, and from there on
+pub way_inside : (elements : List NamedElement) (parting : Parting) (insides : List Inside) (fault : Fault) (at : ℕ)
+    (why : Reason) (inside : Inside) (found : Option Inside) (old new : List Step) → fault.inside ≡ Some (at, why)
+    → found ≡ inside_at elements insides fault.at → found ≡ Some inside → AddsInnerWay elements inside at why old new
+    → AddsFaultWay elements parting insides fault old new
+way_inside elements parting insides fault at why inside found old new some is one adds = (
+  adds.0,
+  adds.1,
+  subst (λ inner. IsFaultWayIn elements parting fault inner (inside_at elements insides fault.at) adds.0) (sym some)
+      (subst (λ it. IsFaultWayIn elements parting fault (Some (at, why)) it adds.0) (sym one ∙ is) adds.2),
+)
 
-pub public_way : (elements : List NamedElement) (number found : ℕ) (old new : List Step)
-    → IsPublicAround elements number found → AddsWay elements found old new
-    → AddsPublicWay elements (Some number) old new
-public_way elements number found old new around way = (way.0, way.1, (found, around, way.2))
+pub way_in : (elements : List NamedElement) (inside : Inside) (at : ℕ) (why : Reason) (spot : Spot)
+    (old mid new : List Step) → AddsWay elements inside.container old mid
+    → spot ≡ spot_at inside.named.elements.items inside.named.parting at why
+    → AddsWayTo inside.named.elements.items spot mid new → AddsInnerWay elements inside at why old new
+way_in elements inside at why spot old mid new outer is inner = (
+  outer.0 ++ inner.0,
+  inner.1 ∙ (ap (λ steps. steps ++ inner.0) outer.1 ∙ append_assoc old outer.0 inner.0),
+  (outer.0, inner.0, outer.2, subst (λ one. IsWayTo inside.named.elements.items one inner.0) is inner.2, refl),
+)
 
-pub no_public_way : (elements : List NamedElement) (old : List Step) → AddsPublicWay elements None old old
-no_public_way elements old = ([], sym (append-nil old), refl)
+-- the way that is told: all of it, or its names
+pub way_told : (elements : List NamedElement) (parting : Parting) (insides : List Inside) (fault : Fault) (front : ℕ)
+    (old new : List Step) → old ≡ [] → AddsFaultWay elements parting insides fault old new
+    → is_near fault front ≡ true → IsToldWay elements parting insides fault front new
+way_told elements parting insides fault front old new none adds near =
+    let same : new ≡ adds.0 = adds.1 ∙ ap (λ steps. steps ++ adds.0) none in (
+      adds.0,
+      adds.2,
+      same ∙ sym (ap (λ is. cond is adds.0 (names_in adds.0)) near),
+    )
 
--- a way that is all there is
-pub told_spot : (near guarded : Bool) (elements : List NamedElement) (spot : Spot) (old new : List Step) → near ≡ true
-    → old ≡ [] → AddsWayTo elements spot old new → IsToldWay near guarded elements spot new
-told_spot near guarded elements spot old new is none adds =
-    let same : new ≡ adds.0 = adds.1 ∙ ap (λ steps. steps ++ adds.0) none in
-    subst (λ n. IsToldWay n guarded elements spot new) (sym is) (subst (IsWayTo elements spot) (sym same) adds.2)
-
-pub told_none : (near guarded : Bool) (elements : List NamedElement) (spot : Spot) (new : List Step) → near ≡ false
-    → guarded ≡ true → new ≡ [] → IsToldWay near guarded elements spot new
-told_none near guarded elements spot new far is none =
-    subst (λ n. IsToldWay n guarded elements spot new) (sym far)
-    (subst (λ g. IsToldWay false g elements spot new) (sym is) none)
-
-pub told_public : (near guarded : Bool) (elements : List NamedElement) (spot : Spot) (old new : List Step) → near ≡ false
-    → guarded ≡ false → old ≡ [] → AddsPublicWay elements (number_at_fault spot) old new
-    → IsToldWay near guarded elements spot new
-told_public near guarded elements spot old new far isnt none adds =
-    let same : new ≡ adds.0 = adds.1 ∙ ap (λ steps. steps ++ adds.0) none in
-    subst (λ n. IsToldWay n guarded elements spot new) (sym far)
-    (subst (λ g. IsToldWay false g elements spot new) (sym isnt)
-    (subst (IsPublicWay elements (number_at_fault spot)) (sym same) adds.2))
-
--- the way to an element, and from there to what a fault in it is about
-pub way_in : (elements : List NamedElement) (inside : Inside) (near : Bool) (spot : Spot) (old mid new : List Step) → old ≡ []
-    → AddsWay elements inside.container old mid → near ≡ true
-    → AddsWayTo inside.named.elements.items spot mid new → IsWayInside elements inside near spot new
-way_in elements inside near spot old mid new none outer is inner = record {
-  outer = outer.0;
-  inner = inner.0;
-  to_container = outer.2;
-  to_fault = subst (λ n. IsInnerWay n inside.named.elements.items spot inner.0) (sym is) inner.2;
-  are = inner.1 ∙ ap (λ steps. steps ++ inner.0) (outer.1 ∙ ap (λ steps. steps ++ outer.0) none);
-}
-
-pub way_to : (elements : List NamedElement) (inside : Inside) (near : Bool) (spot : Spot) (old new : List Step) → old ≡ []
-    → AddsWay elements inside.container old new → near ≡ false → IsWayInside elements inside near spot new
-way_to elements inside near spot old new none outer far = record {
-  outer = outer.0;
-  inner = [];
-  to_container = outer.2;
-  to_fault = subst (λ n. IsInnerWay n inside.named.elements.items spot []) (sym far) refl;
-  are = outer.1 ∙ ap (λ steps. steps ++ outer.0) none ∙ sym (append-nil outer.0);
-}
+pub way_named : (elements : List NamedElement) (parting : Parting) (insides : List Inside) (fault : Fault) (front : ℕ)
+    (old mid new : List Step) → old ≡ [] → AddsFaultWay elements parting insides fault old mid → new ≡ names_in mid
+    → is_near fault front ≡ false → IsToldWay elements parting insides fault front new
+way_named elements parting insides fault front old mid new none adds names far =
+    let same : mid ≡ adds.0 = adds.1 ∙ ap (λ steps. steps ++ adds.0) none in (
+      adds.0,
+      adds.2,
+      names ∙ (ap names_in same ∙ sym (ap (λ is. cond is adds.0 (names_in adds.0)) far)),
+    )

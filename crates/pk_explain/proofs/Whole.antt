@@ -1,27 +1,18 @@
 -- No element of an accepted file is left out.
-use Rattle.std.proofs.Common.{Bool, List, None, Option, Some, ℕ, [], ap, arith, cond, false, inl, inr, length, nat_lt, refl, slice_get, subst, suc, sym, true, zero, ◌+◌, ◌++◌, ◌<◌, ◌∙◌, ◌∷◌, ◌≡◌, ◌⊎◌, ◌||◌}
+use Rattle.std.proofs.Common.{Bool, List, None, Option, Some, ℕ, [], ap, arith, cond, false, inl, inr, length, nat_lt, refl, slice_get, subst, suc, sym, true, zero, ◌+◌, ◌++◌, ◌<◌, ◌∙◌, ◌∷◌, ◌≡◌, ◌⊎◌}
 use Rattle.std.proofs.Math.Numerals.{add-one}
 use Rattle.std.proofs.lemmas.List.{append-nil, append_assoc}
 use Rattle.std.proofs.lemmas.Option.{slice_get_within}
 use borrow.Author.Count.{below_more, below_none}
-use Rattle.tlv_core.specs.declared.fault.Fault.{Fault}
 use Rattle.asn_names.specs.declared.element.NamedElement.{NamedElement}
-use Rattle.asn_names.specs.declared.element.Step.{Step}
-use Rattle.asn_names.specs.declared.element.Step.TheVariants.{Field, Member, Outermost, Outside, Segment}
 use Rattle.pk_explain.specs.Causes.{line_cause}
-use Rattle.pk_explain.specs.Hidden.{depth_if, is_deeper, told_in, walk_after}
-use Rattle.pk_explain.specs.Lines.{AddsLine, AddsPlace}
+use Rattle.pk_explain.specs.Fronts.{is_deeper}
+use Rattle.pk_explain.specs.Lines.{AddsLine}
 use Rattle.pk_explain.specs.ListingLaws.{HasLine, HasPrivate}
-use Rattle.pk_explain.specs.Listings.{AddsBehind, AddsDocument, AddsOne, IsListed, IsNext, Lists, ListsIf, ListsFile, ListsInside, Telling, is_around_definite, number_around, start_of}
+use Rattle.pk_explain.specs.Listings.{AddsBehind, AddsDocument, AddsOne, IsListed, IsNext, Lists, ListsFile, ListsInside, Telling, number_around, start_of}
 use Rattle.pk_explain.specs.Places.{Page, placed_in}
-use Rattle.pk_explain.specs.declared.hidden.Point.{Point}
-use Rattle.pk_explain.specs.declared.hidden.Told.{Told}
-use Rattle.pk_explain.specs.declared.hidden.Told.TheVariants.{Header, Nothing, Place}
-use Rattle.pk_explain.specs.declared.hidden.Walk.{Walk}
 use Rattle.pk_explain.specs.declared.inside.Inside.{Inside}
 use Rattle.pk_explain.specs.declared.places.Placed.{Placed}
-use Rattle.pk_explain.specs.declared.values.Rule.{Rule}
-use Rattle.pk_explain.specs.declared.values.Rule.TheVariants.{Accepted}
 use Rattle.pk_reports.specs.declared.report.Cause.{Cause}
 use Rattle.pk_reports.specs.declared.report.Line.{Line}
 
@@ -41,72 +32,50 @@ grew_both : (a b c : List Line) → Grew a b → Grew b c → Grew a c
 unfolding Grew
 grew_both a b c g h = (g.0 ++ h.0, h.1 ∙ (ap (λ lines. lines ++ h.0) g.1 ∙ append_assoc a g.0 h.0))
 
-grew_place : (placed : Placed) (element : NamedElement) (step : Step) (old new : List Line)
-    → AddsPlace placed element step old new → Grew old new
-grew_place placed element Outside old new h = grew_none old new h
-grew_place placed element Outermost old new h = grew_some old new (h.0 ∷ []) h.1
-grew_place placed element (Field name) old new h = grew_some old new (h.0 ∷ []) h.1
-grew_place placed element (Member number) old new h = grew_some old new (h.0 ∷ []) h.1
-grew_place placed element (Segment number) old new h = grew_some old new (h.0 ∷ []) h.1
+grew_line : (hidden : Bool) (octets : List ℕ) (placed : Placed) (element : NamedElement) (cause : Option Cause)
+    (old new : List Line) → AddsLine hidden octets placed element cause old new → Grew old new
+grew_line true octets placed element cause old new h = grew_none old new h
+grew_line false octets placed element cause old new h = grew_some old new (h.0 ∷ []) h.1
 
-grew_line : (rule : Rule) (told : Told) (octets : List ℕ) (placed : Placed) (element : NamedElement) (cause : Option Cause)
-    (old new : List Line) (all : Bool) → AddsLine rule told octets placed element cause old new all → Grew old new
-grew_line rule Header octets placed element cause old new all h = grew_some old new (h.0 ∷ []) h.1
-grew_line rule Place octets placed element cause old new all h = grew_place placed element element.step old new h.0
-grew_line rule Nothing octets placed element cause old new all h = grew_none old new h.0
+grew_one : (page : Page) (cause : Option Cause) (found : Option NamedElement) (before after : Telling)
+    → AddsOne page cause found before after → Grew before.lines after.lines
+grew_one page cause None before after h = grew_none before.lines after.lines (ap (λ t. t.lines) h)
+grew_one page cause (Some element) before after h =
+    grew_line (is_deeper before.hidden element) page.octets _ element cause before.lines after.lines h.line
 
-grew_one : (rule : Rule) (point : Point) (page : Page) (cause : Option Cause) (found : Option NamedElement)
-    (before after : Telling) → AddsOne rule point page cause found before after → Grew before.lines after.lines
-grew_one rule point page cause None before after h = grew_none before.lines after.lines (ap (λ t. t.lines) h)
-grew_one rule point page cause (Some element) before after h =
-    grew_line rule (told_in rule point before.walk element) page.octets _ element cause before.lines after.lines h.all
-    h.line
+grew_all : (page : Page) (number : ℕ) (start end : Telling) → Lists page number start end → Grew start.lines end.lines
+grew_all page zero start end h = grew_none start.lines end.lines (ap (λ t. t.lines) h)
+grew_all page (suc number) start end h =
+    grew_both start.lines h.0.lines end.lines (grew_all page number start h.0 h.1)
+    (grew_one page _ (slice_get page.elements number) h.0 end h.2)
 
-grew_all : (rule : Rule) (point : Point) (page : Page) (number : ℕ) (start end : Telling)
-    → Lists rule point page number start end → Grew start.lines end.lines
-grew_all rule point page zero start end h = grew_none start.lines end.lines (ap (λ t. t.lines) h)
-grew_all rule point page (suc number) start end h =
-    grew_both start.lines h.0.lines end.lines (grew_all rule point page number start h.0 h.1)
-    (grew_one rule point page _ (slice_get page.elements number) h.0 end h.2)
-
--- what the document inside an element leaves of the lines and of the walk
+-- what the document inside an element leaves of the lines and of what is hidden
 record Leaves (before after : Telling) : Type 0 where
   grew : Grew before.lines after.lines
-  walk : after.walk ≡ before.walk
+  hidden : after.hidden ≡ before.hidden
 
 leaves_same : (before after : Telling) → after ≡ before → Leaves before after
 leaves_same before after e = record {
   grew = grew_none before.lines after.lines (ap (λ t. t.lines) e);
-  walk = ap (λ t. t.walk) e;
+  hidden = ap (λ t. t.hidden) e;
 }
 
-leaves_inside : (point : Point) (page : Page) (before after : Telling) → ListsInside Accepted point page before after
-    → Leaves before after
-leaves_inside point page before after h = record {
-  grew = subst (Grew before.lines) (sym h.lines)
-      (grew_all Accepted point page _ (start_of before.lines) h.end h.lists);
-  walk = h.walk;
+leaves_inside : (page : Page) (before after : Telling) → ListsInside page before after → Leaves before after
+leaves_inside page before after h = record {
+  grew = subst (Grew before.lines) (sym h.lines) (grew_all page _ (start_of before.lines) h.end h.lists);
+  hidden = h.hidden;
 }
 
-leaves_wanted : (point : Point) (page : Page) (wanted : Bool) (before after : Telling)
-    → ListsIf wanted Accepted point page before after → Leaves before after
-leaves_wanted point page true before after h = leaves_inside point page before after h
-leaves_wanted point page false before after h = leaves_same before after h
+leaves_behind : (causes : List (Option Cause)) (inside : Inside) (number : ℕ) (line : Option Line) (before after : Telling)
+    → AddsBehind causes inside number line before after → Leaves before after
+leaves_behind causes inside number None before after h = leaves_same before after h
+leaves_behind causes inside number (Some line) before after h = leaves_inside _ before after h
 
-leaves_behind : (point : Point) (causes : List (Option Cause)) (inside : Inside) (number : ℕ) (line : Option Line)
-    (wanted : Bool) (before after : Telling)
-    → AddsBehind Accepted point causes inside number line wanted before after → Leaves before after
-leaves_behind point causes inside number None wanted before after h = leaves_same before after h
-leaves_behind point causes inside number (Some line) wanted before after h =
-    leaves_wanted point _ wanted before after h
-
-leaves_document : (point : Point) (fault : Option Fault) (causes : List (Option Cause)) (found : Option NamedElement)
-    (inside : Option Inside) (number : ℕ) (before after : Telling)
-    → AddsDocument Accepted point fault causes found inside number before after → Leaves before after
-leaves_document point fault causes None inside number before after h = leaves_same before after h
-leaves_document point fault causes (Some element) None number before after h = leaves_same before after h
-leaves_document point fault causes (Some element) (Some inside) number before after h =
-    leaves_behind _ causes inside number (slice_get before.lines number) _ before after h
+leaves_document : (causes : List (Option Cause)) (inside : Option Inside) (number : ℕ) (before after : Telling)
+    → AddsDocument causes inside number before after → Leaves before after
+leaves_document causes None number before after h = leaves_same before after h
+leaves_document causes (Some inside) number before after h =
+    leaves_behind causes inside number (slice_get before.lines number) before after h
 
 grown_line : (octets : List ℕ) (element : NamedElement) (cause : Option Cause) (old new : List Line) → Grew old new
     → HasLine octets element cause old → HasLine octets element cause new
@@ -138,8 +107,7 @@ SettledOne page lines other =
 
 -- so is each of the first elements, so many
 record State (page : Page) (number : ℕ) (telling : Telling) : Type 0 where
-  going : telling.walk.ended ≡ false
-  known : Known page.elements number telling.walk.private
+  known : Known page.elements number telling.hidden
   settled : (other : ℕ) → other < number → SettledOne page telling.lines other
 
 settled_grown : (page : Page) (old new : List Line) (other : ℕ) → Grew old new → SettledOne page old other
@@ -156,12 +124,6 @@ known_more : (elements : List NamedElement) (number : ℕ) (private : Option ℕ
 unfolding Known
 known_more elements number None k = tt
 known_more elements number (Some depth) k = (k.0, k.1, omega (arith, k.2), k.3, k.4, k.5)
-
-known_own : (elements : List NamedElement) (number : ℕ) (element : NamedElement) (is : Bool) → element.private ≡ is
-    → slice_get elements number ≡ Some element → Known elements (number + 1) (depth_if is element.header.depth)
-unfolding Known
-known_own elements number element true e listed = (number, element, omega arith, listed, e, refl)
-known_own elements number element false e listed = tt
 
 private_of : (elements : List NamedElement) (number : ℕ) (private : Option ℕ) (element : NamedElement)
     → Known elements number private → is_deeper private element ≡ true
@@ -181,38 +143,42 @@ same_element : (elements : List NamedElement) (number : ℕ) (one other : NamedE
     → slice_get elements number ≡ Some other → one ≡ other
 same_element elements number one other h i = cc
 
+-- what is hidden behind an element that isn't
+known_own : (elements : List NamedElement) (number : ℕ) (element : NamedElement) (is : Bool) → element.private ≡ is
+    → slice_get elements number ≡ Some element → Known elements (number + 1) (cond is (Some element.header.depth) None)
+unfolding Known
+known_own elements number element true e listed = (number, element, omega arith, listed, e, refl)
+known_own elements number element false e listed = tt
+
 -- an element in a private one
-untold : (point : Point) (page : Page) (number : ℕ) (element : NamedElement) (placed : Placed) (all definite : Bool)
-    (before after : Telling) → slice_get page.elements number ≡ Some element
-    → AddsLine Accepted Nothing page.octets placed element (line_cause page.elements page.causes number) before.lines
-    after.lines all
-    → after.walk ≡ walk_after Accepted point before.walk element Nothing all definite
-    → is_deeper before.walk.private element ≡ true → State page number before → State page (number + 1) after
+hidden_one : (page : Page) (number : ℕ) (element : NamedElement) (placed : Placed) (before after : Telling)
+    → slice_get page.elements number ≡ Some element
+    → AddsLine true page.octets placed element (line_cause page.elements page.causes number) before.lines after.lines
+    → after.hidden ≡ before.hidden → is_deeper before.hidden element ≡ true → State page number before
+    → State page (number + 1) after
 unfolding SettledOne
-untold point page number element placed all definite before after listed line walk deeper state =
-    let grew = grew_none before.lines after.lines line.0 in record {
-      going = ap (λ (w : Walk). w.ended) walk ∙ ap (λ ended. ended || false) state.going;
-      known = subst (Known page.elements (number + 1)) (sym (ap (λ (w : Walk). w.private) walk))
-          (known_more page.elements number before.walk.private state.known);
+hidden_one page number element placed before after listed line hidden deeper state =
+    let grew = grew_none before.lines after.lines line in record {
+      known = subst (Known page.elements (number + 1)) (sym hidden)
+          (known_more page.elements number before.hidden state.known);
       settled = below_more (SettledOne page after.lines) number
           (λ other less. settled_grown page before.lines after.lines other grew (state.settled other less))
           (λ one has.
           inr (
           subst (λ (e : NamedElement). HasPrivate page.elements number e.header.depth)
           (same_element page.elements number element one listed has)
-          (private_of page.elements number before.walk.private element state.known deeper)
+          (private_of page.elements number before.hidden element state.known deeper)
           ));
     }
 
 -- an element that has its line
-headed : (point : Point) (page : Page) (number : ℕ) (element : NamedElement) (placed : Placed) (all definite : Bool)
-    (before after : Telling) → slice_get page.elements number ≡ Some element
-    → AddsLine Accepted Header page.octets placed element (line_cause page.elements page.causes number) before.lines
-    after.lines all
-    → after.walk ≡ walk_after Accepted point before.walk element Header all definite
-    → State page number before → State page (number + 1) after
+shown_one : (page : Page) (number : ℕ) (element : NamedElement) (placed : Placed) (before after : Telling)
+    → slice_get page.elements number ≡ Some element
+    → AddsLine false page.octets placed element (line_cause page.elements page.causes number) before.lines after.lines
+    → after.hidden ≡ cond element.private (Some element.header.depth) None → State page number before
+    → State page (number + 1) after
 unfolding SettledOne
-headed point page number element placed all definite before after listed line walk state =
+shown_one page number element placed before after listed line hidden state =
     let grew = grew_some before.lines after.lines (line.0 ∷ []) line.1 in
     let cause = line_cause page.elements page.causes number in
     let has : HasLine page.octets element cause after.lines = record {
@@ -225,8 +191,7 @@ headed point page number element placed all definite before after listed line wa
       value = line.3;
       why = line.4;
     } in record {
-      going = ap (λ (w : Walk). w.ended) walk;
-      known = subst (Known page.elements (number + 1)) (sym (ap (λ (w : Walk). w.private) walk))
+      known = subst (Known page.elements (number + 1)) (sym hidden)
           (known_own page.elements number element element.private refl listed);
       settled = below_more (SettledOne page after.lines) number
           (λ other less. settled_grown page before.lines after.lines other grew (state.settled other less))
@@ -237,85 +202,67 @@ headed point page number element placed all definite before after listed line wa
           ));
     }
 
-told_by_depth : (point : Point) (walk : Walk) (element : NamedElement) (deeper : Bool) → walk.ended ≡ false
-    → is_deeper walk.private element ≡ deeper → told_in Accepted point walk element ≡ cond deeper Nothing Header
-told_by_depth point walk element deeper going e =
-    ap (λ ended. cond (ended || is_deeper walk.private element) Nothing Header) going
-    ∙ ap (λ d. cond d Nothing Header) e
-
-told_one : (point : Point) (page : Page) (number : ℕ) (element : NamedElement) (deeper : Bool) (before after : Telling)
-    → slice_get page.elements number ≡ Some element → is_deeper before.walk.private element ≡ deeper
-    → IsNext Accepted point page (line_cause page.elements page.causes number) element before after
-    → State page number before → State page (number + 1) after
-told_one point page number element true before after listed e next state =
-    let placed : Placed = placed_in Accepted point page element (number_around before.numbers page.around element) in
-    let definite : Bool = is_around_definite page.elements element in
-    let t = told_by_depth point before.walk element true state.going e in
-    untold point page number element placed next.all definite before after listed
+next_one : (page : Page) (number : ℕ) (element : NamedElement) (deeper : Bool) (before after : Telling)
+    → slice_get page.elements number ≡ Some element → is_deeper before.hidden element ≡ deeper
+    → IsNext page (line_cause page.elements page.causes number) element before after → State page number before
+    → State page (number + 1) after
+next_one page number element true before after listed e next state =
+    let placed : Placed = placed_in page element (number_around before.numbers page.around element) in
+    hidden_one page number element placed before after listed
     (subst
-    (λ told.
-    AddsLine Accepted told page.octets placed element (line_cause page.elements page.causes number) before.lines
-    after.lines next.all)
-    t next.line)
-    (next.walk ∙ ap (λ told. walk_after Accepted point before.walk element told next.all definite) t) e state
-told_one point page number element false before after listed e next state =
-    let placed : Placed = placed_in Accepted point page element (number_around before.numbers page.around element) in
-    let definite : Bool = is_around_definite page.elements element in
-    let t = told_by_depth point before.walk element false state.going e in
-    headed point page number element placed next.all definite before after listed
+    (λ hidden.
+    AddsLine hidden page.octets placed element (line_cause page.elements page.causes number) before.lines after.lines)
+    e next.line)
+    (next.hidden ∙ ap (λ d. cond d before.hidden (cond element.private (Some element.header.depth) None)) e) e state
+next_one page number element false before after listed e next state =
+    let placed : Placed = placed_in page element (number_around before.numbers page.around element) in
+    shown_one page number element placed before after listed
     (subst
-    (λ told.
-    AddsLine Accepted told page.octets placed element (line_cause page.elements page.causes number) before.lines
-    after.lines next.all)
-    t next.line)
-    (next.walk ∙ ap (λ told. walk_after Accepted point before.walk element told next.all definite) t) state
+    (λ hidden.
+    AddsLine hidden page.octets placed element (line_cause page.elements page.causes number) before.lines after.lines)
+    e next.line)
+    (next.hidden ∙ ap (λ d. cond d before.hidden (cond element.private (Some element.header.depth) None)) e) state
 
-told_found : (point : Point) (page : Page) (number : ℕ) (found : Option NamedElement) (before after : Telling)
+next_found : (page : Page) (number : ℕ) (found : Option NamedElement) (before after : Telling)
     → slice_get page.elements number ≡ found
-    → AddsOne Accepted point page (line_cause page.elements page.causes number) found before after
-    → State page number before → State page (number + 1) after
+    → AddsOne page (line_cause page.elements page.causes number) found before after → State page number before
+    → State page (number + 1) after
 unfolding SettledOne
-told_found point page number None before after listed h state = record {
-  going = ap (λ (t : Telling). t.walk.ended) h ∙ state.going;
-  known = subst (Known page.elements (number + 1)) (sym (ap (λ (t : Telling). t.walk.private) h))
-      (known_more page.elements number before.walk.private state.known);
+next_found page number None before after listed h state = record {
+  known = subst (Known page.elements (number + 1)) (sym (ap (λ (t : Telling). t.hidden) h))
+      (known_more page.elements number before.hidden state.known);
   settled = subst (λ (t : Telling). (other : ℕ) → other < number + 1 → SettledOne page t.lines other) (sym h)
       (below_more (SettledOne page before.lines) number state.settled (λ one it. absurd (cc)));
 }
-told_found point page number (Some element) before after listed h state =
-    told_one point page number element (is_deeper before.walk.private element) before after listed refl h state
+next_found page number (Some element) before after listed h state =
+    next_one page number element (is_deeper before.hidden element) before after listed refl h state
 
 behind_document : (page : Page) (number : ℕ) (before after : Telling) → Leaves before after → State page number before
     → State page number after
 behind_document page number before after leaves state = record {
-  going = ap (λ (w : Walk). w.ended) leaves.walk ∙ state.going;
-  known = subst (Known page.elements number) (sym (ap (λ (w : Walk). w.private) leaves.walk)) state.known;
+  known = subst (Known page.elements number) (sym leaves.hidden) state.known;
   settled = λ other less.
       settled_grown page before.lines after.lines other leaves.grew (state.settled other less);
 }
 
-whole_file : (point : Point) (fault : Option Fault) (page : Page) (insides : List Inside) (number : ℕ)
-    (left : List Inside) (end : Telling) → ListsFile Accepted point fault page insides number left end
-    → State page number end
+whole_file : (page : Page) (insides : List Inside) (number : ℕ) (left : List Inside) (end : Telling)
+    → ListsFile page insides number left end → State page number end
 unfolding Known
-whole_file point fault page insides zero left end h =
-    subst (State page 0) (sym h.1)
-    (record { going = refl; known = tt; settled = below_none (SettledOne page []) })
-whole_file point fault page insides (suc number) left end h =
-    let before = whole_file point fault page insides number h.0 h.1 h.3 in
-    let mid = told_found point page number (slice_get page.elements number) h.1 h.2 refl h.4 before in
-    let after = behind_document page (number + 1) h.2 end
-    (leaves_document point fault page.causes (slice_get page.elements number) _ _ h.2 end h.5) mid in
+whole_file page insides zero left end h =
+    subst (State page 0) (sym h.1) (record { known = tt; settled = below_none (SettledOne page []) })
+whole_file page insides (suc number) left end h =
+    let before = whole_file page insides number h.0 h.1 h.3 in
+    let mid = next_found page number (slice_get page.elements number) h.1 h.2 refl h.4 before in
+    let after = behind_document page (number + 1) h.2 end (leaves_document page.causes _ _ h.2 end h.5) mid in
     subst (λ n. State page n end) (add-one number) after
 
-pub none_left : (point : Point) (fault : Option Fault) (page : Page) (insides : List Inside) (lines : List Line)
-    → IsListed Accepted point fault page insides lines → (number : ℕ) (element : NamedElement)
-    → slice_get page.elements number ≡ Some element
+pub none_left : (page : Page) (insides : List Inside) (lines : List Line) → IsListed page insides lines → (number : ℕ)
+    (element : NamedElement) → slice_get page.elements number ≡ Some element
     → HasLine page.octets element (line_cause page.elements page.causes number) lines
     ⊎ HasPrivate page.elements number element.header.depth
 unfolding SettledOne
-none_left point fault page insides lines is number element listed =
-    let state = whole_file point fault page insides (length page.elements) is.left is.end is.lists in
+none_left page insides lines is number element listed =
+    let state = whole_file page insides (length page.elements) is.left is.end is.lists in
     subst
     (λ some.
     HasLine page.octets element (line_cause page.elements page.causes number) some

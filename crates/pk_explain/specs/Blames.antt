@@ -7,8 +7,6 @@ use Rattle.asn_outline.specs.declared.announced.Announced.{Announced}
 use Rattle.tlv_core.specs.declared.reason.Reason.{Reason}
 use Rattle.tlv_core.specs.declared.reason.Reason.TheVariants as reasons
 use Rattle.pk_explain.specs.Spots.{IsWay, enclosed}
-use Rattle.pk_explain.specs.declared.public_fault.PublicFault.{PublicFault}
-use Rattle.pk_reports.specs.declared.report.Blame.{Blame}
 use Rattle.pk_reports.specs.declared.report.ToldContainer.{ToldContainer}
 use Rattle.pk_reports.specs.declared.report.Found.{Found}
 use Rattle.pk_reports.specs.declared.report.Length.{Length}
@@ -111,18 +109,3 @@ found_in (Some line) =
 abbrev pub found_of : List Line → Option ℕ → Option Found
 found_of lines None = None
 found_of lines (Some number) = found_in (slice_get lines number)
-
--- What is told of a fault, by what is known of it and by the lines.
-abbrev pub blame_by : ℕ → Reason → List Line → PublicFault → Blame
-blame_by octets why lines fault = record {
-  file_at = fault.file_at;
-  way = fault.way;
-  line = fault.line;
-  due = fault.due;
-  found = found_of lines fault.header;
-  container = fault.container;
-  over = over_of why octets fault.container (found_of lines fault.header);
-  more = fault.more;
-  key_octets = fault.key_octets;
-  due_octets = fault.due_octets;
-}

@@ -93,10 +93,35 @@ first_of_both None other = other
 first_of_both (Some cause) other = Some cause
 
 -- Why an element with a place of its own isn't in DER, whatever is in it.
-abbrev pub cause_of : List ℕ → NamedElement → Option Cause
-cause_of document element =
+abbrev pub shown_cause : List ℕ → NamedElement → Option Cause
+shown_cause document element =
     cond (is_in_segments element) (Some causes.Segments)
     (first_of_both (length_cause element.header) (cause_in_contents element (contents_in document element)))
+
+-- elements of the type may be any
+abbrev pub is_open_type : Shape → Bool
+is_open_type Open = true
+is_open_type (Leaf own contents) = false
+is_open_type (ListOf' own least p member) = false
+is_open_type (SetOf' own least p member) = false
+is_open_type (Sequence' own p fields) = false
+is_open_type (Containing' own p shape) = false
+is_open_type (Refused own) = false
+is_open_type (DefinedBy' path identifiers p first q second) = false
+is_open_type (Choice' p first q second) = false
+is_open_type (Named' name p shape) = false
+is_open_type (Private' p shape) = false
+
+abbrev pub is_open : Option Shape → Bool
+is_open None = false
+is_open (Some shape) = is_open_type shape
+
+-- all octets of an element are private, its header too: it is of an open type, or a value in one
+abbrev pub is_hidden : NamedElement → Bool
+is_hidden element = element.private && is_open (option_map (λ r. r.now) element.shape)
+
+abbrev pub cause_of : List ℕ → NamedElement → Option Cause
+cause_of document element = cond (is_hidden element) None (shown_cause document element)
 
 abbrev pub cause_by : List ℕ → NamedElement → Step → Option Cause
 cause_by document element (Segment number) = None
@@ -105,7 +130,7 @@ cause_by document element (Field name) = cause_of document element
 cause_by document element (Member number) = cause_of document element
 cause_by document element Outside = cause_of document element
 
--- of a segment nothing is said: the string that it is in has the cause
+-- of a segment nothing is said: the string that it is in has the cause; of what is hidden neither
 abbrev pub own_cause : List ℕ → NamedElement → Option Cause
 own_cause document element = cause_by document element element.step
 
@@ -151,10 +176,18 @@ cause_within depth (element ∷ elements) [] = None
 cause_within depth (element ∷ elements) (cause ∷ causes') =
     cond (nat_lt depth element.header.depth) (first_of_both cause (cause_within depth elements causes')) None
 
--- Nothing in an element that is so deep has a cause, and its members don't stand in the order of SET OF (11.6).
+-- one of the elements is hidden, as long as they are deeper
+abbrev pub holds_hidden : ℕ → List NamedElement → Bool
+holds_hidden depth [] = false
+holds_hidden depth (element ∷ elements) =
+    cond (nat_lt depth element.header.depth) (cond (is_hidden element) true (holds_hidden depth elements)) false
+
+-- Nothing in an element that is so deep is hidden or has a cause, and its members don't stand in the order of SET OF
+-- (11.6).
 abbrev pub is_out_of_order : List ℕ → ℕ → List NamedElement → List (Option Cause) → Bool
 is_out_of_order document depth elements causes' =
-    not (is_some (cause_within depth elements causes')) && not (ascends (member_encodings document depth elements))
+    not (holds_hidden depth elements) && not (is_some (cause_within depth elements causes'))
+    && not (ascends (member_encodings document depth elements))
 
 -- the order of a SET OF is a cause, by the elements behind it and their causes
 abbrev pub order_cause : List ℕ → NamedElement → List NamedElement → List (Option Cause) → Option Cause

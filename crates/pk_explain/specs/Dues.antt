@@ -1,5 +1,5 @@
 -- What is due where a document is refused.
-use Rattle.std.specs.Prelude.{List, None, Option, Some, cond, slice_get, ℕ, Bool}
+use Rattle.std.specs.Prelude.{Bool, List, None, Option, Some, false, slice_get, true, ℕ}
 use Rattle.std.specs.Borrow.{Bor}
 use Rattle.asn_names.specs.declared.element.NamedElement.{NamedElement}
 use Rattle.asn_names.specs.declared.element.Level.{Level}
@@ -41,6 +41,9 @@ level_due (Some (levels.Segments number)) other = other
 abbrev pub due_at : List NamedElement → Spot → Reason → Bor Shape → Due
 due_at elements spot why root = level_due spot.level (reason_due elements spot why spot.container root)
 
--- the same, where it may be told
-abbrev pub told_due : Bool → Due → Due
-told_due told due = cond told due Unsaid
+-- the type of an element is at fault
+abbrev pub is_of_type : Reason → Bool
+is_of_type reasons.WrongTag = true
+is_of_type reasons.Extra = true
+is_of_type reasons.Missing = true
+is_of_type _ = false

@@ -1,7 +1,7 @@
--- What is known of a fault. Where a private key may be in the document, no more than what stands before it tells.
-use Rattle.std.specs.Prelude.{Bool, List, None, Option, Some, [], cond, false, length, nat_lt, not, slice_get, suc, true, zero, ℕ, ◌++◌, ◌==◌, ◌&&◌, ◌||◌, ◌∷◌, ◌≡◌}
+-- What is told of a fault: by what may be told of the document, and by the elements of its front.
+use Rattle.std.specs.Prelude.{List, None, Option, Some, cond, false, length, nat_le, true, ℕ, ◌-◌, ◌&&◌, ◌≡◌}
 use Rattle.std.specs.Borrow.{Bor}
-use Rattle.std.specs.Option.{is_some, option_or}
+use Rattle.std.specs.Option.{is_some}
 use Rattle.asn_names.specs.declared.element.NamedElement.{NamedElement}
 use Rattle.asn_names.specs.declared.element.Parting.{Parting}
 use Rattle.asn_names.specs.declared.element.Step.{Step}
@@ -9,255 +9,118 @@ use Rattle.asn_shapes.specs.declared.shape.Shape.{Shape}
 use Rattle.tlv_core.specs.declared.fault.Fault.{Fault}
 use Rattle.tlv_core.specs.declared.reason.Reason.{Reason}
 use Rattle.tlv_core.specs.declared.reason.Reason.TheVariants as reasons
-use Rattle.pk_explain.specs.Blames.{IsContainerOf, found_of}
-use Rattle.pk_explain.specs.Dues.{due_at, told_due}
-use Rattle.pk_explain.specs.KeyOctets.{less, sizes_at, sizes_inside}
-use Rattle.pk_explain.specs.OwnLines.{is_near, line_at, line_of}
-use Rattle.pk_explain.specs.Places.{end_of, place_of}
-use Rattle.pk_explain.specs.Public.{is_guarded}
-use Rattle.pk_explain.specs.Spots.{IsWay, IsWayTo, enclosed, spot_at}
-use Rattle.pk_explain.specs.declared.inside.Inside.{Inside}
-use Rattle.pk_explain.specs.declared.places.Piece.{Piece}
-use Rattle.pk_explain.specs.declared.public_fault.PublicFault.{PublicFault}
-use Rattle.pk_explain.specs.declared.public_fault.Refusal.{Refusal}
-use Rattle.pk_explain.specs.declared.values.Rule.{Rule}
+use Rattle.pk_explain.specs.Blames.{IsContainerOf, found_of, over_of}
+use Rattle.pk_explain.specs.Classes.{class_of}
+use Rattle.pk_explain.specs.Disclosures.{is_near}
+use Rattle.pk_explain.specs.Dues.{due_at, is_of_type}
+use Rattle.pk_explain.specs.FaultLines.{is_between, line_at}
+use Rattle.pk_explain.specs.Spots.{spot_at}
+use Rattle.pk_explain.specs.declared.class.ElementClass.{ElementClass}
+use Rattle.pk_explain.specs.declared.told_fault.Shown.{Shown}
 use Rattle.pk_explain.specs.declared.ways.Spot.{Spot}
 use Rattle.pk_reports.specs.declared.report.Answer.{Answer}
 use Rattle.pk_reports.specs.declared.report.Answer.TheVariants.{Der, NotDer, Refused}
-use Rattle.pk_reports.specs.declared.report.ToldContainer.{ToldContainer}
+use Rattle.pk_reports.specs.declared.report.Blame.{Blame}
+use Rattle.pk_reports.specs.declared.report.Due.{Due}
+use Rattle.pk_reports.specs.declared.report.Due.TheVariants.{Unsaid}
 use Rattle.pk_reports.specs.declared.report.Found.{Found}
-use Rattle.pk_reports.specs.declared.report.Length.{Length}
 use Rattle.pk_reports.specs.declared.report.Line.{Line}
+use Rattle.pk_reports.specs.declared.report.ToldContainer.{ToldContainer}
 
--- a refused document, by its elements, by the documents inside them, and by the lines that tell of both
+-- a refused document, by its front and the lines of that
 pub record Case : Type 0 where
-  pub rule : Rule
   pub fault : Fault
-  pub octets : List ℕ
   pub root : Bor Shape
+  -- the elements of the front, and where they and the type part
   pub elements : List NamedElement
   pub parting : Parting
-  pub insides : List Inside
+  -- how many octets the file has, and how many the front
+  pub octets : ℕ
+  pub front : ℕ
+  pub class : Option ℕ
   pub lines : List Line
 
-abbrev pub case_of : Refusal → Case
-case_of refusal = record {
-  rule = refusal.rule;
-  fault = refusal.fault;
-  octets = refusal.octets.now;
-  root = refusal.root;
-  elements = refusal.named.now.elements.items;
-  parting = refusal.named.now.parting;
-  insides = refusal.insides.now;
-  lines = refusal.lines.now;
-}
-
--- the document, where it is refused for this fault
-abbrev pub refused_for : Rule → List ℕ → Bor Shape → List NamedElement → Parting → List Inside → List Line → Fault → Case
-refused_for rule octets root elements parting insides lines fault = record {
-  rule = rule;
+abbrev pub case_with : Shown → Fault → Case
+case_with shown fault = record {
   fault = fault;
-  octets = octets;
-  root = root;
-  elements = elements;
-  parting = parting;
-  insides = insides;
-  lines = lines;
+  root = shown.root;
+  elements = shown.named.now.elements.items;
+  parting = shown.named.now.parting;
+  octets = shown.octets;
+  front = length shown.front.now;
+  class = shown.class;
+  lines = shown.lines.now;
 }
 
--- the element or the container at fault
-abbrev pub number_at_fault : Spot → Option ℕ
-number_at_fault spot = option_or spot.container spot.element
+-- the place of a fault in the file: one inside an OCTET STRING has none
+abbrev pub place_by : ℕ → Option (ℕ × Reason) → Option ℕ
+place_by at None = Some at
+place_by at (Some inside) = None
 
-abbrev pub is_private_of : Option NamedElement → Bool
-is_private_of None = false
-is_private_of (Some element) = element.private
+abbrev pub place_in_file : Fault → Option ℕ
+place_in_file fault = place_by fault.at fault.inside
 
-abbrev pub is_private_number : List NamedElement → Option ℕ → Bool
-is_private_number elements None = false
-is_private_number elements (Some number) = is_private_of (slice_get elements number)
+-- the number of the line of the element at fault
+abbrev pub line_in : Case → Option ℕ
+line_in case = cond (is_between case.fault.why) None (line_at case.lines case.fault.at)
 
-abbrev pub is_in_private : List NamedElement → Spot → Bool
-is_in_private elements spot = is_private_number elements (number_at_fault spot)
+-- an element at a place that has this class
+abbrev pub found_as : ℕ → Option ElementClass → Option Found
+found_as at None = None
+found_as at (Some class) = Some (record { at = at; tag = class.tag; constructed = class.constructed; length = None })
 
--- the reason alone says which field is refused
-abbrev pub says_field : Reason → Bool
-says_field reasons.VersionRule = true
-says_field reasons.KeyLength = true
-says_field _ = false
+abbrev pub with_class : ℕ → Option ℕ → Option Found
+with_class at None = None
+with_class at (Some identifier) = found_as at (class_of identifier)
 
--- what a fault in the file is about, and its line
+abbrev pub first_found : Option Found → Option Found → Option Found
+first_found None other = other
+first_found (Some found) other = Some found
+
+-- What stands there: by the line, else by its class. Of a fault inside an OCTET STRING nothing is told.
+abbrev pub found_in_place : Case → Option ℕ → Option Found
+found_in_place case line =
+    cond (is_some case.fault.inside) None (first_found (found_of case.lines line) (with_class case.fault.at case.class))
+
 abbrev pub spot_of : Case → Spot
 spot_of case = spot_at case.elements case.parting case.fault.at case.fault.why
 
-abbrev pub own_line : Case → Option ℕ
-own_line case = line_of None case.lines case.elements (spot_of case)
-
--- It may be told what is due at a fault in the file, and in what: where a private key may be in the document, if all
--- before it is told or the reason says as much; else if it has a line or isn't private.
-abbrev pub may_tell_by : Case → Spot → Option ℕ → Bool
-may_tell_by case spot line =
-    cond (is_guarded case.rule) (is_near case.elements spot None case.lines || says_field case.fault.why)
-    (is_some line || not (is_in_private case.elements spot))
-
-abbrev pub may_tell : Case → Bool
-may_tell case = may_tell_by case (spot_of case) (own_line case)
-
--- The nearest element round the one of this number that isn't private, or itself; so many are between.
-abbrev pub PublicAround : ℕ → List NamedElement → ℕ → ℕ → Type 0
-PublicAround zero elements number found =
-    (is_private_of (enclosed elements number) ≡ false) × (found ≡ number)
-PublicAround (suc count) elements number found =
-    (element : NamedElement) × (enclosed elements number ≡ Some element) × (element.private ≡ true)
-    × PublicAround count elements element.around found
-
-abbrev pub IsPublicAround : List NamedElement → ℕ → ℕ → Type 0
-IsPublicAround elements number found = (count : ℕ) × PublicAround count elements number found
-
-abbrev pub IsPublicWay : List NamedElement → Option ℕ → List Step → Type 0
-IsPublicWay elements None steps = steps ≡ []
-IsPublicWay elements (Some number) steps =
-    (found : ℕ) × IsPublicAround elements number found × IsWay elements found steps
-
--- the steps added to those before
-abbrev pub AddsPublicWay : List NamedElement → Option ℕ → List Step → List Step → Type 0
-AddsPublicWay elements number old new =
-    (steps : List Step) × (new ≡ old ++ steps) × IsPublicWay elements number steps
-
--- The steps to what a fault is about, where that may be told. Else there are none where a private key may be, and in
--- other documents those to the nearest element round it that isn't private.
-abbrev pub IsToldWay : Bool → Bool → List NamedElement → Spot → List Step → Type 0
-IsToldWay true guarded elements spot steps = IsWayTo elements spot steps
-IsToldWay false true elements spot steps = steps ≡ []
-IsToldWay false false elements spot steps = IsPublicWay elements (number_at_fault spot) steps
-
-abbrev pub IsToldContainer : Bool → List NamedElement → Reason → Spot → Option ToldContainer → Type 0
-IsToldContainer true elements why spot container =
-    IsContainerOf elements why spot.container spot.element container
-IsToldContainer false elements why spot container = container ≡ None
+-- What may stand at the fault, where no more stands before it than the front and its type is at fault.
+abbrev pub due_in : Case → Spot → Due
+due_in case spot =
+    cond (is_near case.fault case.front && is_of_type case.fault.why)
+    (due_at case.elements spot case.fault.why case.root) Unsaid
 
 -- how many octets follow the document, where that is its fault
-abbrev pub more_of : Reason → ℕ → ℕ → Option ℕ
-more_of reasons.Trailing octets at = less octets at
-more_of _ octets at = None
+abbrev pub more_by : Reason → ℕ → ℕ → Option ℕ
+more_by reasons.Trailing at octets = cond (nat_le at octets) (Some (octets - at)) None
+more_by _ at octets = None
 
-abbrev pub sizes_outside_by : Reason → Case → Spot → Option ℕ × Option ℕ
-sizes_outside_by reasons.KeyLength case spot = sizes_at case.octets case.elements case.insides spot.element
-sizes_outside_by _ case spot = (None, None)
+abbrev pub more_in : Case → Option ℕ
+more_in case = more_by case.fault.why case.fault.at case.octets
 
-abbrev pub sizes_outside : Case → Option ℕ × Option ℕ
-sizes_outside case = sizes_outside_by case.fault.why case (spot_of case)
+-- The container that the fault is about, where no more stands before it than the front.
+abbrev pub IsToldContainer : Case → Spot → Option ToldContainer → Type 0
+IsToldContainer case spot container =
+    elim (is_near case.fault case.front) [
+      | true ↦ IsContainerOf case.elements case.fault.why spot.container spot.element container
+      | false ↦ container ≡ None
+    ]
 
--- What is known of a fault in the file.
-pub record IsKnownOutside (case : Case) (fault : PublicFault) : Type 0 where
-  pub file_at : fault.file_at ≡ Some case.fault.at
-  pub way : IsToldWay (may_tell case) (is_guarded case.rule) case.elements (spot_of case) fault.way.items
-  pub due : fault.due ≡ told_due (may_tell case) (due_at case.elements (spot_of case) case.fault.why case.root)
-  pub line : fault.line ≡ own_line case
-  pub header : fault.header ≡ own_line case
-  pub container : IsToldContainer (may_tell case) case.elements case.fault.why (spot_of case) fault.container
-  pub more : fault.more ≡ more_of case.fault.why (length case.octets) case.fault.at
-  pub key_octets : fault.key_octets ≡ (sizes_outside case).0
-  pub due_octets : fault.due_octets ≡ (sizes_outside case).1
+-- What is told of the fault that a document is refused for, to which these steps lead.
+pub record IsToldOf (case : Case) (way : List Step) (blame : Blame) : Type 0 where
+  pub file_at : blame.file_at ≡ place_in_file case.fault
+  pub way_is : blame.way.items ≡ way
+  pub line : blame.line ≡ line_in case
+  pub due : blame.due ≡ due_in case (spot_of case)
+  pub found : blame.found ≡ found_in_place case (line_in case)
+  pub container : IsToldContainer case (spot_of case) blame.container
+  pub over : blame.over ≡ over_of case.fault.why case.octets blame.container blame.found
+  pub more : blame.more ≡ more_in case
 
--- the document inside the element at this place
-abbrev pub stands_at : ℕ → Option NamedElement → Bool
-stands_at at None = false
-stands_at at (Some element) = element.header.at == at
-
-abbrev pub inside_at : List NamedElement → List Inside → ℕ → Option Inside
-inside_at elements [] at = None
-inside_at elements (inside ∷ insides) at =
-    cond (stands_at at (slice_get elements inside.container)) (Some inside) (inside_at elements insides at)
-
--- The place in the file of one inside, where it stands in the first segment: where a later one begins private octets
--- may say.
-abbrev pub first_piece_place : List Piece → ℕ → Option ℕ
-first_piece_place [] at = None
-first_piece_place (first ∷ pieces) at =
-    cond (nat_lt at first.octets) (place_of (first ∷ pieces) at)
-    (cond ((at == first.octets) && (length pieces == 0)) (end_of (first ∷ pieces) at) None)
-
--- what a fault inside is about; whether all before it is told
-abbrev pub spot_in : Inside → ℕ → Reason → Spot
-spot_in inside at why = spot_at inside.named.elements.items inside.named.parting at why
-
-abbrev pub is_near_in : Case → Inside → Spot → Bool
-is_near_in case inside spot = is_near inside.named.elements.items spot (Some case.fault.at) case.lines
-
--- The steps to the element that the document is in, and from there to what the fault is about, where that may be told.
-abbrev pub IsInnerWay : Bool → List NamedElement → Spot → List Step → Type 0
-IsInnerWay true elements spot steps = IsWayTo elements spot steps
-IsInnerWay false elements spot steps = steps ≡ []
-
-pub record IsWayInside (elements : List NamedElement) (inside : Inside) (near : Bool) (spot : Spot) (steps : List Step)
-    : Type 0 where
-  pub outer : List Step
-  pub inner : List Step
-  pub to_container : IsWay elements inside.container outer
-  pub to_fault : IsInnerWay near inside.named.elements.items spot inner
-  pub are : steps ≡ outer ++ inner
-
--- the line of the element at fault, else one at its place
-abbrev pub line_inside : Case → Inside → Spot → ℕ → Option ℕ
-line_inside case inside spot at =
-    option_or (line_of (Some case.fault.at) case.lines inside.named.elements.items spot)
-    (line_at (Some case.fault.at) case.lines at)
-
--- How many octets follow the document inside, which has so many: where it stands in one piece, and the header is told
--- of the element that it is in.
-abbrev pub contents_told : Option Length → Option ℕ
-contents_told None = None
-contents_told (Some length) = length.contents
-
-abbrev pub contents_found : Option Found → Option ℕ
-contents_found None = None
-contents_found (Some found) = contents_told found.length
-
-abbrev pub less_of : Option ℕ → ℕ → Option ℕ
-less_of None taken = None
-less_of (Some octets) taken = less octets taken
-
-abbrev pub more_inside : Reason → Case → Inside → ℕ → Option ℕ
-more_inside reasons.Trailing case inside taken =
-    cond (length inside.pieces.items == 1)
-    (less_of (contents_found (found_of case.lines (line_at None case.lines case.fault.at))) taken) None
-more_inside _ case inside taken = None
-
-abbrev pub sizes_within : Reason → Case → Inside → Option ℕ × Option ℕ
-sizes_within reasons.KeyLength case inside = sizes_inside case.octets case.elements inside
-sizes_within _ case inside = (None, None)
-
--- What is known of a fault inside an OCTET STRING. No header is told, and no container.
-pub record IsKnownInside (case : Case) (inside : Inside) (at : ℕ) (why : Reason) (fault : PublicFault) : Type 0 where
-  pub file_at : fault.file_at ≡ first_piece_place inside.pieces.items at
-  pub way : IsWayInside case.elements inside (is_near_in case inside (spot_in inside at why)) (spot_in inside at why)
-      fault.way.items
-  pub due : fault.due ≡ told_due (is_near_in case inside (spot_in inside at why))
-      (due_at inside.named.elements.items (spot_in inside at why) why inside.shape)
-  pub line : fault.line ≡ line_inside case inside (spot_in inside at why) at
-  pub header : fault.header ≡ None
-  pub container : fault.container ≡ None
-  pub more : fault.more ≡ more_inside why case inside at
-  pub key_octets : fault.key_octets ≡ (sizes_within why case inside).0
-  pub due_octets : fault.due_octets ≡ (sizes_within why case inside).1
-
-abbrev pub IsKnownIn : Case → Option Inside → ℕ → Reason → PublicFault → Type 0
-IsKnownIn case None at why fault = IsKnownOutside case fault
-IsKnownIn case (Some inside) at why fault = IsKnownInside case inside at why fault
-
-abbrev pub IsKnownAt : Case → Option (ℕ × Reason) → PublicFault → Type 0
-IsKnownAt case None fault = IsKnownOutside case fault
-IsKnownAt case (Some inner) fault =
-    IsKnownIn case (inside_at case.elements case.insides case.fault.at) inner.0 inner.1 fault
-
--- What is known of a fault: of one inside an OCTET STRING by the document there.
-abbrev pub IsKnown : Case → PublicFault → Type 0
-IsKnown case fault = IsKnownAt case case.fault.inside fault
-
--- something is known of the fault of a refused document, and of no other
-abbrev pub IsKnownBy : (Fault → Case) → Answer → Option PublicFault → Type 0
-IsKnownBy case Der fault = fault ≡ None
-IsKnownBy case (NotDer place) fault = fault ≡ None
-IsKnownBy case (Refused refused) None = ⊥
-IsKnownBy case (Refused refused) (Some fault) = IsKnown (case refused) fault
+-- of a document that is refused, and of no other
+abbrev pub IsToldIf : Answer → (Fault → Case) → List Step → Option Blame → Type 0
+IsToldIf Der case way blame = blame ≡ None
+IsToldIf (NotDer place) case way blame = blame ≡ None
+IsToldIf (Refused fault) case way None = ⊥
+IsToldIf (Refused fault) case way (Some blame) = IsToldOf (case fault) way blame

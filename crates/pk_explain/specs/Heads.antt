@@ -1,24 +1,17 @@
--- What a document is by its headers: how the elements inside the outermost one begin.
-use Rattle.std.specs.Prelude.{Bool, List, None, Option, Some, [], cond, false, nat_le, nat_lt, ℕ, ◌&&◌, ◌-◌, ◌==◌, ◌∷◌}
+-- What a document is by its first headers: the tags, and a few contents, of the elements behind the outermost header.
+use Rattle.std.specs.Prelude.{Bool, List, None, Option, Some, [], cond, false, nat_lt, ℕ, ◌&&◌, ◌==◌, ◌||◌, ◌∷◌}
 use Rattle.std.specs.List.{slice_get}
 use Rattle.std.specs.Str.{bytes_eq}
 use Rattle.tlv_core.specs.Identifier.{Tag}
 use Rattle.asn_outline.specs.declared.event.Event.{Event}
 use Rattle.asn_outline.specs.declared.event.Event.TheVariants.{Begin, End, Primitive}
-use Rattle.asn_outline.specs.declared.event.ElementHeader.{ElementHeader}
-use Rattle.asn_outline.specs.declared.event.Stop.{Stop}
-use Rattle.pk_explain.specs.Blames.{saturating_sum}
 use Rattle.pk_explain.specs.Contents.{between}
-use Rattle.pk_explain.specs.declared.heads.Heads.{Heads}
 use Rattle.pk_reports.specs.declared.report.Looks.{Looks}
 use Rattle.pk_reports.specs.declared.report.Looks.TheVariants as looks
 
 -- the numbers of universal tags (X.680 8.4)
 abbrev pub integer : ℕ
 integer = 2
-
-abbrev pub bit_string : ℕ
-bit_string = 3
 
 abbrev pub object_identifier : ℕ
 object_identifier = 6
@@ -39,84 +32,67 @@ code_of tag =
     cond ((tag.class == 0) && nat_lt tag.number 31) tag.number
     (cond ((tag.class == 2) && (tag.number == 0)) explicit_0 other_tag)
 
--- before the first element; 0 stands for no tag
-abbrev pub no_heads : Heads
-no_heads = record { count = 0; integers = 0; first = 0; second = 0; third = 0; in_first = 0; in_second = 0 }
+-- that of an element that begins; 0 of none
+abbrev pub code_of_event : Option Event → ℕ
+code_of_event None = 0
+code_of_event (Some (Primitive header begin end)) = code_of header.tag
+code_of_event (Some (Begin header begin)) = code_of header.tag
+code_of_event (Some (End at)) = 0
 
--- One more element stands in the outermost one. INTEGERs are counted where nothing else stands before them.
-abbrev pub counted : Heads → ℕ → Heads
-counted heads code = record heads {
-  count = saturating_sum heads.count 1;
-  integers =
-      cond ((code == integer) && (heads.integers == heads.count)) (saturating_sum heads.integers 1) heads.integers;
-}
+abbrev pub are_contents : Option (List ℕ) → List ℕ → Bool
+are_contents None contents = false
+are_contents (Some own) contents = bytes_eq own contents
 
--- the tags of the first three are kept
-abbrev pub with_member : Heads → ℕ → Heads
-with_member heads code =
-    cond (heads.count == 0) (record (counted heads code) { first = code })
-    (cond (heads.count == 1) (record (counted heads code) { second = code })
-    (cond (heads.count == 2) (record (counted heads code) { third = code }) (counted heads code)))
+-- an element is primitive and has these contents
+abbrev pub has_contents : List ℕ → Option Event → List ℕ → Bool
+has_contents octets None contents = false
+has_contents octets (Some (Primitive header begin end)) contents =
+    are_contents (between octets (Some begin) (Some end)) contents
+has_contents octets (Some (Begin header begin)) contents = false
+has_contents octets (Some (End at)) contents = false
 
--- One more element stands in the last of these; the tags of the first one in the first and in the second are kept.
-abbrev pub with_inner : Heads → ℕ → Heads
-with_inner heads code =
-    cond ((heads.count == 1) && (heads.in_first == 0)) (record heads { in_first = code })
-    (cond ((heads.count == 2) && (heads.in_second == 0)) (record heads { in_second = code }) heads)
+-- an element is an INTEGER of these contents
+abbrev pub is_integer : List ℕ → Option Event → List ℕ → Bool
+is_integer octets event contents = (code_of_event event == integer) && has_contents octets event contents
 
--- an element in so many containers
-abbrev pub with_header : Heads → ElementHeader → Heads
-with_header heads header =
-    cond (header.depth == 1) (with_member heads (code_of header.tag))
-    (cond (header.depth == 2) (with_inner heads (code_of header.tag)) heads)
+-- the first member is one of these contents
+abbrev pub begins_with : List ℕ → List Event → List ℕ → Bool
+begins_with octets events contents = is_integer octets (slice_get events 1) contents
 
-abbrev pub after_event : Heads → Event → Heads
-after_event heads (Primitive header begin end) = with_header heads header
-after_event heads (Begin header begin) = with_header heads header
-after_event heads (End at) = heads
+-- a usual public exponent: 65537 or 3
+abbrev pub is_exponent : List ℕ → Option Event → Bool
+is_exponent octets event = is_integer octets event (1 ∷ 0 ∷ 1 ∷ []) || is_integer octets event (3 ∷ [])
 
--- one event after another
-abbrev pub heads_of : Heads → List Event → Heads
-heads_of heads [] = heads
-heads_of heads (event ∷ events) = heads_of (after_event heads event) events
+-- a modulus and a usual exponent
+abbrev pub are_numbers : List ℕ → Option Event → Option Event → Bool
+are_numbers octets modulus exponent = (code_of_event modulus == integer) && is_exponent octets exponent
 
-abbrev pub is_3 : Option (List ℕ) → Bool
-is_3 None = false
-is_3 (Some contents) = bytes_eq contents (3 ∷ [])
+-- RSAPrivateKey (RFC 8017 A.1.2): version 0, a modulus, and a usual exponent.
+abbrev pub is_rsa_private_key : List ℕ → List Event → Bool
+is_rsa_private_key octets events =
+    begins_with octets events (0 ∷ []) && are_numbers octets (slice_get events 2) (slice_get events 3)
 
--- whether this is a primitive element of which the contents are 03
-abbrev pub has_3 : List ℕ → Option Event → Bool
-has_3 octets None = false
-has_3 octets (Some (Primitive header begin end)) = is_3 (between octets (Some begin) (Some end))
-has_3 octets (Some (Begin header begin)) = false
-has_3 octets (Some (End at)) = false
+-- RSAPublicKey (RFC 8017 A.1.1): a modulus, and a usual exponent.
+abbrev pub is_rsa_public_key : List ℕ → List Event → Bool
+is_rsa_public_key octets events = are_numbers octets (slice_get events 1) (slice_get events 2)
 
--- RSAPrivateKey (RFC 8017 A.1.2): nine INTEGERs stand first.
-abbrev pub is_rsa_private_key : Heads → Bool
-is_rsa_private_key heads = nat_le 9 heads.integers
+-- Certificate (RFC 5280 section 4.1): what is signed begins with its version, [0].
+abbrev pub is_certificate : List Event → Bool
+is_certificate events =
+    (code_of_event (slice_get events 1) == sequence) && (code_of_event (slice_get events 2) == explicit_0)
 
--- RSAPublicKey (RFC 8017 A.1.1): two INTEGERs and nothing else.
-abbrev pub is_rsa_public_key : Heads → Bool
-is_rsa_public_key heads = (heads.integers == 2) && (heads.count == 2)
+abbrev pub is_content_info : Option Event → Option Event → Bool
+is_content_info sequence' first =
+    (code_of_event sequence' == sequence) && (code_of_event first == object_identifier)
 
--- Certificate (RFC 5280 section 4.1): what is signed, which begins with its version, [0]; an algorithm; a signature.
-abbrev pub is_certificate : Heads → Bool
-is_certificate heads =
-    (heads.count == 3) && (heads.first == sequence) && (heads.second == sequence) && (heads.third == bit_string)
-    && (heads.in_first == explicit_0)
+-- PFX (RFC 7292 section 4): version 3, and a ContentInfo, which begins with its type.
+abbrev pub is_pfx : List ℕ → List Event → Bool
+is_pfx octets events =
+    begins_with octets events (3 ∷ []) && is_content_info (slice_get events 2) (slice_get events 3)
 
--- PFX (RFC 7292 section 4): the version 3, and a ContentInfo, which begins with its type.
-abbrev pub is_pfx : Heads → Bool → Bool
-is_pfx heads version_3 =
-    version_3 && (heads.first == integer) && (heads.second == sequence) && (heads.in_second == object_identifier)
-
-abbrev pub looks_by : Heads → Bool → Looks
-looks_by heads version_3 =
-    cond (is_rsa_private_key heads) looks.RsaPrivateKey
-    (cond (is_rsa_public_key heads) looks.RsaPublicKey
-    (cond (is_certificate heads) looks.Certificate (cond (is_pfx heads version_3) looks.Pkcs12 looks.Unknown)))
-
--- By the outline of a document, where it doesn't stop; the version of a PFX is its second element.
-abbrev pub looks_by_outline : List ℕ → List Event → Option Stop → Looks
-looks_by_outline octets events None = looks_by (heads_of no_heads events) (has_3 octets (slice_get events 1))
-looks_by_outline octets events (Some stop) = looks.Unknown
+-- by the first events of the outline of a document
+abbrev pub looks_by_outline : List ℕ → List Event → Looks
+looks_by_outline octets events =
+    cond (is_rsa_private_key octets events) looks.RsaPrivateKey
+    (cond (is_rsa_public_key octets events) looks.RsaPublicKey
+    (cond (is_certificate events) looks.Certificate (cond (is_pfx octets events) looks.Pkcs12 looks.Unknown)))

@@ -1,5 +1,5 @@
 -- The elements of a document by its outline, and the documents inside its OCTET STRINGs.
-use Rattle.std.specs.Prelude.{List, None, Option, Some, [], cond, drop, length, nat_lt, slice_get, suc, unwrap_or, zero, ℕ, ◌++◌, ◌∷◌, ◌≡◌, ◌⊎◌}
+use Rattle.std.specs.Prelude.{Bool, List, None, Option, Some, [], cond, drop, false, length, nat_lt, slice_get, suc, unwrap_or, zero, ℕ, ◌++◌, ◌==◌, ◌∷◌, ◌≡◌}
 use Rattle.std.specs.Borrow.{Bor}
 use Rattle.tlv_core.specs.Limits.{Limits}
 use Rattle.asn_names.specs.Naming.{named_by}
@@ -83,17 +83,8 @@ pieces_within document [] = []
 pieces_within document (element ∷ elements) =
     own_pieces document element ++ deeper_pieces document element.header.depth elements
 
--- The document inside an element of a file: its octets are the element's contents, its elements have the names of the
+-- The document inside an element of a file: its octets are those of these elements, its elements have the names of the
 -- contained type.
-pub record IsInside (limits : Limits) (file : List ℕ) (elements : List NamedElement) (inside : Inside) : Type 0 where
-  pub element : NamedElement
-  pub listed : slice_get elements inside.container ≡ Some element
-  pub contains : contained element ≡ Some inside.shape
-  pub octets : inside.octets.items ≡ contents_within file (drop inside.container elements)
-  pub pieces : inside.pieces.items ≡ pieces_within file (drop inside.container elements)
-  pub named : IsNamed limits inside.octets.items inside.shape (inside.named.elements.items, inside.named.parting)
-
--- the same where its octets are these elements' and its type is this one
 pub record IsDocumentIn (limits : Limits) (file : List ℕ) (elements : List NamedElement) (container : ℕ) (shape : Bor Shape)
     (inside : Inside) : Type 0 where
   pub stands_in : inside.container ≡ container
@@ -101,14 +92,6 @@ pub record IsDocumentIn (limits : Limits) (file : List ℕ) (elements : List Nam
   pub octets : inside.octets.items ≡ contents_within file elements
   pub pieces : inside.pieces.items ≡ pieces_within file elements
   pub named : IsNamed limits inside.octets.items inside.shape (inside.named.elements.items, inside.named.parting)
-
-abbrev pub IsOneOf : Inside → List Inside → Type 0
-IsOneOf inside [] = ⊥
-IsOneOf inside (other ∷ others) = (inside ≡ other) ⊎ IsOneOf inside others
-
-abbrev pub AreInsides : Limits → List ℕ → List NamedElement → List Inside → Type 0
-AreInsides limits file elements insides =
-    (inside : Inside) → IsOneOf inside insides → IsInside limits file elements inside
 
 abbrev pub contained_at : Option NamedElement → Option (Bor Shape)
 contained_at None = None
@@ -131,3 +114,13 @@ HasInsides limits file elements zero insides = insides ≡ []
 HasInsides limits file elements (suc number) insides =
     (before : List Inside) × HasInsides limits file elements number before
     × AddsInside limits file elements number before insides
+
+-- the document inside the element at this place
+abbrev pub stands_at : ℕ → Option NamedElement → Bool
+stands_at at None = false
+stands_at at (Some element) = element.header.at == at
+
+abbrev pub inside_at : List NamedElement → List Inside → ℕ → Option Inside
+inside_at elements [] at = None
+inside_at elements (inside ∷ insides) at =
+    cond (stands_at at (slice_get elements inside.container)) (Some inside) (inside_at elements insides at)

@@ -2,27 +2,16 @@
 use Rattle.std.specs.Prelude.{Bool, List, None, Option, Some, [], cond, false, length, min, nat_lt, true, unwrap_or, ℕ, ◌+◌, ◌++◌, ◌-◌, ◌^◌, ◌∷◌, ◌≡◌}
 use Rattle.std.specs.Option.{option_map}
 use Rattle.asn_names.specs.declared.element.NamedElement.{NamedElement}
-use Rattle.asn_names.specs.declared.element.Step.{Step}
-use Rattle.asn_names.specs.declared.element.Step.TheVariants.{Outside}
 use Rattle.asn_outline.specs.declared.announced.Announced.{Announced}
 use Rattle.asn_outline.specs.declared.event.ElementHeader.{ElementHeader}
 use Rattle.pk_explain.specs.Contents.{contents_in}
-use Rattle.pk_explain.specs.Public.{Tells, tells_all}
-use Rattle.pk_explain.specs.declared.hidden.Told.{Told}
-use Rattle.pk_explain.specs.declared.hidden.Told.TheVariants.{Header as HeaderTold, Place as PlaceTold, Nothing as NothingTold}
+use Rattle.pk_explain.specs.Public.{Tells}
 use Rattle.pk_explain.specs.declared.places.Placed.{Placed}
-use Rattle.pk_explain.specs.declared.values.Rule.{Rule}
-use Rattle.pk_explain.specs.declared.values.Rule.TheVariants.{Accepted, Guarded, Refused}
 use Rattle.pk_reports.specs.declared.report.Cause.{Cause}
 use Rattle.pk_reports.specs.declared.report.Length.{Length}
 use Rattle.pk_reports.specs.declared.report.Line.{Line}
 use Rattle.pk_reports.specs.declared.report.Value.{Value}
-use Rattle.pk_reports.specs.declared.report.Value.TheVariants.{NotShown, Nothing, Size}
-
-abbrev pub is_refused : Rule → Bool
-is_refused Accepted = false
-is_refused Refused = true
-is_refused Guarded = true
+use Rattle.pk_reports.specs.declared.report.Value.TheVariants.{Nothing, Size}
 
 -- What length octets say is told where they are at most four behind their first one.
 abbrev pub told_by_length : ℕ → Option Announced → Option Length
@@ -62,47 +51,23 @@ pub record IsHeaderLine (placed : Placed) (element : NamedElement) (line : Line)
   pub length : line.length ≡ told_length element.header
   pub end : line.end ≡ placed.end
 
--- its place and its name, and nothing of its length, its form or its contents
-pub record IsPlaceLine (placed : Placed) (element : NamedElement) (line : Line) : Type 0 where
-  pub at : line.at ≡ placed.at
-  pub inside : line.inside ≡ inside_of placed.is_inside element.header.at
-  pub depth : line.depth ≡ min (placed.depth + element.header.depth) (2 ^ 64 - 1)
-  pub around : line.around ≡ placed.around
-  pub step : line.step ≡ element.step
-  pub type_name : line.type_name.now ≡ unwrap_or (option_map (λ r. r.now) element.type_name) []
-  pub tag : line.tag ≡ element.header.tag
-  pub constructed : line.constructed ≡ false
-  pub length : line.length ≡ None
-  pub end : line.end ≡ None
-  pub value : line.value ≡ NotShown
-  pub cause : line.cause ≡ None
-
 -- how many octets a private element of constructed form has; of others nothing
 abbrev pub size_between : Bool → Option ℕ → Option ℕ → Value
 size_between private None end = Nothing
 size_between private (Some begin) None = Nothing
 size_between private (Some begin) (Some end) = cond private (Size (end - begin)) Nothing
 
-abbrev pub IsToldOf : Rule → NamedElement → Option (List ℕ) → Value → Type 0
-IsToldOf rule element None value = value ≡ size_between element.private element.begin element.end
-IsToldOf rule element (Some contents) value = Tells rule element contents value
+abbrev pub IsToldOf : NamedElement → Option (List ℕ) → Value → Type 0
+IsToldOf element None value = value ≡ size_between element.private element.begin element.end
+IsToldOf element (Some contents) value = Tells element contents value
 
 -- What the line of an element says of its contents.
-abbrev pub IsTold : Rule → List ℕ → NamedElement → Value → Type 0
-IsTold rule octets element value = IsToldOf rule element (contents_in octets element) value
+abbrev pub IsTold : List ℕ → NamedElement → Value → Type 0
+IsTold octets element value = IsToldOf element (contents_in octets element) value
 
--- a line of its place and name, where it has a place in the type
-abbrev pub AddsPlace : Placed → NamedElement → Step → List Line → List Line → Type 0
-AddsPlace placed element Outside old new = new ≡ old
-AddsPlace placed element _ old new =
-    (line : Line) × (new ≡ old ++ (line ∷ [])) × IsPlaceLine placed element line
-
--- What the telling of an element with a cause adds to the lines before; `all` says that all octets of its contents are
--- told.
-abbrev pub AddsLine : Rule → Told → List ℕ → Placed → NamedElement → Option Cause → List Line → List Line → Bool → Type 0
-AddsLine rule HeaderTold octets placed element cause old new all =
-    (line : Line) × (new ≡ old ++ (line ∷ [])) × IsHeaderLine placed element line
-    × IsTold rule octets element line.value × (line.cause ≡ cause) × (all ≡ tells_all line.value)
-AddsLine rule PlaceTold octets placed element cause old new all =
-    AddsPlace placed element element.step old new × (all ≡ false)
-AddsLine rule NothingTold octets placed element cause old new all = (new ≡ old) × (all ≡ false)
+-- What an element with a cause adds to the lines before: nothing where it is hidden, else its own.
+abbrev pub AddsLine : Bool → List ℕ → Placed → NamedElement → Option Cause → List Line → List Line → Type 0
+AddsLine true octets placed element cause old new = new ≡ old
+AddsLine false octets placed element cause old new =
+    (line : Line) × (new ≡ old ++ (line ∷ [])) × IsHeaderLine placed element line × IsTold octets element line.value
+    × (line.cause ≡ cause)

@@ -5,17 +5,13 @@ use Rattle.pk_explain.specs.Causes.{line_cause}
 use Rattle.pk_explain.specs.Lines.{IsHeaderLine, IsTold}
 use Rattle.pk_explain.specs.Listings.{IsListed}
 use Rattle.pk_explain.specs.Places.{Page}
-use Rattle.pk_explain.specs.declared.hidden.Point.{Point}
 use Rattle.pk_explain.specs.declared.inside.Inside.{Inside}
 use Rattle.pk_explain.specs.declared.places.Placed.{Placed}
-use Rattle.pk_explain.specs.declared.values.Rule.TheVariants.{Accepted}
 use Rattle.pk_reports.specs.declared.report.Cause.{Cause}
 use Rattle.pk_reports.specs.declared.report.Line.{Line}
-use Rattle.tlv_core.specs.declared.fault.Fault.{Fault}
 use Rattle.std.specs.Prelude.{Option}
 
--- One of the lines is of the element: it has the element's header and this cause, and says of its contents what the
--- rule has.
+-- One of the lines is of the element: it has the element's header and this cause, and says what its contents are.
 pub record HasLine (octets : List ℕ) (element : NamedElement) (cause : Option Cause) (lines : List Line) : Type 0 where
   pub before : List Line
   pub line : Line
@@ -23,7 +19,7 @@ pub record HasLine (octets : List ℕ) (element : NamedElement) (cause : Option 
   pub are : lines ≡ before ++ (line ∷ behind)
   pub placed : Placed
   pub header : IsHeaderLine placed element line
-  pub value : IsTold Accepted octets element line.value
+  pub value : IsTold octets element line.value
   pub why : line.cause ≡ cause
 
 -- An element before the one of this number is private, and not so deep.
@@ -35,11 +31,10 @@ pub record HasPrivate (elements : List NamedElement) (number depth : ℕ) : Type
   pub is : private.private ≡ true
   pub deeper : nat_lt private.header.depth depth ≡ true
 
--- Each element of an accepted file has its line, but those in a private one, of which its line tells the size alone.
+-- Each element of a front has its line, but those in a private one, of which its line tells the size alone.
 abbrev pub NoneIsLeftOut : Type 0
 NoneIsLeftOut =
-    (point : Point) (fault : Option Fault) (page : Page) (insides : List Inside) (lines : List Line)
-    → IsListed Accepted point fault page insides lines → (number : ℕ) (element : NamedElement)
-    → slice_get page.elements number ≡ Some element
+    (page : Page) (insides : List Inside) (lines : List Line) → IsListed page insides lines → (number : ℕ)
+    (element : NamedElement) → slice_get page.elements number ≡ Some element
     → HasLine page.octets element (line_cause page.elements page.causes number) lines
     ⊎ HasPrivate page.elements number element.header.depth

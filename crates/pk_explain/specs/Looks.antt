@@ -6,15 +6,20 @@ use Rattle.std.specs.Str.{bytes_eq}
 use Rattle.tlv_core.specs.Limits.{Limits}
 use Rattle.tlv_core.specs.declared.reason.Reason.{Reason}
 use Rattle.tlv_core.specs.declared.reason.Reason.TheVariants as reasons
+use Rattle.asn_names.specs.declared.element.NamedElement.{NamedElement}
+use Rattle.asn_names.specs.declared.element.Parting.{Parting}
 use Rattle.asn_outline.specs.Outlines.{IsOutline}
 use Rattle.asn_outline.specs.declared.event.Event.{Event}
 use Rattle.asn_outline.specs.declared.event.Stop.{Stop}
+use Rattle.asn_shapes.specs.declared.shape.Shape.{Shape}
 use Rattle.pk_documents.specs.KindRows.{kinds, labels_of, type_name_of, word_of}
-use Rattle.pk_documents.specs.Kinds.{type_of}
 use Rattle.pk_documents.specs.declared.kind.Kind.{Kind}
-use Rattle.pk_explain.specs.Answers.{IsAnswer}
+use Rattle.pk_documents.specs.declared.kind.Kind.TheVariants as kinds_of
+use Rattle.pk_explain.specs.Fronts.{is_usual_mark, mark_of}
 use Rattle.pk_explain.specs.Heads.{looks_by_outline}
-use Rattle.pk_explain.specs.Rules.{is_refusal}
+use Rattle.pk_explain.specs.Insides.{IsNamed}
+use Rattle.pk_explain.specs.Public.{is_field}
+use Rattle.pk_explain.specs.Shapes.{IsShapeOf}
 use Rattle.pk_reports.specs.declared.report.Answer.{Answer}
 use Rattle.pk_reports.specs.declared.report.Answer.TheVariants.{Der, NotDer, Refused}
 use Rattle.pk_reports.specs.declared.report.KindWords.{KindWords}
@@ -99,23 +104,48 @@ looks_by_text octets =
     (cond (begin_with (codes "M") octets && list_all is_base64 (take 16 octets)) looks.Base64 looks.Unknown))
 
 -- Where octets are refused as a document of a kind, a later kind is found, or none; else this one is.
-abbrev pub FoundBy : Bool → Kind → Option Kind → Type 0 → Type 0
-FoundBy true kind found Later = Later
-FoundBy false kind found Later = found ≡ Some kind
+-- the field up to which the first elements of a kind's documents tell the kind
+abbrev pub telling_field : Kind → List ℕ
+telling_field kinds_of.Key = codes "privateKey"
+telling_field kinds_of.Ec = codes "privateKey"
+telling_field kinds_of.Request = codes "subjectPKInfo"
+telling_field kinds_of.Public = codes "subjectPublicKey"
+telling_field kinds_of.Encrypted = codes "encryptedData"
+telling_field kinds_of.Package = codes "privateKey"
 
--- It is the first of these kinds, other than the one asked for, of which the octets are one whole document.
+-- the field of this name is there, and something usual before the first one that is; `begun` says that it was already
+abbrev pub has_beginning : List ℕ → List ℕ → Bool → List NamedElement → Bool
+has_beginning octets field begun [] = false
+has_beginning octets field begun (element ∷ elements) =
+    cond (is_field element.step field) begun
+    (has_beginning octets field (begun || is_usual_mark (mark_of octets element)) elements)
+
+-- Octets begin as a document of the kind does: its elements have their places up to the field that tells the kind.
+pub record BeginsAs (limits : Limits) (octets : List ℕ) (kind : Kind) (is : Bool) : Type 0 where
+  pub root : Bor Shape
+  pub is_shape : IsShapeOf kind root
+  pub elements : List NamedElement
+  pub parting : Parting
+  pub is_named : IsNamed limits octets root (elements, parting)
+  pub answer : is ≡ has_beginning octets (telling_field kind) false elements
+
+abbrev pub FoundBy : Bool → Kind → Option Kind → Type 0 → Type 0
+FoundBy false kind found Later = Later
+FoundBy true kind found Later = found ≡ Some kind
+
+-- It is the first of these kinds, other than the one asked for, as whose documents the octets begin.
 abbrev pub IsFirst : Limits → List ℕ → Kind → List Kind → Option Kind → Type 0
 IsFirst limits octets asked [] found = found ≡ None
 IsFirst limits octets asked (kind ∷ later) found =
     ((kind ≡ asked) × IsFirst limits octets asked later found)
-    ⊎ ((kind ≢ asked) × (answer : Answer) × IsAnswer limits (type_of kind) octets answer
-    × FoundBy (is_refusal answer) kind found (IsFirst limits octets asked later found))
+    ⊎ ((kind ≢ asked) × (is : Bool) × BeginsAs limits octets kind is
+    × FoundBy is kind found (IsFirst limits octets asked later found))
 
--- a document of a kind, told by the words of the kind; of none, told by its outline
+-- a document of a kind, told by the words of the kind; of none, told by its first headers
 abbrev pub IsDocument : Limits → List ℕ → Option Kind → Looks → Type 0
 IsDocument limits octets None look =
     (events : List Event) × (stop : Option Stop) × IsOutline limits octets events stop
-    × (look ≡ looks_by_outline octets events stop)
+    × (look ≡ looks_by_outline octets events)
 IsDocument limits octets (Some kind) look =
     (words : KindWords) × (words.word.now ≡ word_of kind) × (words.type_name.now ≡ type_name_of kind)
     × (look ≡ looks.Kind words)

@@ -1,15 +1,12 @@
 -- Where the elements of a document stand in the file. A document's octets stand there in pieces: those of the file in
 -- one, those inside an OCTET STRING in one for each of its segments.
-use Rattle.std.specs.Prelude.{Bool, List, None, Option, Some, [], cond, min, nat_le, nat_lt, not, true, unwrap_or, ℕ, ◌+◌, ◌-◌, ◌^◌, ◌∷◌, ◌&&◌, ◌==◌, ◌||◌, ◌≡◌}
+use Rattle.std.specs.Prelude.{Bool, List, None, Option, Some, [], cond, min, nat_le, nat_lt, unwrap_or, ℕ, ◌+◌, ◌-◌, ◌^◌, ◌∷◌, ◌==◌, ◌≡◌}
 use Rattle.asn_names.specs.declared.element.NamedElement.{NamedElement}
 use Rattle.asn_outline.specs.declared.event.ElementHeader.{ElementHeader}
-use Rattle.pk_explain.specs.Lines.{end_behind, is_refused, told_length}
-use Rattle.pk_explain.specs.Public.{is_guarded}
-use Rattle.pk_explain.specs.declared.hidden.Point.{Point}
+use Rattle.pk_explain.specs.Lines.{end_behind, told_length}
 use Rattle.pk_explain.specs.declared.places.Piece.{Piece}
 use Rattle.pk_explain.specs.declared.places.Placed.{Placed}
 use Rattle.pk_explain.specs.declared.places.Sheet.{Sheet}
-use Rattle.pk_explain.specs.declared.values.Rule.{Rule}
 use Rattle.pk_reports.specs.declared.report.Cause.{Cause}
 use Rattle.pk_reports.specs.declared.report.Length.{Length}
 
@@ -61,11 +58,6 @@ end_of pieces count = cond (count == 0) (place_of pieces 0) (behind_place (place
 abbrev pub place_in_file : List Piece → ℕ → ℕ
 place_in_file pieces at = unwrap_or (place_of pieces at) at
 
--- the first of the pieces has fewer octets
-abbrev pub is_past_first : List Piece → ℕ → Bool
-is_past_first [] count = true
-is_past_first (first ∷ pieces) count = nat_lt first.octets count
-
 -- where an element of definite length ends by its header
 abbrev pub end_by_told : ℕ → Option Length → Option ℕ
 end_by_told at None = None
@@ -78,34 +70,25 @@ end_by_told at (Some length) =
 abbrev pub end_by_length : ElementHeader → Option ℕ
 end_by_length header = end_by_told header.at (told_length header)
 
--- what ends there was read to its end before the fault
-abbrev pub has_ended : Point → ℕ → ℕ → Bool
-has_ended point at end = nat_le end point.at || (point.complete && nat_le point.at at)
-
--- Where an element ends in the file by where its contents end: of a refused document where that is before the fault,
--- and where a private key may be in it in the first segment.
-abbrev pub end_in_file : Rule → Point → Page → NamedElement → Option ℕ → Option ℕ
-end_in_file rule point page element None = None
-end_in_file rule point page element (Some end) =
-    cond (is_refused rule && not (has_ended point element.header.at end)) None
-    (cond (is_guarded rule && is_past_first page.pieces (end_behind element.header.announced end)) None
-    (end_of page.pieces (end_behind element.header.announced end)))
+-- where an element ends in the file by where its contents end
+abbrev pub end_in_file : Page → NamedElement → Option ℕ → Option ℕ
+end_in_file page element None = None
+end_in_file page element (Some end) = end_of page.pieces (end_behind element.header.announced end)
 
 abbrev pub first_end : Option ℕ → Option ℕ → Option ℕ
 first_end None other = other
 first_end (Some end) other = Some end
 
 -- where an element ends: in the file by its length, where that is told; else by its contents
-abbrev pub told_end : Rule → Point → Page → NamedElement → Option ℕ
-told_end rule point page element =
-    first_end (cond page.is_inside None (end_by_length element.header))
-    (end_in_file rule point page element element.end)
+abbrev pub told_end : Page → NamedElement → Option ℕ
+told_end page element =
+    first_end (cond page.is_inside None (end_by_length element.header)) (end_in_file page element element.end)
 
 -- where an element stands, by its document and the number of the line around it
-abbrev pub placed_in : Rule → Point → Page → NamedElement → ℕ → Placed
-placed_in rule point page element around = record {
+abbrev pub placed_in : Page → NamedElement → ℕ → Placed
+placed_in page element around = record {
   at = place_in_file page.pieces element.header.at;
-  end = told_end rule point page element;
+  end = told_end page element;
   is_inside = page.is_inside;
   depth = page.depth;
   around = around;

@@ -1,6 +1,6 @@
--- What a report tells of contents. A refused private key tells its versions and its identifiers alone; any document
--- tells the number of the octets of what is private, of keys and signatures, and of strings that aren't a subject's.
-use Rattle.std.specs.Prelude.{Bool, List, None, Option, Some, [], cond, false, length, nat_le, nat_lt, not, string_bytes, true, ℕ, ◌&&◌, ◌==◌, ◌||◌, ◌∷◌, ◌<◌, ◌≡◌, ◌⊎◌, codes}
+-- What a report tells of contents: the number of the octets of what is private, of keys and signatures, and of strings
+-- that aren't a subject's; of others what they say.
+use Rattle.std.specs.Prelude.{Bool, List, None, Option, Some, [], cond, false, length, nat_le, nat_lt, not, string_bytes, true, ℕ, ◌&&◌, ◌==◌, ◌||◌, ◌∷◌, ◌<◌, ◌≡◌, codes}
 use Rattle.std.specs.Option.{option_map}
 use Rattle.tlv_core.specs.Identifier.{Tag}
 use Rattle.tlv_core.specs.ObjectIdentifier.{IsObjectIdentifier}
@@ -13,8 +13,6 @@ use Rattle.asn_shapes.specs.Identifiers.{row_of, usual}
 use Rattle.asn_shapes.specs.declared.shape.Contents.{Contents}
 use Rattle.asn_shapes.specs.declared.shape.Contents.TheVariants as leaves
 use Rattle.asn_shapes.specs.declared.shape.Shape.{Choice', Containing', DefinedBy', Leaf, ListOf', Named', Open, Private', Refused as RefusedType, Sequence', SetOf', Shape}
-use Rattle.pk_explain.specs.declared.values.Rule.{Rule}
-use Rattle.pk_explain.specs.declared.values.Rule.TheVariants.{Accepted, Guarded, Refused}
 use Rattle.pk_explain.specs.declared.values.Sort.{Sort}
 use Rattle.pk_explain.specs.declared.values.Sort.TheVariants.{Bits, Boolean, Characters, Identifier as IdentifierSort, Integer, Null, Octets}
 use Rattle.pk_reports.specs.declared.report.Value.{Value}
@@ -37,21 +35,15 @@ sort_of_leaf leaves.BitString = Bits
 sort_of_leaf leaves.OctetString = Octets
 sort_of_leaf leaves.Utf8String = Characters
 
--- a private key may be in it, and it is refused
-abbrev pub is_guarded : Rule → Bool
-is_guarded Accepted = false
-is_guarded Refused = false
-is_guarded Guarded = true
-
--- The contents are public, in an element that isn't private.
-abbrev pub is_public : Rule → Sort → Step → Bool
-is_public rule Null step = true
-is_public rule IdentifierSort step = true
-is_public rule Integer step = not (is_guarded rule) || is_field step (codes "version")
-is_public rule Boolean step = not (is_guarded rule)
-is_public rule Bits step = not (is_guarded rule)
-is_public rule Characters step = not (is_guarded rule) && is_field step (codes "value")
-is_public rule Octets step = false
+-- The contents are told, in an element that isn't private.
+abbrev pub is_public : Sort → Step → Bool
+is_public Null step = true
+is_public IdentifierSort step = true
+is_public Integer step = true
+is_public Boolean step = true
+is_public Bits step = true
+is_public Characters step = is_field step (codes "value")
+is_public Octets step = false
 
 -- by universal tags (X.680 8.4)
 abbrev pub is_text_number : ℕ → Bool
@@ -97,51 +89,37 @@ has_unused [] = false
 has_unused (unused ∷ octets) = nat_lt unused 8
 
 -- Of contents of this sort their number alone is told: they aren't short, or aren't what they have to be.
-abbrev pub IsSizeAlone : Rule → Sort → List ℕ → Type 0
-IsSizeAlone rule Null contents = (length contents == 0) ≡ false
-IsSizeAlone rule Boolean contents = (length contents == 1) ≡ false
-IsSizeAlone rule Integer contents = is_small contents ≡ false
-IsSizeAlone rule Bits contents = has_unused contents ≡ false
-IsSizeAlone rule Characters contents = ⊥
-IsSizeAlone rule Octets contents = Unit {0}
-IsSizeAlone rule IdentifierSort contents =
-    (usual contents ≡ None) × ((is_guarded rule ≡ true) ⊎ (IsObjectIdentifier contents → ⊥))
+abbrev pub IsSizeAlone : Sort → List ℕ → Type 0
+IsSizeAlone Null contents = (length contents == 0) ≡ false
+IsSizeAlone Boolean contents = (length contents == 1) ≡ false
+IsSizeAlone Integer contents = is_small contents ≡ false
+IsSizeAlone Bits contents = has_unused contents ≡ false
+IsSizeAlone Characters contents = ⊥
+IsSizeAlone Octets contents = Unit {0}
+IsSizeAlone IdentifierSort contents =
+    (usual contents ≡ None) × (IsObjectIdentifier contents → ⊥)
 
 -- The value says what contents of this sort are.
-abbrev pub Says : Rule → Sort → List ℕ → Value → Type 0
-Says rule sort contents values.Nothing = ⊥
-Says rule sort contents values.NotShown = ⊥
-Says rule sort contents (values.Size number) = (number ≡ length contents) × IsSizeAlone rule sort contents
-Says rule sort contents (values.Bits number unused) =
+abbrev pub Says : Sort → List ℕ → Value → Type 0
+Says sort contents values.Nothing = ⊥
+Says sort contents values.NotShown = ⊥
+Says sort contents (values.Size number) = (number ≡ length contents) × IsSizeAlone sort contents
+Says sort contents (values.Bits number unused) =
     (sort ≡ Bits) × (octets : List ℕ) × (contents ≡ unused ∷ octets) × (number ≡ length octets) × (unused < 8)
-Says rule sort contents values.Null = (sort ≡ Null) × (contents ≡ [])
-Says rule sort contents (values.Boolean is) =
+Says sort contents values.Null = (sort ≡ Null) × (contents ≡ [])
+Says sort contents (values.Boolean is) =
     (sort ≡ Boolean) × (octet : ℕ) × (contents ≡ octet ∷ []) × (is ≡ not (octet == 0))
-Says rule sort contents (values.Number number) = (sort ≡ Integer) × (contents ≡ number ∷ []) × (number < 128)
-Says rule sort contents (values.Named known) =
+Says sort contents (values.Number number) = (sort ≡ Integer) × (contents ≡ number ∷ []) × (number < 128)
+Says sort contents (values.Named known) =
     (sort ≡ IdentifierSort) × (usual contents ≡ Some (row_of known.now))
-Says rule sort contents (values.Arcs text) =
-    (sort ≡ IdentifierSort) × (usual contents ≡ None) × (is_guarded rule ≡ false)
-    × IsObjectIdentifier contents × (string_bytes text ≡ oid_text contents)
-Says rule sort contents (values.Characters octets) = (sort ≡ Characters) × (octets.items ≡ contents)
+Says sort contents (values.Arcs text) =
+    (sort ≡ IdentifierSort) × (usual contents ≡ None) × IsObjectIdentifier contents × (string_bytes text ≡ oid_text contents)
+Says sort contents (values.Characters octets) = (sort ≡ Characters) × (octets.items ≡ contents)
 
 -- What is told of the contents of an element: their number alone where it is private, or where they aren't public.
-abbrev pub Tells : Rule → NamedElement → List ℕ → Value → Type 0
-Tells rule element contents value =
-    elim (element.private || not (is_public rule (sort_of element) element.step)) [
+abbrev pub Tells : NamedElement → List ℕ → Value → Type 0
+Tells element contents value =
+    elim (element.private || not (is_public (sort_of element) element.step)) [
       | true ↦ value ≡ values.Size (length contents)
-      | false ↦ Says rule (sort_of element) contents value
+      | false ↦ Says (sort_of element) contents value
     ]
-
--- all octets of the contents are told
-abbrev pub tells_all : Value → Bool
-tells_all values.Nothing = false
-tells_all values.NotShown = false
-tells_all (values.Size number) = number == 0
-tells_all (values.Bits number unused) = false
-tells_all values.Null = true
-tells_all (values.Boolean is) = false
-tells_all (values.Number number) = true
-tells_all (values.Named known) = true
-tells_all (values.Arcs text) = false
-tells_all (values.Characters octets) = false

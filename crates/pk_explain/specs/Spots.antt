@@ -24,6 +24,14 @@ number_from number at [] = None
 number_from number at (element ∷ elements) =
     cond (element.header.at == at) (Some number) (number_from (number + 1) at elements)
 
+abbrev pub element_of : List NamedElement → Option ℕ → Option NamedElement
+element_of elements None = None
+element_of elements (Some number) = slice_get elements number
+
+-- the first of the elements whose identifier stands at this place
+abbrev pub element_with : List NamedElement → ℕ → Option NamedElement
+element_with elements at = element_of elements (number_from 0 at elements)
+
 -- the number of the first private one
 abbrev pub private_from : ℕ → List NamedElement → Option ℕ
 private_from number [] = None

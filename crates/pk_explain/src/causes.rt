@@ -4,7 +4,7 @@ ghost use Rattle.std.specs.Option.{option_map};
 ghost use Rattle.x690.specs.DerTexts.{padded_less};
 ghost use Rattle.asn_elements.specs.Members.{ascends};
 ghost use Rattle.asn_names.specs.Levels.{is_string};
-ghost use Rattle.pk_explain.specs.Causes.{bits_cause, boolean_cause, cause_in_contents, cause_within, causes_of, is_disordered, is_in_segments, is_out_of_order, is_set, length_cause, member_encodings, own_cause, encoding_of, unit_of, with_order};
+ghost use Rattle.pk_explain.specs.Causes.{bits_cause, boolean_cause, cause_in_contents, cause_within, causes_of, holds_hidden, is_disordered, is_hidden, is_in_segments, is_out_of_order, is_set, length_cause, member_encodings, own_cause, encoding_of, unit_of, with_order};
 ghost use Rattle.pk_explain.specs.Contents.{contents_in};
 
 use crate::inside::element_at;
@@ -65,16 +65,38 @@ fn is_disordered(
         return false;
     };
     let depth = element.header.depth;
-    is_set(element)
-        && is_out_of_order(
-            octets,
-            depth,
-            &elements[number + 1..],
-            &causes[number + 1..],
-        )
+    let behind = &elements[number + 1..];
+    is_set(element) && is_out_of_order(octets, depth, behind, &causes[number + 1..])
 }
 
-/// Whether nothing in an element that is so deep has a cause, and its members aren't in order.
+/// Whether one of the elements is hidden, as long as they are deeper.
+fn holds_hidden(depth: u64, elements: &[NamedElement]) -> bool
+    ensures { result ≡ holds_hidden depth elements.now }
+{
+    let mut left = elements;
+    while let [element, behind @ ..] = left {
+        if element.header.depth <= depth {
+            return false;
+        }
+        if is_hidden(element) {
+            return true;
+        }
+        left = behind;
+    }
+    false
+}
+
+/// Whether all octets of an element are private, its header too: it is of an open type, or a value in one.
+fn is_hidden(element: &NamedElement) -> bool
+    ensures { result ≡ is_hidden element.now }
+{
+    match element.shape {
+        Some(Shape::Open) => element.private,
+        _ => false,
+    }
+}
+
+/// Whether nothing in an element that is so deep is hidden or has a cause, and its members aren't in order.
 fn is_out_of_order(
     octets: &[u8],
     depth: u64,
@@ -83,7 +105,9 @@ fn is_out_of_order(
 ) -> bool
     ensures { result ≡ is_out_of_order octets.now depth elements.now causes.now }
 {
-    cause_within(depth, elements, causes).is_none() && !is_ordered(octets, depth, elements)
+    !holds_hidden(depth, elements)
+        && cause_within(depth, elements, causes).is_none()
+        && !is_ordered(octets, depth, elements)
 }
 
 fn own_causes(
@@ -128,12 +152,14 @@ pub(crate) fn cause_within(
     None
 }
 
-/// Why an element by itself isn't in DER. Of segments nothing is said: the string that they are in has the cause.
+/// Why an element by itself isn't in DER. Of segments nothing is said: the string that they are in has the cause. Of what
+/// is private whole neither.
 fn own_cause(octets: &[u8], element: &NamedElement) -> Option<Cause>
     ensures { result ≡ own_cause octets.now element.now }
 {
     match element.step {
         Step::Segment(_) => None,
+        _ if is_hidden(element) => None,
         _ if is_in_segments(element) => Some(Cause::Segments),
         _ => match length_cause(&element.header) {
             None => contents_cause(octets, element),

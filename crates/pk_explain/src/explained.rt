@@ -1,16 +1,24 @@
-//! The report of a document: made of its public part alone, so two documents with the same one have the same report.
+//! The report of a document: made of what may be told of it, so two documents of which the same may be told have one
+//! report.
 ghost use Rattle.std.specs.Prelude.{◌≡◌, ◌≤◌, IfOk, length};
+ghost use Rattle.pk_explain.specs.Listings.{IsListed};
 ghost use Rattle.pk_explain.specs.Notes.{most_notes, notes_by};
-ghost use Rattle.pk_explain.specs.Parts.{IsReportBy, announced_end, blame_of};
-ghost use Rattle.pk_explain.specs.Reports.{IsReportOf};
+ghost use Rattle.pk_explain.specs.Reports.{IsReportBy, IsReportOf, announced_end};
+ghost use Rattle.pk_explain.specs.Rules.{front_page, told_causes};
 
-use crate::blame::blame_by;
+use crate::causes::causes_of;
+use crate::disclosed::{Disclosed, disclose};
+use crate::fault_line::push_fault_line;
+use crate::inside::{Inside, documents_inside, named_elements};
+use crate::kinds::{shape_of, words_of};
+use crate::listing::lines_of;
 use crate::notes::notes_of;
-use crate::places::sum_of;
-use crate::public_fault::PublicFault;
-use crate::public_part::{PublicPart, public_part};
+use crate::places::{Piece, Sheet, sum_of};
+use crate::told_fault::{Shown, told_blame};
+use asn_names::element::NamedElement;
+use asn_names::naming::Named;
 use pk_documents::kind::Kind;
-use pk_reports::report::{Answer, Blame, Line, Note, Report};
+use pk_reports::report::{Answer, Cause, Line, Note, Report};
 use std::alloc::{AllocError, Global};
 use tlv_core::limits::Limits;
 
@@ -23,28 +31,46 @@ pub fn explain(
 ) -> Result<Report, AllocError>
     ensures { IfOk result (λ report. IsReportOf limits kind octets.now report) }
 {
-    let part = public_part(alloc, octets, kind, limits)?;
-    let report = report_of(alloc, part)?;
+    let told = disclose(alloc, octets, kind, limits)?;
+    let report = report_of(alloc, kind, limits, told)?;
     Ok(report)
 }
 
-/// The report of a document, by its public part alone.
-fn report_of(alloc: Global, part: PublicPart) -> Result<Report, AllocError>
-    ensures { IfOk result (λ report. IsReportBy part report) }
+/// The report that is made of what may be told of a document, and of nothing else.
+fn report_of(
+    alloc: Global,
+    kind: Kind,
+    limits: Limits,
+    told: Disclosed<'_>,
+) -> Result<Report, AllocError>
+    ensures { IfOk result (λ report. IsReportBy limits kind told.entry report) }
 {
-    let PublicPart {
-        kind,
+    let Disclosed {
         octets,
         answer,
-        lines,
-        fault,
+        front,
+        way,
+        class,
         looks,
-    } = part;
+    } = told;
+    let root = shape_of(kind);
+    let named = named_elements(alloc, front, root, limits)?;
+    let insides = documents_inside(alloc, front, named.elements.as_slice(), limits)?;
+    let mut lines = told_lines(alloc, front, answer, &named, insides.as_slice())?;
+    push_fault_line(&mut lines, answer, way.as_slice().len() as u64)?;
+    let shown = Shown {
+        root,
+        named: &named,
+        octets,
+        front,
+        class,
+        lines: lines.as_slice(),
+    };
+    let blame = told_blame(alloc, answer, shown, way)?;
     let notes = told_notes(alloc, answer, lines.as_slice())?;
     let announced = announced_end(lines.as_slice());
-    let blame = told_blame(octets, answer, lines.as_slice(), fault);
     Ok(Report {
-        kind,
+        kind: words_of(kind),
         octets,
         announced,
         answer,
@@ -55,20 +81,50 @@ fn report_of(alloc: Global, part: PublicPart) -> Result<Report, AllocError>
     })
 }
 
-/// What is told of the fault, where there is one.
-fn told_blame(
-    octets: u64,
+/// The lines of the elements of the front.
+fn told_lines(
+    alloc: Global,
+    front: &[u8],
     answer: Answer,
-    lines: &[Line],
-    fault: Option<PublicFault>,
-) -> Option<Blame>
-    ensures { result ≡ blame_of octets answer lines.now fault }
+    named: &Named,
+    insides: &[Inside],
+) -> Result<Vec<Line>, AllocError>
+    ensures { IfOk result (λ lines. IsListed (front_page answer front.now named.now.elements.items)
+        insides.now lines.items) }
 {
-    match (answer, fault) {
-        (Answer::Refused(refused), Some(fault)) => {
-            Some(blame_by(octets, refused.why, lines, fault))
-        }
-        _ => None,
+    let elements = named.elements.as_slice();
+    let causes = told_causes(alloc, front, answer, elements)?;
+    let whole = [Piece {
+        at: 0,
+        octets: front.len() as u64,
+    }];
+    let sheet = Sheet {
+        octets: front,
+        elements,
+        causes: causes.as_slice(),
+        pieces: &whole,
+        rest: &whole,
+        before: 0,
+        is_inside: false,
+        depth: 0,
+        around: 0,
+    };
+    let lines = lines_of(alloc, sheet, insides)?;
+    Ok(lines)
+}
+
+/// Why the elements of a sound document aren't in DER.
+fn told_causes(
+    alloc: Global,
+    octets: &[u8],
+    answer: Answer,
+    elements: &[NamedElement],
+) -> Result<Vec<Option<Cause>>, AllocError>
+    ensures { IfOk result (λ causes. causes.items ≡ told_causes answer octets.now elements.now) }
+{
+    match answer {
+        Answer::NotDer(_) => causes_of(alloc, octets, elements),
+        _ => Ok(Vec::new(alloc)),
     }
 }
 

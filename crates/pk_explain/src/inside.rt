@@ -1,7 +1,7 @@
 //! Documents that OCTET STRINGs contain, and where their octets stand in the file.
 ghost use Rattle.std.specs.Prelude.{◌<◌, ◌++◌, ◌≡◌, IfOk, IfSome, OnOk, length, slice_get};
 ghost use Rattle.std.specs.Option.{option_map};
-ghost use Rattle.pk_explain.specs.Insides.{AddsInside, AreInsides, HasInsides, IsDocumentIn, IsNamed, contained, contents_within, deeper_contents, deeper_pieces, own_contents, own_pieces, pieces_within};
+ghost use Rattle.pk_explain.specs.Insides.{AddsInside, HasInsides, IsDocumentIn, IsNamed, contained, contents_within, deeper_contents, deeper_pieces, inside_at, own_contents, own_pieces, pieces_within, stands_at};
 
 use crate::places::Piece;
 use crate::values::contents_of;
@@ -49,8 +49,7 @@ pub(crate) fn documents_inside(
     elements: &[NamedElement],
     limits: Limits,
 ) -> Result<Vec<Inside>, AllocError>
-    ensures are { IfOk result (λ insides. AreInsides limits file.now elements.now insides.items) }
-    ensures all { IfOk result (λ insides.
+    ensures { IfOk result (λ insides.
         HasInsides limits file.now elements.now (length elements.now) insides.items) }
 {
     let mut all = Vec::new(alloc);
@@ -69,9 +68,7 @@ fn push_inside(
     number: usize,
     limits: Limits,
 ) -> Result<(), AllocError>
-    ensures are { OnOk result (AreInsides limits file.now elements.now all.old.items
-        → AreInsides limits file.now elements.now all.new.items) }
-    ensures adds { OnOk result
+    ensures { OnOk result
         (AddsInside limits file.now elements.now number all.old.items all.new.items) }
 {
     let Some(element) = element_at(elements, number) else {
@@ -194,4 +191,33 @@ fn push_contents(
         })?;
     }
     Ok(())
+}
+
+/// The document inside the element at a place.
+pub(crate) fn inside_at<'a>(
+    elements: &[NamedElement],
+    insides: &'a [Inside],
+    at: u64,
+) -> Option<&'a Inside>
+    ensures { option_map (λ r. r.now) result
+        ≡ inside_at elements.now insides.now at }
+{
+    let mut left = insides;
+    while let [inside, behind @ ..] = left {
+        if stands_at(elements, inside.container, at) {
+            return Some(inside);
+        }
+        left = behind;
+    }
+    None
+}
+
+/// Whether the element of this number stands at a place.
+fn stands_at(elements: &[NamedElement], number: usize, at: u64) -> bool
+    ensures { result ≡ stands_at at (slice_get elements.now number) }
+{
+    match element_at(elements, number) {
+        Some(element) => element.header.at == at,
+        None => false,
+    }
 }

@@ -1,17 +1,17 @@
 //! The kinds of documents, by their words and their types.
 ghost use Rattle.std.specs.Prelude.{◌≡◌};
-ghost use Rattle.asn_shapes.specs.Terms.{bare, term_of};
 ghost use Rattle.pk_documents.specs.KindRows.{type_name_of, word_of};
-ghost use Rattle.pk_documents.specs.Kinds.{type_of};
+ghost use Rattle.pk_explain.specs.Looks.{telling_field};
+ghost use Rattle.pk_explain.specs.Shapes.{IsShapeOf};
 
 use asn_shapes::documents;
 use asn_shapes::shape::Shape;
 use pk_documents::kind::Kind;
 use pk_reports::report::KindWords;
 
-/// The type of a kind's documents, with the names of its fields.
+/// The type of a kind's documents, with the names of its fields, and with what in it is private.
 pub(crate) fn shape_of(kind: Kind) -> &'static Shape
-    ensures { term_of result.now ≡ bare (type_of kind) }
+    ensures { IsShapeOf kind result }
 {
     match kind {
         Kind::Key => documents::key(),
@@ -32,5 +32,17 @@ pub(crate) fn words_of(kind: Kind) -> KindWords
     KindWords {
         word: row.word,
         type_name: row.type_name,
+    }
+}
+
+/// The field up to which the first elements of a kind's documents tell the kind.
+pub(crate) fn telling_field(kind: Kind) -> &'static str
+    ensures { result.now ≡ telling_field kind }
+{
+    match kind {
+        Kind::Key | Kind::Ec | Kind::Package => "privateKey",
+        Kind::Request => "subjectPKInfo",
+        Kind::Public => "subjectPublicKey",
+        Kind::Encrypted => "encryptedData",
     }
 }

@@ -1,10 +1,10 @@
-//! The laws on what a report is made of, and on its lines.
+//! The laws on what a report tells, and on its lines.
 ghost use Rattle.pk_explain.specs.ListingLaws.{NoneIsLeftOut};
-ghost use Rattle.pk_explain.specs.PartLaws.{ReportsAreOfThePublicPart};
+ghost use Rattle.pk_explain.specs.ReportLaws.{ReportsTellNothingPrivate};
 
-/// Two documents with the same public part have the same report, whatever else they have.
-pub fn reports_are_of_the_public_part()
-    ensures { ReportsAreOfThePublicPart }
+/// Two documents of which the same may be told have the same reports, whatever else they have.
+pub fn reports_tell_nothing_private()
+    ensures { ReportsTellNothingPrivate }
 {}
 
 /// Each element of an accepted file has its line, but those in a private one.

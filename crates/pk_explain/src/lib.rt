@@ -1,19 +1,22 @@
 //! The report of a document: what `check` answers, its elements a line each, and where a fault lies.
 //!
-//! `public_part` is all that a report is made of, and the only one that sees the octets: `answer` is what `check` says,
-//! `listing` the lines, of the file and of what is `inside` OCTET STRINGs, `places` where they stand, `hidden` and
-//! `values` what of it is told, `causes` why an element isn't in DER, `public_fault` and `ways` where a fault lies,
-//! `looks` what else the file may be. `explained` makes the report of it, with `blame` and `notes`: what is told of a
-//! fault, and what other standards say to the document.
+//! A report is made of a short record, `disclosed`: what `check` answers, how many octets the file has, the front of the
+//! document, the way to what is refused and its class, and what else the file may be (`looks`). The `front` of an
+//! accepted document is all of it; of a refused one its first octets, as far as they say one of a few things. `explained`
+//! makes the report of the record: `listing` the lines of the front, and of what is `inside` OCTET STRINGs, `places`
+//! where they stand, `values` what of them is told, `causes` why an element isn't in DER, `told_fault` and `ways` where a
+//! fault lies, `notes` what other standards say to the document.
 #![tactic(auto)]
 
 mod answer;
-mod blame;
 mod causes;
+mod class;
+mod container;
+mod disclosed;
 pub mod explained;
 mod fault_line;
+mod front;
 mod heads;
-mod hidden;
 mod inside;
 mod keys;
 mod kinds;
@@ -21,10 +24,9 @@ pub mod laws;
 mod listing;
 mod looks;
 mod notes;
+mod over;
 mod places;
-mod public_fault;
-mod public_part;
-mod told;
+mod told_fault;
 mod values;
 pub mod version;
 mod ways;

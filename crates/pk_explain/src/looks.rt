@@ -1,13 +1,16 @@
 //! One more look at a file that is refused near its start.
-ghost use Rattle.std.specs.Prelude.{IfOk, None, map, ◌≡◌};
+ghost use Rattle.std.specs.Prelude.{IfOk, None, false, map, ◌≡◌};
 ghost use Rattle.std.specs.List.{list_all};
 ghost use Rattle.std.specs.Option.{option_map};
 ghost use Rattle.pk_documents.specs.KindRows.{kinds};
-ghost use Rattle.pk_explain.specs.Looks.{IsDocument, IsFirst, IsLook, IsOtherDocument, LooksLike, is_base64, is_hexadecimal, is_kind_like, is_labelled, is_looked_at, label_among, label_of, pem_label, looks_by_text};
+ghost use Rattle.pk_explain.specs.Looks.{BeginsAs, IsDocument, IsFirst, IsLook, IsOtherDocument, LooksLike, has_beginning, is_base64, is_hexadecimal, is_kind_like, is_labelled, is_looked_at, label_among, label_of, pem_label, looks_by_text};
 
-use crate::answer::answer_of;
+use crate::front::{is_usual_mark, mark_of};
 use crate::heads::looks_by_outline;
-use crate::kinds::words_of;
+use crate::inside::named_elements;
+use crate::kinds::{shape_of, telling_field, words_of};
+use crate::values::is_field;
+use asn_names::element::NamedElement;
 use asn_outline::outline::outline;
 use pk_documents::kind::{KINDS, Kind};
 use pk_reports::report::{Answer, Looks};
@@ -186,7 +189,7 @@ fn is_base64(octet: u8) -> bool
     }
 }
 
-/// What a document is that isn't of the kind asked for.
+/// What a document is that isn't of the kind asked for, by its first elements.
 fn look_at_document(
     alloc: Global,
     octets: &[u8],
@@ -201,7 +204,7 @@ fn look_at_document(
     }
 }
 
-/// The first kind, other than the one asked for, of which the octets are a document.
+/// The first kind, other than the one asked for, whose documents begin so.
 fn other_kind(
     alloc: Global,
     octets: &[u8],
@@ -229,18 +232,44 @@ fn first_kind(
     if *kind == asked {
         return first_kind(alloc, octets, asked, limits, later);
     }
-    match answer_of(alloc, octets, *kind, limits)? {
-        Answer::Der | Answer::NotDer(_) => Ok(Some(*kind)),
-        Answer::Refused(_) => first_kind(alloc, octets, asked, limits, later),
+    if begins_as(alloc, octets, *kind, limits)? {
+        Ok(Some(*kind))
+    } else {
+        first_kind(alloc, octets, asked, limits, later)
     }
 }
 
-/// What a document is by its headers.
+/// Whether octets begin as a document of the kind does.
+fn begins_as(alloc: Global, octets: &[u8], kind: Kind, limits: Limits) -> Result<bool, AllocError>
+    ensures { IfOk result (λ is. BeginsAs limits octets.now kind is) }
+{
+    let named = named_elements(alloc, octets, shape_of(kind), limits)?;
+    let elements = named.elements.as_slice();
+    Ok(has_beginning(octets, telling_field(kind), elements))
+}
+
+/// Whether the field of this name is there, and something usual before the first one that is.
+fn has_beginning(octets: &[u8], field: &str, elements: &[NamedElement]) -> bool
+    ensures { result ≡ has_beginning octets.now field.now false elements.now }
+{
+    let mut is_begun = false;
+    let mut left = elements;
+    while let [element, behind @ ..] = left {
+        if is_field(element.step, field) {
+            return is_begun;
+        }
+        is_begun = is_begun || is_usual_mark(mark_of(octets, element));
+        left = behind;
+    }
+    false
+}
+
+/// What a document is by its first headers.
 fn look_at_outline(alloc: Global, octets: &[u8], limits: Limits) -> Result<Looks, AllocError>
     ensures { IfOk result (λ look. IsDocument limits octets.now None look) }
 {
     match outline(alloc, octets, limits) {
-        Ok((events, stop)) => Ok(looks_by_outline(octets, events.as_slice(), stop)),
+        Ok((events, _)) => Ok(looks_by_outline(octets, events.as_slice())),
         Err(_) => Err(AllocError),
     }
 }

@@ -1,10 +1,9 @@
 //! Where the elements of a document stand in the file, and where they end.
 ghost use Rattle.std.specs.Prelude.{◌≡◌, ◌≤◌};
-ghost use Rattle.pk_explain.specs.Lines.{end_behind, is_refused, told_length};
-ghost use Rattle.pk_explain.specs.Places.{Skips, SkipsIn, end_by_length, end_of, has_ended, is_past_first, page_of, place_in_file, place_of, placed_in, sum_of, told_end};
+ghost use Rattle.pk_explain.specs.Blames.{announced_end};
+ghost use Rattle.pk_explain.specs.Lines.{end_behind, told_length};
+ghost use Rattle.pk_explain.specs.Places.{Skips, SkipsIn, end_by_length, end_of, page_of, place_in_file, place_of, placed_in, sum_of, told_end};
 
-use crate::hidden::Point;
-use crate::values::{Rule, is_guarded};
 use asn_names::element::NamedElement;
 use asn_outline::event::ElementHeader;
 use pk_reports::report::{Cause, Length};
@@ -48,19 +47,13 @@ pub(crate) struct Placed {
 }
 
 /// Where an element stands, by its document and the line around it.
-pub(crate) fn placed_in(
-    rule: Rule,
-    point: Point,
-    sheet: Sheet<'_>,
-    element: &NamedElement,
-    around: u64,
-) -> Placed
+pub(crate) fn placed_in(sheet: Sheet<'_>, element: &NamedElement, around: u64) -> Placed
     ensures { SkipsIn sheet.entry
-        → result ≡ placed_in rule point (page_of sheet.entry) element.now around }
+        → result ≡ placed_in (page_of sheet.entry) element.now around }
 {
     Placed {
         at: place_in_file(sheet, element.header.at),
-        end: told_end(rule, point, sheet, element),
+        end: told_end(sheet, element),
         is_inside: sheet.is_inside,
         depth: sheet.depth,
         around,
@@ -77,49 +70,24 @@ fn place_in_file(sheet: Sheet<'_>, at: u64) -> u64
     }
 }
 
-/// Where an element ends in the file: by its length, else where it ended before the fault. What stands behind a fault
-/// tells nothing, and where a private key may be neither do later segments.
-fn told_end(rule: Rule, point: Point, sheet: Sheet<'_>, element: &NamedElement) -> Option<u64>
-    ensures { SkipsIn sheet.entry
-        → result ≡ told_end rule point (page_of sheet.entry) element.now }
+/// Where an element ends in the file: by its length, else by where its contents end.
+fn told_end(sheet: Sheet<'_>, element: &NamedElement) -> Option<u64>
+    ensures { SkipsIn sheet.entry → result ≡ told_end (page_of sheet.entry) element.now }
 {
     if !sheet.is_inside {
         if let Some(end) = end_by_length(&element.header) {
             return Some(end);
         }
     }
-    let Some(end) = element.end else {
-        return None;
-    };
-    if is_refused(rule) && !has_ended(point, element.header.at, end) {
-        return None;
-    }
-    let count = end_behind(element, end);
-    if is_guarded(rule) && is_past_first(sheet.pieces, count) {
-        return None;
-    }
-    end_in(sheet, count)
-}
-
-/// Whether what ends there was read to its end before the fault.
-fn has_ended(point: Point, at: u64, end: u64) -> bool
-    ensures { result ≡ has_ended point at end }
-{
-    end <= point.at || (point.complete && point.at <= at)
-}
-
-fn is_refused(rule: Rule) -> bool
-    ensures { result ≡ is_refused rule }
-{
-    match rule {
-        Rule::Accepted => false,
-        Rule::Refused | Rule::Guarded => true,
+    match element.end {
+        Some(end) => end_in(sheet, end_behind(element, end)),
+        None => None,
     }
 }
 
 /// Where an element ends whose contents end there: behind its end-of-contents octets, where it has an indefinite length
 /// (X.690 8.1.1.1, 8.1.5).
-fn end_behind(element: &NamedElement, end: u64) -> u64
+pub(crate) fn end_behind(element: &NamedElement, end: u64) -> u64
     ensures { result ≡ end_behind element.now.header.announced end }
 {
     match element.header.announced {
@@ -159,13 +127,16 @@ pub(crate) fn told_length(header: &ElementHeader) -> Option<Length>
     })
 }
 
-/// Whether the first of the pieces has fewer octets.
-fn is_past_first(pieces: &[Piece], count: u64) -> bool
-    ensures { result ≡ is_past_first pieces.now count }
+/// Where an element of definite length ends by its header, whatever its length.
+pub(crate) fn announced_end(element: &NamedElement) -> Option<u64>
+    ensures { result ≡ announced_end element.now }
 {
-    match pieces {
-        [first, ..] => first.octets < count,
-        [] => true,
+    match element.header.announced {
+        Some(announced) => match announced.length {
+            Some(length) => Some(announced.contents.saturating_add(length)),
+            None => None,
+        },
+        None => None,
     }
 }
 

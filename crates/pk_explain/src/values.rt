@@ -2,8 +2,7 @@
 ghost use Rattle.std.specs.Prelude.{◌≡◌, ◌==◌, IfOk, cond, length};
 ghost use Rattle.std.specs.Option.{option_map};
 ghost use Rattle.pk_explain.specs.Contents.{between, contents_in};
-ghost use Rattle.pk_explain.specs.declared.values.Rule.{Rule};
-ghost use Rattle.pk_explain.specs.Public.{Says, Tells, is_field, is_guarded, is_public, sort_of, sort_of_leaf, sort_of_number, tells_all};
+ghost use Rattle.pk_explain.specs.Public.{Says, Tells, is_field, is_public, sort_of, sort_of_leaf, sort_of_number};
 
 use asn_names::element::{NamedElement, Step};
 use asn_shapes::identifiers::identifier_of;
@@ -13,17 +12,6 @@ use std::alloc::{AllocError, Global};
 use tlv_core::oid::{Oid, OidError};
 use tlv_core::tag::{Class, Tag};
 use tlv_core::text::push_oid;
-
-/// How much a report tells.
-#[derive(Clone, Copy)]
-pub(crate) enum Rule {
-    /// Of an accepted document.
-    Accepted,
-    /// Of a refused request or public key.
-    Refused,
-    /// Of any other refused document: a private key may be in it.
-    Guarded,
-}
 
 /// What the contents of a primitive element are.
 #[derive(Clone, Copy, PartialEq, Eq)]
@@ -86,27 +74,15 @@ fn sort_of_number(number: u32) -> Sort
     }
 }
 
-/// Whether contents of this sort are public in an element that isn't private: those of a refused private key that are
-/// one of its versions or identifiers; else all but keys, signatures and strings that aren't a subject's.
-pub(crate) fn is_public(rule: Rule, sort: Sort, step: Step) -> bool
-    ensures { result ≡ is_public rule sort step }
+/// Whether contents of this sort are told in an element that isn't private: all but keys, signatures and strings that
+/// aren't a subject's.
+pub(crate) fn is_public(sort: Sort, step: Step) -> bool
+    ensures { result ≡ is_public sort step }
 {
     match sort {
-        Sort::Null | Sort::Identifier => true,
-        Sort::Integer => !is_guarded(rule) || is_field(step, "version"),
-        Sort::Boolean | Sort::Bits => !is_guarded(rule),
-        Sort::Characters => !is_guarded(rule) && is_field(step, "value"),
+        Sort::Null | Sort::Identifier | Sort::Integer | Sort::Boolean | Sort::Bits => true,
+        Sort::Characters => is_field(step, "value"),
         Sort::Octets => false,
-    }
-}
-
-/// Whether a private key may be in the document, which is refused.
-pub(crate) fn is_guarded(rule: Rule) -> bool
-    ensures { result ≡ is_guarded rule }
-{
-    match rule {
-        Rule::Guarded => true,
-        Rule::Accepted | Rule::Refused => false,
     }
 }
 
@@ -124,28 +100,27 @@ pub(crate) fn is_field(step: Step, name: &str) -> bool
 /// public.
 pub(crate) fn told_value(
     alloc: Global,
-    rule: Rule,
     element: &NamedElement,
     contents: &[u8],
 ) -> Result<Value, AllocError>
-    ensures { IfOk result (λ value. Tells rule element.now contents.now value) }
+    ensures { IfOk result (λ value. Tells element.now contents.now value) }
 {
     let sort = sort_of(element);
-    if element.private || !is_public(rule, sort, element.step) {
+    if element.private || !is_public(sort, element.step) {
         return Ok(size_alone(contents));
     }
-    value_of(alloc, rule, sort, contents)
+    value_of(alloc, sort, contents)
 }
 
 /// What public contents say: their number alone, where they aren't short, or aren't what they have to be.
-fn value_of(alloc: Global, rule: Rule, sort: Sort, contents: &[u8]) -> Result<Value, AllocError>
-    ensures { IfOk result (λ value. Says rule sort contents.now value) }
+fn value_of(alloc: Global, sort: Sort, contents: &[u8]) -> Result<Value, AllocError>
+    ensures { IfOk result (λ value. Says sort contents.now value) }
 {
     match sort {
         Sort::Boolean => Ok(boolean_value(contents)),
         Sort::Integer => Ok(integer_value(contents)),
         Sort::Null => Ok(null_value(contents)),
-        Sort::Identifier => identifier_value(alloc, rule, contents),
+        Sort::Identifier => identifier_value(alloc, contents),
         Sort::Bits => Ok(bits_value(contents)),
         Sort::Characters => Ok(Value::Characters(contents.to_vec(alloc)?)),
         Sort::Octets => Ok(size_alone(contents)),
@@ -159,7 +134,7 @@ fn size_alone(contents: &[u8]) -> Value
 }
 
 fn boolean_value(contents: &[u8]) -> Value
-    ensures { (rule : Rule) → Says rule Sort.Boolean contents.now result }
+    ensures { Says Sort.Boolean contents.now result }
 {
     match contents {
         [octet] => Value::Boolean(*octet != 0),
@@ -168,7 +143,7 @@ fn boolean_value(contents: &[u8]) -> Value
 }
 
 fn integer_value(contents: &[u8]) -> Value
-    ensures { (rule : Rule) → Says rule Sort.Integer contents.now result }
+    ensures { Says Sort.Integer contents.now result }
 {
     match contents {
         [octet] if *octet < 128 => Value::Number(*octet),
@@ -177,7 +152,7 @@ fn integer_value(contents: &[u8]) -> Value
 }
 
 fn null_value(contents: &[u8]) -> Value
-    ensures { (rule : Rule) → Says rule Sort.Null contents.now result }
+    ensures { Says Sort.Null contents.now result }
 {
     match contents {
         [] => Value::Null,
@@ -186,7 +161,7 @@ fn null_value(contents: &[u8]) -> Value
 }
 
 fn bits_value(contents: &[u8]) -> Value
-    ensures { (rule : Rule) → Says rule Sort.Bits contents.now result }
+    ensures { Says Sort.Bits contents.now result }
 {
     match contents {
         [unused, behind @ ..] if *unused < 8 => Value::Bits(behind.len() as u64, *unused),
@@ -194,15 +169,12 @@ fn bits_value(contents: &[u8]) -> Value
     }
 }
 
-/// An object identifier by its name, or by its arcs; where a private key may be, by its name alone.
-fn identifier_value(alloc: Global, rule: Rule, contents: &[u8]) -> Result<Value, AllocError>
-    ensures { IfOk result (λ value. Says rule Sort.Identifier contents.now value) }
+/// An object identifier by its name, or by its arcs.
+fn identifier_value(alloc: Global, contents: &[u8]) -> Result<Value, AllocError>
+    ensures { IfOk result (λ value. Says Sort.Identifier contents.now value) }
 {
     if let Some(known) = identifier_of(contents) {
         return Ok(Value::Named(known));
-    }
-    if is_guarded(rule) {
-        return Ok(size_alone(contents));
     }
     match Oid::from_contents(alloc, contents) {
         Ok(id) => {
@@ -212,16 +184,6 @@ fn identifier_value(alloc: Global, rule: Rule, contents: &[u8]) -> Result<Value,
         }
         Err(OidError::Bad) => Ok(size_alone(contents)),
         Err(OidError::Memory) => Err(AllocError),
-    }
-}
-
-/// Whether all octets that were passed are told by this value.
-pub(crate) fn tells_all(value: &Value) -> bool
-    ensures { result ≡ tells_all value.now }
-{
-    match value {
-        Value::Null | Value::Number(_) | Value::Named(_) | Value::Size(0) => true,
-        _ => false,
     }
 }
 

@@ -2,7 +2,7 @@
 ghost use Rattle.std.specs.Prelude.{◌<◌, ◌≡◌, ◌++◌, IfSome, OnOk, drop};
 ghost use Rattle.std.specs.Option.{option_map};
 ghost use Rattle.pk_explain.specs.Dues.{due_at, number_due, reason_due};
-ghost use Rattle.pk_explain.specs.Spots.{AddsWay, AddsWayTo, at_element, due_step, due_steps, enclosed, is_outside_of, is_sequence, key_in, number_from, own_step, private_from, spot_at, unfinished, where_parting, where_placed};
+ghost use Rattle.pk_explain.specs.Spots.{AddsWay, AddsWayTo, at_element, due_step, due_steps, element_with, enclosed, is_outside_of, is_sequence, key_in, number_from, own_step, private_from, spot_at, unfinished, where_parting, where_placed};
 
 use crate::inside::element_at;
 use asn_names::element::{Level, NamedElement, Parting, Step};
@@ -148,6 +148,16 @@ fn number_at(elements: &[NamedElement], at: u64) -> Option<usize>
         }
     }
     None
+}
+
+/// The element whose identifier stands at this place.
+pub(crate) fn element_with(elements: &[NamedElement], at: u64) -> Option<&NamedElement>
+    ensures { option_map (λ r. r.now) result ≡ element_with elements.now at }
+{
+    match number_at(elements, at) {
+        Some(number) => element_at(elements, number),
+        None => None,
+    }
 }
 
 /// The number of the last element, where its length or its contents aren't whole.

@@ -3,7 +3,7 @@ use Rattle.std.specs.Prelude.{List, None, Option, Some, [], codes, cond, ℕ}
 use Rattle.std.specs.Str.{bytes_eq}
 use Rattle.tlv_core.specs.declared.fault.Fault.{Fault}
 use Rattle.tlv_core.specs.declared.reason.Reason.{Reason}
-use Rattle.tlv_core.specs.declared.reason.Reason.TheVariants.{BadBits, BadBoolean, BadInteger, BadLength, BadNull, BadOid, BadText, EmptySet, TooDeep, TooLong, Version, WrongForm}
+use Rattle.tlv_core.specs.declared.reason.Reason.TheVariants.{BadBits, BadBoolean, BadInteger, BadLength, BadNull, BadOid, BadText, EmptySet, KeyLength, TooDeep, TooLong, Version, WrongForm}
 
 -- the versions of a kind's documents: RFC 5915 section 3, RFC 2986 section 4.1, RFC 5958 section 2
 abbrev pub version_due : List ℕ → List ℕ
@@ -30,6 +30,7 @@ words_due BadOid version = codes "arcs that are whole, below 2^128 and in the fe
 words_due BadText version = codes "UTF-8"
 words_due EmptySet version = codes "a SET OF with at least one member"
 words_due Version version = version
+words_due KeyLength version = codes "as many octets as the curve or the algorithm asks for"
 words_due why version = []
 
 -- inside privateKey by the reason inside

@@ -31,13 +31,12 @@ due_type_said Unsaid = []
 due_type_said (Fields fields) = fields_said fields.now
 due_type_said («Type» shape) = shape_said shape.now
 
--- a number of octets; else what the reason alone asks for; else a type
-abbrev pub due_by : List ℕ → Due → Option ℕ → List ℕ
-due_by words due (Some octets) = sized octets
-due_by words due None = cond (length words == 0) (due_type_said due) words
+-- what the reason alone asks for; else a type
+abbrev pub due_by : List ℕ → Due → List ℕ
+due_by words due = cond (length words == 0) (due_type_said due) words
 
 unfoldable pub due_of : List ℕ → Fault → Blame → List ℕ
-due_of kind fault blame = due_by (reason_due kind fault) blame.due blame.due_octets
+due_of kind fault blame = due_by (reason_due kind fault) blame.due
 
 -- the same of a document that is judged so
 abbrev pub due_judged : List ℕ → Answer → Option Blame → List ℕ
@@ -105,14 +104,13 @@ ended root (Some container) = placed root container ++ codes " ends" ++ end_said
 unfoldable pub container_said : List ℕ → Blame → List ℕ
 container_said root blame = ended root blame.container
 
--- the number of octets that a key has; else the element that stands there; else the container that ends there
-abbrev pub found_by : List ℕ → Blame → Option ℕ → Option Found → List ℕ
-found_by root blame (Some octets) found = sized octets
-found_by root blame None (Some found) = header_said found ++ element_said root blame
-found_by root blame None None = container_said root blame
+-- the element that stands there; else the container that ends there
+abbrev pub found_by : List ℕ → Blame → Option Found → List ℕ
+found_by root blame (Some found) = header_said found ++ element_said root blame
+found_by root blame None = container_said root blame
 
 unfoldable pub found_of : List ℕ → Blame → List ℕ
-found_of root blame = found_by root blame blame.key_octets blame.found
+found_of root blame = found_by root blame blame.found
 
 abbrev pub found_in : List ℕ → Option Blame → List ℕ
 found_in root None = []

@@ -50,6 +50,7 @@ fn words_due(why: Reason, version: &'static str) -> &'static str
         Reason::BadText => "UTF-8",
         Reason::EmptySet => "a SET OF with at least one member",
         Reason::Version => version,
+        Reason::KeyLength => "as many octets as the curve or the algorithm asks for",
         _ => "",
     }
 }

@@ -146,9 +146,6 @@ pub struct Blame {
     pub over: Option<u64>,
     /// Of Trailing: how many octets follow, where that is told.
     pub more: Option<u64>,
-    /// Of KeyLength: how many octets the key has, and how many it has to have.
-    pub key_octets: Option<u64>,
-    pub due_octets: Option<u64>,
 }
 
 /// What the file may be instead, by one more look.

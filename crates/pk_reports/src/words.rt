@@ -49,15 +49,12 @@ pub(crate) fn due_text(alloc: Global, report: &Report) -> Result<String, AllocEr
     Ok(text)
 }
 
-/// A number of octets; else what the reason alone asks for; else a type.
+/// What the reason alone asks for; else a type.
 #[tactic(auto, unfolding(crate::specs::Words::due_of))]
 fn push_due(text: &mut String, kind: &str, fault: Fault, blame: &Blame) -> Result<(), AllocError>
     ensures { OnOk result (string_bytes text.new ≡ string_bytes text.old
         ++ due_of kind.now fault blame.now) }
 {
-    if let Some(octets) = blame.due_octets {
-        return push_size(text, octets);
-    }
     let words = reason_due(kind, fault);
     if words.is_empty() {
         push_due_type(text, blame.due)
@@ -99,15 +96,12 @@ fn blamed_text(alloc: Global, report: &Report) -> Result<String, AllocError>
     Ok(text)
 }
 
-/// The octets of a key; else the element that stands there; else the container that ends there.
+/// The element that stands there; else the container that ends there.
 #[tactic(auto, unfolding(crate::specs::Words::found_of))]
 fn push_found(alloc: Global, text: &mut String, root: &str, blame: &Blame) -> Result<(), AllocError>
     ensures { OnOk result (string_bytes text.new ≡ string_bytes text.old
         ++ found_of root.now blame.now) }
 {
-    if let Some(octets) = blame.key_octets {
-        return push_size(text, octets);
-    }
     match blame.found {
         Some(found) => {
             push_header(text, found)?;

@@ -46,7 +46,7 @@ deeper_ends depth [] = ([], refl)
 deeper_ends depth (line ∷ lines) =
     kept_or (nat_le line.depth depth) line lines (deeper depth lines) (deeper_ends depth lines)
 
-behind_ends : (pass : Pass) (lines : List Line) → (before : List Line) × (lines ≡ before ++ behind pass lines)
+pub behind_ends : (pass : Pass) (lines : List Line) → (before : List Line) × (lines ≡ before ++ behind pass lines)
 behind_ends Stay [] = ([], refl)
 behind_ends One [] = ([], refl)
 behind_ends Whole [] = ([], refl)
@@ -56,7 +56,7 @@ behind_ends Whole (line ∷ lines) =
     let h = deeper_ends line.depth lines in (line ∷ h.0, ap (λ z. line ∷ z) h.1)
 
 -- so does what is left of that
-further : (lines before left more left' : List Line) → lines ≡ before ++ left → left ≡ more ++ left'
+pub further : (lines before left more left' : List Line) → lines ≡ before ++ left → left ≡ more ++ left'
     → lines ≡ (before ++ more) ++ left'
 further lines before left more left' e h = e ∙ ap (λ z. before ++ z) h ∙ sym (append_assoc before more left')
 

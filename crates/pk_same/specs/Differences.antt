@@ -1,8 +1,8 @@
 -- What the walk over the lists of two documents tells of an element.
-use Rattle.std.specs.Prelude.{Bool, List, None, Option, Some, [], false, slice_get, ℕ, ◌&&◌, ◌++◌, ◌==◌, ◌∷◌, ◌≡◌, ◌≢◌, ◌⊎◌, true}
+use Rattle.std.specs.Prelude.{Bool, List, None, Option, Some, [], false, length, slice_get, ℕ, ◌&&◌, ◌++◌, ◌-◌, ◌<◌, ◌==◌, ◌∷◌, ◌≡◌, ◌≢◌, ◌⊎◌, true}
 use Rattle.asn_names.specs.declared.element.Step.{Step}
 use Rattle.pk_reports.specs.declared.report.Line.{Line}
-use Rattle.pk_same.specs.Walks.{differences, octets_of, same_step}
+use Rattle.pk_same.specs.Walks.{are_private_values, deeper, differences, octets_of, same_step}
 use Rattle.pk_same.specs.declared.walk.Difference.{Difference}
 
 -- Two elements that are one field, as deep in their documents, and have other octets.
@@ -64,3 +64,29 @@ SomeIsTold =
     (first second : List ℕ) (lines others : List Line)
     → (difference : Difference) × (more : List Difference)
     × (differences first second lines others ≡ difference ∷ more)
+
+-- The line of this number is of what is in private values of an attribute: it stands behind theirs, and before all that
+-- isn't deeper than they are.
+pub record IsInPrivateValues (lines : List Line) (number : ℕ) : Type 0 where
+  pub before : List Line
+  pub line : Line
+  pub later : List Line
+  pub place : lines ≡ before ++ line ∷ later
+  pub private : are_private_values line later ≡ true
+  pub behind : length before < number
+  pub inside : number < length lines - length (deeper line.depth later)
+
+abbrev pub IsInNone : List Line → Option ℕ → Type 0
+IsInNone lines None = Unit {0}
+IsInNone lines (Some number) = IsInPrivateValues lines number → ⊥
+
+abbrev pub AreInNone : List Line → List Line → List Difference → Type 0
+AreInNone lines others [] = Unit {0}
+AreInNone lines others (difference ∷ more) =
+    IsInNone lines difference.first × IsInNone others difference.second × AreInNone lines others more
+
+-- Nothing that is in private values of an attribute is told by itself.
+abbrev pub PrivateValuesAreToldTogether : Type 0
+PrivateValuesAreToldTogether =
+    (first second : List ℕ) (lines others : List Line)
+    → AreInNone lines others (differences first second lines others)

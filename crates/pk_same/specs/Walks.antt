@@ -1,10 +1,12 @@
 -- Which elements of two documents differ, by the lists of the elements of their DER encodings.
-use Rattle.std.specs.Prelude.{Bool, List, None, Option, Some, [], cond, false, length, nat_le, nat_lt, slice_range, suc, true, zero, ℕ, ◌&&◌, ◌+◌, ◌++◌, ◌-◌, ◌==◌, ◌||◌, ◌∷◌}
+use Rattle.std.specs.Prelude.{Bool, List, None, Option, Some, [], codes, cond, false, length, nat_le, nat_lt, not, slice_range, suc, true, zero, ℕ, ◌&&◌, ◌+◌, ◌++◌, ◌-◌, ◌==◌, ◌||◌, ◌∷◌}
 use Rattle.std.specs.Str.{bytes_eq}
 use Rattle.x690.specs.Layouts.{same_tag}
 use Rattle.asn_names.specs.declared.element.Step.{Step}
 use Rattle.asn_names.specs.declared.element.Step.TheVariants.{Field, Member, Outermost, Outside, Segment}
 use Rattle.pk_reports.specs.declared.report.Line.{Line}
+use Rattle.pk_reports.specs.declared.report.Value.{Value}
+use Rattle.pk_reports.specs.declared.report.Value.TheVariants.{NotShown, Size}
 use Rattle.pk_same.specs.declared.walk.Difference.{Difference}
 use Rattle.pk_same.specs.declared.walk.Meeting.{Meeting}
 use Rattle.pk_same.specs.declared.walk.Meeting.TheVariants.{Differ, Ended, Equal, First, Inside, Second}
@@ -68,11 +70,29 @@ has_inner depth (next ∷ lines) = nat_lt depth next.depth
 abbrev pub opens : Bool → Bool → Bool → Bool
 opens inner other constructed = (inner && other) || (constructed && (inner || other))
 
--- How two elements meet that are one field.
+-- no more than their number is told of contents
+abbrev pub is_untold : Value → Bool
+is_untold NotShown = true
+is_untold (Size octets) = true
+is_untold value = false
+
+-- the values of an attribute
+abbrev pub is_values : Step → Bool
+is_values (Field name) = bytes_eq name.now (codes "values")
+is_values step = false
+
+-- An element is the values of an attribute, and those are private: the lines behind it begin with one of which no more
+-- than a number is told.
+abbrev pub are_private_values : Line → List Line → Bool
+are_private_values line [] = false
+are_private_values line (next ∷ lines) = is_values line.step && (nat_lt line.depth next.depth && is_untold next.value)
+
+-- How two elements meet that are one field. Into private values nothing goes: their order in DER tells of their octets.
 abbrev pub meet_field : List ℕ → List ℕ → Line → List Line → Line → List Line → Meeting
 meet_field first second line later other others =
     cond (same_tag line.tag other.tag
-    && opens (has_inner line.depth later) (has_inner other.depth others) (line.constructed && other.constructed))
+    && opens (has_inner line.depth later) (has_inner other.depth others) (line.constructed && other.constructed)
+    && not (are_private_values line later || are_private_values other others))
     Inside
     (cond (same_octets first second line other) Equal Differ)
 

@@ -7,7 +7,8 @@
 //!
 //! Proved: the answer is `IsSameness` of `specs/Sameness.antt`, in both directions: two documents are the same exactly
 //! where their values are, and where their DER encodings are equal; a refused one is never the same as another. What
-//! differs is `differences` of `specs/Walks.antt`, and the text and the JSON are functions of that.
+//! differs is `differences` of `specs/Walks.antt`, and the text and the JSON are functions of that; the private values of an
+//! attribute are told all at once, and none of them by its index.
 #![tactic(auto)]
 
 mod json_object;

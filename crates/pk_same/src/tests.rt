@@ -1,5 +1,6 @@
 //! Pairs of documents by OpenSSL 3.0 (`genpkey`, `ec`, `pkcs8`, `req`) and of `examples/`, and what they are to each
-//! other. The fields and the values were worked out by hand from what `openssl asn1parse` says of each.
+//! other; attributes with several values were put in by hand. The fields and the values were worked out by hand from what
+//! `openssl asn1parse` says of each.
 use crate::same::{Sameness, Style, same_text};
 use crate::text::DocumentNames;
 use pk_documents::kind::Kind;
@@ -76,8 +77,41 @@ const REQUEST_X18: &str = "\
     d65e713109577a247bec927eadabdd3d10d721d6f3ad84964db8fe5041d0a000300506032b65700341001f8bb8799d09bfece1198041646c\
     ce8297dbe91dbfa9f5fdc6eac35f35cd499f3861436689805f5534166847071171c5807ef62a8af990b1a19fc82b7e266d09";
 
+const VALUES_5_9: &str = "\
+    303f020100300506032b657004220420000102030405060708090a0b0c0d0e0f101112131415161718191a1b1c1d1e1fa00f300d06032a03\
+    043106040105040109";
+
+const VALUES_5_11: &str = "\
+    303f020100300506032b657004220420000102030405060708090a0b0c0d0e0f101112131415161718191a1b1c1d1e1fa00f300d06032a03\
+    04310604010504010b";
+
+const VALUES_1_5: &str = "\
+    303f020100300506032b657004220420000102030405060708090a0b0c0d0e0f101112131415161718191a1b1c1d1e1fa00f300d06032a03\
+    043106040101040105";
+
+const VALUE_5: &str = "\
+    303c020100300506032b657004220420000102030405060708090a0b0c0d0e0f101112131415161718191a1b1c1d1e1fa00c300a06032a03\
+    043103040105";
+
+const REQUEST_SECRET: &str = "\
+    30633056020100300c310a300806035504030c0161302a300506032b65700321007f72d65e713109577a247bec927eadabdd3d10d721d6f3\
+    ad84964db8fe5041d0a017301506092a864886f70d01090731080c06736563726574300506032b657003020007";
+
+const REQUEST_HIDDEN: &str = "\
+    30643057020100300c310a300806035504030c0161302a300506032b65700321007f72d65e713109577a247bec927eadabdd3d10d721d6f3\
+    ad84964db8fe5041d0a018301606092a864886f70d01090731090c0768696464656e21300506032b657003020007";
+
+const REQUEST_EXTENSIONS_TWICE: &str = "\
+    307a306d020100300c310a300806035504030c0161302a300506032b65700321007f72d65e713109577a247bec927eadabdd3d10d721d6f3\
+    ad84964db8fe5041d0a02e302c06092a864886f70d01090e311f300d300b0603551d0f040403020780300e300c0603551d11040530038201\
+    61300506032b657003020007";
+
+const REQUEST_EXTENSIONS: &str = "\
+    306b305e020100300c310a300806035504030c0161302a300506032b65700321007f72d65e713109577a247bec927eadabdd3d10d721d6f3\
+    ad84964db8fe5041d0a01f301d06092a864886f70d01090e3110300e300c0603551d1104053003820161300506032b657003020007";
+
 /// The kind, two documents, and the lines.
-static ROWS: [(Kind, &str, &str, &str); 11] = [
+static ROWS: [(Kind, &str, &str, &str); 17] = [
     // The lengths of one have more octets than they need.
     (Kind::Key, SMALLEST, LONG_LENGTHS, "the same document\n"),
     // Two refused documents are never the same, not even where they have the same octets.
@@ -142,6 +176,53 @@ static ROWS: [(Kind, &str, &str, &str); 11] = [
         certificationRequestInfo.attributes[0].values[0][0].extnValue (subjectAltName), signature\n\
         \x20 a.der: subjectAltName (2.5.29.17)\n  b.der: keyUsage (2.5.29.15)\n\
         \x20 a.der: 5 octets\n  b.der: 4 octets\n  a.der: 64 octets\n  b.der: 64 octets\n",
+    ),
+    // Private values of an attribute are told all at once: which of them differ in DER order tells which is the greater.
+    (
+        Kind::Key,
+        VALUES_5_9,
+        VALUES_5_11,
+        "another document: attributes[0].values (1.2.3.4)\n  a.der: 6 octets\n  b.der: 6 octets\n",
+    ),
+    (
+        Kind::Key,
+        VALUES_5_9,
+        VALUES_1_5,
+        "another document: attributes[0].values (1.2.3.4)\n  a.der: 6 octets\n  b.der: 6 octets\n",
+    ),
+    (
+        Kind::Key,
+        VALUES_5_9,
+        VALUE_5,
+        "another document: attributes[0].values (1.2.3.4)\n  a.der: 6 octets\n  b.der: 3 octets\n",
+    ),
+    (
+        Kind::Request,
+        REQUEST_SECRET,
+        REQUEST_HIDDEN,
+        "another document: certificationRequestInfo.attributes[0].values (challengePassword)\n\
+        \x20 a.der: 8 octets\n  b.der: 9 octets\n",
+    ),
+    // So they are where the other ones are public; which of these differ is told.
+    (
+        Kind::Request,
+        REQUEST_EXTENSIONS,
+        REQUEST_SECRET,
+        "another document: certificationRequestInfo.attributes[0].type (extensionRequest), \
+        certificationRequestInfo.attributes[0].values (extensionRequest)\n\
+        \x20 a.der: extensionRequest (1.2.840.113549.1.9.14)\n\
+        \x20 b.der: challengePassword (1.2.840.113549.1.9.7)\n\
+        \x20 a.der: 16 octets\n  b.der: 8 octets\n",
+    ),
+    (
+        Kind::Request,
+        REQUEST_EXTENSIONS,
+        REQUEST_EXTENSIONS_TWICE,
+        "another document: certificationRequestInfo.attributes[0].values[0][0].extnID (subjectAltName), \
+        certificationRequestInfo.attributes[0].values[0][0].extnValue (subjectAltName), \
+        certificationRequestInfo.attributes[0].values[1] (extensionRequest)\n\
+        \x20 a.der: subjectAltName (2.5.29.17)\n  b.der: keyUsage (2.5.29.15)\n\
+        \x20 a.der: 5 octets\n  b.der: 4 octets\n  a.der: absent\n  b.der: 14 octets\n",
     ),
     // Of 18 names and a signature that differ 16 are told.
     (

@@ -1,13 +1,14 @@
 //! Which elements of two documents differ.
 //!
 //! The lists of both are walked side by side, each line once. Where an element of both has something in it, what differs
-//! is told more exactly inside; so octets are compared of the innermost ones alone.
+//! is told more exactly inside; so octets are compared of the innermost ones alone. The private values of an attribute are
+//! compared all at once: they stand in the order of their octets, and so which of them differ tells of these.
 ghost use Rattle.std.specs.Prelude.{◌≡◌, ◌+◌, ◌++◌, IfOk, OnOk, length};
-ghost use Rattle.pk_same.specs.Walks.{behind, deeper, differences, first_pass, follows, has_inner, meet_field, meeting, meet_lines, octets_to, opens, same_octets, same_step, second_pass, told, walk};
+ghost use Rattle.pk_same.specs.Walks.{are_private_values, behind, deeper, differences, first_pass, follows, has_inner, is_untold, is_values, meet_field, meeting, meet_lines, octets_to, opens, same_octets, same_step, second_pass, told, walk};
 
 use asn_elements::tags::is_same_tag;
 use asn_names::element::Step;
-use pk_reports::report::Line;
+use pk_reports::report::{Line, Value};
 use std::alloc::{AllocError, Global};
 
 /// The DER encodings of two documents.
@@ -234,7 +235,8 @@ fn meet_field(
     let inner = has_inner(line.depth, later);
     let other_inner = has_inner(other.depth, others);
     let constructed = line.constructed && other.constructed;
-    if is_same_tag(line.tag, other.tag) && opens(inner, other_inner, constructed) {
+    let private = are_private_values(line, later) || are_private_values(other, others);
+    if is_same_tag(line.tag, other.tag) && opens(inner, other_inner, constructed) && !private {
         return Meeting::Inside;
     }
     if same_octets(encodings, line, other) {
@@ -249,6 +251,32 @@ fn opens(inner: bool, other_inner: bool, constructed: bool) -> bool
     ensures { result ≡ opens inner other_inner constructed }
 {
     (inner && other_inner) || (constructed && (inner || other_inner))
+}
+
+/// Whether an element is the values of an attribute, and those are private.
+fn are_private_values(line: &Line, later: &[Line]) -> bool
+    ensures { result ≡ are_private_values line.now later.now }
+{
+    match later {
+        [] => false,
+        [next, ..] => is_values(line.step) && line.depth < next.depth && is_untold(&next.value),
+    }
+}
+
+fn is_values(step: Step) -> bool
+    ensures { result ≡ is_values step }
+{
+    match step {
+        Step::Field(name) => name == "values",
+        _ => false,
+    }
+}
+
+/// Whether no more is told of contents than their number.
+fn is_untold(value: &Value) -> bool
+    ensures { result ≡ is_untold value.now }
+{
+    matches!(value, Value::NotShown | Value::Size(_))
 }
 
 /// Whether the lines behind one of this depth are of what is in it.

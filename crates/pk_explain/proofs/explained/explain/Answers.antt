@@ -2,7 +2,7 @@ use Rattle.pk_explain.proofs.explained.explain.Goals as goal
 
 pub returns : goal.returns
 returns c = record {
-  part = c.in_ok-part.part;
-  is_part = c.in_ok-part.ensures;
+  told = c.in_ok-told.told;
+  is_told = c.in_ok-told.ensures;
   made_of = c.in_ok-report.ensures;
 }

@@ -1,21 +1,11 @@
 use Rattle.std.proofs.Common.{subst, sym}
 use Rattle.pk_explain.specs.Insides.{IsDocumentIn}
 use Rattle.pk_explain.proofs.Listed.{adds_inside}
-use Rattle.pk_explain.proofs.Outlined.{one_more_inside, rest_of}
+use Rattle.pk_explain.proofs.Outlined.{rest_of}
 use Rattle.pk_explain.proofs.inside.push_inside.Goals as goal
 
-pub returns-clause-are : goal.returns-clause-are
-returns-clause-are c =
-    one_more_inside c.args.limits c.args.file.now c.args.elements.now c.args.number c.in-Some.element.now
-    c.in-Some-contained.shape _ _ c.in_ok-inside.inside (sym c.in-Some.ensures.item) (sym c.in-Some-contained.ensures)
-    (subst
-    (λ elements.
-    IsDocumentIn c.args.limits c.args.file.now elements c.args.number c.in-Some-contained.shape c.in_ok-inside.inside)
-    (rest_of c.args.number c.args.elements.now) c.in_ok-inside.ensures)
-    c.in_ok-push.ensures.items
-
-pub returns-clause-adds : goal.returns-clause-adds
-returns-clause-adds c =
+pub returns : goal.returns
+returns c =
     adds_inside c.args.limits c.args.file.now c.args.elements.now c.args.number c.in-Some.element.now
     c.in-Some-contained.shape _ _ c.in_ok-inside.inside (sym c.in-Some.ensures.item) (sym c.in-Some-contained.ensures)
     (subst

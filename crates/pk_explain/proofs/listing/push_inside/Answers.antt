@@ -1,4 +1,4 @@
-use Rattle.std.proofs.Common.{arith, refl, rules, subst, ◌∙◌, ◌≡◌}
+use Rattle.std.proofs.Common.{arith, length, refl, rules, subst, ◌≡◌}
 use Rattle.pk_explain.specs.Listings.{Lists, start_of, telling}
 use Rattle.pk_explain.specs.Places.{page_of}
 use Rattle.pk_explain.proofs.Listed.{one_more, started}
@@ -7,7 +7,6 @@ use Rattle.pk_explain.proofs.listing.push_inside.Goals as goal
 
 pub loop-i-init : goal.loop-i-init
 loop-i-init c = record {
-  guarded = search rules;
   skips = skip_none c.args.sheet.pieces.now;
   lists = started _ _ _ (search rules) (search rules);
 }
@@ -16,21 +15,16 @@ pub loop-i-preserved : goal.loop-i-preserved
 loop-i-preserved c =
     let skips = c.later_pieces-octets.ensures c.loop-i.invariant.skips in
     record {
-      guarded = λ is. c.in_ok-next.ensures.keeps is c.args.lines.now.items (c.loop-i.invariant.guarded is);
       skips = skips;
-      lists = one_more c.args.rule c.args.point (page_of c.args.sheet) c.loop-i.i _ _ _ c.loop-i.invariant.lists
-          (c.in_ok-next.ensures.adds skips);
+      lists = one_more (page_of c.args.sheet) c.loop-i.i _ _ _ c.loop-i.invariant.lists (c.in_ok-next.ensures skips);
     }
 
-pub returns-clause-lists : goal.returns-clause-lists
-returns-clause-lists c =
-    let all : c.loop-i.i ≡ c.count_inside-count.result = omega arith in
-    let end = telling c.loop-i.walk c.loop-i.numbers.items c.loop-i.lines.items in (
+pub returns : goal.returns
+returns c =
+    let all : c.loop-i.i ≡ length c.args.sheet.elements.now = omega arith in
+    let end = telling c.loop-i.hidden c.loop-i.numbers.items c.loop-i.lines.items in (
       end,
-      subst
-          (λ number.
-          Lists c.args.rule c.args.point (page_of c.args.sheet) number (start_of c.args.lines.now.items) end)
-          (all ∙ c.count_inside-count.ensures) c.loop-i.invariant.lists,
-      refl,
+      subst (λ number. Lists (page_of c.args.sheet) number (start_of c.args.lines.now.items) end) all
+          c.loop-i.invariant.lists,
       refl,
     )

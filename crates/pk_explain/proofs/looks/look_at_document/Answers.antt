@@ -1,4 +1,4 @@
-use Rattle.std.proofs.Common.{Err, IfOk, List, None, Ok, Option, Result, subst, ℕ, ◌≡◌}
+use Rattle.std.proofs.Common.{Err, IfOk, List, None, Ok, Option, Result, Some, refl, subst, ℕ, ◌≡◌}
 use Rattle.tlv_core.specs.Limits.{Limits}
 use Rattle.pk_documents.specs.KindRows.{kinds}
 use Rattle.pk_documents.specs.declared.kind.Kind.{Kind}
@@ -19,3 +19,10 @@ pub returns-in-None : goal.returns-in-None
 returns-in-None c =
     of_none c.args.limits c.args.kind c.args.octets.now _ c.look_at_outline.result c.in-None.is c.in_ok-other.ensures
     c.look_at_outline.ensures
+
+pub returns-in-Some : goal.returns-in-Some
+returns-in-Some c = (
+  Some c.in-Some.other,
+  subst (IsFirst c.args.limits c.args.octets.now c.args.kind kinds) c.in-Some.is c.in_ok-other.ensures,
+  (c.words_of.result, c.words_of.ensures.word, c.words_of.ensures.type_name, refl),
+)
