@@ -1,11 +1,9 @@
 -- What two documents are to each other, by the question.
-use Rattle.std.proofs.Common.{◌≡◌, ◌∙◌, Bool, List, ap, false, inl, inr, refl, subst, sym, ℕ}
+use Rattle.std.proofs.Common.{◌≡◌, List, subst, sym, ℕ}
 use Rattle.x690.specs.Values.{Value}
 use Rattle.pk_documents.specs.declared.document.Document.{Document}
 use Rattle.pk_same.specs.declared.same.Style.{Style}
-use Rattle.pk_commands.specs.Comparisons.{Answers, AnswersDocument, AnswersQuestion, ComparedAs, ComparedFailed, IsTold, has_first_failed, has_second_failed, said_name}
-use Rattle.pk_commands.specs.declared.comparison.Compared.{Compared}
-use Rattle.pk_commands.specs.declared.comparison.Compared.TheVariants.{FirstFailed, Memory, SecondFailed, Told, WriteFailed}
+use Rattle.pk_commands.specs.Comparisons.{Answers, AnswersDocument, AnswersQuestion, said_name}
 use Rattle.pk_commands.specs.declared.comparison.Comparison.{Comparison}
 use Rattle.pk_commands.specs.declared.comparison.Question.TheVariants as questions
 
@@ -27,49 +25,3 @@ answers_document value_of comparison form name other said other_said first secon
     subst
     (λ q. AnswersQuestion value_of q comparison.limits comparison.kind comparison.other_kind
     (said_name comparison.question name) (said_name comparison.question other) first second status text) (sym is) named
-
--- ---- which read has failed
-
-flush_first_reads : (end : Compared) → IsTold end → has_first_failed end ≡ false
-flush_first_reads (Told status) told = refl
-flush_first_reads (FirstFailed at) told = absurd told
-flush_first_reads (SecondFailed at) told = absurd told
-flush_first_reads (WriteFailed count) told = absurd told
-flush_first_reads Memory told = absurd told
-
-flush_second_reads : (end : Compared) → IsTold end → has_second_failed end ≡ false
-flush_second_reads (Told status) told = refl
-flush_second_reads (FirstFailed at) told = absurd told
-flush_second_reads (SecondFailed at) told = absurd told
-flush_second_reads (WriteFailed count) told = absurd told
-flush_second_reads Memory told = absurd told
-
-first_by_end : (end : Compared) (first second target : Bool) → ComparedFailed end first second target
-    → first ≡ has_first_failed end
-first_by_end (Told status) first second target h = h.0
-first_by_end (FirstFailed at) first second target h = h.0
-first_by_end (SecondFailed at) first second target h = h.0
-first_by_end (WriteFailed count) first second target h = h.0
-first_by_end Memory first second target h = h.0
-
-second_by_end : (end : Compared) (first second target : Bool) → ComparedFailed end first second target
-    → second ≡ has_second_failed end
-second_by_end (Told status) first second target h = h.1
-second_by_end (FirstFailed at) first second target h = h.1
-second_by_end (SecondFailed at) first second target h = h.1
-second_by_end (WriteFailed count) first second target h = h.1
-second_by_end Memory first second target h = h.1
-
-pub first_fails : (end last : Compared) (first second target : Bool) → ComparedAs end last
-    → ComparedFailed end first second target → first ≡ has_first_failed last
-first_fails end last first second target (inl is) h =
-    first_by_end end first second target h ∙ ap has_first_failed (sym is)
-first_fails end last first second target (inr e) h =
-    first_by_end end first second target h ∙ flush_first_reads end e.0 ∙ ap has_first_failed (sym e.1)
-
-pub second_fails : (end last : Compared) (first second target : Bool) → ComparedAs end last
-    → ComparedFailed end first second target → second ≡ has_second_failed last
-second_fails end last first second target (inl is) h =
-    second_by_end end first second target h ∙ ap has_second_failed (sym is)
-second_fails end last first second target (inr e) h =
-    second_by_end end first second target h ∙ flush_second_reads end e.0 ∙ ap has_second_failed (sym e.1)

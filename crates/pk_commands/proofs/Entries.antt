@@ -1,5 +1,5 @@
 -- What a run over named documents has come to, document after document.
-use Rattle.std.proofs.Common.{◌≡◌, ◌∙◌, ◌+◌, ◌^◌, ◌≤◌, ◌++◌, List, [], ◌∷◌, Option, ap, append-nil, arith, inl, inr, length, length-append, max, refl, subst, sym, take, ℕ}
+use Rattle.std.proofs.Common.{◌≡◌, ◌∙◌, ◌+◌, ◌^◌, ◌≤◌, ◌++◌, Bool, List, [], ◌∷◌, Option, ap, append-nil, arith, inl, inr, length, length-append, max, refl, subst, sym, take, ℕ}
 use Rattle.std.proofs.KnownBytes.{Appends-trans}
 use Rattle.std.proofs.Math.Seq.{take-append-add}
 use Rattle.std.proofs.lemmas.Grind.{flat_map-append}
@@ -30,34 +30,34 @@ names_behind_all : (all : List Entry) (it : Entry) → names_of (all ++ it ∷ [
 names_behind_all all it = map-append (λ e. e.name) all (it ∷ [])
 
 module _ (value_of : Document → Value) (told : List ℕ → Option (List ℕ))
-    (refuses : List ℕ → Why → Type 0) (task : Task) (list left : Option (List (List ℕ)))
+    (refuses : List ℕ → Why → Type 0) (leaves : Bool → Option (List ℕ) → Type 0) (task : Task) (list left : Option (List (List ℕ)))
     (stops : Option (List (List ℕ)) → NamesFault → Type 0) (old mid : Option (List ℕ)) (status out : ℕ) (all : List Entry)
-    (went : Went value_of told refuses task list left old mid status out all) where
-  pub through : NoneLeft left → FilesTold value_of told refuses task list stops old mid (ends.Through status)
+    (went : Went value_of told refuses leaves task list left old mid status out all) where
+  pub through : NoneLeft left → FilesTold value_of told refuses leaves task list stops old mid (ends.Through status)
   through none = (all, went.said, (list_ends list left (names_of all) went.named none, went.written, went.status_is))
 
-  pub no_name : (fault : NamesFault) → GivesUp (AreSaid value_of told refuses task) stops list all fault
-      → FilesTold value_of told refuses task list stops old mid (ends.NoName fault)
+  pub no_name : (fault : NamesFault) → GivesUp (AreSaid value_of told refuses leaves task) stops list all fault
+      → FilesTold value_of told refuses leaves task list stops old mid (ends.NoName fault)
   no_name fault gives_up = (all, went.said, (list_begins list left (names_of all) went.named, went.written, gives_up))
 
   -- the next name doesn't come
   pub stopped : (fault : NamesFault) → stops left fault
-      → FilesTold value_of told refuses task list stops old mid (ends.NoName fault)
+      → FilesTold value_of told refuses leaves task list stops old mid (ends.NoName fault)
   stopped fault stops_so = no_name fault (inl (left, went.named, stops_so))
 
-  pub no_memory_for : FilesTold value_of told refuses task list stops old mid ends.Memory
+  pub no_memory_for : FilesTold value_of told refuses leaves task list stops old mid ends.Memory
   no_memory_for = (all, went.said, (list_begins list left (names_of all) went.named, went.written))
 
   module _ (new : Option (List (List ℕ))) (last : Option (List ℕ)) (name text : List ℕ) (this : ℕ)
-      (said : IsSaid value_of told refuses task name this text) (next : TakesNames left new (name ∷ [])) where
+      (said : IsSaid value_of told refuses leaves task name this text) (next : TakesNames left new (name ∷ [])) where
     abbrev it : Entry
     it = record { name = name; status = this; text = text }
 
-    all_said : AreSaid value_of told refuses task (all ++ it ∷ [])
+    all_said : AreSaid value_of told refuses leaves task (all ++ it ∷ [])
     all_said =
-        All-append (λ e. IsSaid value_of told refuses task e.name e.status e.text) all (it ∷ []) went.said
-        (All-cons (λ e. IsSaid value_of told refuses task e.name e.status e.text) it [] said
-        (All-nil (λ e. IsSaid value_of told refuses task e.name e.status e.text)))
+        All-append (λ e. IsSaid value_of told refuses leaves task e.name e.status e.text) all (it ∷ []) went.said
+        (All-cons (λ e. IsSaid value_of told refuses leaves task e.name e.status e.text) it [] said
+        (All-nil (λ e. IsSaid value_of told refuses leaves task e.name e.status e.text)))
 
     all_named : TakesNames list new (names_of (all ++ it ∷ []))
     all_named =
@@ -67,7 +67,7 @@ module _ (value_of : Document → Value) (told : List ℕ → Option (List ℕ))
     pub goes_further : (status_new out_new : ℕ) → status_new ≡ max status this → out_new ≡ out + length text
         → Appends mid last text
         → (more : List Entry) × (length more ≡ length all + 1)
-        × Went value_of told refuses task list new old last status_new out_new more
+        × Went value_of told refuses leaves task list new old last status_new out_new more
     goes_further status_new out_new status_is out_is written = (
       all ++ it ∷ [],
       length-append all (it ∷ []),
@@ -88,7 +88,7 @@ module _ (value_of : Document → Value) (told : List ℕ → Option (List ℕ))
 
     -- the octets can't be counted with those of its text
     pub uncounted : 2 ^ 64 ≤ out + length text
-        → FilesTold value_of told refuses task list stops old mid (ends.NoName TooMany)
+        → FilesTold value_of told refuses leaves task list stops old mid (ends.NoName TooMany)
     uncounted many =
         let length_is : length (texts_of (all ++ it ∷ [])) ≡ length (texts_of all) + length text =
         ap length (texts_behind all it) ∙ length-append (texts_of all) text in
@@ -105,7 +105,7 @@ module _ (value_of : Document → Value) (told : List ℕ → Option (List ℕ))
 
     pub cut_short : (count written : ℕ) → count ≡ out + written → written ≤ length text
         → Appends mid last (take written text)
-        → FilesTold value_of told refuses task list stops old last (ends.WriteFailed count)
+        → FilesTold value_of told refuses leaves task list stops old last (ends.WriteFailed count)
     cut_short count written count_is few appended =
         let whole = texts_of (all ++ it ∷ []) in
         let count_of : count ≡ length (texts_of all) + written =
@@ -127,10 +127,10 @@ module _ (value_of : Document → Value) (told : List ℕ → Option (List ℕ))
 
 -- nothing is done yet
 pub begins : (value_of : Document → Value) (told : List ℕ → Option (List ℕ)) (refuses : List ℕ → Why → Type 0)
-    (task : Task) (list : Option (List (List ℕ))) (old : Option (List ℕ)) → TakesNames list list [] → Appends old old []
-    → Went value_of told refuses task list list old old 0 0 []
-begins value_of told refuses task list old named written = record {
-  said = All-nil (λ e. IsSaid value_of told refuses task e.name e.status e.text);
+    (leaves : Bool → Option (List ℕ) → Type 0) (task : Task) (list : Option (List (List ℕ))) (old : Option (List ℕ)) → TakesNames list list [] → Appends old old []
+    → Went value_of told refuses leaves task list list old old 0 0 []
+begins value_of told refuses leaves task list old named written = record {
+  said = All-nil (λ e. IsSaid value_of told refuses leaves task e.name e.status e.text);
   named = named;
   written = written;
   status_is = refl;

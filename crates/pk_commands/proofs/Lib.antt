@@ -1,10 +1,11 @@
 pub mod BlockTargets
 pub mod Comparisons
-pub mod Endings
 pub mod Entries
 pub mod Escapes
 pub mod Inputs
 pub mod NameLists
 pub mod Replies
+pub mod ReplyLaws
+pub mod ShortWords
 pub mod ToldNames
 pub mod Tokens

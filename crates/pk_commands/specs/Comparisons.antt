@@ -174,8 +174,7 @@ ComparedFailed Memory first second target = (first ≡ false) × (second ≡ fal
 
 -- ---- over the streams of the program
 
--- How it ends behind which the writer is flushed: as it ended; or the writer isn't flushed behind what is told, and then
--- how many octets are out isn't told.
+-- it says that what the documents are to each other is written
 abbrev pub IsTold : Compared → Type 0
 IsTold (Told status) = Unit {0}
 IsTold (FirstFailed at) = ⊥
@@ -183,25 +182,12 @@ IsTold (SecondFailed at) = ⊥
 IsTold (WriteFailed count) = ⊥
 IsTold Memory = ⊥
 
--- it says that a read of the first document failed, or of the second
-abbrev pub has_first_failed : Compared → Bool
-has_first_failed (Told status) = false
-has_first_failed (FirstFailed at) = true
-has_first_failed (SecondFailed at) = false
-has_first_failed (WriteFailed count) = false
-has_first_failed Memory = false
-
-abbrev pub has_second_failed : Compared → Bool
-has_second_failed (Told status) = false
-has_second_failed (FirstFailed at) = false
-has_second_failed (SecondFailed at) = true
-has_second_failed (WriteFailed count) = false
-has_second_failed Memory = false
-
+-- How it ends behind which the target is flushed: as it ended; or the target isn't flushed behind what is told, and then
+-- how many octets are out isn't told.
 abbrev pub ComparedAs : Compared → Compared → Type 0
 ComparedAs end last = (last ≡ end) ⊎ (IsTold end × (last ≡ WriteFailed 0))
 
--- Comparing replies so, and then the writer is flushed.
+-- Comparing replies so, and then the target is flushed.
 abbrev pub AnsweredPair : (Document → Value) → Comparison → List ℕ → List ℕ → Compared → Option (List ℕ)
     → Option (List ℕ) → Option (List ℕ) → Option (List ℕ) → Option (List ℕ) → Option (List ℕ) → Type 0
 AnsweredPair value_of comparison name other last before after other_before other_after old new =

@@ -1,15 +1,17 @@
 -- How a run ends over the streams of the program.
-use Rattle.std.specs.Prelude.{◌≡◌, ◌⊎◌, ℕ, Bool, List, None, Option, Result, false, true}
+use Rattle.std.specs.Prelude.{◌≡◌, ◌⊎◌, ℕ, Bool, List, [], None, Option, Result, false, true}
 use Rattle.std.specs.Io.KnownBytes.{Keeps}
 use Rattle.tlv_core.specs.declared.sink.WriteError.{WriteError}
 use Rattle.x690.specs.Values.{Value}
 use Rattle.asn_documents.specs.WrittenValues.{WritesText}
 use Rattle.pk_documents.specs.declared.document.Document.{Document}
-use Rattle.pk_commands.specs.Files.{FilesTold, has_failed_write}
+use Rattle.pk_commands.specs.Files.{FilesTold, has_failed_write, line_behind}
+use Rattle.pk_commands.specs.declared.comparison.Compared.{Compared}
+use Rattle.pk_commands.specs.declared.comparison.Compared.TheVariants as compared
 use Rattle.pk_commands.specs.declared.names.NamesFault.{NamesFault}
 use Rattle.pk_commands.specs.declared.opener.Unopened.{Unopened as Why}
-use Rattle.pk_commands.specs.Outcomes.{line_of}
-use Rattle.pk_commands.specs.Replies.{Replied}
+use Rattle.pk_commands.specs.Outcomes.{line_of, words_of}
+use Rattle.pk_commands.specs.Replies.{Replied, written_outcome}
 use Rattle.pk_commands.specs.declared.files.FilesEnd.{FilesEnd}
 use Rattle.pk_commands.specs.declared.files.FilesEnd.TheVariants as ends
 use Rattle.pk_commands.specs.declared.task.Task.{Task}
@@ -26,22 +28,21 @@ IsWhole (ReadFailed at) = ⊥
 IsWhole (WriteFailed count) = ⊥
 IsWhole Memory = ⊥
 
--- it says that a read failed
-abbrev pub has_failed_read : Outcome → Bool
-has_failed_read Done = false
-has_failed_read (NotDer at) = false
-has_failed_read (Fault found) = false
-has_failed_read (Explained found) = false
-has_failed_read (ReadFailed at) = true
-has_failed_read (WriteFailed count) = false
-has_failed_read Memory = false
+abbrev pub is_done : Outcome → Bool
+is_done Done = true
+is_done (NotDer at) = false
+is_done (Fault found) = false
+is_done (Explained found) = false
+is_done (ReadFailed at) = false
+is_done (WriteFailed count) = false
+is_done Memory = false
 
--- How a run ends whose writer is flushed behind it: as it ended; or the writer isn't flushed behind what is whole, and
+-- How a run ends whose target is flushed behind it: as it ended; or the target isn't flushed behind what is whole, and
 -- then how many octets are out isn't told.
 abbrev pub EndsAs : Outcome → Outcome → Type 0
 EndsAs outcome end = (end ≡ outcome) ⊎ (IsWhole outcome × (end ≡ WriteFailed 0))
 
--- A run over no named file replies so, and then the writer is flushed.
+-- A run over no named file replies so, and then the target is flushed.
 abbrev pub AnsweredAs : (Document → Value) → Task → Outcome → Option (List ℕ) → Option (List ℕ) → Option (List ℕ)
     → Option (List ℕ) → Type 0
 AnsweredAs value_of task end before after old new =
@@ -50,6 +51,16 @@ AnsweredAs value_of task end before after old new =
     × Replied value_of task None outcome before after old out
     × Keeps out new
     × EndsAs outcome end
+
+-- A text is written, or its first octets, and then the target is flushed.
+abbrev pub Tells : List ℕ → Option (List ℕ) → Option (List ℕ) → Outcome → Type 0
+Tells text old new end =
+    (count : Result ℕ WriteError)
+    × (failed : Bool)
+    × (out : Option (List ℕ))
+    × WritesText text old out failed count
+    × Keeps out new
+    × EndsAs (written_outcome count Done) end
 
 -- What the program answers to a task: it ends as a run of it does, or memory runs out before.
 abbrev pub ServedAs : (Document → Value) → Task → Outcome → Type 0
@@ -61,34 +72,30 @@ ServedAs value_of task end =
     × (new : Option (List ℕ))
     × AnsweredAs value_of task end before after old new)
 
--- How a run over named documents ends whose writer is flushed behind it: as it ended; or the writer isn't flushed, and
+-- How a run over named documents ends whose target is flushed behind it: as it ended; or the target isn't flushed, and
 -- then how many octets are out isn't told.
 abbrev pub FilesEndAs : FilesEnd → FilesEnd → Type 0
 FilesEndAs end last = (last ≡ end) ⊎ ((has_failed_write end ≡ false) × (last ≡ ends.WriteFailed 0))
 
--- What is said of the documents is written, and then the writer is flushed.
-abbrev pub AnsweredFiles : (Document → Value) → (List ℕ → Option (List ℕ)) → (List ℕ → Why → Type 0) → Task
-    → Option (List (List ℕ)) → (Option (List (List ℕ)) → NamesFault → Type 0) → Option (List ℕ) → Option (List ℕ)
-    → FilesEnd → Type 0
-AnsweredFiles value_of told refuses task list stops old new last =
+-- What is said of the documents is written, and then the target is flushed.
+abbrev pub AnsweredFiles : (Document → Value) → (List ℕ → Option (List ℕ)) → (List ℕ → Why → Type 0)
+    → (Bool → Option (List ℕ) → Type 0) → Task → Option (List (List ℕ))
+    → (Option (List (List ℕ)) → NamesFault → Type 0) → Option (List ℕ) → Option (List ℕ) → FilesEnd → Type 0
+AnsweredFiles value_of told refuses leaves task list stops old new last =
     (end : FilesEnd)
     × (out : Option (List ℕ))
-    × FilesTold value_of told refuses task list stops old out end
+    × FilesTold value_of told refuses leaves task list stops old out end
     × Keeps out new
     × FilesEndAs end last
 
--- One of two texts is written, or its first octets.
-abbrev pub WritesOneOf : List ℕ → List ℕ → Option (List ℕ) → Option (List ℕ) → Bool → Type 0
-WritesOneOf first second old new failed =
-    (text : List ℕ)
-    × ((text ≡ first) ⊎ (text ≡ second))
-    × (count : Result ℕ WriteError)
-    × WritesText text old new failed count
+-- All of a line is written; or the target has failed, and its first octets are out.
+abbrev pub WritesLine : List ℕ → Option (List ℕ) → Option (List ℕ) → Bool → Type 0
+WritesLine line old new failed = (count : Result ℕ WriteError) × WritesText line old new failed count
 
--- The line of the outcome is written, or that memory ran out, or the first octets of either.
-abbrev pub WritesLine : Outcome → Option (List ℕ) → Option (List ℕ) → Bool → Type 0
-WritesLine outcome old new failed =
-    (line : Outcome)
-    × ((line ≡ outcome) ⊎ (line ≡ Memory))
-    × (count : Result ℕ WriteError)
-    × WritesText (line_of line) old new failed count
+-- the line on standard error of two documents, whose names are told so
+abbrev pub line_of_compared : List ℕ → List ℕ → Compared → List ℕ
+line_of_compared first second (compared.Told status) = []
+line_of_compared first second (compared.FirstFailed at) = line_behind first (words_of (ReadFailed at))
+line_of_compared first second (compared.SecondFailed at) = line_behind second (words_of (ReadFailed at))
+line_of_compared first second (compared.WriteFailed count) = line_of (WriteFailed count)
+line_of_compared first second compared.Memory = line_of Memory

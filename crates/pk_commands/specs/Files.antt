@@ -35,14 +35,32 @@ kept (ReadFailed at) = ReadFailed at
 kept (WriteFailed count) = Memory
 kept Memory = Memory
 
--- A run of the task over the document, of which these octets are told, ends so, and writes this; or it isn't opened.
-abbrev pub CameAs : (Document → Value) → Option (List ℕ) → (Why → Type 0) → Task → List ℕ → Came → List ℕ → Type 0
-CameAs value_of before refuses task file (Ran outcome) written =
+-- it says that a read failed
+abbrev pub has_failed_read : Outcome → Bool
+has_failed_read Done = false
+has_failed_read (NotDer at) = false
+has_failed_read (Fault found) = false
+has_failed_read (Explained found) = false
+has_failed_read (ReadFailed at) = true
+has_failed_read (WriteFailed count) = false
+has_failed_read Memory = false
+
+-- A source is left that has failed, or hasn't, and tells these octets.
+abbrev pub IsLeft : {Source : Type 0} → (Source → Bool) → (Source → Option (List ℕ)) → Bool → Option (List ℕ) → Type 0
+IsLeft {Source} has_failed remaining failed after =
+    (source : Source) × (has_failed source ≡ failed) × (remaining source ≡ after)
+
+-- A run of the task over the document, of which these octets are told, ends so, and writes this: where it says that a
+-- read failed, it leaves a source that has failed; or the document isn't opened.
+abbrev pub CameAs : (Document → Value) → Option (List ℕ) → (Why → Type 0) → (Bool → Option (List ℕ) → Type 0) → Task
+    → List ℕ → Came → List ℕ → Type 0
+CameAs value_of before refuses leaves task file (Ran outcome) written =
     (after : Option (List ℕ))
     × (end : Outcome)
     × Replied value_of task (Some file) end before after (Some []) (Some written)
+    × leaves (has_failed_read end) after
     × (outcome ≡ kept end)
-CameAs value_of before refuses task file (Unopened why) written = refuses why
+CameAs value_of before refuses leaves task file (Unopened why) written = refuses why
 
 abbrev pub status_of_came : Came → ℕ
 status_of_came (Ran outcome) = status_of outcome
@@ -73,9 +91,12 @@ text_front (actions.Signed part) name = []
 abbrev pub front_of : Action → List ℕ → List ℕ
 front_of action name = cond (is_json action) [] (text_front action name)
 
--- words behind a name, as a line, where there are some
+-- words behind a name as it is told, as a line, where there are some
+abbrev pub line_behind : List ℕ → List ℕ → List ℕ
+line_behind told words = cond (length words == 0) [] (told ++ codes ": " ++ words ++ line_feed)
+
 abbrev pub named_line : List ℕ → List ℕ → List ℕ
-named_line name words = cond (length words == 0) [] (told_name name ++ codes ": " ++ words ++ line_feed)
+named_line name words = line_behind (told_name name) words
 
 -- what is said of a document of which not all that was asked for is written: why, behind its name or as JSON
 abbrev pub said_line : Action → List ℕ → List ℕ → Came → List ℕ → List ℕ
@@ -89,12 +110,12 @@ said_text action name file came written =
     (said_line action name file came (words_of_came came))
 
 -- This is what the task says of the document of a name, and its status.
-abbrev pub IsSaid : (Document → Value) → (List ℕ → Option (List ℕ)) → (List ℕ → Why → Type 0) → Task → List ℕ → ℕ
-    → List ℕ → Type 0
-IsSaid value_of told refuses task name status text =
+abbrev pub IsSaid : (Document → Value) → (List ℕ → Option (List ℕ)) → (List ℕ → Why → Type 0)
+    → (Bool → Option (List ℕ) → Type 0) → Task → List ℕ → ℕ → List ℕ → Type 0
+IsSaid value_of told refuses leaves task name status text =
     (came : Came)
     × (written : List ℕ)
-    × CameAs value_of (told name) (refuses name) task (file_name name) came written
+    × CameAs value_of (told name) (refuses name) leaves task (file_name name) came written
     × (status ≡ status_of_came came)
     × (text ≡ said_text task.action name (file_name name) came written)
 
@@ -114,16 +135,16 @@ texts_of entries = flat_map (λ it. it.text) entries
 abbrev pub greatest : List Entry → ℕ
 greatest entries = fold (λ most it. max most it.status) 0 entries
 
-abbrev pub AreSaid : (Document → Value) → (List ℕ → Option (List ℕ)) → (List ℕ → Why → Type 0) → Task → List Entry
-    → Type 0
-AreSaid value_of told refuses task entries =
-    All (λ it. IsSaid value_of told refuses task it.name it.status it.text) entries
+abbrev pub AreSaid : (Document → Value) → (List ℕ → Option (List ℕ)) → (List ℕ → Why → Type 0)
+    → (Bool → Option (List ℕ) → Type 0) → Task → List Entry → Type 0
+AreSaid value_of told refuses leaves task entries =
+    All (λ it. IsSaid value_of told refuses leaves task it.name it.status it.text) entries
 
 -- So far it has come: these documents of the list, of which all is out.
 pub record Went (value_of : Document → Value) (told : List ℕ → Option (List ℕ)) (refuses : List ℕ → Why → Type 0)
-    (task : Task) (list left : Option (List (List ℕ))) (old new : Option (List ℕ)) (status out : ℕ)
-    (entries : List Entry) : Type 0 where
-  pub said : AreSaid value_of told refuses task entries
+    (leaves : Bool → Option (List ℕ) → Type 0) (task : Task) (list left : Option (List (List ℕ)))
+    (old new : Option (List ℕ)) (status out : ℕ) (entries : List Entry) : Type 0 where
+  pub said : AreSaid value_of told refuses leaves task entries
   pub named : TakesNames list left (names_of entries)
   pub written : Appends old new (texts_of entries)
   pub status_is : status ≡ greatest entries
@@ -163,13 +184,13 @@ EndsBehind are_said stops entries list old new (ends.NoName fault) =
 EndsBehind are_said stops entries list old new ends.Memory =
     BeginsWith list (names_of entries) × Appends old new (texts_of entries)
 
-abbrev pub FilesTold : (Document → Value) → (List ℕ → Option (List ℕ)) → (List ℕ → Why → Type 0) → Task
-    → Option (List (List ℕ)) → (Option (List (List ℕ)) → NamesFault → Type 0) → Option (List ℕ) → Option (List ℕ)
-    → FilesEnd → Type 0
-FilesTold value_of told refuses task list stops old new end =
+abbrev pub FilesTold : (Document → Value) → (List ℕ → Option (List ℕ)) → (List ℕ → Why → Type 0)
+    → (Bool → Option (List ℕ) → Type 0) → Task → Option (List (List ℕ))
+    → (Option (List (List ℕ)) → NamesFault → Type 0) → Option (List ℕ) → Option (List ℕ) → FilesEnd → Type 0
+FilesTold value_of told refuses leaves task list stops old new end =
     (entries : List Entry)
-    × AreSaid value_of told refuses task entries
-    × EndsBehind (AreSaid value_of told refuses task) stops entries list old new end
+    × AreSaid value_of told refuses leaves task entries
+    × EndsBehind (AreSaid value_of told refuses leaves task) stops entries list old new end
 
 abbrev pub has_failed_write : FilesEnd → Bool
 has_failed_write (ends.Through status) = false
@@ -183,9 +204,9 @@ status_of_end (ends.WriteFailed count) = 3
 status_of_end (ends.NoName fault) = 3
 status_of_end ends.Memory = 3
 
--- the line on standard error, of a list of this name
+-- the line on standard error, of a list whose name is told so
 abbrev pub line_of_end : List ℕ → FilesEnd → List ℕ
-line_of_end list (ends.Through status) = []
-line_of_end list (ends.WriteFailed count) = line_of (WriteFailed count)
-line_of_end list (ends.NoName fault) = named_line list (fault_of fault)
-line_of_end list ends.Memory = line_of Memory
+line_of_end told (ends.Through status) = []
+line_of_end told (ends.WriteFailed count) = line_of (WriteFailed count)
+line_of_end told (ends.NoName fault) = line_behind told (fault_of fault)
+line_of_end told ends.Memory = line_of Memory

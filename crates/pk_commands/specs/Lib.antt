@@ -2,8 +2,10 @@ pub mod BlockTargets
 pub mod Comparisons
 pub mod Endings
 pub mod Files
+pub mod Flushed
 pub mod Inputs
 pub mod KnownOctets
+pub mod Lines
 pub mod NameLists
 pub mod Names
 pub mod Openings

@@ -173,6 +173,15 @@ abbrev pub Replied : (Document → Value) → Task → Option (List ℕ) → Out
 Replied value_of task file outcome before after old new =
     RepliedBy value_of task.action file task.kind task.limits outcome before after old new
 
+-- What `normalise` replies is `RepliedTo`, whatever file and values of documents are named: whoever relies on that
+-- action alone reads no other one.
+abbrev pub NormaliseReplies : Type 0
+NormaliseReplies =
+    (value_of : Document → Value) (kind : Kind) (limits : Limits) (file : Option (List ℕ)) (outcome : Outcome)
+    (before after old new : Option (List ℕ))
+    → Replied value_of (record { action = Normalise; kind = kind; limits = limits }) file outcome before after old new
+    → RepliedTo limits (type_of kind) outcome before after old new
+
 -- it says that nothing is written
 abbrev pub IsSilent : Outcome → Type 0
 IsSilent Done = ⊥

@@ -1,9 +1,10 @@
 //! What two inputs are to each other, of which each has to be one document.
-ghost use Rattle.std.specs.Prelude.{◌≡◌, ◌++◌, IfOk, MatchBool, codes, false, string_bytes};
-ghost use Rattle.pk_commands.specs.Comparisons.{Answers, AnswersDocument, AnswersKey, AnsweredPair, ComparedAs, ComparedFailed, IsNote, IsTold, IsUntold, RepliedComparing, first_unread, has_first_failed, has_note, has_second_failed, key_note, key_status, note_by, said_name, sameness_status, second_unread};
+ghost use Rattle.std.specs.Prelude.{◌≡◌, ◌++◌, Bool, IfOk, MatchBool, codes, false, string_bytes, true};
+ghost use Rattle.pk_commands.specs.Comparisons.{Answers, AnswersDocument, AnswersKey, AnsweredPair, ComparedAs, ComparedFailed, IsNote, IsTold, IsUntold, RepliedComparing, first_unread, has_note, key_note, key_status, note_by, said_name, sameness_status, second_unread};
 ghost use Rattle.std.specs.Io.KnownBytes.{Keeps};
 
 use crate::comparison::{Compared, Comparison, PairNames, Question};
+use crate::flush::Flush;
 use crate::input::read_all;
 use crate::name::{file_name, told_name};
 use asn_documents::value::write_octets;
@@ -15,36 +16,37 @@ use pk_same::text::DocumentNames;
 use pk_same_key::same_key::same_key_text;
 use pk_same_key::verdict::KeySameness;
 use std::alloc::{AllocError, Global};
-use std::io::Write;
 use tlv_core::fault::ReadError;
 use tlv_core::limits::Limits;
-use tlv_core::source::Source;
-use tlv_core::target::{Target, ToWrite};
+use tlv_core::source::{Failed, Source};
+use tlv_core::target::Target;
 
-/// Compares two inputs, and flushes the writer behind what is told.
-pub fn answer_pair<R: Source, S: Source, W: Write + Drop>(
+/// Compares two inputs, and flushes the target behind what is told.
+pub fn answer_pair<R: Source, S: Source, W: Flush>(
     alloc: Global,
     first: &mut R,
     second: &mut S,
-    writer: W,
+    dst: &mut W,
     comparison: &Comparison,
     names: PairNames<'_>,
-) -> (Compared, W)
+) -> Compared
     requires readable { R.has_failed first.old ≡ false }
     requires other_readable { S.has_failed second.old ≡ false }
+    requires writable { W.has_failed dst.old ≡ false }
     ensures answered { AnsweredPair ⟦<Document as Valued>⟧.value comparison.now
-        names.entry.first.now names.entry.second.now result.0 (R.remaining first.old)
+        names.entry.first.now names.entry.second.now result (R.remaining first.old)
         (R.remaining first.new) (S.remaining second.old) (S.remaining second.new)
-        (W.contents writer) (W.contents result.1) }
+        (W.contents dst.old) (W.contents dst.new) }
     // Nothing is written of what isn't told.
-    ensures unwritten { IsUntold result.0 → result.1 ≡ writer }
-    // A failed read is answered where that source failed, and nowhere else.
-    ensures first_unread { R.has_failed first.new ≡ has_first_failed result.0 }
-    ensures second_unread { S.has_failed second.new ≡ has_second_failed result.0 }
+    ensures unwritten { IsUntold result → dst.new ≡ dst.old }
+    // What is told is flushed.
+    ensures flushed { IsTold result → W.is_flushed dst.new ≡ true }
+    // A failed read, write or flush is answered where it failed, and nowhere else.
+    ensures failed { ComparedFailed result (R.has_failed first.new) (S.has_failed second.new)
+        (W.has_failed dst.new) }
 {
-    let mut dst = ToWrite::new(writer);
-    let compared = compare(alloc, first, second, &mut dst, comparison, names);
-    flushed(dst.into_inner(), compared)
+    let compared = compare(alloc, first, second, dst, comparison, names);
+    flushed(dst, compared)
 }
 
 /// Takes all of two inputs, or of each one octet more than the limit, and writes what they are to each other.
@@ -258,18 +260,22 @@ fn key_status(answer: KeySameness) -> u8
     }
 }
 
-/// How comparing ends that ended so before the writer was flushed, and the writer.
-fn flushed<W: Write + Drop>(mut writer: W, compared: Compared) -> (Compared, W)
-    ensures ends { ComparedAs compared result.0 }
-    ensures kept { Keeps (W.contents writer) (W.contents result.1) }
-    ensures unwritten { IsUntold result.0 → result.1 ≡ writer }
+/// How comparing ends that ended so before the target was flushed.
+fn flushed<W: Flush>(dst: &mut W, compared: Compared) -> Compared
+    requires ended { IsTold compared → W.has_failed dst.old ≡ false }
+    ensures ends { ComparedAs compared result }
+    ensures kept { Keeps (W.contents dst.old) (W.contents dst.new) }
+    ensures unwritten { IsUntold result → dst.new ≡ dst.old }
+    ensures flushed { IsTold result → W.is_flushed dst.new ≡ true }
+    ensures failed { (first second : Bool) → ComparedFailed compared first second (W.has_failed dst.old)
+        → ComparedFailed result first second (W.has_failed dst.new) }
 {
     if !is_told(&compared) {
-        return (compared, writer);
+        return compared;
     }
-    match writer.flush() {
-        Ok(()) => (compared, writer),
-        Err(_) => (unflushed(), writer),
+    match dst.flush() {
+        Ok(()) => compared,
+        Err(Failed) => unflushed(),
     }
 }
 
@@ -279,7 +285,7 @@ fn is_told(compared: &Compared) -> bool
     matches!(compared, Compared::Told(_))
 }
 
-/// How comparing ends where the writer isn't flushed: how many octets it kept back isn't told.
+/// How comparing ends where the target isn't flushed: how many octets it kept back isn't told.
 fn unflushed() -> Compared
     ensures { result ≡ Compared.WriteFailed 0 }
 {

@@ -1,14 +1,16 @@
 //! One task over any number of documents, which have names.
-ghost use Rattle.std.specs.Prelude.{◌≡◌, ◌+◌, ◌++◌, ℕ, IfOk, List, MatchResult, OnOk, Option, false, length, string_bytes};
-ghost use Rattle.pk_commands.specs.Files.{CameAs, Entry, FilesTold, IsSaid, Went, front_of, has_failed_write, kept, line_of_end, is_json, named_line, said_line, said_text, status_of_came, status_of_end, words_of_came};
+ghost use Rattle.std.specs.Prelude.{◌≡◌, ◌+◌, ◌<◌, ◌≤◌, ◌++◌, ℕ, IfOk, List, MatchResult, OnOk, Option, false, length};
+ghost use Rattle.arrayvec.specs.ArrayString.{array_string_len};
+ghost use Rattle.pk_commands.specs.Files.{CameAs, Entry, FilesTold, IsLeft, IsSaid, Went, front_of, has_failed_write, is_json, kept, named_line, said_line, said_text, status_of_came, status_of_end, words_of_came};
 ghost use Rattle.pk_commands.specs.NameLists.{HasStopped};
 ghost use Rattle.pk_commands.specs.Names.{told_name};
-ghost use Rattle.pk_commands.specs.Outcomes.{line_of};
+ghost use Rattle.pk_commands.specs.Openings.{why_of};
 
+use crate::lines::{LineWords, NamedLine};
 use crate::name::{file_name, told_name};
 use crate::names::{Names, NamesFault};
 use crate::opener::{Opener, Unopened};
-use crate::outcome::{Outcome, outcome_text, outcome_words, status};
+use crate::outcome::{Outcome, outcome_words, plain_words, status};
 use crate::reported::error_line;
 use crate::run::run;
 use crate::task::{Action, Task};
@@ -61,7 +63,7 @@ pub fn run_files<N: Names, O: Opener, W: Target>(
 ) -> FilesEnd
     requires writable { W.has_failed dst.old ≡ false }
     ensures told { FilesTold ⟦<Document as Valued>⟧.value (O.told opener.now) (O.refuses opener.now)
-        task.now (N.left names.old) (HasStopped N.left N.stops names.new)
+        (IsLeft O.Document.has_failed O.Document.remaining) task.now (N.left names.old) (HasStopped N.left N.stops names.new)
         (W.contents dst.old) (W.contents dst.new) result }
     ensures failed { W.has_failed dst.new ≡ has_failed_write result }
 {
@@ -87,12 +89,12 @@ fn next_file<N: Names, O: Opener, W: Target>(
     requires writable { W.has_failed dst.old ≡ false }
     ensures told { (all : List Entry) (list : Option (List (List ℕ))) (old : Option (List ℕ))
         → Went ⟦<Document as Valued>⟧.value (O.told opener.now) (O.refuses opener.now)
-        task.now list (N.left names.old) old (W.contents dst.old) progress.status progress.out all
+        (IsLeft O.Document.has_failed O.Document.remaining) task.now list (N.left names.old) old (W.contents dst.old) progress.status progress.out all
         → MatchResult result (λ further. (more : List Entry) × (length more ≡ length all + 1)
         × Went ⟦<Document as Valued>⟧.value (O.told opener.now) (O.refuses opener.now)
-        task.now list (N.left names.new) old (W.contents dst.new) further.status further.out more)
-        (FilesTold ⟦<Document as Valued>⟧.value (O.told opener.now) (O.refuses opener.now) task.now
-        list (HasStopped N.left N.stops names.new) old (W.contents dst.new)) }
+        (IsLeft O.Document.has_failed O.Document.remaining) task.now list (N.left names.new) old (W.contents dst.new) further.status further.out more)
+        (FilesTold ⟦<Document as Valued>⟧.value (O.told opener.now) (O.refuses opener.now)
+        (IsLeft O.Document.has_failed O.Document.remaining) task.now list (HasStopped N.left N.stops names.new) old (W.contents dst.new)) }
     ensures failed { MatchResult result (λ _. W.has_failed dst.new ≡ false)
         (λ end. W.has_failed dst.new ≡ has_failed_write end) }
 {
@@ -124,7 +126,8 @@ fn said_of<O: Opener>(
     task: &Task,
 ) -> Result<Said, AllocError>
     ensures { IfOk result (λ said. IsSaid ⟦<Document as Valued>⟧.value (O.told opener.now)
-        (O.refuses opener.now) task.now name.now said.status said.text.items) }
+        (O.refuses opener.now) (IsLeft O.Document.has_failed O.Document.remaining) task.now
+        name.now said.status said.text.items) }
 {
     let file = file_name(alloc, name)?;
     let (came, written) = came_of(alloc, opener, name, task, file.as_str());
@@ -144,7 +147,8 @@ fn came_of<O: Opener>(
     file: &str,
 ) -> (Came, Vec<u8>)
     ensures { CameAs ⟦<Document as Valued>⟧.value (O.told opener.now name.now)
-        (O.refuses opener.now name.now) task.now file.now result.0 result.1.items }
+        (O.refuses opener.now name.now) (IsLeft O.Document.has_failed O.Document.remaining)
+        task.now file.now result.0 result.1.items }
 {
     match opener.open(alloc, name) {
         Ok(mut src) => {
@@ -166,45 +170,12 @@ fn kept(outcome: Outcome) -> Outcome
     }
 }
 
-/// The line of a document behind its name; empty where what is written says all.
-pub fn named_line(alloc: Global, name: &[u8], came: &Came) -> Result<Vec<u8>, AllocError>
-    ensures { IfOk result (λ text. text.items ≡ named_line name.now (words_of_came came.now)) }
-{
-    let words = words_of_came(alloc, came)?;
-    behind_name(alloc, name, words.as_str())
-}
-
-/// The line for standard error of a run over the names of a list, which has a name, too.
-pub fn line_of_end(alloc: Global, list: &[u8], end: &FilesEnd) -> Result<Vec<u8>, AllocError>
-    ensures { IfOk result (λ text. text.items ≡ line_of_end list.now end.now) }
-{
-    match end {
-        FilesEnd::Through(_) => Ok(Vec::new(alloc)),
-        FilesEnd::NoName(fault) => behind_name(alloc, list, fault.why()),
-        FilesEnd::WriteFailed(after) => line_of(alloc, Outcome::WriteFailed(*after)),
-        FilesEnd::Memory => line_of(alloc, Outcome::Memory),
-    }
-}
-
-/// The line of an outcome.
-fn line_of(alloc: Global, outcome: Outcome) -> Result<Vec<u8>, AllocError>
-    ensures { IfOk result (λ text. text.items ≡ line_of outcome) }
-{
-    Ok(outcome_text(alloc, &outcome)?.into_bytes())
-}
-
 /// Words behind a name, as a line, if there are any.
 fn behind_name(alloc: Global, name: &[u8], words: &str) -> Result<Vec<u8>, AllocError>
+    requires { length words.now ≤ 128 }
     ensures { IfOk result (λ text. text.items ≡ named_line name.now words.now) }
 {
-    let mut text = Vec::new(alloc);
-    if words.is_empty() {
-        return Ok(text);
-    }
-    push_front(alloc, &mut text, name, ": ")?;
-    text.extend_from_slice(words.as_bytes())?;
-    text.extend_from_slice("\n".as_bytes())?;
-    Ok(text)
+    Ok(NamedLine::new(alloc, name)?.line(words).into_bytes())
 }
 
 /// What is said of a document: what was written of it with its name in front, or its line.
@@ -219,7 +190,7 @@ fn said_text(
     ensures { IfOk result (λ text. text.items
         ≡ said_text action name.now file.now came.now written.items) }
 {
-    let words = words_of_came(alloc, came)?;
+    let words = words_of_came(came);
     if !words.is_empty() {
         return said_line(alloc, action, name, file, came, words.as_str());
     }
@@ -241,6 +212,7 @@ fn said_line(
     came: &Came,
     words: &str,
 ) -> Result<Vec<u8>, AllocError>
+    requires { length words.now ≤ 128 }
     ensures { IfOk result (λ text. text.items
         ≡ said_line action name.now file.now came.now words.now) }
 {
@@ -297,13 +269,22 @@ fn push_front(
 }
 
 /// Why not all that was asked for is written of a document; empty where what is written says all.
-fn words_of_came(alloc: Global, came: &Came) -> Result<String, AllocError>
-    ensures { IfOk result (λ text. string_bytes text ≡ words_of_came came.now) }
+pub fn words_of_came(came: &Came) -> LineWords
+    ensures words { result.bytes ≡ words_of_came came.now }
+    ensures short { array_string_len result < 128 }
 {
     match came {
-        Came::Ran(outcome) => outcome_words(alloc, outcome),
-        Came::Unopened(why) => String::from_str(alloc, why.why()),
+        Came::Ran(outcome) => outcome_words(outcome),
+        Came::Unopened(why) => plain_words(why_unopened(*why)),
     }
+}
+
+/// Why a document isn't opened, in words, which are short.
+fn why_unopened(why: Unopened) -> &'static str
+    ensures words { result.now ≡ why_of why }
+    ensures short { length result.now < 128 }
+{
+    why.why()
 }
 
 /// The exit status of what came of a document.

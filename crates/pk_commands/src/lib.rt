@@ -1,20 +1,26 @@
 //! The commands of the program, over any streams: documents are read, and what the command says is written.
 //!
-//! `run` does a task over a source and a target, `streams` does it over the streams of a program and flushes them, and
-//! `outcome` has the status and the line of how it ended. `files` does it over the documents of a list of names:
-//! `names` and `ended_names` are such lists, `opener` opens the document of a name, `file_system` in files, and `name`
-//! is how a name is told. `compare` says of two documents what they are to each other, `comparison` has what is asked.
+//! `run` does a task over a source and a target, `streams` does it and flushes the target (`flush`), `outcome` has the
+//! status and the line of how it ended, and `closing` writes that line. `files` does it over the documents of a list of
+//! names: `names` and `ended_names` are such lists, `opener` opens the document of a name, `file_system` in files, `name`
+//! is how a name is told, and `lines` has the memory for a line. `compare` says of two documents what they are to each
+//! other, `comparison` has what is asked. `new_file` writes what a task makes into a file that then takes its place.
 #![tactic(auto)]
 
 mod block_target;
+pub mod closing;
 pub mod compare;
 pub mod comparison;
 pub mod ended_names;
 pub mod file_system;
 pub mod files;
+pub mod flush;
 mod input;
+pub mod laws;
+pub mod lines;
 pub mod name;
 pub mod names;
+pub mod new_file;
 pub mod opener;
 pub mod outcome;
 pub mod reported;

@@ -1,7 +1,10 @@
 //! How a run ends.
-ghost use Rattle.std.specs.Prelude.{◌≡◌, ◌++◌, codes, decimal, IfOk, OnOk, string_bytes};
+ghost use Rattle.std.specs.Prelude.{◌≡◌, ◌+◌, ◌<◌, ◌≤◌, ◌++◌, [], codes, decimal, IfOk, length, string_bytes};
+ghost use Rattle.arrayvec.specs.ArrayString.{array_string_len};
+ghost use Rattle.tlv_core.specs.Reasons.{name_of};
 ghost use Rattle.pk_commands.specs.Outcomes.{inside_text, line_of, place_text, said_verdict, status_of, words_of};
 
+use crate::lines::LineWords;
 use itoa::Buffer;
 use std::alloc::{AllocError, Global};
 use tlv_core::fault::Fault as DocumentFault;
@@ -38,27 +41,28 @@ pub fn status(outcome: &Outcome) -> u8
 }
 
 /// Why not all that was asked for is written; empty where what is written says all.
-pub fn outcome_words(alloc: Global, outcome: &Outcome) -> Result<String, AllocError>
-    ensures { IfOk result (λ text. string_bytes text ≡ words_of outcome.now) }
+pub fn outcome_words(outcome: &Outcome) -> LineWords
+    ensures words { result.bytes ≡ words_of outcome.now }
+    ensures short { array_string_len result < 128 }
 {
     match outcome {
-        Outcome::Done | Outcome::NotDer(_) | Outcome::Explained(_) => Ok(String::new(alloc)),
-        Outcome::Fault(fault) => fault_words(alloc, fault),
-        Outcome::ReadFailed(at) => number_words(alloc, "read failed at ", *at),
-        Outcome::WriteFailed(after) => number_words(alloc, "write failed after ", *after),
-        Outcome::Memory => String::from_str(alloc, "out of memory"),
+        Outcome::Done | Outcome::NotDer(_) | Outcome::Explained(_) => no_words(),
+        Outcome::Fault(fault) => fault_words(fault),
+        Outcome::ReadFailed(at) => number_words("read failed at ", *at),
+        Outcome::WriteFailed(after) => number_words("write failed after ", *after),
+        Outcome::Memory => plain_words("out of memory"),
     }
 }
 
 /// The same as a line for standard error, ended by a line feed.
-pub fn outcome_text(alloc: Global, outcome: &Outcome) -> Result<String, AllocError>
-    ensures { IfOk result (λ text. string_bytes text ≡ line_of outcome.now) }
+pub fn outcome_line(outcome: &Outcome) -> LineWords
+    ensures { result.bytes ≡ line_of outcome.now }
 {
-    let mut text = outcome_words(alloc, outcome)?;
-    if !text.is_empty() {
-        text.push_str("\n")?;
+    let mut line = outcome_words(outcome);
+    if !line.is_empty() {
+        line.push_str("\n");
     }
-    Ok(text)
+    line
 }
 
 /// What `check` writes: that the document is in DER, or the first place where it isn't; ended by a line feed. If it is
@@ -70,45 +74,78 @@ pub fn verdict_text(alloc: Global, quiet: bool, place: Option<u64>) -> Result<St
         None if quiet => Ok(String::new(alloc)),
         None => String::from_str(alloc, "DER\n"),
         Some(at) => {
-            let mut text = number_words(alloc, "not DER at ", at)?;
+            let mut text = String::from_str(alloc, number_words("not DER at ", at).as_str())?;
             text.push_str("\n")?;
             Ok(text)
         }
     }
 }
 
-fn number_words(alloc: Global, words: &str, number: u64) -> Result<String, AllocError>
-    ensures { IfOk result (λ text. string_bytes text ≡ words.now ++ decimal number) }
+fn no_words() -> LineWords
+    ensures words { result.bytes ≡ [] }
+    ensures none { array_string_len result ≡ 0 }
 {
-    let mut text = String::from_str(alloc, words)?;
-    push_number(&mut text, number)?;
-    Ok(text)
+    LineWords::new()
 }
 
-fn fault_words(alloc: Global, fault: &DocumentFault) -> Result<String, AllocError>
-    ensures { IfOk result (λ text. string_bytes text ≡ codes "fault at "
-        ++ place_text fault.now.at fault.now.why ++ inside_text fault.now.inside) }
+/// Words as they are.
+pub fn plain_words(words: &str) -> LineWords
+    requires { length words.now < 128 }
+    ensures words { result.bytes ≡ words.now }
+    ensures size { array_string_len result ≡ length words.now }
 {
-    let mut text = String::from_str(alloc, "fault at ")?;
-    push_place(&mut text, fault.at, fault.why)?;
+    let mut text = no_words();
+    text.push_str(words);
+    text
+}
+
+fn number_words(words: &str, number: u64) -> LineWords
+    requires { length words.now ≤ 40 }
+    ensures words { result.bytes ≡ words.now ++ decimal number }
+    ensures short { array_string_len result ≤ 80 }
+{
+    let mut text = plain_words(words);
+    push_number(&mut text, number);
+    text
+}
+
+fn fault_words(fault: &DocumentFault) -> LineWords
+    ensures words { result.bytes ≡ codes "fault at "
+        ++ place_text fault.now.at fault.now.why ++ inside_text fault.now.inside }
+    ensures short { array_string_len result < 128 }
+{
+    let mut text = plain_words("fault at ");
+    push_place(&mut text, fault.at, fault.why);
     if let Some((at, why)) = fault.inside {
-        text.push_str(" inside at ")?;
-        push_place(&mut text, at, why)?;
+        text.push_str(" inside at ");
+        push_place(&mut text, at, why);
     }
-    Ok(text)
+    text
 }
 
-fn push_place(text: &mut String, at: u64, why: Reason) -> Result<(), AllocError>
-    ensures { OnOk result (string_bytes text.new ≡ string_bytes text.old ++ place_text at why) }
+fn push_place(text: &mut LineWords, at: u64, why: Reason)
+    requires { array_string_len text.old ≤ 74 }
+    ensures place { text.new.bytes ≡ text.old.bytes ++ place_text at why }
+    ensures short { array_string_len text.new ≤ array_string_len text.old + 53 }
 {
-    push_number(text, at)?;
-    text.push_str(": ")?;
-    text.push_str(why.name())
+    push_number(text, at);
+    text.push_str(": ");
+    text.push_str(name(why));
 }
 
-fn push_number(text: &mut String, number: u64) -> Result<(), AllocError>
-    ensures { OnOk result (string_bytes text.new ≡ string_bytes text.old ++ decimal number) }
+/// The name of a reason, which is short.
+fn name(why: Reason) -> &'static str
+    ensures name { result.now ≡ name_of why }
+    ensures short { length result.now ≤ 11 }
+{
+    why.name()
+}
+
+fn push_number(text: &mut LineWords, number: u64)
+    requires { array_string_len text.old ≤ 88 }
+    ensures number { text.new.bytes ≡ text.old.bytes ++ decimal number }
+    ensures short { array_string_len text.new ≤ array_string_len text.old + 40 }
 {
     let mut buffer = Buffer::new();
-    text.push_str(buffer.format(number))
+    text.push_str(buffer.format(number));
 }

@@ -6,28 +6,46 @@ ghost use Rattle.pk_commands.specs.Comparisons.{compared_status};
 use crate::convert::end_named;
 use crate::finish;
 use crate::pair::Pair;
+use pk_commands::closing::finish_pair;
 use pk_commands::compare::answer_pair;
 use pk_commands::comparison::{Compared, PairNames};
 use pk_commands::file_system::FileSystem;
 use pk_commands::files::Came;
+use pk_commands::flush::ToFlush;
+use pk_commands::lines::NamedLine;
 use pk_commands::opener::Opener;
 use pk_commands::outcome::Outcome;
 use std::alloc::Global;
 use std::io::BufReader;
 use std::process::ExitCode;
 use tlv_core::source::{FromRead, Source};
+use tlv_core::target::ToWrite;
+
+/// The names of two documents, and the memory for a line that begins with either.
+#[derive(Drop)]
+struct BothNamed {
+    first: NamedLine,
+    second: NamedLine,
+}
 
 /// Says what two documents are to each other, of which one may be standard input.
 pub fn compare(rt: &HostRuntime, alloc: Global, pair: &Pair<'_>) -> ExitCode {
+    let Ok(first) = NamedLine::new(alloc, pair.first.as_bytes()) else {
+        return finish(rt, &Outcome::Memory);
+    };
+    let Ok(second) = NamedLine::new(alloc, pair.second.as_bytes()) else {
+        return finish(rt, &Outcome::Memory);
+    };
+    let named = BothNamed { first, second };
     if pair.first == "-" {
         let Ok(input) = BufReader::new(alloc, rt.stdin()) else {
             return finish(rt, &Outcome::Memory);
         };
-        return compare_with(rt, alloc, pair, &mut FromRead::new(input));
+        return compare_with(rt, alloc, pair, named, &mut FromRead::new(input));
     }
     match FileSystem::new(rt).open(alloc, pair.first.as_bytes()) {
-        Ok(mut first) => compare_with(rt, alloc, pair, &mut first),
-        Err(why) => end_named(rt, alloc, pair.first, &Came::Unopened(why)),
+        Ok(mut first) => compare_with(rt, alloc, pair, named, &mut first),
+        Err(why) => end_named(rt, named.first, &Came::Unopened(why)),
     }
 }
 
@@ -36,6 +54,7 @@ fn compare_with<R: Source>(
     rt: &HostRuntime,
     alloc: Global,
     pair: &Pair<'_>,
+    named: BothNamed,
     first: &mut R,
 ) -> ExitCode
     requires { R.has_failed first.old ≡ false }
@@ -44,11 +63,11 @@ fn compare_with<R: Source>(
         let Ok(input) = BufReader::new(alloc, rt.stdin()) else {
             return finish(rt, &Outcome::Memory);
         };
-        return compare_both(rt, alloc, pair, first, &mut FromRead::new(input));
+        return compare_both(rt, alloc, pair, named, first, &mut FromRead::new(input));
     }
     match FileSystem::new(rt).open(alloc, pair.second.as_bytes()) {
-        Ok(mut second) => compare_both(rt, alloc, pair, first, &mut second),
-        Err(why) => end_named(rt, alloc, pair.second, &Came::Unopened(why)),
+        Ok(mut second) => compare_both(rt, alloc, pair, named, first, &mut second),
+        Err(why) => end_named(rt, named.second, &Came::Unopened(why)),
     }
 }
 
@@ -57,6 +76,7 @@ fn compare_both<R: Source, S: Source>(
     rt: &HostRuntime,
     alloc: Global,
     pair: &Pair<'_>,
+    named: BothNamed,
     first: &mut R,
     second: &mut S,
 ) -> ExitCode
@@ -67,30 +87,15 @@ fn compare_both<R: Source, S: Source>(
         first: pair.first.as_bytes(),
         second: pair.second.as_bytes(),
     };
-    let (compared, _stdout) = answer_pair(
-        alloc,
-        first,
-        second,
-        rt.stdout(),
-        &pair.comparison,
-        names,
-    );
-    end_pair(rt, alloc, pair, &compared)
+    let mut dst = ToFlush::new(rt.stdout());
+    let compared = answer_pair(alloc, first, second, &mut dst, &pair.comparison, names);
+    end_pair(rt, named, &compared)
 }
 
 /// Prints why nothing is told of two documents, and answers the status.
-fn end_pair(rt: &HostRuntime, alloc: Global, pair: &Pair<'_>, compared: &Compared) -> ExitCode
+fn end_pair(rt: &HostRuntime, named: BothNamed, compared: &Compared) -> ExitCode
     ensures { exit_status result ≡ compared_status compared.now }
 {
-    match compared {
-        Compared::Told(status) => ExitCode::from(*status),
-        Compared::FirstFailed(at) => {
-            end_named(rt, alloc, pair.first, &Came::Ran(Outcome::ReadFailed(*at)))
-        }
-        Compared::SecondFailed(at) => {
-            end_named(rt, alloc, pair.second, &Came::Ran(Outcome::ReadFailed(*at)))
-        }
-        Compared::WriteFailed(after) => finish(rt, &Outcome::WriteFailed(*after)),
-        Compared::Memory => finish(rt, &Outcome::Memory),
-    }
+    let mut stderr = ToWrite::new(rt.stderr());
+    ExitCode::from(finish_pair(named.first, named.second, compared, &mut stderr))
 }

@@ -4,16 +4,19 @@ ghost use Rattle.std.specs.Process.{exit_status};
 ghost use Rattle.pk_commands.specs.Files.{status_of_came};
 
 use crate::line::Order;
-use crate::new_file::{NewFile, Unmade};
+use crate::new_file::FilesBeside;
 use crate::{complain, finish};
 use asn_documents::value::write_octets;
+use pk_commands::closing::finish_named;
 use pk_commands::file_system::FileSystem;
-use pk_commands::files::{Came, came_status};
+use pk_commands::files::Came;
+use pk_commands::flush::ToFlush;
+use pk_commands::lines::NamedLine;
 use pk_commands::name::told_name;
+use pk_commands::new_file::{Unmade, make_file};
 use pk_commands::opener::Opener;
 use pk_commands::outcome::Outcome;
-use pk_commands::streams::{answer, write_named_line};
-use pk_commands::task::Task;
+use pk_commands::streams::answer;
 use std::alloc::{AllocError, Global};
 use std::io::{BufReader, ErrorKind};
 use std::process::ExitCode;
@@ -35,9 +38,12 @@ pub fn convert(rt: &HostRuntime, alloc: Global, order: &Order<'_>) -> ExitCode {
 
 /// The same of a file.
 fn convert_file(rt: &HostRuntime, alloc: Global, order: &Order<'_>, name: &str) -> ExitCode {
+    let Ok(named) = NamedLine::new(alloc, name.as_bytes()) else {
+        return finish(rt, &Outcome::Memory);
+    };
     match FileSystem::new(rt).open(alloc, name.as_bytes()) {
-        Ok(mut src) => convert_from(rt, alloc, order, &mut src, Some(name)),
-        Err(why) => end_named(rt, alloc, name, &Came::Unopened(why)),
+        Ok(mut src) => convert_from(rt, alloc, order, &mut src, Some(named)),
+        Err(why) => end_named(rt, named, &Came::Unopened(why)),
     }
 }
 
@@ -47,56 +53,33 @@ fn convert_from<R: Source>(
     alloc: Global,
     order: &Order<'_>,
     src: &mut R,
-    name: Option<&str>,
+    name: Option<NamedLine>,
 ) -> ExitCode
     requires { R.has_failed src.old ≡ false }
 {
     let outcome = match order.to {
-        Some(to) if to != "-" => match make_file(rt, alloc, src, to, &order.task) {
-            Ok(outcome) => outcome,
+        Some(to) if to != "-" => match make_file(
+            alloc,
+            src,
+            &FilesBeside::new(rt, to),
+            &order.task,
+        ) {
+            Ok((outcome, _file)) => outcome,
             Err(why) => return end_unmade(rt, alloc, to, why),
         },
-        _ => answer(alloc, src, rt.stdout(), &order.task).0,
+        _ => answer(alloc, src, &mut ToFlush::new(rt.stdout()), &order.task),
     };
     match name {
-        Some(name) => end_named(rt, alloc, name, &Came::Ran(outcome)),
+        Some(named) => end_named(rt, named, &Came::Ran(outcome)),
         None => finish(rt, &outcome),
     }
 }
 
-/// Writes what the task makes of a source into a new file, which takes its place once it is whole.
-fn make_file<R: Source>(
-    rt: &HostRuntime,
-    alloc: Global,
-    src: &mut R,
-    to: &str,
-    task: &Task,
-) -> Result<Outcome, Unmade>
-    requires { R.has_failed src.old ≡ false }
-{
-    let new = NewFile::beside(rt, to, task.kind.has_plain_keys())?;
-    let writer = match new.writer() {
-        Ok(writer) => writer,
-        Err(error) => {
-            new.remove(rt);
-            return Err(Unmade::Refused(error));
-        }
-    };
-    let (outcome, _writer) = answer(alloc, src, writer, task);
-    match outcome {
-        Outcome::Done => new.place(rt)?,
-        _ => new.remove(rt),
-    }
-    Ok(outcome)
-}
-
 /// Prints what came of a document, behind its name, and answers the status.
-pub fn end_named(rt: &HostRuntime, alloc: Global, name: &str, came: &Came) -> ExitCode
+pub fn end_named(rt: &HostRuntime, named: NamedLine, came: &Came) -> ExitCode
     ensures { exit_status result ≡ status_of_came came.now }
 {
-    let mut stderr = ToWrite::new(rt.stderr());
-    write_named_line(alloc, name.as_bytes(), came, &mut stderr);
-    ExitCode::from(came_status(came))
+    ExitCode::from(finish_named(named, came, &mut ToWrite::new(rt.stderr())))
 }
 
 /// Prints why a file isn't made, and answers the status.

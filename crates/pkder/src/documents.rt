@@ -2,13 +2,16 @@
 
 use crate::line::Order;
 use crate::serve;
+use pk_commands::closing::{finish, finish_files, finish_named};
 use pk_commands::ended_names::EndedNames;
 use pk_commands::file_system::FileSystem;
-use pk_commands::files::{Came, FilesEnd, files_status};
+use pk_commands::files::{Came, FilesEnd};
+use pk_commands::flush::ToFlush;
+use pk_commands::lines::NamedLine;
 use pk_commands::names::Words;
 use pk_commands::opener::Opener;
-use pk_commands::outcome::{Outcome, status};
-use pk_commands::streams::{answer_files, write_files_line, write_line, write_named_line};
+use pk_commands::outcome::Outcome;
+use pk_commands::streams::answer_files;
 use pk_commands::task::Task;
 use std::alloc::Global;
 use std::io::BufReader;
@@ -58,53 +61,64 @@ fn judge_each(rt: &HostRuntime, alloc: Global, task: &Task, names: &[&str]) -> O
 /// Says what the task has to say of the document on standard input.
 fn judge_input(rt: &HostRuntime, alloc: Global, task: &Task) -> Option<u8> {
     let outcome = serve(rt, alloc, task);
-    let mut stderr = ToWrite::new(rt.stderr());
-    write_line(alloc, &outcome, &mut stderr);
+    let status = finish(&outcome, &mut ToWrite::new(rt.stderr()));
     match outcome {
         Outcome::WriteFailed(_) => None,
-        _ => Some(status(&outcome)),
+        _ => Some(status),
     }
 }
 
 /// Says what the task has to say of the documents of these names.
 fn judge_named(rt: &HostRuntime, alloc: Global, task: &Task, names: &[&str]) -> Option<u8> {
+    let Ok(no_list) = NamedLine::new(alloc, &[]) else {
+        return unnamed(rt);
+    };
     let opener = FileSystem::new(rt);
     let mut names = Words::new(names);
-    let (end, _stdout) = answer_files(alloc, &mut names, &opener, rt.stdout(), task);
-    ended(rt, alloc, "", &end)
+    let mut dst = ToFlush::new(rt.stdout());
+    let end = answer_files(alloc, &mut names, &opener, &mut dst, task);
+    ended(rt, no_list, &end)
 }
 
 /// Says what the task has to say of the documents whose names a file has, or standard input.
 fn judge_list(rt: &HostRuntime, alloc: Global, task: &Task, list: &str) -> Option<u8> {
+    let Ok(named) = NamedLine::new(alloc, list.as_bytes()) else {
+        return unnamed(rt);
+    };
     let opener = FileSystem::new(rt);
+    let mut dst = ToFlush::new(rt.stdout());
     if list == "-" {
         let Ok(input) = BufReader::new(alloc, rt.stdin()) else {
-            return ended(rt, alloc, list, &FilesEnd::Memory);
+            return ended(rt, named, &FilesEnd::Memory);
         };
         let mut names = EndedNames::new(FromRead::new(input));
-        let (end, _stdout) = answer_files(alloc, &mut names, &opener, rt.stdout(), task);
-        return ended(rt, alloc, list, &end);
+        let end = answer_files(alloc, &mut names, &opener, &mut dst, task);
+        return ended(rt, named, &end);
     }
     match opener.open(alloc, list.as_bytes()) {
         Ok(src) => {
             let mut names = EndedNames::new(src);
-            let (end, _stdout) = answer_files(alloc, &mut names, &opener, rt.stdout(), task);
-            ended(rt, alloc, list, &end)
+            let end = answer_files(alloc, &mut names, &opener, &mut dst, task);
+            ended(rt, named, &end)
         }
         Err(why) => {
-            let mut stderr = ToWrite::new(rt.stderr());
-            write_named_line(alloc, list.as_bytes(), &Came::Unopened(why), &mut stderr);
+            finish_named(named, &Came::Unopened(why), &mut ToWrite::new(rt.stderr()));
             None
         }
     }
 }
 
+/// Prints that there is no memory for a name.
+fn unnamed(rt: &HostRuntime) -> Option<u8> {
+    finish(&Outcome::Memory, &mut ToWrite::new(rt.stderr()));
+    None
+}
+
 /// Prints why the run over the names of a list ended before the last one, or answers the greatest status.
-fn ended(rt: &HostRuntime, alloc: Global, list: &str, end: &FilesEnd) -> Option<u8> {
-    let mut stderr = ToWrite::new(rt.stderr());
-    write_files_line(alloc, end, list.as_bytes(), &mut stderr);
+fn ended(rt: &HostRuntime, list: NamedLine, end: &FilesEnd) -> Option<u8> {
+    let status = finish_files(list, end, &mut ToWrite::new(rt.stderr()));
     match end {
-        FilesEnd::Through(_) => Some(files_status(end)),
+        FilesEnd::Through(_) => Some(status),
         _ => None,
     }
 }

@@ -22,13 +22,14 @@ mod pair;
 mod refusal;
 mod terminal;
 
-use asn_documents::value::write_octets;
 use compare::compare;
 use convert::convert;
 use documents::judge;
 use line::{Asked, LineFault, Order, asked_of};
-use pk_commands::outcome::{Outcome, status};
-use pk_commands::streams::{answer, tell, write_line};
+use pk_commands::closing;
+use pk_commands::flush::ToFlush;
+use pk_commands::outcome::Outcome;
+use pk_commands::streams::{answer, tell};
 use pk_commands::task::{Action, Task};
 use pk_documents::document::{Document, Valued};
 use std::alloc::Global;
@@ -71,7 +72,7 @@ fn main(rt: HostRuntime) -> ExitCode {
         Ok(Asked::Each(order)) => perform(&rt, alloc, &order),
         Ok(Asked::Both(pair)) => compare(&rt, alloc, &pair),
         Err(LineFault::Line(text)) => complain(&rt, text.as_str()),
-        Err(LineFault::Help(text)) => finish(&rt, &tell(text.as_str(), rt.stdout()).0),
+        Err(LineFault::Help(text)) => show_help(&rt, text.as_str()),
         Err(LineFault::Memory) => finish(&rt, &Outcome::Memory),
     }
 }
@@ -100,24 +101,26 @@ fn serve(rt: &HostRuntime, alloc: Global, task: &Task) -> Outcome
         return Outcome::Memory;
     };
     let mut src = FromRead::new(input);
-    let (outcome, _stdout) = answer(alloc, &mut src, rt.stdout(), task);
-    outcome
+    let mut dst = ToFlush::new(rt.stdout());
+    answer(alloc, &mut src, &mut dst, task)
+}
+
+/// Writes the text of help.
+fn show_help(rt: &HostRuntime, text: &str) -> ExitCode {
+    let mut dst = ToFlush::new(rt.stdout());
+    finish(rt, &tell(text, &mut dst))
 }
 
 /// Prints the line of the outcome, and answers its status.
 fn finish(rt: &HostRuntime, outcome: &Outcome) -> ExitCode
     ensures { exit_status result ≡ status_of outcome.now }
 {
-    let mut stderr = ToWrite::new(rt.stderr());
-    write_line(rt.alloc(), outcome, &mut stderr);
-    ExitCode::from(status(outcome))
+    ExitCode::from(closing::finish(outcome, &mut ToWrite::new(rt.stderr())))
 }
 
 /// Prints why the line is refused, and answers the status of such a line.
 fn complain(rt: &HostRuntime, text: &str) -> ExitCode
     ensures { exit_status result ≡ 4 }
 {
-    let mut stderr = ToWrite::new(rt.stderr());
-    let _ = write_octets(text.as_bytes(), &mut stderr);
-    ExitCode::from(4)
+    ExitCode::from(closing::complain(text, &mut ToWrite::new(rt.stderr())))
 }

@@ -1,5 +1,7 @@
 //! The file of `--to`, which is written whole beside its place and then moved there, or not made at all.
 
+use pk_commands::flush::ToFlush;
+use pk_commands::new_file::{NewFile, NewFiles, Unmade};
 use std::fs::{self, File, Metadata, OpenOptions, Permissions};
 use std::io::{self, ErrorKind};
 use std::os::unix::fs::{MetadataExt, OpenOptionsExt, PermissionsExt, fchown};
@@ -16,55 +18,60 @@ const ACCESS: u32 = 0o777;
 
 const ACCESS_WITHOUT_GROUP: u32 = 0o707;
 
-/// Why a file isn't made.
-#[derive(Drop)]
-pub enum Unmade {
-    /// What has its name is no regular file.
-    Irregular,
-    /// The system refuses it.
-    Refused(io::Error),
+/// Makes files beside the place that a name leads to.
+#[derive(Clone, Copy)]
+pub struct FilesBeside<'a> {
+    rt: &'a HostRuntime,
+    name: &'a str,
 }
 
-impl From<io::Error> for Unmade {
-    fn from(error: io::Error) -> Unmade {
-        Unmade::Refused(error)
+impl<'a> FilesBeside<'a> {
+    pub fn new(rt: &'a HostRuntime, name: &'a str) -> FilesBeside<'a> {
+        FilesBeside { rt, name }
     }
 }
 
 /// A file beside the place that it is to have.
 #[derive(Drop)]
-pub struct NewFile {
+pub struct FileBeside<'a> {
+    rt: &'a HostRuntime,
     file: File,
     path: String,
     place: PathBuf,
     /// What has that place now.
     replaced: Option<Metadata>,
+    private: bool,
+    placed: bool,
 }
 
-impl NewFile {
-    /// Makes an empty file beside the place that a name leads to; one that is private may be read by its owner alone.
-    pub fn beside(rt: &HostRuntime, name: &str, is_private: bool) -> Result<NewFile, Unmade> {
-        let place = followed(rt, name)?;
-        let replaced = regular(rt, place.as_str())?;
+impl<'a> NewFiles for FilesBeside<'a> {
+    type File = FileBeside<'a>;
+
+    fn make(&self, is_private: bool) -> Result<FileBeside<'a>, Unmade> {
+        let place = followed(self.rt, self.name)?;
+        let replaced = regular(self.rt, place.as_str())?;
         let mode = if is_private || replaced.is_some() {
             0o600
         } else {
             0o666
         };
         for number in 0..TRIES {
-            let path = beside(rt, place.as_str(), number)?;
+            let path = beside(self.rt, place.as_str(), number)?;
             match OpenOptions::new()
                 .write(true)
                 .create_new(true)
                 .mode(mode)
-                .open(rt, path.as_str())
+                .open(self.rt, path.as_str())
             {
                 Ok(file) => {
-                    return Ok(NewFile {
+                    return Ok(FileBeside {
+                        rt: self.rt,
                         file,
                         path,
                         place,
                         replaced,
+                        private: is_private,
+                        placed: false,
                     });
                 }
                 Err(error) if error.kind() == ErrorKind::AlreadyExists => {}
@@ -73,14 +80,23 @@ impl NewFile {
         }
         Err(Unmade::Refused(io::Error::from(ErrorKind::AlreadyExists)))
     }
+}
 
-    /// Another handle of it, to write by.
-    pub fn writer(&self) -> io::Result<File> {
-        self.file.try_clone()
+impl NewFile for FileBeside<'_> {
+    ghost use Rattle.pkder.specs.NewFiles.{has_place, is_for_owner};
+
+    type Writer = ToFlush<File>;
+
+    ghost is_private = { λ file. is_for_owner file };
+
+    ghost is_placed = { λ file. has_place file };
+
+    fn writer(&self) -> Result<ToFlush<File>, Unmade> {
+        Ok(ToFlush::new(self.file.try_clone()?))
     }
 
-    /// Moves it to its place, with the mode and the owner of what it replaces where that is allowed; or removes it.
-    pub fn place(self, rt: &HostRuntime) -> io::Result<()> {
+    // With the mode and the owner of what it replaces where that is allowed.
+    fn place(&mut self) -> Result<(), Unmade> {
         if let Some(old) = &self.replaced {
             // (only root sets the owner, and a member of the group may still set that; where it isn't kept, the group that
             // the file has gets no rights of another one)
@@ -93,23 +109,27 @@ impl NewFile {
                 .file
                 .set_permissions(Permissions::from_mode(old.mode() & access));
         }
-        let placed = self.moved(rt);
-        if placed.is_err() {
-            self.remove(rt);
+        match moved(self.rt, &self.file, self.path.as_str(), self.place.as_str()) {
+            Ok(()) => {
+                self.placed = true;
+                Ok(())
+            }
+            Err(error) => {
+                self.remove();
+                Err(Unmade::Refused(error))
+            }
         }
-        placed
     }
 
-    /// Moves it to its place once all of it is on the disk.
-    fn moved(&self, rt: &HostRuntime) -> io::Result<()> {
-        self.file.sync_all()?;
-        fs::rename(rt, self.path.as_str(), self.place.as_str())
+    fn remove(&mut self) {
+        let _ = fs::remove_file(self.rt, self.path.as_str());
     }
+}
 
-    /// Removes it.
-    pub fn remove(self, rt: &HostRuntime) {
-        let _ = fs::remove_file(rt, self.path.as_str());
-    }
+/// Moves a file to its place once all of it is on the disk.
+fn moved(rt: &HostRuntime, file: &File, path: &str, place: &str) -> io::Result<()> {
+    file.sync_all()?;
+    fs::rename(rt, path, place)
 }
 
 /// The name of a file beside this one.

@@ -1,6 +1,7 @@
 use Rattle.std.proofs.Common.{[], arith, inl, inr, refl}
 use Rattle.std.proofs.KnownBytes.{Appends-nil}
 use Rattle.pk_documents.proofs.DocumentValues.{valued}
+use Rattle.pk_commands.specs.Files.{IsLeft}
 use Rattle.pk_commands.specs.declared.names.NamesFault.TheVariants.{TooMany}
 use Rattle.pk_commands.proofs.Entries.{begins, no_name}
 use Rattle.pk_commands.proofs.NameLists.{no_names}
@@ -15,7 +16,8 @@ loop-init g c =
       went = (
         [],
         refl,
-        begins valued (g.O.Opener.told c.args.opener.now) (g.O.Opener.refuses c.args.opener.now) c.args.task.now
+        begins valued (g.O.Opener.told c.args.opener.now) (g.O.Opener.refuses c.args.opener.now)
+            (IsLeft g.O.Document.Source.has_failed g.O.Document.Source.remaining) c.args.task.now
             list contents (no_names list) (Appends-nil contents),
       );
       live = c.requires.writable;
@@ -43,7 +45,8 @@ pub returns-clause-told : goal.returns-clause-told
 returns-clause-told g c =
     let went = c.loop.invariant.went in
     let stops = HasStopped g.N.Names.left g.N.Names.stops c.loop.names in
-    no_name valued (g.O.Opener.told c.args.opener.now) (g.O.Opener.refuses c.args.opener.now) c.args.task.now
+    no_name valued (g.O.Opener.told c.args.opener.now) (g.O.Opener.refuses c.args.opener.now)
+    (IsLeft g.O.Document.Source.has_failed g.O.Document.Source.remaining) c.args.task.now
     (g.N.Names.left c.args.names.now) (g.N.Names.left c.loop.names) stops
     (g.W.Target.contents c.args.dst.now) (g.W.Target.contents c.loop.dst)
     c.loop.progress.status c.loop.progress.out went.0 went.2 TooMany (inr (refl, inl (omega (arith, went.1))))

@@ -12,7 +12,7 @@ use Rattle.pk_commands.proofs.run.write_shown.Goals as goal
 pub returns-in-Some-clause-replied : goal.returns-in-Some-clause-replied
 returns-in-Some-clause-replied g c =
     λ limits kind octets is. subst (IsAnswer limits (type_of kind) octets)
-    (sym is.made_of.answer ∙ c.in-Some.ensures) is.is_part.answer
+    (sym is.made_of.answer ∙ c.in-Some.ensures) is.is_told.answer
 
 pub returns-in-None-clause-replied : goal.returns-in-None-clause-replied
 returns-in-None-clause-replied g c =
