@@ -15,7 +15,7 @@
  *   - src points to src_len octets, and dst to dst_len octets, whatever is in them; with a length of 0 goes any
  *     pointer, NULL too; what is said of src holds of first and of second, too, which may be the same octets;
  *   - until the call returns nothing else writes the octets of src, nor reads or writes those of dst;
- *   - src and dst don't overlap: no document is normalised in place;
+ *   - src and dst don't overlap: no document is normalised in place; what a call does to two that overlap is undefined;
  *   - a length is that of one object, so at most PTRDIFF_MAX;
  *   - the stack of the thread has PKDER_STACK octets left;
  *   - malloc, realloc and free belong to one allocator, which aligns as C asks; a program that replaces one replaces
@@ -25,13 +25,13 @@
  *
  * Promised, of each call:
  *   - it returns, and what it returns says what it did: there is no number that a caller may not pass, and an outcome
- *     is a value, so that nothing has to be freed or closed;
- *   - the same octets, kind and limits have the same answer each time, PKDER_NO_MEMORY apart.
+ *     is a value, so that nothing has to be freed or closed.
  *
  * So it is too, of each call, by the language that pkder is written in, which has no pointer past its object and no
  * variable that outlives a call, and frees what goes out of use. No contract says it, and the tests look at it:
  *   - it reads the octets of src and writes those of dst and no others, beside memory of its own, all of which it frees
  *     before it returns;
+ *   - the same octets, kind and limits have the same answer each time, PKDER_NO_MEMORY apart;
  *   - it keeps nothing from call to call, so that calls need no beginning or end, and any number of threads may call at
  *     once: no call has anything in common with another but the allocator;
  *   - it prints nothing, opens nothing and ends no process, and it never asks which locale is set.
@@ -174,7 +174,7 @@ pkder_outcome pkder_normalise(uint32_t kind, uint32_t depth, uint64_t octets, co
 
 /* Room that is always enough for the DER text of a document of n octets. Promised: see `size` above. No more than the
  * limit of octets is needed, either, however great n is. */
-#define PKDER_ROOM(n) (2 * (n))
+#define PKDER_ROOM(n) (2 * (size_t)(n))
 
 /* Whether the octets of src are a document in DER. Nothing is written.
  *
@@ -220,8 +220,10 @@ pkder_outcome pkder_show(uint32_t kind, uint32_t depth, uint64_t octets, const u
 
 /* Writes the report of the octets of src where dst begins: what pkder_check answers, as the program's line, the
  * elements with their places, names and sizes, and of octets that are no document which field is at fault, what is due
- * there, what stands there, the usual cause and what to do. As text it is printable ASCII, as JSON UTF-8; each line ends
- * in a line feed. No octet 0 stands behind them. Octets of private keys and values of attributes aren't in it.
+ * there, the class of what stands there, the usual cause and what to do. As text it is printable ASCII, as JSON UTF-8;
+ * each line ends in a line feed. No octet 0 stands behind them. Octets of private keys and values of attributes aren't
+ * in it: of octets that are no document it tells the first elements, as far as they are usual, and what docs/formats.md
+ * lists beside them ("What a report tells").
  *
  * Promised, by status:
  *   PKDER_REPORTED: the first `size` octets of dst are the report of the octets in this form (docs/proved.md says what
@@ -237,10 +239,10 @@ pkder_outcome pkder_explain(uint32_t kind, uint32_t depth, uint64_t octets, uint
                             size_t src_len, uint8_t *dst, size_t dst_len);
 
 /* Writes the field that the report of the octets of src is about, where dst begins: of octets that are no document the
- * one that is refused, or in which something is missing; of a document that isn't in DER the first one that isn't; of a
- * document in DER nothing. It is the path that stands behind `field` in the report, as
- * "certificationRequestInfo.subject[1][0].value", and of the outermost element the name of its type, in printable ASCII.
- * No line feed and no octet 0 stands behind it.
+ * one that is refused, or in which something is missing; of a document that isn't in DER the first one that isn't, of
+ * those that are told; of a document in DER nothing. It is the path that stands behind `field` in the report, as
+ * "certificationRequestInfo.subject[1][0].value", and of the outermost element, or where none is told, the name of the
+ * document's type, in printable ASCII. No line feed and no octet 0 stands behind it.
  *
  * Promised: as of pkder_explain, but that what is written is this path, so that `size` is 0 of a document in DER; and
  * that PKDER_BAD_CALL comes exactly where no kind has that number or the limits are out of range. */

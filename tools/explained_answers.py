@@ -5,11 +5,13 @@ Of each file of examples/ as each kind, and of each document of the tables in te
 that of `check` and of tools/independent_reader.py; its first line has the kind and the number of octets, as far as they
 are read; its second line is the line of `check`, word for word; a field is told of each document that is refused; and
 nothing is on standard error. Under --json the same stands in one line, with the same status, kind, number of octets,
-places and reasons. The last line is 'explained_answers: N passed, M failed'."""
+places and reasons; elements that aren't in DER are told of each document that isn't, but of one that has private values
+of attributes, of which none is. The last line is 'explained_answers: N passed, M failed'."""
 import re
 import sys
 
 from explained import answer, documents, objects_in, try_all
+from independent_types import TYPES, Walk
 
 LINE = re.compile(r"fault at (\d+): (\w+)(?: inside at (\d+): (\w+))?")
 FIELD = re.compile(r"^field +(\S.*)$", re.M)
@@ -50,6 +52,14 @@ def due_in_object(document, status, line):
     return due | {"at": at, "reason": None, "inside": None}
 
 
+def has_private_values(document):
+    """Whether an accepted document has values of attributes that are private."""
+    walk, is_any = Walk(document.octets, TYPES[document.kind], document.depth, document.limit), False
+    while element := walk.next():
+        is_any = is_any or element.is_private and ".values[" in element.path
+    return is_any
+
+
 def wrong_in_object(found, document, status, line, text):
     """What is wrong with the report as JSON."""
     for key, due in due_in_object(document, status, line).items():
@@ -63,7 +73,7 @@ def wrong_in_object(found, document, status, line, text):
             yield f"its field is {found.get('field')!r}, and the text's {shown and shown[1]!r}"
         if not 0 <= found.get("file_at", 0) <= len(document.octets):
             yield f"file_at is {found['file_at']}"
-    elif (status == 1) != bool(found.get("not_der")):
+    elif (status == 1) != bool(found.get("not_der")) and (status == 0 or not has_private_values(document)):
         yield f"not_der is {found.get('not_der')!r}"
 
 

@@ -10,10 +10,11 @@ to stand there each, in small or capital letters:
   due, found, likely, do   words that stand behind this label
   note       the same; there are as many notes as such lines
   any        words that stand behind some label
+  untold     words that stand nowhere in the text
   number     a key of the JSON, and its number
+  without    keys that the JSON hasn't, nor that of `check`
   looks      what `looks_like` is in the JSON
   lists      the places of the lines that --all lists, each with its header in hexadecimal if that is told
-  maybe      lines that may stand there too, at the place of the fault
   marked     the place of a line with carets under it
 What is listed without --all is of these lines: at most the first 4, those round the fault, and the last 7, or the ways
 to the elements that aren't in DER. The last line is 'explained_reports: N passed, M failed'."""
@@ -104,15 +105,17 @@ def wrong_in_words(block, report):
     everything = " ".join(report.said.values()) + "\n".join(report.listing)
     for due in block.get("any", []):
         yield from (f"{it!r} isn't said" for it in missing_words(due, everything))
+    for untold in block.get("untold", []):
+        if untold.lower() in everything.lower():
+            yield f"{untold!r} is said"
 
 
 def wrong_in_lines(block, report, whole):
     """What is wrong with what is listed, without and with --all."""
     lines, marked = whole.lines(), [int(it) for it in block.get("marked", [])]
     if "lists" in block:
-        due, maybe = due_lines(block["lists"]), due_lines(block.get("maybe", []))
-        required = [it for it in lines if it not in maybe or it in due]
-        if required != due:
+        due = due_lines(block["lists"])
+        if lines != due:
             differ = [it for it in due if it not in lines], [it for it in lines if it not in due]
             yield f"lines: missing {differ[0]}, more {differ[1]}"
     for it in (report, whole):
@@ -138,9 +141,16 @@ def wrong_in_object(block, found, report):
     for due in block.get("looks", []):
         if found.get("looks_like") != due:
             yield f"looks_like: {found.get('looks_like')!r}, and not {due!r}"
+    yield from wrong_keys(block, found)
     for label in LABELS[1:] if report.line.startswith("fault") else []:
         if found.get(label, "") != report.said.get(label, ""):
             yield f"{label}: {found.get(label)!r} in JSON, {report.said.get(label)!r} in the text"
+
+
+def wrong_keys(block, found):
+    """The keys that a JSON has and shouldn't have."""
+    for text in block.get("without", []):
+        yield from (f"{it}: {found[it]!r}" for it in map(str.strip, text.split("|")) if it in found)
 
 
 def wrong(program, block):
@@ -155,6 +165,10 @@ def wrong(program, block):
     yield from wrong_in_words(block, report)
     yield from wrong_in_lines(block, report, whole)
     yield from wrong_in_object(block, objects_in(answer(program, [*words, "--json"], octets)[1]), report)
+    output = answer(program, ["check", "--json", "--kind", kind], octets)[1]
+    # (callers of the library have `check` without reports, and its rows are of the program alone)
+    if output.startswith(b"{"):
+        yield from (f"check --json: {it}" for it in wrong_keys(block, objects_in(output)))
 
 
 def said_of(program, block):

@@ -74,9 +74,9 @@ def table():
 
 
 @functools.cache
-def known_contents():
-    """The contents octets that have a name."""
-    return {contents_of(row[1]) for row in table()[1]}
+def names_by_contents():
+    """The name of the contents octets that have one."""
+    return {contents_of(row[1]): row[0] for row in table()[1]}
 
 
 def main():

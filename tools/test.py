@@ -25,7 +25,7 @@ FIRST = ("logic", "records", "lint", "proofs")
 ROWS = ["python3", "tools/rows.py"]
 GROWTHS = ["python3", "tools/refused_growths.py"]
 TRANSCRIPTS = ["python3", "tools/transcripts.py", "README.md", "docs/manual.md"]
-EXPLAINED = ("answers", "fields", "places", "reports", "pairs")
+EXPLAINED = ("answers", "listing", "places", "reports")
 ALLOCATIONS = ["sh", "tools/refuse_each_allocation.sh"]
 # `rt ci` (every crate, a few edits by the toolchain's own means, each program's stored run), and the library
 PROOFS = ["python3", "tools/build.py", "--again"]
@@ -45,6 +45,11 @@ def builds(program):
         return [program, second]
     print(f"left out: there is no {second}, which the toolchain's second compiler makes", flush=True)
     return [program]
+
+
+def library_of(program):
+    """The library that was built with the program; of one from elsewhere none is known."""
+    return [it for it in build.MADE if ".so" in it and program == build.PROGRAM]
 
 
 def tables(name):
@@ -100,7 +105,11 @@ def parts(program=build.PROGRAM):
             ["python3", "tools/random_documents.py", *builds(program)],
             ["python3", "tools/hostile_families.py", *builds(program)],
         ],
-        "explained": lambda: [["python3", f"tools/explained_{it}.py", *builds(program)] for it in EXPLAINED],
+        "explained": lambda: [
+            *(["python3", f"tools/explained_{it}.py", *builds(program)] for it in EXPLAINED),
+            # (new pairs in each run; by hand PAIRS=10000000 JOBS=4 before each landing that touches reports)
+            ["python3", "tools/explained_pairs.py", *library_of(program), *builds(program)],
+        ],
         "growths": lambda: [[*GROWTHS, built("rows"), *tables("rows")]],
         # (what needs packagers' tools is tried by hand: tools/release.py --try)
         "release": lambda: [["python3", "tools/release_checks.py"]],

@@ -32,15 +32,10 @@ final class Documents {
         return Arrays.copyOf(key(), 20);
     }
 
-    /** A request that ends behind a subject of 400 names. */
+    /** A request with a subject of 400 names that ends behind the algorithm of its public key. */
     static byte[] cutRequest() {
-        byte[] start = Claims.octets("30827fff30827ff002010030821450");
-        byte[] name = Claims.octets("310b300906035504030c026161");
-        byte[] request = Arrays.copyOf(start, start.length + 400 * name.length);
-        for (int at = start.length; at < request.length; at += name.length) {
-            System.arraycopy(name, 0, request, at, name.length);
-        }
-        return request;
+        return Claims.octets("30827fff30827ff002010030821450"
+            + "310b300906035504030c026161".repeat(400) + "302a300506032b6570");
     }
 
     /** A public key in BER whose parameters are SETs of SETs, nested to this depth. */

@@ -17,6 +17,8 @@ PARTS = dict(zip(("info", "algorithm", "key", "signature"), pkder.Part))
 KEY = bytes.fromhex("302e020100300506032b657004220420") + bytes(range(32))
 # (its outer length has two octets)
 KEY_IN_BER = b"\x30\x81" + KEY[1:]
+# the first octets of a public key, with its algorithm
+ALGORITHM = bytes.fromhex("302a300506032b6570")
 
 
 def said(words, document):
@@ -187,8 +189,9 @@ class Reports(unittest.TestCase):
 
     def test_more_room_than_there_was_at_first(self):
         names = bytes.fromhex("31 0b 30 09 06 03 55 04 03 0c 02 61 61") * 400
-        # (the octets end behind the subject)
-        request = bytes.fromhex("30 82 7f ff 30 82 7f f0 02 01 00 30 82") + len(names).to_bytes(2, "big") + names
+        # (the octets end behind the algorithm of the public key, without which no subject is listed)
+        start = bytes.fromhex("30 82 7f ff 30 82 7f f0 02 01 00 30 82") + len(names).to_bytes(2, "big")
+        request = start + names + ALGORITHM
         report = pkder.explain(pkder.Kind.REQUEST, request, all=True, json=True)
         self.assertGreater(len(report.text), 2 * pkder._REPORT)
         self.assertEqual(json.loads(report.text)["verdict"], "refused")
@@ -196,10 +199,10 @@ class Reports(unittest.TestCase):
 
     def test_json_with_a_name_that_is_not_ascii(self):
         name = bytes.fromhex("31 0e 30 0c 06 03 55 04 03 0c 05") + "Zoë-".encode()
-        # (the octets end behind the subject)
-        request = bytes.fromhex("30 7f 30 7d 02 01 00 30") + bytes([len(name)]) + name
+        request = bytes.fromhex("30 7f 30 7d 02 01 00 30") + bytes([len(name)]) + name + ALGORITHM
         lines = json.loads(pkder.explain(pkder.Kind.REQUEST, request, all=True, json=True).text)["lines"]
-        self.assertEqual(lines[-1]["value"], {"characters": "Zoë-"})
+        values = [it["value"] for it in lines if it.get("name") == "value"]
+        self.assertEqual(values, [{"characters": "Zoë-"}])
 
     def test_the_field(self):
         self.assertEqual(pkder.field(pkder.Kind.KEY, KEY), "")
