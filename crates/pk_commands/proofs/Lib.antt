@@ -3,6 +3,7 @@ pub mod Comparisons
 pub mod Entries
 pub mod Escapes
 pub mod Inputs
+pub mod Judgements
 pub mod NameLists
 pub mod Replies
 pub mod ReplyLaws

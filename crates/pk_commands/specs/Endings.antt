@@ -11,7 +11,7 @@ use Rattle.pk_commands.specs.declared.comparison.Compared.TheVariants as compare
 use Rattle.pk_commands.specs.declared.names.NamesFault.{NamesFault}
 use Rattle.pk_commands.specs.declared.opener.Unopened.{Unopened as Why}
 use Rattle.pk_commands.specs.Outcomes.{line_of, words_of}
-use Rattle.pk_commands.specs.Replies.{Replied, written_outcome}
+use Rattle.pk_commands.specs.Replies.{FailedBy, IsSilent, Replied, written_outcome}
 use Rattle.pk_commands.specs.declared.files.FilesEnd.{FilesEnd}
 use Rattle.pk_commands.specs.declared.files.FilesEnd.TheVariants as ends
 use Rattle.pk_commands.specs.declared.task.Task.{Task}
@@ -62,15 +62,14 @@ Tells text old new end =
     × Keeps out new
     × EndsAs (written_outcome count Done) end
 
--- What the program answers to a task: it ends as a run of it does, or memory runs out before.
-abbrev pub ServedAs : (Document → Value) → Task → Outcome → Type 0
-ServedAs value_of task end =
-    (end ≡ Memory)
-    ⊎ ((before : Option (List ℕ))
-    × (after : Option (List ℕ))
-    × (old : Option (List ℕ))
-    × (new : Option (List ℕ))
-    × AnsweredAs value_of task end before after old new)
+-- What a task is answered over a source and a target: how it ends, what the source still tells and whether it has
+-- failed, what the target contains and whether it has failed, and whether it is flushed.
+pub record Served (value_of : Document → Value) (task : Task) (before after : Option (List ℕ)) (unread : Bool)
+    (end : Outcome) (old new : Option (List ℕ)) (unwritten flushed : Bool) : Type 0 where
+  pub answered : AnsweredAs value_of task end before after old new
+  pub silent : IsSilent end → new ≡ old
+  pub failed : FailedBy end unread unwritten
+  pub whole : IsWhole end → flushed ≡ true
 
 -- How a run over named documents ends whose target is flushed behind it: as it ended; or the target isn't flushed, and
 -- then how many octets are out isn't told.
@@ -88,7 +87,7 @@ AnsweredFiles value_of told refuses leaves task list stops old new last =
     × Keeps out new
     × FilesEndAs end last
 
--- All of a line is written; or the target has failed, and its first octets are out.
+-- All of a line is written; or the target has failed, and its first octets are out, or none where it had failed before.
 abbrev pub WritesLine : List ℕ → Option (List ℕ) → Option (List ℕ) → Bool → Type 0
 WritesLine line old new failed = (count : Result ℕ WriteError) × WritesText line old new failed count
 

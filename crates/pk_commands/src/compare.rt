@@ -127,8 +127,8 @@ fn answer(
         names.entry.first.now names.entry.second.now first.now second.now it.1
         (string_bytes it.0)) }
 {
-    let first_name = said_name(alloc, comparison.question, names.first)?;
-    let second_name = said_name(alloc, comparison.question, names.second)?;
+    let first_name = said_name(alloc, comparison.question, names.first.as_bytes())?;
+    let second_name = said_name(alloc, comparison.question, names.second.as_bytes())?;
     let names = DocumentNames {
         first: first_name.as_str(),
         second: second_name.as_str(),

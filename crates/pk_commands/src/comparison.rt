@@ -26,11 +26,11 @@ pub struct Comparison {
     pub limits: Limits,
 }
 
-/// What two documents are called, in any octets.
+/// What two documents are called.
 #[derive(Clone, Copy)]
 pub struct PairNames<'a> {
-    pub first: &'a [u8],
-    pub second: &'a [u8],
+    pub first: &'a str,
+    pub second: &'a str,
 }
 
 /// How comparing ends.

@@ -1,11 +1,8 @@
 -- What clauses see of a file beside its place.
-use Rattle.std.specs.Prelude.{Bool}
+use Rattle.std.specs.Prelude.{None, string_bytes}
+use Rattle.pk_commands.specs.MadeFiles.{Made}
 use Rattle.pkder.specs.declared.new_file.FileBeside.{FileBeside}
 
--- it was made for its owner alone
-abbrev pub is_for_owner : FileBeside → Bool
-is_for_owner file = file.private
-
--- it was moved to its place
-abbrev pub has_place : FileBeside → Bool
-has_place file = file.placed
+-- what is in a file of the system isn't told
+abbrev pub made_of : FileBeside → Made
+made_of file = record { name = string_bytes file.name; is_private = file.private; standing = file.standing; octets = None }

@@ -1,7 +1,7 @@
 //! The file of `--to`, which is written whole beside its place and then moved there, or not made at all.
 
 use pk_commands::flush::ToFlush;
-use pk_commands::new_file::{NewFile, NewFiles, Unmade};
+use pk_commands::new_file::{NewFile, NewFiles, Standing, Unmade};
 use std::fs::{self, File, Metadata, OpenOptions, Permissions};
 use std::io::{self, ErrorKind};
 use std::os::unix::fs::{MetadataExt, OpenOptionsExt, PermissionsExt, fchown};
@@ -18,16 +18,15 @@ const ACCESS: u32 = 0o777;
 
 const ACCESS_WITHOUT_GROUP: u32 = 0o707;
 
-/// Makes files beside the place that a name leads to.
-#[derive(Clone, Copy)]
+/// Makes files beside the places that names lead to.
+#[derive(Drop)]
 pub struct FilesBeside<'a> {
     rt: &'a HostRuntime,
-    name: &'a str,
 }
 
 impl<'a> FilesBeside<'a> {
-    pub fn new(rt: &'a HostRuntime, name: &'a str) -> FilesBeside<'a> {
-        FilesBeside { rt, name }
+    pub fn new(rt: &'a HostRuntime) -> FilesBeside<'a> {
+        FilesBeside { rt }
     }
 }
 
@@ -36,19 +35,25 @@ impl<'a> FilesBeside<'a> {
 pub struct FileBeside<'a> {
     rt: &'a HostRuntime,
     file: File,
+    /// Leads to its place.
+    name: String,
     path: String,
     place: PathBuf,
     /// What has that place now.
     replaced: Option<Metadata>,
     private: bool,
-    placed: bool,
+    standing: Standing,
 }
 
 impl<'a> NewFiles for FilesBeside<'a> {
     type File = FileBeside<'a>;
 
-    fn make(&self, is_private: bool) -> Result<FileBeside<'a>, Unmade> {
-        let place = followed(self.rt, self.name)?;
+    // (which files the system makes is its to say)
+    ghost refuses = { λ _ _ _. Unit {0} };
+
+    fn make(&self, name: &str, is_private: bool) -> Result<FileBeside<'a>, Unmade> {
+        let name = name.to_string(self.rt.alloc())?;
+        let place = followed(self.rt, name.as_str())?;
         let replaced = regular(self.rt, place.as_str())?;
         let mode = if is_private || replaced.is_some() {
             0o600
@@ -67,36 +72,35 @@ impl<'a> NewFiles for FilesBeside<'a> {
                     return Ok(FileBeside {
                         rt: self.rt,
                         file,
+                        name,
                         path,
                         place,
                         replaced,
                         private: is_private,
-                        placed: false,
+                        standing: Standing::Beside,
                     });
                 }
                 Err(error) if error.kind() == ErrorKind::AlreadyExists => {}
-                Err(error) => return Err(Unmade::Refused(error)),
+                Err(error) => return Err(Unmade::from(error)),
             }
         }
-        Err(Unmade::Refused(io::Error::from(ErrorKind::AlreadyExists)))
+        Err(Unmade::Other)
     }
 }
 
 impl NewFile for FileBeside<'_> {
-    ghost use Rattle.pkder.specs.NewFiles.{has_place, is_for_owner};
+    ghost use Rattle.pkder.specs.NewFiles.{made_of};
 
     type Writer = ToFlush<File>;
 
-    ghost is_private = { λ file. is_for_owner file };
-
-    ghost is_placed = { λ file. has_place file };
+    ghost made = { λ file. made_of file };
 
     fn writer(&self) -> Result<ToFlush<File>, Unmade> {
         Ok(ToFlush::new(self.file.try_clone()?))
     }
 
     // With the mode and the owner of what it replaces where that is allowed.
-    fn place(&mut self) -> Result<(), Unmade> {
+    fn place(&mut self, _written: ToFlush<File>) -> Result<(), Unmade> {
         if let Some(old) = &self.replaced {
             // (only root sets the owner, and a member of the group may still set that; where it isn't kept, the group that
             // the file has gets no rights of another one)
@@ -111,18 +115,19 @@ impl NewFile for FileBeside<'_> {
         }
         match moved(self.rt, &self.file, self.path.as_str(), self.place.as_str()) {
             Ok(()) => {
-                self.placed = true;
+                self.standing = Standing::InPlace;
                 Ok(())
             }
             Err(error) => {
                 self.remove();
-                Err(Unmade::Refused(error))
+                Err(Unmade::from(error))
             }
         }
     }
 
     fn remove(&mut self) {
         let _ = fs::remove_file(self.rt, self.path.as_str());
+        self.standing = Standing::Gone;
     }
 }
 
@@ -161,6 +166,6 @@ fn regular(rt: &HostRuntime, path: &str) -> Result<Option<Metadata>, Unmade> {
         Ok(found) if found.is_file() => Ok(Some(found)),
         Ok(_) => Err(Unmade::Irregular),
         Err(error) if error.kind() == ErrorKind::NotFound => Ok(None),
-        Err(error) => Err(Unmade::Refused(error)),
+        Err(error) => Err(Unmade::from(error)),
     }
 }

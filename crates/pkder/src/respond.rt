@@ -1,0 +1,186 @@
+//! What the program does with the words of its line.
+ghost use Rattle.std.specs.Prelude.{◌≡◌, ◌&&◌, false, is_none, map, string_bytes};
+ghost use Rattle.std.specs.Option.{option_map};
+ghost use Rattle.pk_commands.specs.Standards.{IsReadable, seen};
+ghost use Rattle.pkder.specs.Responses.{Does, Follows, Responds, SaysFault, first_name, is_binary};
+
+use crate::line::{Asked, LineFault, Order, asked_of};
+use crate::pair::Pair;
+use pk_commands::closing::{complain, finish};
+use pk_commands::comparison::PairNames;
+use pk_commands::convert::{Places, convert};
+use pk_commands::flush::Flush;
+use pk_commands::judge::judge;
+use pk_commands::new_file::NewFiles;
+use pk_commands::opener::Opener;
+use pk_commands::outcome::Outcome;
+use pk_commands::pair::compare_named;
+use pk_commands::standard::Standard;
+use pk_commands::streams::tell;
+use pk_commands::task::Action;
+use pk_documents::document::{Document, Valued};
+use std::alloc::Global;
+use tlv_core::source::Source;
+use tlv_core::target::Target;
+
+const BINARY: &str = "\
+error: what is written is binary, and standard output is a terminal
+
+  tip: --to NEW-FILE; with --to - it is written all the same
+
+For more information, try '--help'.
+";
+
+/// What a program has beside its streams.
+#[derive(Drop)]
+pub struct System<O, M> {
+    pub opener: O,
+    pub files: M,
+    /// Whether standard output is a terminal.
+    pub is_terminal: bool,
+}
+
+/// Does what the line asks for, the program's name being the first word, and answers the exit status.
+pub fn respond<R: Source + Drop, W: Flush, E: Target, O: Opener, M: NewFiles>(
+    alloc: Global,
+    words: &[String],
+    standard: &mut Standard<R, W, E>,
+    system: &System<O, M>,
+) -> u8
+    requires readable { IsReadable R.has_failed standard.old.input }
+    requires writable { W.has_failed standard.old.output ≡ false }
+    ensures { Responds ⟦<Document as Valued>⟧.value (record {
+      input_failed = R.has_failed;
+      input_remaining = R.remaining;
+      failed = O.Document.has_failed;
+      remaining = O.Document.remaining;
+      told = O.told system.now.opener;
+      unopened = O.refuses system.now.opener;
+    }) M.File.made (M.refuses system.now.files)
+        system.now.is_terminal (map string_bytes words.entry.now)
+        (seen R.remaining W.contents W.has_failed W.is_flushed E.contents E.has_failed standard.old)
+        (seen R.remaining W.contents W.has_failed W.is_flushed E.contents E.has_failed standard.new)
+        result }
+{
+    match asked_of(alloc, words) {
+        Ok(asked) => perform(alloc, &asked, standard, system),
+        Err(fault) => tell_fault(&fault, standard),
+    }
+}
+
+/// Does what a line asks for.
+fn perform<R: Source + Drop, W: Flush, E: Target, O: Opener, M: NewFiles>(
+    alloc: Global,
+    asked: &Asked<'_>,
+    standard: &mut Standard<R, W, E>,
+    system: &System<O, M>,
+) -> u8
+    requires readable { IsReadable R.has_failed standard.old.input }
+    requires writable { W.has_failed standard.old.output ≡ false }
+    ensures { Does ⟦<Document as Valued>⟧.value (record {
+      input_failed = R.has_failed;
+      input_remaining = R.remaining;
+      failed = O.Document.has_failed;
+      remaining = O.Document.remaining;
+      told = O.told system.now.opener;
+      unopened = O.refuses system.now.opener;
+    }) M.File.made (M.refuses system.now.files)
+        system.now.is_terminal asked.now
+        (seen R.remaining W.contents W.has_failed W.is_flushed E.contents E.has_failed standard.old)
+        (seen R.remaining W.contents W.has_failed W.is_flushed E.contents E.has_failed standard.new)
+        result }
+{
+    match asked {
+        Asked::Each(order) => follow(alloc, order, standard, system),
+        Asked::Both(pair) => {
+            let names = PairNames {
+                first: pair.first,
+                second: pair.second,
+            };
+            compare_named(alloc, &pair.comparison, names, standard, &system.opener)
+        }
+    }
+}
+
+/// Does what is to be done with each document.
+fn follow<R: Source + Drop, W: Flush, E: Target, O: Opener, M: NewFiles>(
+    alloc: Global,
+    order: &Order<'_>,
+    standard: &mut Standard<R, W, E>,
+    system: &System<O, M>,
+) -> u8
+    requires readable { IsReadable R.has_failed standard.old.input }
+    requires writable { W.has_failed standard.old.output ≡ false }
+    ensures { Follows ⟦<Document as Valued>⟧.value (record {
+      input_failed = R.has_failed;
+      input_remaining = R.remaining;
+      failed = O.Document.has_failed;
+      remaining = O.Document.remaining;
+      told = O.told system.now.opener;
+      unopened = O.refuses system.now.opener;
+    }) M.File.made (M.refuses system.now.files)
+        system.now.is_terminal order.now
+        (is_binary order.now.task.action) (is_none order.now.to && system.now.is_terminal)
+        (seen R.remaining W.contents W.has_failed W.is_flushed E.contents E.has_failed standard.old)
+        (seen R.remaining W.contents W.has_failed W.is_flushed E.contents E.has_failed standard.new)
+        result }
+{
+    let names = order.names.as_slice();
+    if !is_binary(order.task.action) {
+        let opener = &system.opener;
+        return judge(alloc, &order.task, names, order.list, standard, opener);
+    }
+    if order.to.is_none() && system.is_terminal {
+        return complain(BINARY, &mut standard.errors);
+    }
+    let places = Places {
+        from: first_name(names),
+        to: order.to,
+    };
+    convert(
+        alloc,
+        &order.task,
+        places,
+        standard,
+        &system.opener,
+        &system.files,
+    )
+}
+
+/// The first of these names, if there is one.
+fn first_name<'a>(names: &[&'a str]) -> Option<&'a str>
+    ensures { option_map (λ r. r.now) result ≡ first_name (map (λ r. r.now) names.now) }
+{
+    match names {
+        [name, ..] => Some(*name),
+        [] => None,
+    }
+}
+
+/// Whether what an action writes is no text.
+fn is_binary(action: Action) -> bool
+    ensures { result ≡ is_binary action }
+{
+    matches!(action, Action::Normalise | Action::Signed(_))
+}
+
+/// Writes why nothing is done, or the text of help, and answers the exit status.
+fn tell_fault<R: Source + Drop, W: Flush, E: Target>(
+    fault: &LineFault,
+    standard: &mut Standard<R, W, E>,
+) -> u8
+    requires writable { W.has_failed standard.old.output ≡ false }
+    ensures { SaysFault fault.now
+        (seen R.remaining W.contents W.has_failed W.is_flushed E.contents E.has_failed standard.old)
+        (seen R.remaining W.contents W.has_failed W.is_flushed E.contents E.has_failed standard.new)
+        result }
+{
+    match fault {
+        LineFault::Line(text) => complain(text.as_str(), &mut standard.errors),
+        LineFault::Help(text) => {
+            let outcome = tell(text.as_str(), &mut standard.output);
+            finish(&outcome, &mut standard.errors)
+        }
+        LineFault::Memory => finish(&Outcome::Memory, &mut standard.errors),
+    }
+}
