@@ -1,10 +1,12 @@
 pub mod BlockTargets
 pub mod Comparisons
+pub mod Conversions
 pub mod Entries
 pub mod Escapes
 pub mod Inputs
 pub mod Judgements
 pub mod NameLists
+pub mod Pairs
 pub mod Replies
 pub mod ReplyLaws
 pub mod ShortWords

@@ -1,5 +1,5 @@
 -- What converting one document comes to.
-use Rattle.std.specs.Prelude.{◌≡◌, ◌⊎◌, ◌++◌, ◌==◌, ℕ, Bool, Err, List, None, Ok, Option, Result, Some, [], codes, cond, false, true}
+use Rattle.std.specs.Prelude.{◌≡◌, ◌⊎◌, ◌++◌, ℕ, Bool, Err, List, None, Ok, Option, Result, Some, [], codes, cond, false, true}
 use Rattle.x690.specs.Values.{Value}
 use Rattle.pk_documents.specs.declared.document.Document.{Document}
 use Rattle.pk_commands.specs.Endings.{Served}
@@ -69,12 +69,15 @@ abbrev pub name_or_none : Option (List ℕ) → List ℕ
 name_or_none None = []
 name_or_none (Some name) = name
 
--- How it ended is said, by the name of the document as it is told, and that of the new file, where there are these.
+-- How a task ended is said, by the name of the document as it is told, where it has one.
+abbrev pub ClosesRan : (List ℕ → ℕ → Type 0) → Option (List ℕ) → Outcome → Type 0
+ClosesRan Closes None outcome = Closes (line_of outcome) (status_of outcome)
+ClosesRan Closes (Some told) outcome = Closes (line_behind told (words_of outcome)) (status_of outcome)
+
+-- The same of a conversion, by the name of the new file, too.
 abbrev pub ClosesConverted : (List ℕ → ℕ → Type 0) → Option (List ℕ) → Option (List ℕ) → Result Outcome Unmade → Type 0
-ClosesConverted Closes None to (Ok outcome) = Closes (line_of outcome) (status_of outcome)
-ClosesConverted Closes (Some told) to (Ok outcome) = Closes (line_behind told (words_of outcome)) (status_of outcome)
-ClosesConverted Closes None to (Err why) = ClosesUnmade Closes (name_or_none to) why
-ClosesConverted Closes (Some told) to (Err why) = ClosesUnmade Closes (name_or_none to) why
+ClosesConverted Closes told to (Ok outcome) = ClosesRan Closes told outcome
+ClosesConverted Closes told to (Err why) = ClosesUnmade Closes (name_or_none to) why
 
 -- ---- all of it
 
@@ -86,7 +89,7 @@ Converted {File} value_of made_of refuses task told to before old new status =
     × (after : Option (List ℕ))
     × (unread : Bool)
     × ConvertsTo made_of refuses task (Served value_of task before after unread) to result old.output new.output
-    new.unwritten new.flushed
+    new.output_failed new.flushed
     × ClosesConverted (Ends old new status) told to result
 
 -- The document is what standard input tells, or that of a name: it is opened, and these octets are told of it; or it

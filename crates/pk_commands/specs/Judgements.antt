@@ -71,7 +71,7 @@ JudgesInput value_of task (Some octets) old new end =
     (outcome : Outcome)
     × (after : Option (List ℕ))
     × (unread : Bool)
-    × Served value_of task octets after unread outcome old.output new.output new.unwritten new.flushed
+    × Served value_of task octets after unread outcome old.output new.output new.output_failed new.flushed
     × Says (line_of outcome) old new
     × (new.input ≡ None)
     × (end ≡ status_behind outcome)
@@ -83,7 +83,7 @@ abbrev pub JudgesNames : (Document → Value) → (List ℕ → Option (List ℕ
 JudgesNames value_of told unopened leaves task list names stops old new end =
     (last : FilesEnd)
     × AnsweredFiles value_of told unopened leaves task names stops old.output new.output last
-    × (new.unwritten ≡ has_failed_write last)
+    × (new.output_failed ≡ has_failed_write last)
     × (has_failed_write last ≡ false → new.flushed ≡ true)
     × Says (line_of_end list last) old new
     × (end ≡ status_through last)
@@ -123,6 +123,17 @@ pub record Sources (Input Opened : Type 0) : Type 1 where
   pub told : List ℕ → Option (List ℕ)
   pub unopened : List ℕ → Why → Type 0
 
+abbrev pub sources_of : {Input Opened : Type 0} → (Input → Bool) → (Input → Option (List ℕ)) → (Opened → Bool)
+    → (Opened → Option (List ℕ)) → (List ℕ → Option (List ℕ)) → (List ℕ → Why → Type 0) → Sources Input Opened
+sources_of {Input} {Opened} input_failed input_remaining failed remaining told unopened = record {
+  input_failed = input_failed;
+  input_remaining = input_remaining;
+  failed = failed;
+  remaining = remaining;
+  told = told;
+  unopened = unopened;
+}
+
 abbrev pub leaves_of : {Input Opened : Type 0} → Sources Input Opened → Bool → Option (List ℕ) → Type 0
 leaves_of {Input} {Opened} sources = IsLeft sources.failed sources.remaining
 
@@ -142,19 +153,19 @@ JudgesListed {Input} {Opened} value_of sources task list false input old new end
     (sources.told list) old new end
 
 -- A part of a run. Where there is no memory for a line, no more is judged.
-abbrev pub Judges : {Input Opened : Type 0} → (Document → Value) → Sources Input Opened → Task → Part → Seen → Seen
+abbrev pub Judges : {Origin Opened : Type 0} → (Document → Value) → Sources Origin Opened → Task → Part → Seen → Seen
     → Option ℕ → Type 0
-Judges {I} {O} value_of sources task Input old new end = JudgesInput value_of task old.input old new end
-Judges {I} {O} value_of sources task (Named names) old new end =
+Judges {Origin} {Opened} value_of sources task Input old new end = JudgesInput value_of task old.input old new end
+Judges {Origin} {Opened} value_of sources task (Named names) old new end =
     (new.input ≡ old.input)
     × (JudgesNone (line_of Memory) old new end
     ⊎ ((words : Words)
     × JudgesNames value_of sources.told sources.unopened (leaves_of sources) task (told_name []) (Some names)
     (StopsWords words) old new end))
-Judges {I} {O} value_of sources task (Listed list) old new end =
-    (new.input ≡ input_behind list old.input)
-    × (JudgesNone (line_of Memory) old new end
-    ⊎ JudgesListed value_of sources task list (is_dash list) old.input old new end)
+Judges {Origin} {Opened} value_of sources task (Listed list) old new end =
+    ((new.input ≡ old.input) × JudgesNone (line_of Memory) old new end)
+    ⊎ ((new.input ≡ input_behind list old.input)
+    × JudgesListed value_of sources task list (is_dash list) old.input old new end)
 
 -- Parts are gone through one behind another; the status is the greatest one.
 abbrev pub GoesThrough : (Part → Seen → Seen → Option ℕ → Type 0) → List Part → Seen → Seen → ℕ → Type 0

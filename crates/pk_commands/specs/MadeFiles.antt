@@ -1,9 +1,9 @@
 -- What can be said of a new file, and of making one.
-use Rattle.std.specs.Prelude.{◌≡◌, ◌⊎◌, Bool, List, None, Option, Some, [], codes, cond, false, true, ℕ}
+use Rattle.std.specs.Prelude.{◌≡◌, ◌⊎◌, Bool, List, None, Option, Some, [], codes, cond, true, ℕ}
 use Rattle.pk_documents.specs.KindRows.{has_plain_keys}
 use Rattle.pk_commands.specs.Endings.{is_done}
-use Rattle.pk_commands.specs.declared.new_file.Standing.{Standing}
-use Rattle.pk_commands.specs.declared.new_file.Standing.TheVariants.{Beside, Gone, InPlace}
+use Rattle.pk_commands.specs.declared.new_file.Stage.{Stage}
+use Rattle.pk_commands.specs.declared.new_file.Stage.TheVariants.{Beside, Gone, InPlace}
 use Rattle.pk_commands.specs.declared.new_file.Unmade.{Unmade}
 use Rattle.pk_commands.specs.declared.new_file.Unmade.TheVariants.{Denied, Full, Irregular, Memory, NoFolder, NotFolder, Other, ReadOnly, TooLong}
 use Rattle.pk_commands.specs.declared.outcome.Outcome.{Outcome}
@@ -14,7 +14,7 @@ use Rattle.pk_commands.specs.declared.task.Task.{Task}
 pub record Made : Type 0 where
   pub name : List ℕ
   pub is_private : Bool
-  pub standing : Standing
+  pub stage : Stage
   pub octets : Option (List ℕ)
 
 -- what is told is no octets
@@ -24,15 +24,15 @@ IsEmpty (Some octets) = octets ≡ []
 
 -- It is to have the place of this name, and hasn't.
 abbrev pub IsNew : List ℕ → Bool → Made → Type 0
-IsNew name is_private made = (made.name ≡ name) × (made.is_private ≡ is_private) × (made.standing ≡ Beside)
+IsNew name is_private made = (made.name ≡ name) × (made.is_private ≡ is_private) × (made.stage ≡ Beside)
 
 -- the same file with these octets, in its place
 abbrev pub placed_with : Made → Option (List ℕ) → Made
 placed_with made octets =
-    record { name = made.name; is_private = made.is_private; standing = InPlace; octets = octets }
+    record { name = made.name; is_private = made.is_private; stage = InPlace; octets = octets }
 
 abbrev pub removed : Made → Made
-removed made = record { name = made.name; is_private = made.is_private; standing = Gone; octets = made.octets }
+removed made = record { name = made.name; is_private = made.is_private; stage = Gone; octets = made.octets }
 
 -- It has its place where all that was due is in it, and otherwise it is gone; of a kind with private keys its owner alone
 -- may read it.
@@ -40,7 +40,7 @@ abbrev pub IsMade : List ℕ → Task → Outcome → Made → Type 0
 IsMade name task outcome made =
     (made.name ≡ name)
     × (made.is_private ≡ has_plain_keys task.kind)
-    × (made.standing ≡ cond (is_done outcome) InPlace Gone)
+    × (made.stage ≡ cond (is_done outcome) InPlace Gone)
 
 -- The task is answered over what was empty: what it contained and contains, whether it has failed, and whether it is
 -- flushed. Where all that was due is out, that is what is in the file.
@@ -57,7 +57,7 @@ WroteMade Answers outcome made =
 -- No file of this name is left: none is made, or one that is gone.
 abbrev pub Unmakes : {File : Type 0} → (File → Made) → (Unmade → Type 0) → List ℕ → Unmade → Type 0
 Unmakes {File} made_of refuses name why =
-    refuses why ⊎ ((file : File) × ((made_of file).name ≡ name) × ((made_of file).standing ≡ Gone))
+    refuses why ⊎ ((file : File) × ((made_of file).name ≡ name) × ((made_of file).stage ≡ Gone))
 
 -- why a file isn't made, in words
 abbrev pub why_unmade : Unmade → List ℕ

@@ -25,7 +25,7 @@ ComparesBoth value_of comparison first second octets others old new status =
     × (others_unread : Bool)
     × AnsweredPair value_of comparison first second end octets after others others_after old.output new.output
     × (IsUntold end → new.output ≡ old.output)
-    × ComparedFailed end unread others_unread new.unwritten
+    × ComparedFailed end unread others_unread new.output_failed
     × (IsTold end → new.flushed ≡ true)
     × Ends old new status (line_of_compared (told_name first) (told_name second) end) (compared_status end)
 

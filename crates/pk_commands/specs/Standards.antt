@@ -22,29 +22,29 @@ file_named (Some name) = cond (is_dash name) None (Some name)
 pub record Seen : Type 0 where
   pub input : Option (Option (List ℕ))
   pub output : Option (List ℕ)
-  pub unwritten : Bool
+  pub output_failed : Bool
   pub flushed : Bool
   pub errors : Option (List ℕ)
-  pub unsaid : Bool
+  pub errors_failed : Bool
 
 abbrev pub seen : {R W E : Type 0} → (R → Option (List ℕ)) → (W → Option (List ℕ)) → (W → Bool) → (W → Bool)
     → (E → Option (List ℕ)) → (E → Bool) → Standard R W E → Seen
-seen {R} {W} {E} remaining contents has_failed is_flushed said has_not_said standard = record {
+seen {R} {W} {E} remaining contents has_failed is_flushed said said_failed standard = record {
   input = option_map remaining standard.input;
   output = contents standard.output;
-  unwritten = has_failed standard.output;
+  output_failed = has_failed standard.output;
   flushed = is_flushed standard.output;
   errors = said standard.errors;
-  unsaid = has_not_said standard.errors;
+  errors_failed = said_failed standard.errors;
 }
 
 -- This line is written on standard error.
 abbrev pub Says : List ℕ → Seen → Seen → Type 0
-Says line old new = WritesLine line old.errors new.errors new.unsaid
+Says line old new = WritesLine line old.errors new.errors new.errors_failed
 
 -- It is, and nothing is written on standard output.
 abbrev pub SaysAlone : List ℕ → Seen → Seen → Type 0
-SaysAlone line old new = Says line old new × (new.output ≡ old.output) × (new.unwritten ≡ old.unwritten)
+SaysAlone line old new = Says line old new × (new.output ≡ old.output) × (new.output_failed ≡ old.output_failed)
 
 -- A command ends with this line and this status.
 abbrev pub Ends : Seen → Seen → ℕ → List ℕ → ℕ → Type 0

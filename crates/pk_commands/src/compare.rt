@@ -127,8 +127,8 @@ fn answer(
         names.entry.first.now names.entry.second.now first.now second.now it.1
         (string_bytes it.0)) }
 {
-    let first_name = said_name(alloc, comparison.question, names.first.as_bytes())?;
-    let second_name = said_name(alloc, comparison.question, names.second.as_bytes())?;
+    let first_name = said_name(alloc, comparison.question, names.first)?;
+    let second_name = said_name(alloc, comparison.question, names.second)?;
     let names = DocumentNames {
         first: first_name.as_str(),
         second: second_name.as_str(),
@@ -150,12 +150,12 @@ fn answer(
 }
 
 /// A name as the answer has it: JSON escapes by itself.
-fn said_name(alloc: Global, question: Question, name: &[u8]) -> Result<String, AllocError>
+fn said_name(alloc: Global, question: Question, name: &str) -> Result<String, AllocError>
     ensures { IfOk result (λ text. string_bytes text ≡ said_name question name.now) }
 {
     match question {
-        Question::Document(Style::Json) => file_name(alloc, name),
-        Question::Document(Style::Text) | Question::Key => told_name(alloc, name),
+        Question::Document(Style::Json) => file_name(alloc, name.as_bytes()),
+        Question::Document(Style::Text) | Question::Key => told_name(alloc, name.as_bytes()),
     }
 }
 

@@ -1,7 +1,7 @@
 //! One document that is converted, to standard output or into a new file.
 ghost use Rattle.std.specs.Prelude.{◌≡◌, IfOk, IfSome, false, string_bytes};
 ghost use Rattle.std.specs.Option.{option_map};
-ghost use Rattle.pk_commands.specs.Conversions.{ClosesConverted, ClosesUnmade, Converts, ConvertsTo, is_irregular, unmade_line, unmade_status};
+ghost use Rattle.pk_commands.specs.Conversions.{ClosesConverted, ClosesUnmade, Converts, ConvertsTo, is_irregular, name_or_none, unmade_line, unmade_status};
 ghost use Rattle.pk_commands.specs.Endings.{Served, WritesLine};
 ghost use Rattle.pk_commands.specs.Lines.{name_of_line};
 ghost use Rattle.pk_commands.specs.Standards.{IsReadable, file_named, seen};
@@ -118,7 +118,16 @@ fn finish_converted<W: Target>(
             Some(named) => finish_named(named, &Came::Ran(outcome), dst),
             None => finish(&outcome, dst),
         },
-        Err(why) => finish_unmade(alloc, to.unwrap_or(""), why, dst),
+        Err(why) => finish_unmade(alloc, name_or_none(to), why, dst),
+    }
+}
+
+fn name_or_none<'a>(name: Option<&'a str>) -> &'a str
+    ensures { result.now ≡ name_or_none (option_map (λ r. r.now) name.entry) }
+{
+    match name {
+        Some(name) => name,
+        None => "",
     }
 }
 

@@ -1,14 +1,15 @@
 //! Documents that are judged, of which one may be that of standard input.
 ghost use Rattle.std.specs.Prelude.{◌≡◌, IfSome, false, map};
+ghost use Rattle.std.specs.List.{list_any};
 ghost use Rattle.std.specs.Option.{option_map};
-ghost use Rattle.pk_commands.specs.Judgements.{Goes, Judges, JudgesAll, JudgesInput, JudgesNames, JudgesNone, part_of, parts_named, parts_of};
+ghost use Rattle.pk_commands.specs.Judgements.{Goes, Judges, JudgesAll, JudgesInput, JudgesNames, JudgesNone, part_of, parts_named, parts_of, sources_of, status_behind, status_through};
 ghost use Rattle.pk_commands.specs.Files.{IsLeft};
 ghost use Rattle.pk_commands.specs.Judgements.Part.{Listed, Named};
 ghost use Rattle.pk_commands.specs.Lines.{name_of_line};
 ghost use Rattle.pk_commands.specs.NameLists.{HasStopped};
 ghost use Rattle.pk_commands.specs.Outcomes.{line_of};
 ghost use Rattle.pk_commands.specs.declared.outcome.Outcome.TheVariants.{Memory};
-ghost use Rattle.pk_commands.specs.Standards.{IsReadable, seen};
+ghost use Rattle.pk_commands.specs.Standards.{IsReadable, is_dash, seen};
 
 use crate::closing::{finish, finish_files, finish_named};
 use crate::ended_names::EndedNames;
@@ -17,7 +18,7 @@ use crate::flush::Flush;
 use crate::lines::NamedLine;
 use crate::names::{Names, Words};
 use crate::opener::Opener;
-use crate::outcome::Outcome;
+use crate::outcome::{Outcome, status};
 use crate::pair::finish_taken;
 use crate::standard::{Standard, is_dash};
 use crate::streams::{answer, answer_files};
@@ -122,10 +123,22 @@ fn judge_names<R: Source + Drop, W: Flush, E: Target, O: Opener>(
         (seen R.remaining W.contents W.has_failed W.is_flushed E.contents E.has_failed standard.new)
         result }
 {
-    if names.iter().any(|name| is_dash(name)) {
+    if has_dash(names) {
         return judge_each(alloc, task, names, standard, opener);
     }
     judge_named(alloc, task, names, standard, opener)
+}
+
+/// Whether one of these names is that of standard input.
+fn has_dash(names: &[&str]) -> bool
+    ensures { result ≡ list_any is_dash (map (λ r. r.now) names.now) }
+{
+    for name in names {
+        if is_dash(name) {
+            return true;
+        }
+    }
+    false
 }
 
 /// The same of each name by itself.
@@ -153,7 +166,7 @@ fn judge_each<R: Source + Drop, W: Flush, E: Target, O: Opener>(
         (seen R.remaining W.contents W.has_failed W.is_flushed E.contents E.has_failed standard.new)
         result }
 {
-    let mut worst = 0;
+    let mut worst: u8 = 0;
     for name in names {
         worst = worst.max(judge_one(alloc, task, name, standard, opener)?);
     }
@@ -205,14 +218,21 @@ fn judge_input<R: Source + Drop, W: Flush, E: Target>(
         (seen R.remaining W.contents W.has_failed W.is_flushed E.contents E.has_failed standard.new)
         result }
 {
-    let outcome = match standard.input.take() {
-        Some(mut src) => answer(alloc, &mut src, &mut standard.output, task),
-        None => Outcome::ReadFailed(0),
+    let Some(mut src) = standard.input.take() else {
+        return Some(finish(&Outcome::ReadFailed(0), &mut standard.errors));
     };
-    let status = finish(&outcome, &mut standard.errors);
+    let outcome = answer(alloc, &mut src, &mut standard.output, task);
+    finish(&outcome, &mut standard.errors);
+    status_behind(&outcome)
+}
+
+/// The status of a run that goes on behind such an outcome, or nothing where it ends.
+fn status_behind(outcome: &Outcome) -> Option<u8>
+    ensures { result ≡ status_behind outcome.now }
+{
     match outcome {
         Outcome::WriteFailed(_) => None,
-        _ => Some(status),
+        other => Some(status(other)),
     }
 }
 
@@ -336,10 +356,17 @@ fn judge_listed<N: Names, R: Source + Drop, W: Flush, E: Target, O: Opener>(
     ensures input { standard.new.input ≡ standard.old.input }
 {
     let end = answer_files(alloc, names, opener, &mut standard.output, task);
-    let status = finish_files(list, &end, &mut standard.errors);
+    finish_files(list, &end, &mut standard.errors);
+    status_through(&end)
+}
+
+/// The status of a run that goes on behind such an end, or nothing where it ends.
+fn status_through(end: &FilesEnd) -> Option<u8>
+    ensures { result ≡ status_through end.now }
+{
     match end {
-        FilesEnd::Through(_) => Some(status),
-        _ => None,
+        FilesEnd::Through(status) => Some(*status),
+        FilesEnd::NoName(_) | FilesEnd::WriteFailed(_) | FilesEnd::Memory => None,
     }
 }
 

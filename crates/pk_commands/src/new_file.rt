@@ -70,7 +70,7 @@ impl From<AllocError> for Unmade {
 
 /// Where a new file is.
 #[derive(Clone, Copy, Debug, PartialEq, Eq)]
-pub enum Standing {
+pub enum Stage {
     /// Beside the place that it is to have.
     Beside,
     InPlace,
@@ -104,6 +104,8 @@ pub trait NewFile {
 
 /// Makes files beside the places that names lead to.
 pub trait NewFiles {
+    ghost use Rattle.pk_commands.specs.declared.new_file.Unmade.{Unmade};
+
     type File: NewFile + Drop;
 
     /// Why no file is made that is to have the place of a name.

@@ -88,7 +88,8 @@ fn compare_with<S: Source, R: Source + Drop, W: Flush, E: Target, O: Opener>(
     requires readable { IsReadable R.has_failed standard.old.input }
     requires writable { W.has_failed standard.old.output ≡ false }
     ensures { ComparesWith ⟦<Document as Valued>⟧.value (O.told opener.now)
-        (O.refuses opener.now) comparison.now named.names.first.now named.names.second.now
+        (O.refuses opener.now) comparison.now named.entry.names.first.now
+        named.entry.names.second.now
         (S.remaining first.old) (option_map R.remaining standard.old.input)
         (seen R.remaining W.contents W.has_failed W.is_flushed E.contents E.has_failed
         standard.old)
@@ -121,8 +122,8 @@ fn compare_both<S: Source, T: Source, R: Source + Drop, W: Flush, E: Target>(
     requires first_readable { S.has_failed first.old ≡ false }
     requires second_readable { T.has_failed second.old ≡ false }
     requires writable { W.has_failed standard.old.output ≡ false }
-    ensures { ComparesBoth ⟦<Document as Valued>⟧.value comparison.now named.names.first.now
-        named.names.second.now (S.remaining first.old) (T.remaining second.old)
+    ensures { ComparesBoth ⟦<Document as Valued>⟧.value comparison.now named.entry.names.first.now
+        named.entry.names.second.now (S.remaining first.old) (T.remaining second.old)
         (seen R.remaining W.contents W.has_failed W.is_flushed E.contents E.has_failed
         standard.old)
         (seen R.remaining W.contents W.has_failed W.is_flushed E.contents E.has_failed

@@ -21,7 +21,7 @@ pub fn is_dash(name: &str) -> bool
 
 /// The name of a file; nothing where a standard stream is named, or nothing.
 pub fn file_named<'a>(name: Option<&'a str>) -> Option<&'a str>
-    ensures { option_map (λ it. it.now) result ≡ file_named (option_map (λ it. it.now) name) }
+    ensures { option_map (λ it. it.now) result ≡ file_named (option_map (λ it. it.now) name.entry) }
 {
     match name {
         Some(name) if !is_dash(name) => Some(name),

@@ -5,4 +5,4 @@ use Rattle.pkder.specs.declared.new_file.FileBeside.{FileBeside}
 
 -- what is in a file of the system isn't told
 abbrev pub made_of : FileBeside → Made
-made_of file = record { name = string_bytes file.name; is_private = file.private; standing = file.standing; octets = None }
+made_of file = record { name = string_bytes file.name; is_private = file.private; stage = file.stage; octets = None }

@@ -68,7 +68,7 @@ SaysFault (Help text) old new status =
     (outcome : Outcome)
     × Tells (string_bytes text) old.output new.output outcome
     × (IsWhole outcome → new.flushed ≡ true)
-    × FailedBy outcome false new.unwritten
+    × FailedBy outcome false new.output_failed
     × Ends old new status (line_of outcome) (status_of outcome)
 SaysFault Memory old new status = EndsAlone old new status (line_of outcomes.Memory) 3
 

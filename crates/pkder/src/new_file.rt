@@ -1,7 +1,7 @@
 //! The file of `--to`, which is written whole beside its place and then moved there, or not made at all.
 
 use pk_commands::flush::ToFlush;
-use pk_commands::new_file::{NewFile, NewFiles, Standing, Unmade};
+use pk_commands::new_file::{NewFile, NewFiles, Stage, Unmade};
 use std::fs::{self, File, Metadata, OpenOptions, Permissions};
 use std::io::{self, ErrorKind};
 use std::os::unix::fs::{MetadataExt, OpenOptionsExt, PermissionsExt, fchown};
@@ -42,7 +42,7 @@ pub struct FileBeside<'a> {
     /// What has that place now.
     replaced: Option<Metadata>,
     private: bool,
-    standing: Standing,
+    stage: Stage,
 }
 
 impl<'a> NewFiles for FilesBeside<'a> {
@@ -77,7 +77,7 @@ impl<'a> NewFiles for FilesBeside<'a> {
                         place,
                         replaced,
                         private: is_private,
-                        standing: Standing::Beside,
+                        stage: Stage::Beside,
                     });
                 }
                 Err(error) if error.kind() == ErrorKind::AlreadyExists => {}
@@ -115,7 +115,7 @@ impl NewFile for FileBeside<'_> {
         }
         match moved(self.rt, &self.file, self.path.as_str(), self.place.as_str()) {
             Ok(()) => {
-                self.standing = Standing::InPlace;
+                self.stage = Stage::InPlace;
                 Ok(())
             }
             Err(error) => {
@@ -127,7 +127,7 @@ impl NewFile for FileBeside<'_> {
 
     fn remove(&mut self) {
         let _ = fs::remove_file(self.rt, self.path.as_str());
-        self.standing = Standing::Gone;
+        self.stage = Stage::Gone;
     }
 }
 

@@ -1,6 +1,7 @@
 //! What the program does with the words of its line.
 ghost use Rattle.std.specs.Prelude.{◌≡◌, ◌&&◌, false, is_none, map, string_bytes};
 ghost use Rattle.std.specs.Option.{option_map};
+ghost use Rattle.pk_commands.specs.Judgements.{sources_of};
 ghost use Rattle.pk_commands.specs.Standards.{IsReadable, seen};
 ghost use Rattle.pkder.specs.Responses.{Does, Follows, Responds, SaysFault, first_name, is_binary};
 
