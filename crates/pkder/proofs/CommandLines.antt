@@ -5,7 +5,7 @@ use Rattle.std.proofs.lemmas.Option.{same_Some}
 use Rattle.std.specs.Borrow.{Bor}
 use Rattle.std.specs.List.{list_any}
 use Rattle.std.specs.Option.{option_or}
-use Rattle.clap.specs.Words.{App, FailsBy, HasMatchesOf, IsAmong, Kinds, Row, Text, all_of, fault_of, first_of, first_value, is_simple, is_simple_and_free, matched_of, raw_values, rows_of, subcommand_of, subcommand_rows_of}
+use Rattle.clap.specs.Words.{App, FailsBy, HasMatchesOf, IsAmong, Kinds, Row, Text, all_of, fault_of, first_of, first_value, is_simple_and_free, matched_of, raw_values, rows_of, subcommand_of, subcommand_rows_of}
 use Rattle.clap.specs.declared.error.kind.ErrorKind.{ErrorKind}
 use Rattle.clap.specs.declared.error.kind.ErrorKind.TheVariants as errors
 use Rattle.clap.specs.declared.parser.matches.ArgMatches.{ArgMatches}

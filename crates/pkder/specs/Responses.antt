@@ -1,5 +1,5 @@
 -- What the program does with the words of its line.
-use Rattle.std.specs.Prelude.{◌≡◌, ◌⊎◌, ◌&&◌, ℕ, Bool, List, None, Option, Some, [], ◌∷◌, codes, cond, false, is_none, map, string_bytes, true}
+use Rattle.std.specs.Prelude.{◌≡◌, ◌⊎◌, ◌&&◌, ℕ, Bool, List, None, Option, Some, [], ◌∷◌, codes, false, is_none, map, string_bytes, true}
 use Rattle.std.specs.Option.{option_map}
 use Rattle.x690.specs.Values.{Value}
 use Rattle.pk_documents.specs.declared.document.Document.{Document}

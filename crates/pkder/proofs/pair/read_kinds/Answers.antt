@@ -1,6 +1,6 @@
-use Rattle.std.proofs.Common.{MatchResult, Some, [], map, subst, ◌≡◌}
+use Rattle.std.proofs.Common.{MatchResult, Some, subst, ◌≡◌}
 use Rattle.clap.specs.Words.{found_of, rows_of}
-use Rattle.pkder.specs.CommandLines.{BadKinds, is_of_keys, kinds_given, kinds_of}
+use Rattle.pkder.specs.CommandLines.{BadKinds, kinds_given, kinds_of}
 use Rattle.pkder.proofs.CommandLines.{kinds_none, kinds_some}
 use Rattle.pkder.proofs.pair.read_kinds.Goals as goal
 
