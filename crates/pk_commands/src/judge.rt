@@ -44,14 +44,8 @@ pub fn judge<R: Source + Drop, W: Flush, E: Target, O: Opener>(
 ) -> u8
     requires readable { IsReadable R.has_failed standard.old.input }
     requires writable { W.has_failed standard.old.output ≡ false }
-    ensures { JudgesAll ⟦<Document as Valued>⟧.value (record {
-      input_failed = R.has_failed;
-      input_remaining = R.remaining;
-      failed = O.Document.has_failed;
-      remaining = O.Document.remaining;
-      told = O.told opener.now;
-      unopened = O.refuses opener.now;
-    }) task.now (map (λ r. r.now) names.now)
+    ensures { JudgesAll ⟦<Document as Valued>⟧.value (sources_of R.has_failed R.remaining O.Document.has_failed
+        O.Document.remaining (O.told opener.now) (O.refuses opener.now)) task.now (map (λ r. r.now) names.now)
         (option_map (λ r. r.now) list.entry)
         (seen R.remaining W.contents W.has_failed W.is_flushed E.contents E.has_failed standard.old)
         (seen R.remaining W.contents W.has_failed W.is_flushed E.contents E.has_failed standard.new)
@@ -74,14 +68,8 @@ fn judge_all<R: Source + Drop, W: Flush, E: Target, O: Opener>(
 ) -> Option<u8>
     requires readable { IsReadable R.has_failed standard.old.input }
     requires writable { W.has_failed standard.old.output ≡ false }
-    ensures { Goes (Judges ⟦<Document as Valued>⟧.value (record {
-      input_failed = R.has_failed;
-      input_remaining = R.remaining;
-      failed = O.Document.has_failed;
-      remaining = O.Document.remaining;
-      told = O.told opener.now;
-      unopened = O.refuses opener.now;
-    }) task.now)
+    ensures { Goes (Judges ⟦<Document as Valued>⟧.value (sources_of R.has_failed R.remaining O.Document.has_failed
+        O.Document.remaining (O.told opener.now) (O.refuses opener.now)) task.now)
         (parts_of (map (λ r. r.now) names.now) (option_map (λ r. r.now) list.entry))
         (seen R.remaining W.contents W.has_failed W.is_flushed E.contents E.has_failed standard.old)
         (seen R.remaining W.contents W.has_failed W.is_flushed E.contents E.has_failed standard.new)
@@ -110,14 +98,8 @@ fn judge_names<R: Source + Drop, W: Flush, E: Target, O: Opener>(
     requires writable { W.has_failed standard.old.output ≡ false }
     ensures readable { IsReadable R.has_failed standard.new.input }
     ensures writable { IfSome result (λ _. W.has_failed standard.new.output ≡ false) }
-    ensures goes { Goes (Judges ⟦<Document as Valued>⟧.value (record {
-      input_failed = R.has_failed;
-      input_remaining = R.remaining;
-      failed = O.Document.has_failed;
-      remaining = O.Document.remaining;
-      told = O.told opener.now;
-      unopened = O.refuses opener.now;
-    }) task.now)
+    ensures goes { Goes (Judges ⟦<Document as Valued>⟧.value (sources_of R.has_failed R.remaining O.Document.has_failed
+        O.Document.remaining (O.told opener.now) (O.refuses opener.now)) task.now)
         (parts_named (map (λ r. r.now) names.now))
         (seen R.remaining W.contents W.has_failed W.is_flushed E.contents E.has_failed standard.old)
         (seen R.remaining W.contents W.has_failed W.is_flushed E.contents E.has_failed standard.new)
@@ -153,14 +135,8 @@ fn judge_each<R: Source + Drop, W: Flush, E: Target, O: Opener>(
     requires writable { W.has_failed standard.old.output ≡ false }
     ensures readable { IsReadable R.has_failed standard.new.input }
     ensures writable { IfSome result (λ _. W.has_failed standard.new.output ≡ false) }
-    ensures goes { Goes (Judges ⟦<Document as Valued>⟧.value (record {
-      input_failed = R.has_failed;
-      input_remaining = R.remaining;
-      failed = O.Document.has_failed;
-      remaining = O.Document.remaining;
-      told = O.told opener.now;
-      unopened = O.refuses opener.now;
-    }) task.now)
+    ensures goes { Goes (Judges ⟦<Document as Valued>⟧.value (sources_of R.has_failed R.remaining O.Document.has_failed
+        O.Document.remaining (O.told opener.now) (O.refuses opener.now)) task.now)
         (map part_of (map (λ r. r.now) names.now))
         (seen R.remaining W.contents W.has_failed W.is_flushed E.contents E.has_failed standard.old)
         (seen R.remaining W.contents W.has_failed W.is_flushed E.contents E.has_failed standard.new)
@@ -185,14 +161,8 @@ fn judge_one<R: Source + Drop, W: Flush, E: Target, O: Opener>(
     requires writable { W.has_failed standard.old.output ≡ false }
     ensures readable { IsReadable R.has_failed standard.new.input }
     ensures writable { IfSome result (λ _. W.has_failed standard.new.output ≡ false) }
-    ensures judges { Judges ⟦<Document as Valued>⟧.value (record {
-      input_failed = R.has_failed;
-      input_remaining = R.remaining;
-      failed = O.Document.has_failed;
-      remaining = O.Document.remaining;
-      told = O.told opener.now;
-      unopened = O.refuses opener.now;
-    }) task.now (part_of name.now)
+    ensures judges { Judges ⟦<Document as Valued>⟧.value (sources_of R.has_failed R.remaining O.Document.has_failed
+        O.Document.remaining (O.told opener.now) (O.refuses opener.now)) task.now (part_of name.now)
         (seen R.remaining W.contents W.has_failed W.is_flushed E.contents E.has_failed standard.old)
         (seen R.remaining W.contents W.has_failed W.is_flushed E.contents E.has_failed standard.new)
         result }
@@ -248,14 +218,8 @@ fn judge_named<R: Source + Drop, W: Flush, E: Target, O: Opener>(
     requires writable { W.has_failed standard.old.output ≡ false }
     ensures readable { IsReadable R.has_failed standard.new.input }
     ensures writable { IfSome result (λ _. W.has_failed standard.new.output ≡ false) }
-    ensures judges { Judges ⟦<Document as Valued>⟧.value (record {
-      input_failed = R.has_failed;
-      input_remaining = R.remaining;
-      failed = O.Document.has_failed;
-      remaining = O.Document.remaining;
-      told = O.told opener.now;
-      unopened = O.refuses opener.now;
-    }) task.now
+    ensures judges { Judges ⟦<Document as Valued>⟧.value (sources_of R.has_failed R.remaining O.Document.has_failed
+        O.Document.remaining (O.told opener.now) (O.refuses opener.now)) task.now
         (Named (map (λ r. r.now) names.now))
         (seen R.remaining W.contents W.has_failed W.is_flushed E.contents E.has_failed standard.old)
         (seen R.remaining W.contents W.has_failed W.is_flushed E.contents E.has_failed standard.new)
@@ -286,14 +250,8 @@ fn judge_list<R: Source + Drop, W: Flush, E: Target, O: Opener>(
     requires writable { W.has_failed standard.old.output ≡ false }
     ensures readable { IsReadable R.has_failed standard.new.input }
     ensures writable { IfSome result (λ _. W.has_failed standard.new.output ≡ false) }
-    ensures judges { Judges ⟦<Document as Valued>⟧.value (record {
-      input_failed = R.has_failed;
-      input_remaining = R.remaining;
-      failed = O.Document.has_failed;
-      remaining = O.Document.remaining;
-      told = O.told opener.now;
-      unopened = O.refuses opener.now;
-    }) task.now (Listed list.now)
+    ensures judges { Judges ⟦<Document as Valued>⟧.value (sources_of R.has_failed R.remaining O.Document.has_failed
+        O.Document.remaining (O.told opener.now) (O.refuses opener.now)) task.now (Listed list.now)
         (seen R.remaining W.contents W.has_failed W.is_flushed E.contents E.has_failed standard.old)
         (seen R.remaining W.contents W.has_failed W.is_flushed E.contents E.has_failed standard.new)
         result }

@@ -5,6 +5,9 @@
 //! names: `names` and `ended_names` are such lists, `opener` opens the document of a name, `file_system` in files, `name`
 //! is how a name is told, and `lines` has the memory for a line. `compare` says of two documents what they are to each
 //! other, `comparison` has what is asked. `new_file` writes what a task makes into a file that then takes its place.
+//!
+//! Over the streams of a program (`standard`) `judge` says what a task has to say of documents by their names, `convert`
+//! writes what it makes of one, and `pair` compares two.
 #![tactic(auto)]
 
 mod block_target;

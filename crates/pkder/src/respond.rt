@@ -50,14 +50,8 @@ pub fn respond<R: Source + Drop, W: Flush, E: Target, O: Opener, M: NewFiles>(
 ) -> u8
     requires readable { IsReadable R.has_failed standard.old.input }
     requires writable { W.has_failed standard.old.output ≡ false }
-    ensures { Responds ⟦<Document as Valued>⟧.value (record {
-      input_failed = R.has_failed;
-      input_remaining = R.remaining;
-      failed = O.Document.has_failed;
-      remaining = O.Document.remaining;
-      told = O.told system.now.opener;
-      unopened = O.refuses system.now.opener;
-    }) M.File.made (M.refuses system.now.files)
+    ensures { Responds ⟦<Document as Valued>⟧.value (sources_of R.has_failed R.remaining O.Document.has_failed
+        O.Document.remaining (O.told system.now.opener) (O.refuses system.now.opener)) M.File.made (M.refuses system.now.files)
         system.now.is_terminal (map string_bytes words.entry.now)
         (seen R.remaining W.contents W.has_failed W.is_flushed E.contents E.has_failed standard.old)
         (seen R.remaining W.contents W.has_failed W.is_flushed E.contents E.has_failed standard.new)
@@ -78,14 +72,8 @@ fn perform<R: Source + Drop, W: Flush, E: Target, O: Opener, M: NewFiles>(
 ) -> u8
     requires readable { IsReadable R.has_failed standard.old.input }
     requires writable { W.has_failed standard.old.output ≡ false }
-    ensures { Does ⟦<Document as Valued>⟧.value (record {
-      input_failed = R.has_failed;
-      input_remaining = R.remaining;
-      failed = O.Document.has_failed;
-      remaining = O.Document.remaining;
-      told = O.told system.now.opener;
-      unopened = O.refuses system.now.opener;
-    }) M.File.made (M.refuses system.now.files)
+    ensures { Does ⟦<Document as Valued>⟧.value (sources_of R.has_failed R.remaining O.Document.has_failed
+        O.Document.remaining (O.told system.now.opener) (O.refuses system.now.opener)) M.File.made (M.refuses system.now.files)
         system.now.is_terminal asked.now
         (seen R.remaining W.contents W.has_failed W.is_flushed E.contents E.has_failed standard.old)
         (seen R.remaining W.contents W.has_failed W.is_flushed E.contents E.has_failed standard.new)
@@ -112,14 +100,8 @@ fn follow<R: Source + Drop, W: Flush, E: Target, O: Opener, M: NewFiles>(
 ) -> u8
     requires readable { IsReadable R.has_failed standard.old.input }
     requires writable { W.has_failed standard.old.output ≡ false }
-    ensures { Follows ⟦<Document as Valued>⟧.value (record {
-      input_failed = R.has_failed;
-      input_remaining = R.remaining;
-      failed = O.Document.has_failed;
-      remaining = O.Document.remaining;
-      told = O.told system.now.opener;
-      unopened = O.refuses system.now.opener;
-    }) M.File.made (M.refuses system.now.files)
+    ensures { Follows ⟦<Document as Valued>⟧.value (sources_of R.has_failed R.remaining O.Document.has_failed
+        O.Document.remaining (O.told system.now.opener) (O.refuses system.now.opener)) M.File.made (M.refuses system.now.files)
         system.now.is_terminal order.now
         (is_binary order.now.task.action) (is_none order.now.to && system.now.is_terminal)
         (seen R.remaining W.contents W.has_failed W.is_flushed E.contents E.has_failed standard.old)
