@@ -1,4 +1,6 @@
 //! The file of `--to`, which is written whole beside its place and then moved there, or not made at all.
+ghost use Rattle.std.specs.Prelude.{◌≡◌};
+ghost use Rattle.pkder.specs.NewFiles.{mode_of};
 
 use pk_commands::flush::ToFlush;
 use pk_commands::new_file::{NewFile, NewFiles, Stage, Unmade};
@@ -55,11 +57,7 @@ impl<'a> NewFiles for FilesBeside<'a> {
         let name = name.to_string(self.rt.alloc())?;
         let place = followed(self.rt, name.as_str())?;
         let replaced = regular(self.rt, place.as_str())?;
-        let mode = if is_private || replaced.is_some() {
-            0o600
-        } else {
-            0o666
-        };
+        let mode = mode_of(is_private || replaced.is_some());
         for number in 0..TRIES {
             let path = beside(self.rt, place.as_str(), number)?;
             match OpenOptions::new()
@@ -135,6 +133,13 @@ impl NewFile for FileBeside<'_> {
 fn moved(rt: &HostRuntime, file: &File, path: &str, place: &str) -> io::Result<()> {
     file.sync_all()?;
     fs::rename(rt, path, place)
+}
+
+/// The mode that a file is made with: for its owner alone, or for all that the user's mask lets in.
+fn mode_of(is_private: bool) -> u32
+    ensures { result ≡ mode_of is_private }
+{
+    if is_private { 0o600 } else { 0o666 }
 }
 
 /// The name of a file beside this one.
