@@ -1,9 +1,10 @@
 #!/usr/bin/env python3
-"""what_to_read.py [--check|--write|CALL]: which definitions the contracts of the public calls stand on.
+"""what_to_read.py [--check|--write|[--text] CALL]: which definitions the contracts of the public calls stand on.
 
 From the names in a call's clauses it follows definition by definition, through the imports of the files in specs/, and
 counts the lines of what it reaches, without comments, imports and empty lines: what an auditor of the call has to read.
-With a CALL it lists the files, with their lines and the names that are reached. It doesn't follow into std and clap,
+With a CALL it lists the files, with their lines and the names that are reached; with --text it prints these definitions
+as one text, with their comments, those of a file after those of the files that it imports. It doesn't follow into std and clap,
 which are trusted, into the plain reading, which laws tie to the rest, nor into src/: types that are declared there, and
 what a type stands for (`ghost value`).
 
@@ -18,7 +19,7 @@ TOP = os.path.dirname(os.path.dirname(os.path.realpath(__file__)))
 PAGE = f"{TOP}/docs/definitions.md"
 OF_C = ("normalise", "check", "same", "signed", "show", "explain", "field", "reason_name", "interface")
 CALLS = {"run": "pk_commands/src/run.rt", "run_files": "pk_commands/src/files.rt", "asked_of": "pkder/src/line.rt",
-         "compare": "pk_commands/src/compare.rt", "show_text": "pk_show/src/lib.rt"}
+         "compare": "pk_commands/src/compare.rt", "show_text": "pk_show/src/lib.rt", "respond": "pkder/src/respond.rt"}
 CALLS |= {f"pkder_{it}": "pkder_c/src/lib.rt" for it in OF_C}
 PLAIN_READING = {f"x690.{it}" for it in ("Reading", "ReadHeaders", "ReadContents", "ReadTypes")}
 # what the plain reading answers, and the relation by which the law `answers::there_is_one_answer` says the same
@@ -60,14 +61,16 @@ class Module:
         crate, _, file = name.partition(".")
         with open(f"{TOP}/crates/{crate}/specs/{file}.antt", encoding="utf-8") as it:
             text = it.read()
-        parts = []
+        parts, self.texts = [], []
         for chunk in text.split("\n\n"):
             lines = [re.sub(r" -- .*", "", it) for it in chunk.split("\n")]
             lines = [it for it in lines if it.strip() and not re.match(r"\s*--|(pub )?(use|mod) ", it)]
             if lines and lines[0].startswith(" ") and parts:
                 parts[-1] += lines
+                self.texts[-1] += f"\n\n{chunk.rstrip()}"
             elif lines:
                 parts.append(lines)
+                self.texts.append(chunk.strip("\n"))
         self.defines = {it: (at, lines) for at, lines in enumerate(parts) for it in defined_by(lines)}
         self.seen = {**imported(text), **{it: (name, it) for it in self.defines}}
 
@@ -107,6 +110,29 @@ def reached(function, file):
     return {module: parts for module, parts in found.items() if parts}
 
 
+def in_order(modules):
+    """The modules, each after those that it imports."""
+    found = []
+
+    def visit(module):
+        if module in modules and module not in found:
+            for below in sorted({it for it, _ in module_of(module).seen.values()} - {module}):
+                visit(below)
+            found.append(module)
+
+    for module in sorted(modules):
+        visit(module)
+    return found
+
+
+def text_of(call):
+    """The definitions that a call stands on, as one text."""
+    modules = reached(call, CALLS[call])
+    for module in in_order(modules):
+        yield f"-- ======== crates/{module.replace('.', '/specs/')}.antt"
+        yield from (module_of(module).texts[place] for place in sorted(modules[module]))
+
+
 def count(parts):
     return sum(len(lines) for _, lines in parts.values())
 
@@ -127,6 +153,9 @@ def main(words):
         for module, parts in sorted(reached(words[0], CALLS[words[0]]).items()):
             names = ", ".join(name for name, _ in parts.values())
             print(f"{count(parts):5} crates/{module.replace('.', '/specs/')}.antt: {names}")
+        return 0
+    if words[:1] == ["--text"] and words[1:] and words[1] in CALLS:
+        print("\n\n".join(text_of(words[1])))
         return 0
     rows = table()
     with open(PAGE, encoding="utf-8") as it:
