@@ -44,7 +44,7 @@ crate.
 LIBRARIES=proved takes the libraries below a crate as `rt ci` left them just before. Without it, and where the toolchain
 doesn't take them so, `rt check` proves them first.
 
-Each edit has a line; the last line is 'edits: N passed, M failed'."""
+Each edit has a line, and those that failed have it once more at the end; the last line is 'edits: N passed, M failed'."""
 import concurrent.futures
 import hashlib
 import os
@@ -677,7 +677,7 @@ def run(record, chosen, jobs, mode, lines=("all",)):
     for it, edits in wanted.items() if mode in ("--quarter", "--stale") else ():
         wanted[it] = kept[it.name].left(edits, [record.of_turn(edits)] if mode == "--quarter" and edits else [])
     wanted.setdefault(crates[CONTROL_CRATE], [])
-    share.left, running, waiting, counts = len(wanted), {}, {}, {True: 0, False: 0}
+    share.left, running, waiting, counts, failed = len(wanted), {}, {}, {True: 0, False: 0}, []
     with tempfile.TemporaryDirectory(prefix="edits-") as room, concurrent.futures.ThreadPoolExecutor(jobs) as lanes:
         for it in in_turn(wanted, lines):
             running[lanes.submit(try_crate, it, wanted[it], it.name == CONTROL_CRATE, room, share)] = it
@@ -685,8 +685,9 @@ def run(record, chosen, jobs, mode, lines=("all",)):
             waiting[running[came]], control = came.result()
             if control:
                 share.control(CONTROL_CRATE)
-            for text in waiting[running[came]].values():
+            for edit, text in waiting[running[came]].items():
                 counts[is_well(text)] += 1
+                failed += [] if is_well(text) else [f"edit {running[came].name}/{edit.name}: {text}"]
             if share.is_controlled:
                 note_all(record, waiting, kept, recorded)
                 waiting = {}
@@ -694,6 +695,9 @@ def run(record, chosen, jobs, mode, lines=("all",)):
         say("the control failed, so nothing that is said here counts")
     counts[share.is_controlled] += 1
     counts[False] += sum(len(edits) for it, edits in wanted.items() if it not in running.values())
+    # (once more, where whoever sees the end alone sees them)
+    for it in sorted(failed):
+        say(it)
     say(f"edits: {counts[True]} passed, {counts[False]} failed")
     return 1 if counts[False] else 0
 
