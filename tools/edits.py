@@ -44,7 +44,7 @@ crate.
 LIBRARIES=proved takes the libraries below a crate as `rt ci` left them just before. Without it, and where the toolchain
 doesn't take them so, `rt check` proves them first.
 
-Each edit has a line, and those that failed have it once more at the end; the last line is 'edits: N passed, M failed'."""
+Each edit has a line, those that failed once more at the end; the last line is 'edits: N passed, M failed'."""
 import concurrent.futures
 import hashlib
 import os

@@ -4,9 +4,9 @@
 From the names in a call's clauses it follows definition by definition, through the imports of the files in specs/, and
 counts the lines of what it reaches, without comments, imports and empty lines: what an auditor of the call has to read.
 With a CALL it lists the files, with their lines and the names that are reached; with --text it prints these definitions
-as one text, with their comments, those of a file after those of the files that it imports. It doesn't follow into std and clap,
-which are trusted, into the plain reading, which laws tie to the rest, nor into src/: types that are declared there, and
-what a type stands for (`ghost value`).
+as one text, with their comments, those of a file after those of the files that it imports. It doesn't follow into std
+and clap, which are trusted, into the plain reading, which laws tie to the rest, nor into src/: types that are declared
+there, and what a type stands for (`ghost value`).
 
 --check compares the table with the one in docs/definitions.md and ends in 'definitions: N passed, M failed', a line of
 the table counting once; --write puts it there."""
