@@ -17,38 +17,44 @@ pub(crate) struct Resolved {
     pub shape: &'static Shape,
 }
 
-/// What the type comes to for an element of this tag, with so many containers open around it, behind these earlier
-/// elements of the innermost one. The name and the mark are those around the type.
+/// What stands before an element.
+#[derive(Clone, Copy)]
+pub(crate) struct Before<'a> {
+    pub document: &'a [u8],
+    /// How many containers are open around it.
+    pub depth: u64,
+    /// The elements before it in the innermost one of these.
+    pub elements: &'a [NamedElement],
+}
+
+/// What the type comes to for an element of this tag, by what stands before it. The name and the mark are those around
+/// the type.
 pub(crate) fn resolve(
-    document: &[u8],
+    before: Before<'_>,
     tag: Tag,
-    depth: u64,
-    earlier: &[NamedElement],
     named: Option<&'static str>,
     private: bool,
     shape: &'static Shape,
 ) -> Resolved
-    ensures { result ≡ resolved (λ path. leaf_at document.now depth path earlier.now) tag named.entry private
-        shape.entry.ref_ptr shape.entry.now }
+    ensures { result ≡ resolved (λ path. leaf_at before.entry.document.now before.entry.depth path
+        before.entry.elements.now) tag named.entry private shape.entry.ref_ptr shape.entry.now }
 {
     match shape {
-        Shape::Named(name, inner) => {
-            resolve(document, tag, depth, earlier, Some(name), private, inner)
-        }
-        Shape::Private(inner) => resolve(document, tag, depth, earlier, named, true, inner),
+        Shape::Named(name, inner) => resolve(before, tag, Some(name), private, inner),
+        Shape::Private(inner) => resolve(before, tag, named, true, inner),
         Shape::Choice(first, second) => {
             if first.fits(tag) {
-                resolve(document, tag, depth, earlier, named, private, first)
+                resolve(before, tag, named, private, first)
             } else {
-                resolve(document, tag, depth, earlier, named, private, second)
+                resolve(before, tag, named, private, second)
             }
         }
         Shape::DefinedBy(path, identifiers, first, second) => {
-            let leaf = leaf_at(document, depth, path, earlier);
+            let leaf = leaf_at(before.document, before.depth, path, before.elements);
             if is_one_of(leaf, identifiers) {
-                resolve(document, tag, depth, earlier, named, private, first)
+                resolve(before, tag, named, private, first)
             } else {
-                resolve(document, tag, depth, earlier, named, private, second)
+                resolve(before, tag, named, private, second)
             }
         }
         _ => Resolved {

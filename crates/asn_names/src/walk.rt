@@ -4,7 +4,7 @@ ghost use Rattle.asn_names.specs.Walks.{began, begins_as, begins_at, begins_outs
 
 use crate::element::{Level, NamedElement, Parting, Step};
 use crate::level::{Place, level_of, may_close, outermost, place_in};
-use crate::resolved::resolve;
+use crate::resolved::{Before, resolve};
 use asn_outline::event::ElementHeader;
 use asn_shapes::shape::Shape;
 use std::alloc::AllocError;
@@ -233,16 +233,12 @@ fn typed_as(
             private,
         };
     };
-    let earlier = behind(elements, around);
-    let resolved = resolve(
+    let before = Before {
         document,
-        header.tag,
-        header.depth,
-        earlier,
-        None,
-        private,
-        shape,
-    );
+        depth: header.depth,
+        elements: behind(elements, around),
+    };
+    let resolved = resolve(before, header.tag, None, private, shape);
     Typed {
         type_name: resolved.type_name,
         shape: Some(resolved.shape),

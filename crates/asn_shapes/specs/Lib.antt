@@ -2,6 +2,7 @@ pub mod Blames
 pub mod DueLaws
 pub mod Dues
 pub mod Identifiers
+pub mod Names
 pub mod PlaceLaws
 pub mod Secrets
 pub mod Terms

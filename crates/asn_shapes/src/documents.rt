@@ -1,5 +1,7 @@
 //! The type of each kind of document, with the names of its ASN.1 (`docs/formats.md`).
 ghost use Rattle.std.specs.Prelude.{[], ◌≡◌};
+ghost use Rattle.asn_shapes.specs.Names as names;
+ghost use Rattle.asn_shapes.specs.Names.{names_in};
 ghost use Rattle.asn_shapes.specs.Secrets as secrets;
 ghost use Rattle.asn_shapes.specs.Secrets.{private_ways};
 ghost use Rattle.asn_shapes.specs.Terms.{bare, term_of};
@@ -28,6 +30,7 @@ static PACKAGE: Shape = ASYMMETRIC_KEY_PACKAGE;
 pub fn key() -> &'static Shape
     ensures type_term { term_of result.now ≡ bare types.OneAsymmetricKey }
     ensures private { private_ways result.now ≡ secrets.of_key }
+    ensures names { names_in result.now ≡ names.in_key }
 {
     &KEY
 }
@@ -36,6 +39,7 @@ pub fn key() -> &'static Shape
 pub fn ec_key() -> &'static Shape
     ensures type_term { term_of result.now ≡ bare types.ECPrivateKey }
     ensures private { private_ways result.now ≡ secrets.of_ec_key }
+    ensures names { names_in result.now ≡ names.in_ec_key }
 {
     &EC_KEY
 }
@@ -44,6 +48,7 @@ pub fn ec_key() -> &'static Shape
 pub fn request() -> &'static Shape
     ensures type_term { term_of result.now ≡ bare types.CertificationRequest }
     ensures private { private_ways result.now ≡ secrets.of_request }
+    ensures names { names_in result.now ≡ names.in_request }
 {
     &REQUEST
 }
@@ -52,6 +57,7 @@ pub fn request() -> &'static Shape
 pub fn public_key() -> &'static Shape
     ensures type_term { term_of result.now ≡ bare types.SubjectPublicKeyInfo }
     ensures private { private_ways result.now ≡ [] }
+    ensures names { names_in result.now ≡ names.in_public_key }
 {
     &PUBLIC_KEY
 }
@@ -60,6 +66,7 @@ pub fn public_key() -> &'static Shape
 pub fn encrypted_key() -> &'static Shape
     ensures type_term { term_of result.now ≡ bare types.EncryptedPrivateKeyInfo }
     ensures private { private_ways result.now ≡ secrets.of_encrypted_key }
+    ensures names { names_in result.now ≡ names.in_encrypted_key }
 {
     &ENCRYPTED_KEY
 }
@@ -68,6 +75,7 @@ pub fn encrypted_key() -> &'static Shape
 pub fn package() -> &'static Shape
     ensures type_term { term_of result.now ≡ bare types.AsymmetricKeyPackage }
     ensures private { private_ways result.now ≡ secrets.of_package }
+    ensures names { names_in result.now ≡ names.in_key }
 {
     &PACKAGE
 }

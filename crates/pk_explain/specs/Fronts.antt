@@ -27,10 +27,10 @@ is_one_of [] one other = false
 is_one_of (octet ∷ []) one other = (octet == one) || (octet == other)
 is_one_of (octet ∷ (next ∷ octets)) one other = false
 
--- Contents are usual: version 0 or 1; TRUE or FALSE; NULL; an object identifier that has a usual name.
+-- Contents are usual: version 0 or 1; critical TRUE or FALSE; NULL; an object identifier that has a usual name.
 abbrev pub is_usual : Sort → Step → List ℕ → Bool
 is_usual Integer step contents = is_field step (codes "version") && is_one_of contents 0 1
-is_usual Boolean step contents = is_one_of contents 0 255
+is_usual Boolean step contents = is_field step (codes "critical") && is_one_of contents 0 255
 is_usual Null step contents = length contents == 0
 is_usual Identifier step contents = is_some (usual contents)
 is_usual Bits step contents = false

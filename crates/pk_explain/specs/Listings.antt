@@ -3,6 +3,7 @@
 use Rattle.std.specs.Prelude.{Bool, List, None, Option, Some, [], cond, length, min, suc, true, unwrap_or, zero, ℕ, ◌+◌, ◌-◌, ◌^◌, ◌++◌, ◌∷◌, ◌≡◌, ◌==◌}
 use Rattle.std.specs.List.{slice_get}
 use Rattle.asn_names.specs.declared.element.NamedElement.{NamedElement}
+use Rattle.pk_explain.specs.Blames.{saturating_sum}
 use Rattle.pk_explain.specs.Causes.{causes_of, line_cause}
 use Rattle.pk_explain.specs.Fronts.{is_deeper}
 use Rattle.pk_explain.specs.Lines.{AddsLine}
@@ -62,6 +63,11 @@ abbrev pub Lists : Page → ℕ → Telling → Telling → Type 0
 Lists page zero start end = end ≡ start
 Lists page (suc number) start end =
     (before : Telling) × Lists page number start before × AddsElement page number before end
+
+-- the place of an element in its document; 0 of none
+abbrev pub own_place : Option NamedElement → ℕ
+own_place None = 0
+own_place (Some element) = element.header.at
 
 -- the causes of the elements of a document inside, where those of the file have any
 abbrev pub causes_inside : List (Option Cause) → Inside → List (Option Cause)
@@ -124,3 +130,13 @@ pub record IsListed (page : Page) (insides : List Inside) (lines : List Line) : 
   pub end : Telling
   pub lists : ListsFile page insides (length page.elements) left end
   pub are : lines ≡ end.lines
+
+abbrev pub with_inside : ℕ → List Inside → ℕ
+with_inside count [] = count
+with_inside count (inside ∷ insides) =
+    with_inside (saturating_sum count (length inside.named.elements.items)) insides
+
+-- How many lines there are at most: one of each element of a file, one of each in the documents inside, and one of the
+-- fault.
+abbrev pub most_lines : List NamedElement → List Inside → ℕ
+most_lines elements insides = with_inside (saturating_sum (length elements) 1) insides

@@ -1,6 +1,6 @@
 -- Where the elements of a document stand in the file. A document's octets stand there in pieces: those of the file in
 -- one, those inside an OCTET STRING in one for each of its segments.
-use Rattle.std.specs.Prelude.{Bool, List, None, Option, Some, [], cond, min, nat_le, nat_lt, unwrap_or, ℕ, ◌+◌, ◌-◌, ◌^◌, ◌∷◌, ◌==◌, ◌≡◌}
+use Rattle.std.specs.Prelude.{Bool, List, None, Option, Some, [], cond, min, nat_le, nat_lt, true, unwrap_or, ℕ, ◌+◌, ◌-◌, ◌^◌, ◌∷◌, ◌==◌, ◌≡◌}
 use Rattle.asn_names.specs.declared.element.NamedElement.{NamedElement}
 use Rattle.asn_outline.specs.declared.event.ElementHeader.{ElementHeader}
 use Rattle.pk_explain.specs.Lines.{end_behind, told_length}
@@ -100,3 +100,8 @@ Skips pieces before rest = (number : ℕ) → place_of rest number ≡ place_of 
 
 abbrev pub SkipsIn : Sheet → Type 0
 SkipsIn sheet = Skips sheet.pieces.now sheet.before sheet.rest.now
+
+-- an octet, counted from the first one of the pieces, stands in the first of them; or there are none
+abbrev pub is_in_first : List Piece → ℕ → Bool
+is_in_first [] number = true
+is_in_first (piece ∷ pieces) number = nat_lt number piece.octets

@@ -1,6 +1,8 @@
--- The type of a kind's documents as data: which one it is, and what in it is private.
-use Rattle.std.specs.Prelude.{List, [], ◌≡◌}
+-- The type of a kind's documents as data: which one it is, what in it is private, and what its fields are called.
+use Rattle.std.specs.Prelude.{List, [], ℕ, ◌≡◌}
 use Rattle.std.specs.Borrow.{Bor}
+use Rattle.asn_shapes.specs.Names as names
+use Rattle.asn_shapes.specs.Names.{names_in}
 use Rattle.asn_shapes.specs.Secrets as secrets
 use Rattle.asn_shapes.specs.Secrets.{private_ways}
 use Rattle.asn_shapes.specs.Terms.{bare, term_of}
@@ -19,6 +21,16 @@ private_of Public = []
 private_of Encrypted = secrets.of_encrypted_key
 private_of Package = secrets.of_package
 
+-- the names of the fields in documents of the kind, by which a report says what is public
+abbrev pub names_of : Kind → List (List ℕ)
+names_of Key = names.in_key
+names_of Ec = names.in_ec_key
+names_of Request = names.in_request
+names_of Public = names.in_public_key
+names_of Encrypted = names.in_encrypted_key
+names_of Package = names.in_key
+
 pub record IsShapeOf (of : Kind) (root : Bor Shape) : Type 0 where
   pub type : term_of root.now ≡ bare (type_of of)
   pub private : private_ways root.now ≡ private_of of
+  pub names : names_in root.now ≡ names_of of

@@ -1,5 +1,5 @@
 -- A report as it is written.
-use Rattle.std.specs.Prelude.{◌≡◌, ◌++◌, ℕ, List, None, codes, cond}
+use Rattle.std.specs.Prelude.{◌≡◌, ◌++◌, ℕ, List, None, Option, codes, cond}
 use Rattle.json.specs.Print.{print}
 use Rattle.tlv_core.specs.Limits.{Limits}
 use Rattle.pk_documents.specs.declared.kind.Kind.{Kind}
@@ -20,10 +20,10 @@ version = codes "1.1.0, for logic dac8208d650f15bf"
 abbrev pub places_told : ℕ
 places_told = 100
 
--- a report in this form
-abbrev pub written_text : Form → Report → List ℕ
-written_text form report =
-    cond form.json (print (report_object report version None form.all form.places) ++ line_feed)
+-- a report in this form, of the file of this name
+abbrev pub written_text : Form → Option (List ℕ) → Report → List ℕ
+written_text form file report =
+    cond form.json (print (report_object report version file form.all form.places) ++ line_feed)
     (report_lines report form.all form.places)
 
 -- The text is the report of these octets, and the answer the one in it.
@@ -32,7 +32,7 @@ IsWritten form limits kind octets text answer =
     (report : Report)
     × IsReportOf limits kind octets report
     × (answer ≡ report.answer)
-    × (text ≡ written_text form report)
+    × (text ≡ written_text form None report)
 
 -- The text is the path of the field that the report of these octets is about, and the answer the one in it.
 abbrev pub IsFieldOf : Limits → Kind → List ℕ → List ℕ → Answer → Type 0

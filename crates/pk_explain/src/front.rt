@@ -282,13 +282,14 @@ fn is_usual_leaf(element: &NamedElement, contents: &[u8]) -> bool
     is_usual(sort_of(element), element.step, contents)
 }
 
-/// Whether contents say one of a few things: version 0 or 1, an identifier that has a usual name, NULL, TRUE or FALSE.
+/// Whether contents say one of a few things: version 0 or 1, an identifier that has a usual name, NULL, critical TRUE or
+/// FALSE.
 fn is_usual(sort: Sort, step: Step, contents: &[u8]) -> bool
     ensures { result ≡ is_usual sort step contents.now }
 {
     match sort {
         Sort::Integer => is_field(step, "version") && is_one_of(contents, 0, 1),
-        Sort::Boolean => is_one_of(contents, 0, 255),
+        Sort::Boolean => is_field(step, "critical") && is_one_of(contents, 0, 255),
         Sort::Null => contents.is_empty(),
         Sort::Identifier => identifier_of(contents).is_some(),
         Sort::Bits | Sort::Characters | Sort::Octets => false,

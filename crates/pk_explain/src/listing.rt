@@ -1,11 +1,11 @@
 //! The lines of a report: an element each.
-ghost use Rattle.std.specs.Prelude.{List, Option, Some, ℕ, [], ◌≡◌, ◌⊎◌, ◌++◌, ◌∷◌, IfOk, OnOk, length, min, slice_get, true, unwrap_or, ◌+◌, ◌-◌, ◌^◌};
+ghost use Rattle.std.specs.Prelude.{List, Option, Some, ℕ, [], ◌≡◌, IfOk, OnOk, length, min, slice_get, true, unwrap_or, ◌+◌, ◌-◌, ◌^◌};
 ghost use Rattle.std.specs.Option.{option_map};
 ghost use Rattle.asn_names.specs.declared.element.NamedElement.{NamedElement};
 ghost use Rattle.pk_explain.specs.Causes.{line_cause};
 ghost use Rattle.pk_explain.specs.Fronts.{is_deeper};
 ghost use Rattle.pk_explain.specs.Lines.{AddsLine, IsHeaderLine, IsTold, inside_of, size_between};
-ghost use Rattle.pk_explain.specs.Listings.{AddsDocument, AddsElement, IsListed, Lists, Telling, behind_inside, causes_inside, first_inside, hidden_behind, number_around, own_number, start_of, telling};
+ghost use Rattle.pk_explain.specs.Listings.{AddsDocument, AddsElement, IsListed, Lists, Telling, behind_inside, causes_inside, first_inside, hidden_behind, most_lines, number_around, own_number, own_place, start_of, telling};
 ghost use Rattle.pk_explain.specs.Places.{SkipsIn, page_of};
 
 use crate::causes::{cause_within, causes_of};
@@ -214,7 +214,9 @@ fn push_inside(alloc: Global, lines: &mut Vec<Line>, sheet: Sheet<'_>) -> Result
 }
 
 /// The place of the element of this number, in its document.
-fn place_at(elements: &[NamedElement], number: usize) -> u64 {
+fn place_at(elements: &[NamedElement], number: usize) -> u64
+    ensures { result ≡ own_place (slice_get elements.now number) }
+{
     match elements.get(number) {
         Some(element) => element.header.at,
         None => 0,
@@ -257,10 +259,14 @@ pub(crate) fn lines_of(
 }
 
 /// How many lines there are at most: one of each element, and one of the fault.
-fn most_lines(elements: &[NamedElement], insides: &[Inside]) -> usize {
+fn most_lines(elements: &[NamedElement], insides: &[Inside]) -> usize
+    ensures { result ≡ most_lines elements.now insides.now }
+{
     let mut count = elements.len().saturating_add(1);
-    for inside in insides {
+    let mut left = insides;
+    while let [inside, behind @ ..] = left {
         count = count.saturating_add(inside.named.elements.len());
+        left = behind;
     }
     count
 }

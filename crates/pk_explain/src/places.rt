@@ -1,8 +1,8 @@
 //! Where the elements of a document stand in the file, and where they end.
-ghost use Rattle.std.specs.Prelude.{◌≡◌, ◌≤◌};
+ghost use Rattle.std.specs.Prelude.{true, ◌-◌, ◌≡◌, ◌≤◌};
 ghost use Rattle.pk_explain.specs.Blames.{announced_end};
 ghost use Rattle.pk_explain.specs.Lines.{end_behind, told_length};
-ghost use Rattle.pk_explain.specs.Places.{Skips, SkipsIn, end_by_length, end_of, page_of, place_in_file, place_of, placed_in, sum_of, told_end};
+ghost use Rattle.pk_explain.specs.Places.{Skips, SkipsIn, end_by_length, end_of, is_in_first, page_of, place_in_file, place_of, placed_in, sum_of, told_end};
 
 use asn_names::element::NamedElement;
 use asn_outline::event::ElementHeader;
@@ -208,6 +208,7 @@ fn end_in(sheet: Sheet<'_>, count: u64) -> Option<u64>
 fn pieces_from(pieces: &[Piece], number: u64) -> (&[Piece], u64)
     ensures within { result.1 ≤ number }
     ensures skips { Skips pieces.now result.1 result.0.now }
+    ensures here { is_in_first result.0.now (number - result.1) ≡ true }
 {
     let mut rest = pieces;
     let mut before: u64 = 0;
@@ -228,10 +229,11 @@ pub(crate) fn later_pieces<'a>(
     before: u64,
     number: u64,
 ) -> (&'a [Piece], u64)
-    ensures { Skips pieces.now before rest.now → Skips pieces.now result.1 result.0.now }
+    ensures skips { Skips pieces.now before rest.now → Skips pieces.now result.1 result.0.now }
+    ensures here { is_in_first result.0.now (number - result.1) ≡ true }
 {
     if number < before {
-        return (pieces, 0);
+        return pieces_from(pieces, number);
     }
     let (here, count) = pieces_from(rest, number - before);
     (here, before + count)

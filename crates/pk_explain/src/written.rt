@@ -1,5 +1,6 @@
 //! A report as it is written.
 ghost use Rattle.std.specs.Prelude.{◌≡◌, IfOk, string_bytes};
+ghost use Rattle.std.specs.Option.{option_map};
 ghost use Rattle.pk_explain.specs.Written.{IsFieldOf, IsWritten, written_text};
 
 use crate::explained::explain;
@@ -38,16 +39,22 @@ pub fn explain_text(
         (string_bytes written.0) written.1) }
 {
     let report = explain(alloc, octets, kind, limits)?;
-    let text = written(alloc, &report, form)?;
+    let text = written_report(alloc, &report, None, form)?;
     Ok((text, report.answer))
 }
 
-/// A report in this form.
-fn written(alloc: Global, report: &Report, form: Form) -> Result<String, AllocError>
-    ensures { IfOk result (λ text. string_bytes text ≡ written_text form report.now) }
+/// A report in this form. JSON says which file it is of, if that has a name.
+pub fn written_report(
+    alloc: Global,
+    report: &Report,
+    file: Option<&str>,
+    form: Form,
+) -> Result<String, AllocError>
+    ensures { IfOk result (λ text. string_bytes text
+        ≡ written_text form (option_map (λ r. r.now) file.entry) report.now) }
 {
     if form.json {
-        return report_json(alloc, report, VERSION, None, form.all, form.places);
+        return report_json(alloc, report, VERSION, file, form.all, form.places);
     }
     report_text(alloc, report, form.all, form.places)
 }

@@ -13,7 +13,7 @@ loop-i-init c = record {
 
 pub loop-i-preserved : goal.loop-i-preserved
 loop-i-preserved c =
-    let skips = c.later_pieces-octets.ensures c.loop-i.invariant.skips in
+    let skips = c.later_pieces-octets.ensures.skips c.loop-i.invariant.skips in
     record {
       skips = skips;
       lists = one_more (page_of c.args.sheet) c.loop-i.i _ _ _ c.loop-i.invariant.lists (c.in_ok-next.ensures skips);

@@ -1,9 +1,17 @@
-use Rattle.pk_explain.proofs.Pieces.{skip_later, skip_none}
+use Rattle.std.proofs.Common.{arith, subst, true, ◌+◌, ◌-◌, ◌≡◌}
+use Rattle.pk_explain.specs.Places.{is_in_first}
+use Rattle.pk_explain.proofs.Pieces.{skip_later}
 use Rattle.pk_explain.proofs.places.later_pieces.Goals as goal
 
-pub returns-then-number-before : goal.returns-then-number-before
-returns-then-number-before c = λ skips. skip_none c.args.pieces.now
+pub returns-then-number-before-clause-skips : goal.returns-then-number-before-clause-skips
+returns-then-number-before-clause-skips c = λ skips. c.pieces_from.ensures.skips
 
-pub returns : goal.returns
-returns c = λ skips.
+pub returns-clause-skips : goal.returns-clause-skips
+returns-clause-skips c = λ skips.
     skip_later c.args.pieces.now c.args.before c.args.rest.now _ _ c.pieces_from-count.ensures.skips skips
+
+pub returns-clause-here : goal.returns-clause-here
+returns-clause-here c =
+    let same : (c.args.number - c.args.before) - c.pieces_from-count.result.1
+    ≡ c.args.number - (c.args.before + c.pieces_from-count.result.1) = omega arith in
+    subst (λ number. is_in_first c.pieces_from-count.result.0.now number ≡ true) same c.pieces_from-count.ensures.here
