@@ -72,7 +72,7 @@ pub fn report_json(
 }
 
 #[tactic(auto, unfolding(crate::specs::Json::place_members))]
-fn push_place(json: &mut JsonText, at: u64, why: Reason) -> Result<(), AllocError>
+pub fn push_place(json: &mut JsonText, at: u64, why: Reason) -> Result<(), AllocError>
     ensures { OnOk result (json.new ≡ json.old ++ place_members at why) }
 {
     json.number("at", at)?;
@@ -80,7 +80,7 @@ fn push_place(json: &mut JsonText, at: u64, why: Reason) -> Result<(), AllocErro
 }
 
 #[tactic(auto, unfolding(crate::specs::Json::inside_members))]
-fn push_inside(json: &mut JsonText, inside: Option<(u64, Reason)>) -> Result<(), AllocError>
+pub fn push_inside(json: &mut JsonText, inside: Option<(u64, Reason)>) -> Result<(), AllocError>
     ensures { OnOk result (json.new ≡ json.old ++ inside_members inside) }
 {
     match inside {

@@ -11,7 +11,7 @@ use std::marker::Model;
 
 /// A text of JSON that is being written. A contract sees the tokens that stand there.
 #[derive(Drop)]
-pub(crate) struct JsonText {
+pub struct JsonText {
     writer: Writer,
 }
 
@@ -29,7 +29,7 @@ impl Model for JsonText {
 }
 
 impl JsonText {
-    pub(crate) fn new(alloc: Global) -> JsonText
+    pub fn new(alloc: Global) -> JsonText
         ensures { result ≡ [] }
     {
         JsonText {
@@ -37,42 +37,42 @@ impl JsonText {
         }
     }
 
-    pub(crate) fn begin_object(&mut self) -> Result<(), AllocError>
+    pub fn begin_object(&mut self) -> Result<(), AllocError>
         ensures { OnOk result (self.new ≡ self.old ++ begin_object ∷ []) }
     {
         self.writer.begin_object()
     }
 
     /// A member that is an object, up to the first member of that.
-    pub(crate) fn begin_object_at(&mut self, name: &str) -> Result<(), AllocError>
+    pub fn begin_object_at(&mut self, name: &str) -> Result<(), AllocError>
         ensures { OnOk result (self.new ≡ self.old ++ (key name.now ∷ begin_object ∷ [])) }
     {
         self.writer.key(name)?;
         self.writer.begin_object()
     }
 
-    pub(crate) fn end_object(&mut self) -> Result<(), AllocError>
+    pub fn end_object(&mut self) -> Result<(), AllocError>
         ensures { OnOk result (self.new ≡ self.old ++ end_object ∷ []) }
     {
         self.writer.end_object()
     }
 
     /// A member that is a list, up to its first item.
-    pub(crate) fn begin_list_at(&mut self, name: &str) -> Result<(), AllocError>
+    pub fn begin_list_at(&mut self, name: &str) -> Result<(), AllocError>
         ensures { OnOk result (self.new ≡ self.old ++ (key name.now ∷ begin_array ∷ [])) }
     {
         self.writer.key(name)?;
         self.writer.begin_array()
     }
 
-    pub(crate) fn end_list(&mut self) -> Result<(), AllocError>
+    pub fn end_list(&mut self) -> Result<(), AllocError>
         ensures { OnOk result (self.new ≡ self.old ++ end_array ∷ []) }
     {
         self.writer.end_array()
     }
 
     /// A member that is a string.
-    pub(crate) fn text(&mut self, name: &str, text: &str) -> Result<(), AllocError>
+    pub fn text(&mut self, name: &str, text: &str) -> Result<(), AllocError>
         ensures { OnOk result (self.new ≡ self.old ++ text_member name.now text.now) }
     {
         self.writer.key(name)?;
@@ -80,7 +80,7 @@ impl JsonText {
     }
 
     /// The same where there is something to say.
-    pub(crate) fn said(&mut self, name: &str, text: &str) -> Result<(), AllocError>
+    pub fn said(&mut self, name: &str, text: &str) -> Result<(), AllocError>
         ensures { OnOk result (self.new ≡ self.old ++ said_member name.now text.now) }
     {
         if text.is_empty() {
@@ -90,7 +90,7 @@ impl JsonText {
     }
 
     /// A member that is a number.
-    pub(crate) fn number(&mut self, name: &str, number: u64) -> Result<(), AllocError>
+    pub fn number(&mut self, name: &str, number: u64) -> Result<(), AllocError>
         ensures { OnOk result (self.new ≡ self.old ++ number_member name.now number) }
     {
         self.writer.key(name)?;
@@ -98,11 +98,7 @@ impl JsonText {
     }
 
     /// The same where there is one.
-    pub(crate) fn optional_number(
-        &mut self,
-        name: &str,
-        number: Option<u64>,
-    ) -> Result<(), AllocError>
+    pub fn optional_number(&mut self, name: &str, number: Option<u64>) -> Result<(), AllocError>
         ensures { OnOk result (self.new ≡ self.old ++ optional (number_member name.now) number) }
     {
         match number {
@@ -112,7 +108,7 @@ impl JsonText {
     }
 
     /// A member that is true or false.
-    pub(crate) fn boolean(&mut self, name: &str, value: bool) -> Result<(), AllocError>
+    pub fn boolean(&mut self, name: &str, value: bool) -> Result<(), AllocError>
         ensures { OnOk result (self.new ≡ self.old ++ boolean_member name.now value) }
     {
         self.writer.key(name)?;
@@ -120,7 +116,7 @@ impl JsonText {
     }
 
     /// The text as a line.
-    pub(crate) fn into_line(self) -> Result<String, AllocError>
+    pub fn into_line(self) -> Result<String, AllocError>
         ensures { IfOk result (λ text. string_bytes text ≡ print self ++ line_feed) }
     {
         let JsonText { writer } = self;

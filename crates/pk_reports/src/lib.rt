@@ -1,7 +1,8 @@
 //! What is reported of a document, and how it is written.
 //!
 //! `text` and those that begin so have the lines, `json_report` and those that begin so the JSON; the others have what
-//! both say, and `field` also what is said of the field alone.
+//! both say, and `field` also what is said of the field alone. What a comparison of two documents says in the same way
+//! is public: numbers, sizes, tags, paths, places of faults and members of JSON.
 //!
 //! Proved: the text of a report is `report_lines` of `specs/Reports.antt`, and its JSON the tokens `report_object` of
 //! `specs/Json.antt`, wherever there is memory for it. Those are functions of the report (of JSON also of the version,
@@ -16,20 +17,20 @@ pub mod field;
 mod hints;
 mod json_lists;
 pub mod json_report;
-mod json_text;
+pub mod json_text;
 mod json_words;
-mod paths;
-mod picks;
+pub mod paths;
+pub mod picks;
 mod placed_advice;
 mod reason_due;
 pub mod report;
-mod text;
-mod text_lines;
+pub mod text;
+pub mod text_lines;
 mod text_listing;
-mod text_report;
+pub mod text_report;
 mod text_wrap;
-mod type_words;
-mod words;
+pub mod type_words;
+pub mod words;
 
 use crate::report::Report;
 use crate::text_listing::push_listing;

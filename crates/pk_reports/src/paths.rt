@@ -7,7 +7,7 @@ use asn_names::element::Step;
 use std::alloc::{AllocError, Global};
 
 /// The path of the field that a way from the outermost element leads to; of that element itself the name of its type.
-pub(crate) fn path(alloc: Global, root: &str, way: &[Step]) -> Result<String, AllocError>
+pub fn path(alloc: Global, root: &str, way: &[Step]) -> Result<String, AllocError>
     ensures { IfOk result (λ text. string_bytes text ≡ path_text root.now way.now) }
 {
     let mut text = String::new(alloc);

@@ -130,7 +130,7 @@ pub(crate) fn first_cause(lines: &[Line]) -> u64
 
 /// The way from the outermost element to the line of this number.
 #[tactic(auto, unfolding(crate::specs::Picks::way_of))]
-pub(crate) fn way_to(alloc: Global, lines: &[Line], number: u64) -> Result<Vec<Step>, AllocError>
+pub fn way_to(alloc: Global, lines: &[Line], number: u64) -> Result<Vec<Step>, AllocError>
     ensures { IfOk result (λ way. way.items ≡ way_of lines.now number) }
 {
     let mut way = Vec::new(alloc);
@@ -155,7 +155,7 @@ fn push_steps(way: &mut Vec<Step>, lines: &[Line], number: u64, most: u64) -> Re
 }
 
 /// How many steps may stand before that to a line; none where what is around it doesn't stand before it.
-fn steps_before(around: u64, number: u64, most: u64) -> u64
+pub fn steps_before(around: u64, number: u64, most: u64) -> u64
     ensures { result ≡ cond (nat_lt around number) most 0 }
 {
     if around < number { most } else { 0 }

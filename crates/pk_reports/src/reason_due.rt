@@ -1,6 +1,6 @@
 //! What is due where the reason of a fault alone says it.
 ghost use Rattle.std.specs.Prelude.{◌≡◌};
-ghost use Rattle.pk_reports.specs.ReasonDue.{inside_version, reason_due, version_due, words_due};
+ghost use Rattle.pk_reports.specs.ReasonDue.{reason_due, version_due, words_due};
 
 use tlv_core::fault::Fault;
 use tlv_core::reason::Reason;

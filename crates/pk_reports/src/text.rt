@@ -6,7 +6,7 @@ use itoa::Buffer;
 use std::alloc::{AllocError, Global};
 
 /// A number in decimal digits.
-pub(crate) fn push_number(text: &mut String, number: u64) -> Result<(), AllocError>
+pub fn push_number(text: &mut String, number: u64) -> Result<(), AllocError>
     ensures { OnOk result (string_bytes text.new ≡ string_bytes text.old ++ decimal number) }
 {
     let mut buffer = Buffer::new();
@@ -14,7 +14,7 @@ pub(crate) fn push_number(text: &mut String, number: u64) -> Result<(), AllocErr
 }
 
 /// A number between two texts.
-pub(crate) fn push_between(
+pub fn push_between(
     text: &mut String,
     before: &str,
     number: u64,
@@ -84,7 +84,7 @@ fn push_octets_behind(alloc: Global, text: &mut String, octets: &[u8]) -> Result
 
 /// Characters between quotes.
 #[tactic(auto, unfolding(crate::specs::Texts::quoted))]
-pub(crate) fn push_quoted(alloc: Global, text: &mut String, octets: &[u8]) -> Result<(), AllocError>
+pub fn push_quoted(alloc: Global, text: &mut String, octets: &[u8]) -> Result<(), AllocError>
     ensures { OnOk result (string_bytes text.new ≡ string_bytes text.old ++ quoted octets.now) }
 {
     text.push_str("'")?;

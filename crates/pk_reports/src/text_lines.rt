@@ -367,7 +367,7 @@ fn push_sized(text: &mut String, line: &Line, octets: u64) -> Result<(), AllocEr
 
 /// How many bits of the last octet are unused, where some are.
 #[tactic(auto, unfolding(crate::specs::Lines::unused_part))]
-fn push_unused(text: &mut String, unused: u8) -> Result<(), AllocError>
+pub fn push_unused(text: &mut String, unused: u8) -> Result<(), AllocError>
     ensures { OnOk result (string_bytes text.new ≡ string_bytes text.old ++ unused_part unused) }
 {
     if unused == 0 {

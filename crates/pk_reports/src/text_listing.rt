@@ -1,5 +1,5 @@
 //! The listing: which lines of the elements are told.
-ghost use Rattle.std.specs.Prelude.{◌≡◌, ◌++◌, IfOk, OnOk, reverse, string_bytes};
+ghost use Rattle.std.specs.Prelude.{◌≡◌, ◌++◌, OnOk, reverse, string_bytes};
 ghost use Rattle.pk_reports.specs.Listings.{all_lines, causes_listing, gap, header_columns, header_width, layout_of, line_at, listed, listing, others_said, place_columns, some_listing};
 
 use crate::picks::{Pick, causes, line_of, picked};

@@ -1,5 +1,5 @@
 //! The parts of a report around its listing.
-ghost use Rattle.std.specs.Prelude.{◌≡◌, ◌++◌, IfOk, OnOk, flat_map, string_bytes};
+ghost use Rattle.std.specs.Prelude.{◌≡◌, ◌++◌, OnOk, flat_map, string_bytes};
 ghost use Rattle.pk_reports.specs.Reports.{answer_line, head_line, inside_said, note_line, note_lines, place_said, told_lines, told_of};
 
 use crate::field::field_text;
@@ -46,7 +46,7 @@ pub(crate) fn push_answer(text: &mut String, answer: Answer) -> Result<(), Alloc
 }
 
 /// The place and reason of a fault inside, where there is one.
-fn push_inside(text: &mut String, inside: Option<(u64, Reason)>) -> Result<(), AllocError>
+pub fn push_inside(text: &mut String, inside: Option<(u64, Reason)>) -> Result<(), AllocError>
     ensures { OnOk result (string_bytes text.new ≡ string_bytes text.old ++ inside_said inside) }
 {
     match inside {
@@ -60,7 +60,7 @@ fn push_inside(text: &mut String, inside: Option<(u64, Reason)>) -> Result<(), A
 
 /// A place and a reason.
 #[tactic(auto, unfolding(crate::specs::Reports::place_said))]
-fn push_reason(text: &mut String, at: u64, why: Reason) -> Result<(), AllocError>
+pub fn push_reason(text: &mut String, at: u64, why: Reason) -> Result<(), AllocError>
     ensures { OnOk result (string_bytes text.new ≡ string_bytes text.old ++ place_said at why) }
 {
     push_number(text, at)?;

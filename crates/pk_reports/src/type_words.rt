@@ -1,5 +1,5 @@
 //! Tags and types in words.
-ghost use Rattle.std.specs.Prelude.{◌≡◌, ◌++◌, OnOk, decimal, string_bytes};
+ghost use Rattle.std.specs.Prelude.{◌≡◌, ◌++◌, OnOk, string_bytes};
 ghost use Rattle.pk_reports.specs.TypeWords.{bracketed, field_said, fields_said, shape_said, shape_tag_said, tag_said, universal_name, universal_said};
 
 use crate::text::push_number;
@@ -8,7 +8,7 @@ use std::alloc::AllocError;
 use tlv_core::tag::{Class, Tag};
 
 /// A tag: the name of its type where it is universal and has one, else its class and its number in brackets.
-pub(crate) fn push_tag(text: &mut String, tag: Tag) -> Result<(), AllocError>
+pub fn push_tag(text: &mut String, tag: Tag) -> Result<(), AllocError>
     ensures { OnOk result (string_bytes text.new ≡ string_bytes text.old ++ tag_said tag) }
 {
     match tag.class() {

@@ -13,7 +13,7 @@ use tlv_core::fault::Fault;
 use tlv_core::reason::Reason;
 
 /// A number of octets.
-pub(crate) fn push_size(text: &mut String, octets: u64) -> Result<(), AllocError>
+pub fn push_size(text: &mut String, octets: u64) -> Result<(), AllocError>
     ensures { OnOk result (string_bytes text.new ≡ string_bytes text.old ++ sized octets) }
 {
     push_number(text, octets)?;

@@ -10,8 +10,8 @@ use Rattle.pk_documents.specs.declared.kind.Kind.{Kind}
 use Rattle.pk_explain.specs.Written.{version}
 use Rattle.pk_same.specs.Sameness.{AreApart, AreRefused, AreSame, IsAccepted, IsJudged, IsReading, encoding_of, fault_of}
 use Rattle.pk_same.specs.Written.{IsCompared, IsWritten, refused_written}
-use Rattle.pk_same.specs.declared.reading.Reading.{Reading}
-use Rattle.pk_same.specs.declared.reading.Reading.TheVariants.{Accepted, Refused as RefusedReading}
+use Rattle.pk_same.specs.declared.reading.DocumentReading.{DocumentReading}
+use Rattle.pk_same.specs.declared.reading.DocumentReading.TheVariants.{Accepted, Refused as RefusedReading}
 use Rattle.pk_same.specs.declared.same.Style.{Style}
 use Rattle.pk_same.specs.declared.sameness.Sameness.{Sameness}
 use Rattle.pk_same.specs.declared.sameness.Sameness.TheVariants.{Another, Refused, Same}
@@ -46,12 +46,12 @@ neither true b e = absurd cc
 neither false b e = (refl, e)
 
 -- what was read, by its fault
-pub judged : (l : Limits) (T : TypeTerm) (octets : List ℕ) (reading : Reading) → IsReading l T octets reading
+pub judged : (l : Limits) (T : TypeTerm) (octets : List ℕ) (reading : DocumentReading) → IsReading l T octets reading
     → IsJudged l T octets (fault_of reading)
 judged l T octets (Accepted encoding) a = (a.value, a.spells)
 judged l T octets (RefusedReading fault) r = r
 
-pub accepted : (l : Limits) (T : TypeTerm) (octets : List ℕ) (reading : Reading) → IsReading l T octets reading
+pub accepted : (l : Limits) (T : TypeTerm) (octets : List ℕ) (reading : DocumentReading) → IsReading l T octets reading
     → is_some (fault_of reading) ≡ false → IsAccepted l T octets (encoding_of reading)
 accepted l T octets (Accepted encoding) a none = a
 accepted l T octets (RefusedReading fault) r none = absurd cc

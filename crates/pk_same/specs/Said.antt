@@ -5,7 +5,7 @@ use Rattle.asn_names.specs.declared.element.Step.{Step}
 use Rattle.asn_names.specs.declared.element.Step.TheVariants.{Field, Member}
 use Rattle.pk_reports.specs.Lines.{unused_part}
 use Rattle.pk_reports.specs.Paths.{path_text}
-use Rattle.pk_reports.specs.Picks.{steps_to}
+use Rattle.pk_reports.specs.Picks.{way_of}
 use Rattle.pk_reports.specs.Texts.{quoted}
 use Rattle.pk_reports.specs.TypeWords.{tag_said}
 use Rattle.pk_reports.specs.Words.{sized}
@@ -58,7 +58,7 @@ kind_part kind = cond (length kind == 0) [] (codes " (" ++ kind ++ codes ")")
 -- list or a set that it is in.
 unfoldable pub field_said : List ℕ → List Line → ℕ → List ℕ
 field_said root lines number =
-    path_text root (steps_to 200 lines number) ++ kind_part (kind_along 200 lines number)
+    path_text root (way_of lines number) ++ kind_part (kind_along 200 lines number)
 
 -- how many octets of contents a header announces
 abbrev pub contents_said : Option Length → List ℕ

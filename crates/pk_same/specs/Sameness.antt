@@ -7,8 +7,8 @@ use Rattle.x690.specs.Fitting.{Spells}
 use Rattle.x690.specs.TypeTerms.{TypeTerm}
 use Rattle.x690.specs.Values.{Same as SameValue, Value}
 use Rattle.pk_explain.specs.Answers.{IsRefused}
-use Rattle.pk_same.specs.declared.reading.Reading.{Reading}
-use Rattle.pk_same.specs.declared.reading.Reading.TheVariants.{Accepted, Refused as RefusedReading}
+use Rattle.pk_same.specs.declared.reading.DocumentReading.{DocumentReading}
+use Rattle.pk_same.specs.declared.reading.DocumentReading.TheVariants.{Accepted, Refused as RefusedReading}
 use Rattle.pk_same.specs.declared.sameness.Sameness.{Sameness}
 use Rattle.pk_same.specs.declared.sameness.Sameness.TheVariants.{Another, Refused, Same}
 
@@ -21,16 +21,16 @@ pub record IsAccepted (limits : Limits) (type : TypeTerm) (octets encoding : Lis
   pub same : (limits' : Limits) (other : Value) (input : List ℕ) → Spells limits' type other input
       → (der other ≡ der value) ↔ SameValue other value
 
-abbrev pub IsReading : Limits → TypeTerm → List ℕ → Reading → Type 0
+abbrev pub IsReading : Limits → TypeTerm → List ℕ → DocumentReading → Type 0
 IsReading limits type octets (Accepted encoding) = IsAccepted limits type octets encoding.items
 IsReading limits type octets (RefusedReading fault) = IsRefused limits type octets fault
 
 -- why octets that were read are refused, if they are, and the DER encoding of those that are a document
-abbrev pub fault_of : Reading → Option Fault
+abbrev pub fault_of : DocumentReading → Option Fault
 fault_of (Accepted encoding) = None
 fault_of (RefusedReading fault) = Some fault
 
-abbrev pub encoding_of : Reading → List ℕ
+abbrev pub encoding_of : DocumentReading → List ℕ
 encoding_of (Accepted encoding) = encoding.items
 encoding_of (RefusedReading fault) = []
 

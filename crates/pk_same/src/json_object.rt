@@ -1,17 +1,16 @@
 //! What two documents are to each other as JSON: one object, in one line.
 ghost use Rattle.std.specs.Prelude.{◌≡◌, ◌++◌, IfOk, OnOk, flat_map, map, string_bytes};
 ghost use Rattle.json.specs.Print.{print};
-ghost use Rattle.pk_reports.specs.Json.{inside_members, place_members};
 ghost use Rattle.pk_reports.specs.Texts.{line_feed};
 ghost use Rattle.pk_same.specs.Json.{another_object, called_member, difference_members, fault_members, head_members, refused_object, same_object, words_object};
 ghost use Rattle.pk_same.specs.Told.{words_of};
 
-use crate::json_text::JsonText;
 use crate::text::DocumentNames;
 use crate::told::Told;
+use pk_reports::json_report::{push_inside, push_place};
+use pk_reports::json_text::JsonText;
 use std::alloc::{AllocError, Global};
 use tlv_core::fault::Fault;
-use tlv_core::reason::Reason;
 
 /// What is said of any two documents: the version of the program, their kind and their names.
 #[derive(Clone, Copy)]
@@ -126,28 +125,6 @@ fn push_fault(json: &mut JsonText, fault: Option<Fault>) -> Result<(), AllocErro
     push_place(json, fault.at, fault.why)?;
     push_inside(json, fault.inside)?;
     json.end_object()
-}
-
-#[tactic(auto, unfolding(pk_reports::specs::Json::place_members))]
-fn push_place(json: &mut JsonText, at: u64, why: Reason) -> Result<(), AllocError>
-    ensures { OnOk result (json.new ≡ json.old ++ place_members at why) }
-{
-    json.number("at", at)?;
-    json.text("reason", why.name())
-}
-
-#[tactic(auto, unfolding(pk_reports::specs::Json::inside_members))]
-fn push_inside(json: &mut JsonText, inside: Option<(u64, Reason)>) -> Result<(), AllocError>
-    ensures { OnOk result (json.new ≡ json.old ++ inside_members inside) }
-{
-    match inside {
-        None => Ok(()),
-        Some((at, why)) => {
-            json.begin_object_at("inside")?;
-            push_place(json, at, why)?;
-            json.end_object()
-        }
-    }
 }
 
 /// The elements that differ, and how many more do.

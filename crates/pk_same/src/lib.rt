@@ -2,8 +2,8 @@
 //!
 //! `same` is what a program calls. `reading` reads a document and makes its DER encoding, `sameness` has what two are to
 //! each other, `walk` which elements differ, by the reports of the two DER encodings. `told` has what is told of these:
-//! fields and values in words (`said`, `texts`), in lines (`text`) or as JSON (`json_object`, `json_text`). `laws` has laws
-//! on what is told.
+//! fields and values in words (`said`), in lines (`text`) or as JSON (`json_object`), written as a report writes them.
+//! `laws` has laws on what is told.
 //!
 //! Proved: the answer is `IsSameness` of `specs/Sameness.antt`, in both directions: two documents are the same exactly
 //! where their values are, and where their DER encodings are equal; a refused one is never the same as another. What
@@ -12,7 +12,6 @@
 #![tactic(auto)]
 
 mod json_object;
-mod json_text;
 pub mod laws;
 pub mod reading;
 mod said;
@@ -21,6 +20,5 @@ pub mod sameness;
 #[cfg(test)]
 mod tests;
 pub mod text;
-mod texts;
 mod told;
 mod walk;

@@ -12,20 +12,20 @@ use tlv_core::target::ToWrite;
 
 /// What octets are that have to be one document.
 #[derive(Drop)]
-pub(crate) enum Reading {
+pub(crate) enum DocumentReading {
     /// A document, by its DER encoding.
     Accepted(Vec<u8>),
     Refused(Fault),
 }
 
-impl Reading {
+impl DocumentReading {
     /// Why it is refused, if it is.
     pub(crate) fn fault(&self) -> Option<Fault>
         ensures { result ≡ fault_of self.now }
     {
         match self {
-            Reading::Accepted(_) => None,
-            Reading::Refused(fault) => Some(*fault),
+            DocumentReading::Accepted(_) => None,
+            DocumentReading::Refused(fault) => Some(*fault),
         }
     }
 
@@ -34,8 +34,8 @@ impl Reading {
         ensures { result.now ≡ encoding_of self.now }
     {
         match self {
-            Reading::Accepted(encoding) => encoding.as_slice(),
-            Reading::Refused(_) => &[],
+            DocumentReading::Accepted(encoding) => encoding.as_slice(),
+            DocumentReading::Refused(_) => &[],
         }
     }
 }
@@ -53,7 +53,7 @@ pub(crate) fn read(
     octets: &[u8],
     kind: Kind,
     limits: Limits,
-) -> Result<Reading, AllocError>
+) -> Result<DocumentReading, AllocError>
     ensures { IfOk result (λ reading. IsReading limits (type_of kind) octets.now reading) }
 {
     // (most documents are as long as their DER encodings)
@@ -61,8 +61,8 @@ pub(crate) fn read(
     let mut source = octets;
     let mut target = ToWrite::new(room);
     match normalise_whole_document(alloc, &mut source, &mut target, kind, limits) {
-        Ok(_) => Ok(Reading::Accepted(target.into_inner())),
-        Err(NormaliseError::Read(ReadError::Fault(fault))) => Ok(Reading::Refused(fault)),
+        Ok(_) => Ok(DocumentReading::Accepted(target.into_inner())),
+        Err(NormaliseError::Read(ReadError::Fault(fault))) => Ok(DocumentReading::Refused(fault)),
         Err(NormaliseError::Read(ReadError::Read { at: _ })) => unreachable!(),
         Err(NormaliseError::Read(ReadError::Memory)) => Err(AllocError),
         Err(NormaliseError::Write(_)) => Err(AllocError),

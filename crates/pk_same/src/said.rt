@@ -1,14 +1,15 @@
 //! Fields and values in words.
-ghost use Rattle.std.specs.Prelude.{◌≡◌, ◌++◌, IfOk, OnOk, cond, drop, nat_lt, slice_get, string_bytes};
-ghost use Rattle.std.specs.Option.{option_map};
-ghost use Rattle.pk_reports.specs.Lines.{unused_part};
-ghost use Rattle.pk_reports.specs.Picks.{steps_to};
-ghost use Rattle.pk_reports.specs.Words.{sized};
+ghost use Rattle.std.specs.Prelude.{◌≡◌, ◌++◌, IfOk, OnOk, drop, string_bytes};
 ghost use Rattle.pk_same.specs.Said.{arcs_said, characters_said, contents_said, field_said, identifier_said, is_member, is_unnamed, kind_along, kind_part, kind_said, line_said, value_said, wraps};
 
-use crate::texts::{push_number, push_path, push_quoted, push_root, push_tag};
 use asn_names::element::Step;
+use pk_reports::paths::path;
+use pk_reports::picks::{steps_before, way_to};
 use pk_reports::report::{Length, Line, Value};
+use pk_reports::text::{push_number, push_quoted};
+use pk_reports::text_lines::push_unused;
+use pk_reports::type_words::push_tag;
+use pk_reports::words::push_size;
 use std::alloc::{AllocError, Global};
 use tlv_core::tag::Tag;
 
@@ -28,43 +29,10 @@ pub(crate) fn field_text(
 ) -> Result<String, AllocError>
     ensures { IfOk result (λ text. string_bytes text ≡ field_said root.now lines.now number) }
 {
-    let mut way = Vec::new(alloc);
-    push_steps(&mut way, lines, number, STEPS)?;
-    let mut text = String::new(alloc);
-    push_path(&mut text, &way)?;
-    push_root(&mut text, root)?;
+    let way = way_to(alloc, lines, number)?;
+    let mut text = path(alloc, root, &way)?;
     push_kind(&mut text, kind_along(lines, number, STEPS))?;
     Ok(text)
-}
-
-/// The last steps of the way to the line of this number, so many at most.
-fn push_steps(way: &mut Vec<Step>, lines: &[Line], number: u64, most: u64) -> Result<(), AllocError>
-    ensures { OnOk result (way.new.items ≡ way.old.items ++ steps_to most lines.now number) }
-{
-    if most == 0 {
-        return Ok(());
-    }
-    let Some(line) = line_of(lines, number) else {
-        return Ok(());
-    };
-    let before = steps_before(line.around, number, most - 1);
-    push_steps(way, lines, line.around, before)?;
-    way.push(line.step)?;
-    Ok(())
-}
-
-/// How many steps may stand before that to a line; none where what is around it doesn't stand before it.
-fn steps_before(around: u64, number: u64, most: u64) -> u64
-    ensures { result ≡ cond (nat_lt around number) most 0 }
-{
-    if around < number { most } else { 0 }
-}
-
-/// The line of this number.
-fn line_of(lines: &[Line], number: u64) -> Option<&Line>
-    ensures { option_map (λ r. r.now) result ≡ slice_get lines.now number }
-{
-    lines.get(number as usize)
 }
 
 /// A type in parentheses, where there is one.
@@ -201,14 +169,6 @@ fn push_line_value(alloc: Global, text: &mut String, line: &Line) -> Result<(), 
     }
 }
 
-/// A number of octets.
-fn push_size(text: &mut String, octets: u64) -> Result<(), AllocError>
-    ensures { OnOk result (string_bytes text.new ≡ string_bytes text.old ++ sized octets) }
-{
-    push_number(text, octets)?;
-    text.push_str(if octets == 1 { " octet" } else { " octets" })
-}
-
 /// How many octets of contents a header announces.
 fn push_contents(text: &mut String, length: Option<Length>) -> Result<(), AllocError>
     ensures { OnOk result (string_bytes text.new ≡ string_bytes text.old ++ contents_said length) }
@@ -222,17 +182,6 @@ fn push_contents(text: &mut String, length: Option<Length>) -> Result<(), AllocE
         ) => push_size(text, octets),
         _ => text.push_str("not shown"),
     }
-}
-
-#[tactic(auto, unfolding(pk_reports::specs::Lines::unused_part))]
-fn push_unused(text: &mut String, unused: u8) -> Result<(), AllocError>
-    ensures { OnOk result (string_bytes text.new ≡ string_bytes text.old ++ unused_part unused) }
-{
-    if unused == 0 {
-        return Ok(());
-    }
-    text.push_str(", unused bits: ")?;
-    push_number(text, u64::from(unused))
 }
 
 /// The arcs of an object identifier, where they are few.

@@ -1,7 +1,7 @@
 //! What two documents are to each other, as it is written.
 ghost use Rattle.std.specs.Prelude.{◌≡◌, IfOk, map, string_bytes};
 ghost use Rattle.pk_same.specs.Told.{words_of};
-ghost use Rattle.pk_same.specs.Written.{AreTold, IsCompared, IsTold, IsWritten, another_written, refused_written, same_written};
+ghost use Rattle.pk_same.specs.Written.{AreTold, IsCompared, IsWritten, another_written, refused_written, same_written};
 
 use crate::json_object::{Heading, another_json, refused_json, same_json};
 use crate::reading::{is_any, read};
@@ -25,36 +25,47 @@ pub enum Style {
     Json,
 }
 
+/// The octets of two documents.
+#[derive(Clone, Copy)]
+pub struct TwoDocuments<'a> {
+    pub first: &'a [u8],
+    pub second: &'a [u8],
+}
+
 /// What two slices are to each other, of which each has to be one whole document of the kind, and the same as it is
 /// written.
 ///
 /// A document that is refused is never the same as another. Names stand as they are given.
 pub fn same_text(
     alloc: Global,
-    first: &[u8],
-    second: &[u8],
+    documents: TwoDocuments<'_>,
+    names: DocumentNames<'_>,
     kind: Kind,
     limits: Limits,
-    names: DocumentNames<'_>,
     form: Style,
 ) -> Result<(String, Sameness), AllocError>
-    ensures { IfOk result (λ written. IsWritten form limits kind names.entry.first.now
-        names.entry.second.now first.now second.now (string_bytes written.0) written.1) }
+    ensures { IfOk result (λ written. IsWritten form limits kind
+        names.entry.first.now names.entry.second.now
+        documents.entry.first.now documents.entry.second.now
+        (string_bytes written.0) written.1) }
 {
     let heading = Heading {
         version: VERSION,
         kind: kind.row().word,
         names,
     };
-    let reading = read(alloc, first, kind, limits)?;
-    let other = read(alloc, second, kind, limits)?;
+    let reading = read(alloc, documents.first, kind, limits)?;
+    let other = read(alloc, documents.second, kind, limits)?;
     let fault = reading.fault();
     let other_fault = other.fault();
     if is_any(fault, other_fault) {
         return refused(alloc, heading, form, fault, other_fault);
     }
-    let one = reading.encoding();
-    compared(alloc, one, other.encoding(), kind, limits, heading, form)
+    let encodings = Encodings {
+        first: reading.encoding(),
+        second: other.encoding(),
+    };
+    compared(alloc, encodings, kind, limits, heading, form)
 }
 
 /// The answer where a document is refused, or both.
@@ -80,8 +91,7 @@ fn refused(
 /// The answer for two documents by their DER encodings.
 fn compared(
     alloc: Global,
-    one: &[u8],
-    other: &[u8],
+    encodings: Encodings<'_>,
     kind: Kind,
     limits: Limits,
     heading: Heading<'_>,
@@ -90,12 +100,13 @@ fn compared(
     ensures { IfOk result (λ written. IsCompared form limits kind
         heading.entry.version.now heading.entry.kind.now
         heading.entry.names.first.now heading.entry.names.second.now
-        one.now other.now (string_bytes written.0) written.1) }
+        encodings.entry.first.now encodings.entry.second.now
+        (string_bytes written.0) written.1) }
 {
-    if one == other {
+    if encodings.first == encodings.second {
         return Ok((same_written(alloc, heading, form)?, Sameness::Same));
     }
-    let (told, more) = tell(alloc, one, other, kind, limits)?;
+    let (told, more) = tell(alloc, encodings, kind, limits)?;
     let text = another_written(alloc, heading, form, &told, more)?;
     Ok((text, Sameness::Another))
 }
@@ -132,20 +143,15 @@ fn another_written(
 /// What is told of two documents by their DER encodings, and how many elements differ that aren't told.
 fn tell(
     alloc: Global,
-    one: &[u8],
-    other: &[u8],
+    encodings: Encodings<'_>,
     kind: Kind,
     limits: Limits,
 ) -> Result<(Vec<Told>, u64), AllocError>
-    ensures { IfOk result (λ it. AreTold limits kind one.now other.now
-        (map words_of it.0.items) it.1) }
+    ensures { IfOk result (λ it. AreTold limits kind encodings.entry.first.now
+        encodings.entry.second.now (map words_of it.0.items) it.1) }
 {
-    let report = explain(alloc, one, kind, limits)?;
-    let other_report = explain(alloc, other, kind, limits)?;
-    let encodings = Encodings {
-        first: one,
-        second: other,
-    };
+    let report = explain(alloc, encodings.first, kind, limits)?;
+    let other_report = explain(alloc, encodings.second, kind, limits)?;
     let all = differences(alloc, encodings, &report.lines, &other_report.lines)?;
     let sides = Sides {
         root: report.kind.type_name,

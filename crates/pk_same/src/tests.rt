@@ -1,7 +1,7 @@
 //! Pairs of documents by OpenSSL 3.0 (`genpkey`, `ec`, `pkcs8`, `req`) and of `examples/`, and what they are to each
 //! other; attributes with several values were put in by hand. The fields and the values were worked out by hand from what
 //! `openssl asn1parse` says of each.
-use crate::same::{Sameness, Style, same_text};
+use crate::same::{Sameness, Style, TwoDocuments, same_text};
 use crate::text::DocumentNames;
 use pk_documents::kind::Kind;
 use std::test::Fail;
@@ -275,15 +275,11 @@ fn pairs(rt: HostRuntime) -> Result<(), Fail> {
     for (kind, first, second, lines) in ROWS.iter() {
         let first = hex::decode(rt.alloc(), *first)?;
         let second = hex::decode(rt.alloc(), *second)?;
-        let (text, sameness) = same_text(
-            rt.alloc(),
-            &first,
-            &second,
-            *kind,
-            limits,
-            names,
-            Style::Text,
-        )?;
+        let documents = TwoDocuments {
+            first: first.as_slice(),
+            second: second.as_slice(),
+        };
+        let (text, sameness) = same_text(rt.alloc(), documents, names, *kind, limits, Style::Text)?;
         assert_eq!(rt; text.as_str(), *lines);
         assert!(rt; lines.starts_with(word(sameness)));
     }

@@ -1,14 +1,13 @@
 //! What two documents are to each other, in lines.
 ghost use Rattle.std.specs.Prelude.{◌≡◌, ◌++◌, IfOk, OnOk, flat_map, map, string_bytes};
-ghost use Rattle.pk_reports.specs.Reports.{inside_said, place_said};
 ghost use Rattle.pk_same.specs.Texts.{another_text, difference_lines, fault_line, field_behind, fields_said, more_said, refused_text, same_line, side_line};
 ghost use Rattle.pk_same.specs.Told.{words_of};
 
-use crate::texts::{push_between, push_number};
 use crate::told::Told;
+use pk_reports::text::push_between;
+use pk_reports::text_report::{push_inside, push_reason};
 use std::alloc::{AllocError, Global};
 use tlv_core::fault::Fault;
-use tlv_core::reason::Reason;
 
 /// The names of two documents as they are written.
 #[derive(Clone, Copy)]
@@ -51,32 +50,9 @@ fn push_fault_line(text: &mut String, name: &str, fault: Option<Fault>) -> Resul
     };
     text.push_str(name)?;
     text.push_str(": fault at ")?;
-    push_place(text, fault.at, fault.why)?;
+    push_reason(text, fault.at, fault.why)?;
     push_inside(text, fault.inside)?;
     text.push_str("\n")
-}
-
-/// A place and a reason.
-#[tactic(auto, unfolding(pk_reports::specs::Reports::place_said))]
-fn push_place(text: &mut String, at: u64, why: Reason) -> Result<(), AllocError>
-    ensures { OnOk result (string_bytes text.new ≡ string_bytes text.old ++ place_said at why) }
-{
-    push_number(text, at)?;
-    text.push_str(": ")?;
-    text.push_str(why.name())
-}
-
-/// The place and reason of a fault inside, where there is one.
-fn push_inside(text: &mut String, inside: Option<(u64, Reason)>) -> Result<(), AllocError>
-    ensures { OnOk result (string_bytes text.new ≡ string_bytes text.old ++ inside_said inside) }
-{
-    match inside {
-        None => Ok(()),
-        Some((at, why)) => {
-            text.push_str(" inside at ")?;
-            push_place(text, at, why)
-        }
-    }
 }
 
 /// The lines of two documents that aren't the same: the fields that differ, and under them their values.

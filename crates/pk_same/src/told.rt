@@ -1,5 +1,5 @@
 //! What is told of the elements that differ.
-ghost use Rattle.std.specs.Prelude.{[], ◌≡◌, ◌++◌, ◌-◌, ◌∷◌, IfOk, OnOk, map, string_bytes};
+ghost use Rattle.std.specs.Prelude.{◌≡◌, ◌++◌, ◌-◌, IfOk, OnOk, map, string_bytes};
 ghost use Rattle.pk_reports.specs.JsonLists.{first_ones};
 ghost use Rattle.pk_same.specs.Told.{difference_field, said_of, side_value, words_of};
 

@@ -1,11 +1,13 @@
 //! What makes a private key, by its algorithm.
-ghost use Rattle.std.specs.Prelude.{[], ◌≡◌, ◌∷◌};
+ghost use Rattle.std.specs.Prelude.{[], ◌≡◌};
 ghost use Rattle.std.specs.Option.{option_map};
+ghost use Rattle.asn_elements.specs.Leaves.{octets_of};
 ghost use Rattle.pkix_definitions.specs.Identifiers.{ec_public_key};
 ghost use Rattle.pkix_values.specs.Algorithms.{parameters_of};
 ghost use Rattle.pkcs8.specs.Keys.{curve_octets, identifier_of};
 ghost use Rattle.pk_same_key.specs.Parts.{asymmetric_parts, document_parts, ec_parts, number_octets, parts_seen, rsa_parts};
 
+use asn_values::octets::Octets;
 use pk_documents::document::Document;
 use pkcs8::one_asymmetric_key::OneAsymmetricKey;
 use pkcs8::private_key::PrivateKey;
@@ -42,7 +44,10 @@ fn asymmetric_parts(key: &OneAsymmetricKey) -> KeyParts<'_>
     let algorithm = key.algorithm();
     let own = algorithm.algorithm().contents();
     match key.private_key() {
-        PrivateKey::Ec(ec) => KeyParts::Scalar(own, curve_of(algorithm), ec.key().octets()),
+        PrivateKey::Ec(ec) => {
+            let (curve, octets) = curve_and_key(named_curve(algorithm), ec.key());
+            KeyParts::Scalar(own, curve, octets)
+        }
         PrivateKey::Curve(curve) => KeyParts::Scalar(own, &[], curve.key().octets()),
         PrivateKey::Rsa(rsa) => rsa_parts(rsa),
         PrivateKey::Carried(_) => KeyParts::Carried(own),
@@ -50,33 +55,31 @@ fn asymmetric_parts(key: &OneAsymmetricKey) -> KeyParts<'_>
 }
 
 /// The curve that the parameters of an algorithm name.
-fn curve_of(algorithm: &AlgorithmIdentifier) -> &[u8]
-    ensures { result.now ≡ curve_octets (identifier_of (parameters_of algorithm.now)) }
+fn named_curve(algorithm: &AlgorithmIdentifier) -> Option<&Oid>
+    ensures { option_map (λ r. r.now) result ≡ identifier_of (parameters_of algorithm.now) }
 {
     match algorithm.parameters() {
-        Some(parameters) => contents_of(parameters.oid()),
-        None => &[],
-    }
-}
-
-/// The contents of the identifier of a curve, none where no curve is named.
-fn contents_of<'a>(curve: Option<&'a Oid>) -> &'a [u8]
-    ensures { result.now ≡ curve_octets (option_map (λ r. r.now) curve.entry) }
-{
-    match curve {
-        Some(curve) => curve.contents(),
-        None => &[],
+        Some(parameters) => parameters.oid(),
+        None => None,
     }
 }
 
 fn ec_parts(key: &EcPrivateKey) -> KeyParts<'_>
     ensures { parts_seen result ≡ ec_parts key.now }
 {
-    KeyParts::Scalar(
-        id_ec_public_key(),
-        contents_of(key.curve()),
-        key.key().octets(),
-    )
+    let (curve, octets) = curve_and_key(key.curve(), key.key());
+    KeyParts::Scalar(id_ec_public_key(), curve, octets)
+}
+
+/// The contents of the identifier of a curve, none where no curve is named, and the octets of a key on it.
+fn curve_and_key<'a>(curve: Option<&'a Oid>, key: &'a Octets) -> (&'a [u8], &'a [u8])
+    ensures curve { result.0.now ≡ curve_octets (option_map (λ r. r.now) curve.entry) }
+    ensures key { result.1.now ≡ octets_of key.now }
+{
+    match curve {
+        Some(curve) => (curve.contents(), key.octets()),
+        None => (&[], key.octets()),
+    }
 }
 
 /// id-ecPublicKey (RFC 5480 section 2.1.1).

@@ -5,7 +5,7 @@ ghost use Rattle.pk_same.specs.Texts.{refused_text};
 ghost use Rattle.std.specs.Option.{option_map};
 ghost use Rattle.pk_same_key.specs.KeySameness.{AreCompared, AreRefusedKeys, IsKeyReading, fault_of, key_line};
 ghost use Rattle.pk_same_key.specs.Parts.{document_parts, parts_seen};
-ghost use Rattle.pk_same_key.specs.Verdicts.{named_by, reason_by, reason_of, reason_of_both, verdict_of};
+ghost use Rattle.pk_same_key.specs.Verdicts.{named_by, reason_of, reason_of_both, verdict_of};
 ghost use Rattle.asn_shapes.specs.Identifiers.{usual};
 
 use crate::parts::{KeyParts, document_parts};
@@ -14,6 +14,7 @@ use asn_shapes::identifiers::identifier_of;
 use pk_documents::document::{Document, Valued, read_whole_document};
 use pk_documents::kind::Kind;
 use pk_same::reading::is_any;
+use pk_same::same::TwoDocuments;
 use pk_same::text::{DocumentNames, refused_text};
 use std::alloc::{AllocError, Global};
 use tlv_core::fault::{Fault, ReadError};
@@ -33,22 +34,23 @@ pub(crate) enum KeyReading {
 /// one.
 pub fn same_key_text(
     alloc: Global,
-    first: &[u8],
-    second: &[u8],
+    documents: TwoDocuments<'_>,
+    names: DocumentNames<'_>,
     kind: Kind,
     other_kind: Kind,
     limits: Limits,
-    names: DocumentNames<'_>,
 ) -> Result<(String, KeySameness), AllocError>
     ensures { IfOk result (λ written.
-        AreCompared ⟦<Document as Valued>⟧.value limits kind other_kind first.now second.now
+        AreCompared ⟦<Document as Valued>⟧.value limits kind other_kind
+        documents.entry.first.now documents.entry.second.now
         (string_bytes written.0) written.1
         ⊎ AreRefusedKeys ⟦<Document as Valued>⟧.value limits kind other_kind
-        names.entry.first.now names.entry.second.now first.now second.now
+        names.entry.first.now names.entry.second.now
+        documents.entry.first.now documents.entry.second.now
         (string_bytes written.0) written.1) }
 {
-    let reading = read(alloc, first, kind, limits)?;
-    let other = read(alloc, second, other_kind, limits)?;
+    let reading = read(alloc, documents.first, kind, limits)?;
+    let other = read(alloc, documents.second, other_kind, limits)?;
     let fault = reading.fault();
     let other_fault = other.fault();
     if is_any(fault, other_fault) {

@@ -2,6 +2,7 @@
 //! with attributes or of version 2 by `asn1parse -genconf` from the octets of the first one.
 use crate::same_key::same_key_text;
 use pk_documents::kind::Kind;
+use pk_same::same::TwoDocuments;
 use pk_same::text::DocumentNames;
 use std::test::Fail;
 use tlv_core::limits::Limits;
@@ -162,15 +163,11 @@ fn keys(rt: HostRuntime) -> Result<(), Fail> {
     for (kind, first, other_kind, second, line) in ROWS.iter() {
         let first = hex::decode(rt.alloc(), *first)?;
         let second = hex::decode(rt.alloc(), *second)?;
-        let (text, _) = same_key_text(
-            rt.alloc(),
-            &first,
-            &second,
-            *kind,
-            *other_kind,
-            limits,
-            names,
-        )?;
+        let documents = TwoDocuments {
+            first: first.as_slice(),
+            second: second.as_slice(),
+        };
+        let (text, _) = same_key_text(rt.alloc(), documents, names, *kind, *other_kind, limits)?;
         assert_eq!(rt; text.as_str(), *line);
     }
     Ok(())

@@ -8,8 +8,8 @@ pub returns-then-is_any : goal.returns-then-is_any
 returns-then-is_any c =
     let l = c.args.limits in
     let type = type_of c.args.kind in
-    let first = c.args.first.now in
-    let second = c.args.second.now in
+    let first = c.args.documents.first.now in
+    let second = c.args.documents.second.now in
     refused_result (λ it. string_bytes it.0) (λ it. it.1) c.refused.result c.args.form l c.args.kind
     c.args.names.first.now c.args.names.second.now first second _ c.row.result.word.now c.fault-fault.result
     c.fault-other_fault.result refl c.row.ensures.word
@@ -28,16 +28,16 @@ pub returns : goal.returns
 returns c =
     let l = c.args.limits in
     let type = type_of c.args.kind in
-    let first = c.args.first.now in
-    let second = c.args.second.now in
+    let first = c.args.documents.first.now in
+    let second = c.args.documents.second.now in
     let none = neither _ _ (sym c.is_any.ensures ∙ c.if-is_any.false) in
     compared_result (λ it. string_bytes it.0) (λ it. it.1) c.compared.result c.args.form l c.args.kind
-    c.args.names.first.now c.args.names.second.now first second c.encoding-one.result.now c.encoding.result.now _
+    c.args.names.first.now c.args.names.second.now first second c.encoding.result.now c.encoding-2.result.now _
     c.row.result.word.now refl c.row.ensures.word
-    (subst (IsAccepted l type first) (sym c.encoding-one.ensures)
+    (subst (IsAccepted l type first) (sym c.encoding.ensures)
     (accepted l type first c.in_ok-reading.reading c.in_ok-reading.ensures
     (sym (ap is_some c.fault-fault.ensures) ∙ none.0)))
-    (subst (IsAccepted l type second) (sym c.encoding.ensures)
+    (subst (IsAccepted l type second) (sym c.encoding-2.ensures)
     (accepted l type second c.in_ok-other.other c.in_ok-other.ensures
     (sym (ap is_some c.fault-other_fault.ensures) ∙ none.1)))
     c.compared.ensures

@@ -7,8 +7,8 @@ use Rattle.pk_same_key.proofs.same_key.same_key_text.Goals as goal
 pub returns-then-is_any : goal.returns-then-is_any
 returns-then-is_any c =
     let l = c.args.limits in
-    let first = c.args.first.now in
-    let second = c.args.second.now in
+    let first = c.args.documents.first.now in
+    let second = c.args.documents.second.now in
     refused_result (λ it. string_bytes it.0) (λ it. it.1) c.refused.result valued l c.args.kind c.args.other_kind
     c.args.names.first.now c.args.names.second.now first second c.fault-fault.result c.fault-other_fault.result
     (subst (IsJudgedKey valued l c.args.kind first) (sym c.fault-fault.ensures)
@@ -20,8 +20,8 @@ returns-then-is_any c =
 pub returns : goal.returns
 returns c =
     let l = c.args.limits in
-    let first = c.args.first.now in
-    let second = c.args.second.now in
+    let first = c.args.documents.first.now in
+    let second = c.args.documents.second.now in
     compared_result (λ it. string_bytes it.0) (λ it. it.1) c.compared.result valued l c.args.kind c.args.other_kind
     c.args.names.first.now c.args.names.second.now first second c.in-Accepted.document c.in-Accepted-other.other
     (subst (IsKeyReading valued l c.args.kind first) c.in-Accepted.is c.in_ok-reading.ensures)
