@@ -10,7 +10,7 @@ use Rattle.std.specs.Int.{IsInRange}
 use Rattle.std.specs.Prelude.{nat_lt, ◌==◌}
 use Rattle.pk_commands.specs.Names.{IsPrintable}
 
-abbrev Printable : ℕ → Type 0
+abbrev pub Printable : ℕ → Type 0
 Printable c = IsInRange 32 126 c
 
 -- ---- what is still to come
@@ -82,7 +82,7 @@ lettered n some (inl none) = let turned : nat_lt 0 0 ≡ true = subst (λ m. nat
 lettered n some (inr h) =
     All-cons Printable 92 (n ∷ []) (omega arith, omega arith) (All-cons Printable n [] h (All-nil Printable))
 
-as_it_is : (c : ℕ) → nat_lt c 32 ≡ false → nat_lt c 127 ≡ true → Printable c
+pub as_it_is : (c : ℕ) → nat_lt c 32 ≡ false → nat_lt c 127 ≡ true → Printable c
 as_it_is c least most = (grind (arith, nat_tests), grind (arith, nat_tests))
 
 escaped_plain : (c : ℕ) (other : List ℕ) → IsPrintable other

@@ -1,5 +1,5 @@
 -- What is answered and written, as replies.
-use Rattle.std.proofs.Common.{◌≡◌, ◌∙◌, ◌≤◌, ◌++◌, arith, Bool, Err, IfOk, IsErr, List, [], None, Ok, Option, Result, Some, ap, false, inl, length, refl, subst, sym, ℕ}
+use Rattle.std.proofs.Common.{◌≡◌, ◌∙◌, ◌≤◌, ◌++◌, arith, Bool, Err, IfOk, IsErr, List, MatchOption, MatchResult, [], None, Ok, Option, Result, Some, ap, false, inl, length, refl, string_bytes, subst, sym, ℕ}
 use Rattle.std.specs.Io.KnownBytes.{Consumes, IsAtEnd}
 use Rattle.tlv_core.specs.declared.fault.ReadError.{ReadError}
 use Rattle.tlv_core.specs.declared.fault.ReadError.TheVariants.{Fault as FaultRead, Read as ReadAt, Memory as MemoryRead}
@@ -16,13 +16,18 @@ use Rattle.asn_documents.specs.WholeInputs.{RefusedWhole}
 use Rattle.asn_documents.specs.WrittenValues.{WritesText}
 use Rattle.asn_documents.specs.declared.normalise.NormaliseError.TheVariants.{Read}
 use Rattle.asn_documents.proofs.Normalising.{took_as}
-use Rattle.pk_reports.specs.declared.report.Answer.{Answer}
-use Rattle.pk_reports.specs.declared.report.Answer.TheVariants.{Der, NotDer, Refused}
 use Rattle.pk_commands.specs.Endings.{IsWhole}
 use Rattle.pk_commands.specs.declared.outcome.Outcome.{Outcome}
 use Rattle.pk_commands.specs.declared.outcome.Outcome.TheVariants as outcomes
-use Rattle.pk_commands.specs.Reported.{explained_outcome}
-use Rattle.pk_commands.specs.Replies.{DueOfValue, FailedBy, IsSilent, RepliedAs, RepliedTo, Unreadable, WroteText, checked_outcome, unread_outcome, written_outcome}
+use Rattle.pk_commands.specs.Outcomes.{words_of}
+use Rattle.pk_commands.specs.declared.reply.Reply.{Reply}
+use Rattle.pk_commands.specs.Replies.{DueOfValue, FailedBy, IsSilent, RepliedAs, RepliedTo, Unreadable, WroteText, unread_outcome, written_outcome}
+
+-- what is said of none holds of what is not there
+pub of_none : {A : Type 0} (P : Type 0) (Q : A → Type 0) (option : Option A) → ((x : A) → option ≡ Some x → ⊥)
+    → MatchOption option P Q → P
+of_none P Q None not said = said
+of_none P Q (Some x) not said = absurd (not x refl)
 
 -- ---- what was not read
 
@@ -207,45 +212,61 @@ pub no_block : (limits : Limits) (type : TypeTerm) (before old new : Option (Lis
     → RepliedTo limits type outcomes.Memory before before old new
 no_block limits type before old new = inl (stops_at_once limits type before, tt)
 
--- a text, or nothing where there was no memory for it
-module _ {S E W : Type 0} (octets_of : S → List ℕ) (first last : W) (contents : W → Option (List ℕ))
-    (has_failed : W → Bool) (outcome whole : Outcome) (ends : IsWhole whole) where
-  pub text_replies : (Stopped : ReadError → Type 0) (Due : Outcome → List ℕ → Type 0) (due : List ℕ)
-      (text : Result S E)
-      → IfOk text (λ t. octets_of t ≡ due) → Due whole due → Stopped MemoryRead
-      → WroteText octets_of text whole outcome (contents first) (contents last) (has_failed last) (last ≡ first)
+-- a text, or why there is none
+module _ {S E W : Type 0} (octets_of : S → List ℕ) (whole_of : S → Outcome) (why : E → Outcome) (first last : W)
+    (contents : W → Option (List ℕ)) (has_failed : W → Bool) (outcome : Outcome) where
+  pub text_replies : (Stopped : ReadError → Type 0) (Due : Outcome → List ℕ → Type 0) (text : Result S E)
+      → IfOk text (λ t. IsWhole (whole_of t))
+      → MatchResult text (λ t. Due (whole_of t) (octets_of t))
+      (λ error. RepliedAs Stopped Due (why error) (contents first) (contents last))
+      → WroteText octets_of whole_of why text outcome (contents first) (contents last) (has_failed last) (last ≡ first)
       → RepliedAs Stopped Due outcome (contents first) (contents last)
-  text_replies Stopped Due due (Ok text) is owed none h =
-      written_replies Stopped Due (contents first) (contents last) (octets_of text) h.0 (has_failed last) outcome whole
-      h.1 ends h.2 (subst (Due whole) (sym is) owed)
-  text_replies Stopped Due due (Err error) is owed none h =
-      subst (λ o. RepliedAs Stopped Due o (contents first) (contents last)) (sym h.0) none
+  text_replies Stopped Due (Ok text) ends due h =
+      written_replies Stopped Due (contents first) (contents last) (octets_of text) h.0 (has_failed last) outcome
+      (whole_of text) h.1 ends h.2 due
+  text_replies Stopped Due (Err error) ends due h =
+      subst (λ o. RepliedAs Stopped Due o (contents first) (contents last)) (sym h.0) due
 
-  pub text_silent : (text : Result S E)
-      → WroteText octets_of text whole outcome (contents first) (contents last) (has_failed last) (last ≡ first)
+  pub text_silent : (text : Result S E) → IfOk text (λ t. IsWhole (whole_of t))
+      → WroteText octets_of whole_of why text outcome (contents first) (contents last) (has_failed last) (last ≡ first)
       → IsSilent outcome → last ≡ first
-  text_silent (Ok text) h silent = absurd (written_speaks h.0 outcome whole h.1 ends silent)
-  text_silent (Err error) h silent = h.1
+  text_silent (Ok text) ends h silent = absurd (written_speaks h.0 outcome (whole_of text) h.1 ends silent)
+  text_silent (Err error) ends h silent = h.1
 
-  pub text_fails : (text : Result S E) (source : Bool) → source ≡ false → has_failed first ≡ false
-      → WroteText octets_of text whole outcome (contents first) (contents last) (has_failed last) (last ≡ first)
+  pub text_fails : (text : Result S E) (source : Bool) → IfOk text (λ t. IsWhole (whole_of t)) → has_failed first ≡ false
+      → MatchResult text (λ _. source ≡ false) (λ error. FailedBy (why error) source false)
+      → WroteText octets_of whole_of why text outcome (contents first) (contents last) (has_failed last) (last ≡ first)
       → FailedBy outcome source (has_failed last)
-  text_fails (Ok text) source fine writable h =
-      written_fails (octets_of text) (contents first) (contents last) h.0 outcome whole source (has_failed last) h.1 ends
-      h.2 fine
-  text_fails (Err error) source fine writable h =
-      subst (λ o. FailedBy o source (has_failed last)) (sym h.0) (fine, ap has_failed h.1 ∙ writable)
+  text_fails (Ok text) source ends writable fine h =
+      written_fails (octets_of text) (contents first) (contents last) h.0 outcome (whole_of text) source (has_failed last)
+      h.1 ends h.2 fine
+  text_fails (Err error) source ends writable fine h =
+      subst (λ o. FailedBy o source (has_failed last)) (sym h.0)
+      (subst (FailedBy (why error) source) (sym (ap has_failed h.1 ∙ writable)) fine)
+
+pub whole_says : (outcome : Outcome) → words_of outcome ≡ [] → IsWhole outcome
+whole_says outcomes.Done says = tt
+whole_says (outcomes.NotDer at) says = tt
+whole_says (outcomes.Explained found) says = tt
+whole_says (outcomes.Fault found) says = absurd cc
+whole_says (outcomes.ReadFailed at) says = absurd cc
+whole_says (outcomes.WriteFailed count) says = absurd cc
+whole_says outcomes.Memory says = absurd cc
+
+-- what a run is to write, by what it read
+module _ {W : Type 0} (first last : W) (contents : W → Option (List ℕ)) (failed : Bool) (outcome : Outcome) where
+  pub reply_replies : (Stopped : ReadError → Type 0) (Due : Outcome → List ℕ → Type 0) (reply : Result Reply ReadError)
+      → MatchResult reply (λ it. Due it.whole (string_bytes it.text)) Stopped
+      → WroteText (λ it. string_bytes it.text) (λ it. it.whole) unread_outcome reply outcome (contents first)
+      (contents last) failed (last ≡ first)
+      → RepliedAs Stopped Due outcome (contents first) (contents last)
+  reply_replies Stopped Due (Ok reply) due h =
+      written_replies Stopped Due (contents first) (contents last) (string_bytes reply.text) h.0 failed outcome reply.whole
+      h.1 (whole_says reply.whole reply.says_all) h.2 due
+  reply_replies Stopped Due (Err error) why h =
+      unread_replies Stopped Due (contents first) (contents last) error outcome h.0 why
 
 -- ---- what is due
-
-pub checked_whole : (place : Option ℕ) (outcome : Outcome) → outcome ≡ checked_outcome place → IsWhole outcome
-checked_whole None outcome is = subst IsWhole (sym is) tt
-checked_whole (Some at) outcome is = subst IsWhole (sym is) tt
-
-pub explained_whole : (answer : Answer) (outcome : Outcome) → outcome ≡ explained_outcome answer → IsWhole outcome
-explained_whole Der outcome is = subst IsWhole (sym is) tt
-explained_whole (NotDer at) outcome is = subst IsWhole (sym is) tt
-explained_whole (Refused found) outcome is = subst IsWhole (sym is) tt
 
 pub due_of_value : (limits : Limits) (type : TypeTerm) (text_of : Value → List ℕ)
     → ((v w : Value) → Same v w → text_of v ≡ text_of w) → (before after : Option (List ℕ)) (value : Value) (taken : ℕ)

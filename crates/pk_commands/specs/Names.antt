@@ -14,10 +14,14 @@ needs_quotes c = is_control c || c == 34 || c == 92
 abbrev pub is_plain : List ℕ → Bool
 is_plain text = cond (length text == 0) false (not (list_any needs_quotes (chars text)))
 
--- characters in quotes, those that are quotes or aren't printable ASCII as Rust's `char::escape_default` has them: `\n`,
--- `\u{1b}`
+-- A character that is a quote or isn't printable ASCII stands as its escape, as Rust's `char::escape_default` has it:
+-- `\n`, `\u{1b}`.
+abbrev pub escaped : List ℕ → List ℕ
+escaped text = flat_map escape_default (chars text)
+
+-- the same in quotes
 abbrev pub quoted : List ℕ → List ℕ
-quoted text = codes "\"" ++ (flat_map escape_default (chars text) ++ codes "\"")
+quoted text = codes "\"" ++ (escaped text ++ codes "\"")
 
 -- octets in quotes, as Rust's `u8::escape_ascii` has them: `\n`, `\xff`
 abbrev pub quoted_octets : List ℕ → List ℕ

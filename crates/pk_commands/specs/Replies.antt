@@ -20,17 +20,18 @@ use Rattle.pk_documents.specs.RequestParts.{part_of}
 use Rattle.pk_documents.specs.declared.document.Document.{Document}
 use Rattle.pk_documents.specs.declared.kind.Kind.{Kind}
 use Rattle.pk_documents.specs.declared.kind.Kind.TheVariants.{Request}
+use Rattle.pk_explain.specs.Reports.{IsReportOf}
+use Rattle.pk_explain.specs.Written.{written_text}
+use Rattle.pk_reports.specs.declared.report.Report.{Report}
 use Rattle.pk_show.specs.Shown.{document_lines}
 use Rattle.pk_commands.specs.Inputs.{StopsTaking, TakesFirst}
 use Rattle.pk_commands.specs.Outcomes.{said_verdict}
-use Rattle.pk_commands.specs.Reported.{DueOfReport, DueOfShownReport, Unreported}
+use Rattle.pk_commands.specs.Reported.{DueOfReport, DueOfShownReport, Unreported, check_text}
 use Rattle.pk_commands.specs.declared.task.Action.{Action}
 use Rattle.pk_commands.specs.declared.task.Action.TheVariants.{Check, Explain, Normalise, Show, Signed}
 use Rattle.pk_commands.specs.declared.task.Task.{Task}
 use Rattle.pk_commands.specs.declared.outcome.Outcome.{Outcome}
 use Rattle.pk_commands.specs.declared.outcome.Outcome.TheVariants.{Done, NotDer, Fault, Explained as ExplainedFault, ReadFailed, WriteFailed, Memory}
-use Rattle.pk_commands.specs.declared.reported.Telling.{Telling}
-use Rattle.pk_commands.specs.declared.reported.Telling.TheVariants.{Checked, Explained}
 
 -- A value was taken, all of the input, and its DER text appended.
 abbrev pub DoneWith : Limits → TypeTerm → Option (List ℕ) → Option (List ℕ) → Option (List ℕ) → Option (List ℕ) → Type 0
@@ -123,18 +124,23 @@ abbrev pub DueOfOctets : Limits → (List ℕ → Outcome → List ℕ → Type 
 DueOfOctets limits Due before after outcome text =
     (octets : List ℕ) × TakesFirst (limits.octets + 1) before after octets × Due octets outcome text
 
+-- The first octets were taken, one more than the limit at most, and this is the report of them.
+abbrev pub IsReportOfInput : Limits → Kind → Option (List ℕ) → Option (List ℕ) → Report → Type 0
+IsReportOfInput limits kind before after report =
+    (octets : List ℕ) × TakesFirst (limits.octets + 1) before after octets × IsReportOf limits kind octets report
+
 -- Why nothing is due of all of the input: the octets that were taken are refused, or not all could be taken.
 abbrev pub StopsShowing : Limits → Kind → ReadError → Option (List ℕ) → Option (List ℕ) → Type 0
 StopsShowing limits kind error before after =
     StopsTaking (limits.octets + 1) error before after
     ⊎ ((octets : List ℕ) × TakesFirst (limits.octets + 1) before after octets × Unreported limits kind octets error)
 
--- What is told of the report of all of the input, of the file of this name.
-abbrev pub RepliedTelling : Telling → Option (List ℕ) → Limits → Kind → Outcome → Option (List ℕ) → Option (List ℕ)
+-- The text is due that the report of all of the input has.
+abbrev pub RepliedReporting : (Report → List ℕ) → Limits → Kind → Outcome → Option (List ℕ) → Option (List ℕ)
     → Option (List ℕ) → Option (List ℕ) → Type 0
-RepliedTelling telling file limits kind outcome before after old new =
+RepliedReporting text_of limits kind outcome before after old new =
     RepliedAs (λ error. StopsTaking (limits.octets + 1) error before after)
-    (DueOfOctets limits (DueOfReport telling file limits kind) before after) outcome old new
+    (DueOfOctets limits (DueOfReport text_of limits kind) before after) outcome old new
 
 -- What `show` writes: lines, or the report as JSON.
 abbrev pub RepliedShowing : (Document → Value) → Bool → Option (List ℕ) → Limits → Kind → Outcome → Option (List ℕ)
@@ -151,7 +157,7 @@ abbrev pub RepliedChecking : Bool → Bool → ℕ → Option (List ℕ) → Lim
 RepliedChecking false quiet places file limits kind outcome before after old new =
     RepliedWith limits (type_of kind) (DueOfCheck quiet limits (type_of kind) before after) outcome before after old new
 RepliedChecking true quiet places file limits kind outcome before after old new =
-    RepliedTelling (Checked quiet places) file limits kind outcome before after old new
+    RepliedReporting (check_text quiet places file) limits kind outcome before after old new
 
 -- by the action, the name of the file, if it has one, and the values of documents; `Signed` reads a request
 abbrev pub RepliedBy : (Document → Value) → Action → Option (List ℕ) → Kind → Limits → Outcome → Option (List ℕ)
@@ -163,7 +169,7 @@ RepliedBy value_of (Show json) file kind limits outcome before after old new =
 RepliedBy value_of (Check json quiet places) file kind limits outcome before after old new =
     RepliedChecking json quiet places file limits kind outcome before after old new
 RepliedBy value_of (Explain form) file kind limits outcome before after old new =
-    RepliedTelling (Explained form) file limits kind outcome before after old new
+    RepliedReporting (written_text form file) limits kind outcome before after old new
 RepliedBy value_of (Signed part) file kind limits outcome before after old new =
     RepliedWith limits (type_of Request)
     (DueOfValue limits (type_of Request) (part_of part) before after) outcome before after old new
@@ -207,15 +213,15 @@ abbrev pub written_outcome : Result ℕ WriteError → Outcome → Outcome
 written_outcome (Ok count) whole = whole
 written_outcome (Err error) whole = WriteFailed error.written
 
--- What writing a text comes to, by the octets before and after: `whole` where all of it is out; want of memory where
--- there was none for the text, and then nothing changes.
-abbrev pub WroteText : {S E : Type 0} → (S → List ℕ) → Result S E → Outcome → Outcome → Option (List ℕ)
-    → Option (List ℕ) → Bool → Type 0 → Type 0
-WroteText octets_of (Ok text) whole outcome old new failed unchanged =
+-- What writing a text comes to, by the octets before and after: `whole_of` where all of it is out. Where there is no
+-- text, `why` says how the run ends, and nothing changes.
+abbrev pub WroteText : {S E : Type 0} → (S → List ℕ) → (S → Outcome) → (E → Outcome) → Result S E → Outcome
+    → Option (List ℕ) → Option (List ℕ) → Bool → Type 0 → Type 0
+WroteText octets_of whole_of why (Ok text) outcome old new failed unchanged =
     (count : Result ℕ WriteError)
-    × (outcome ≡ written_outcome count whole)
+    × (outcome ≡ written_outcome count (whole_of text))
     × WritesText (octets_of text) old new failed count
-WroteText octets_of (Err error) whole outcome old new failed unchanged = (outcome ≡ Memory) × unchanged
+WroteText octets_of whole_of why (Err error) outcome old new failed unchanged = (outcome ≡ why error) × unchanged
 
 -- the outcome of a document that was not read
 abbrev pub unread_outcome : ReadError → Outcome

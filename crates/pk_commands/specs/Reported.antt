@@ -1,4 +1,4 @@
--- What is told of a report, and how a run ends that tells it.
+-- What is written of a report, and how a run ends that writes it.
 use Rattle.std.specs.Prelude.{Bool, List, Option, [], codes, cond, false, true, ℕ, ◌++◌, ◌&&◌, ◌≡◌}
 use Rattle.json.specs.Print.{print}
 use Rattle.json.specs.Token.{Token}
@@ -10,34 +10,26 @@ use Rattle.pk_documents.specs.declared.kind.Kind.{Kind}
 use Rattle.pk_explain.specs.Answers.{IsRefused}
 use Rattle.pk_explain.specs.Reports.{IsReportOf}
 use Rattle.pk_explain.specs.Rules.{is_refusal}
-use Rattle.pk_explain.specs.Written.{places_told, version}
-use Rattle.pk_reports.specs.Json.{check_object, report_object}
+use Rattle.pk_explain.specs.Written.{places_told, version, written_text}
+use Rattle.pk_reports.specs.Json.{check_object}
 use Rattle.pk_reports.specs.JsonMembers.{number_member, object, text_member}
-use Rattle.pk_reports.specs.Reports.{report_lines}
 use Rattle.pk_reports.specs.declared.report.Answer.{Answer}
 use Rattle.pk_reports.specs.declared.report.Answer.TheVariants as answers
 use Rattle.pk_reports.specs.declared.report.Report.{Report}
 use Rattle.pk_commands.specs.Outcomes.{line_feed}
 use Rattle.pk_commands.specs.declared.outcome.Outcome.{Outcome}
 use Rattle.pk_commands.specs.declared.outcome.Outcome.TheVariants.{Done, Explained as ExplainedFault, NotDer}
-use Rattle.pk_commands.specs.declared.reported.Telling.{Telling}
-use Rattle.pk_commands.specs.declared.reported.Telling.TheVariants.{Checked, Explained}
 
 abbrev pub is_der : Answer → Bool
 is_der answers.Der = true
 is_der (answers.NotDer at) = false
 is_der (answers.Refused found) = false
 
--- a report as a line of JSON: with all elements or without, and so many places, of the file of this name
-abbrev pub report_line : Bool → ℕ → Option (List ℕ) → Report → List ℕ
-report_line all places file report = print (report_object report version file all places) ++ line_feed
-
--- what `check` and `explain` tell of a report
-abbrev pub told_text : Telling → Option (List ℕ) → Report → List ℕ
-told_text (Checked quiet places) file report =
+-- what `check` writes of a report in JSON, with so many places, of the file of this name; quiet, nothing of what is in
+-- DER
+abbrev pub check_text : Bool → ℕ → Option (List ℕ) → Report → List ℕ
+check_text quiet places file report =
     cond (quiet && is_der report.answer) [] (print (check_object report version file places) ++ line_feed)
-told_text (Explained form) file report =
-    cond form.json (report_line form.all form.places file report) (report_lines report form.all form.places)
 
 -- how explaining ends, by what checking answers
 abbrev pub explained_outcome : Answer → Outcome
@@ -45,13 +37,13 @@ explained_outcome answers.Der = Done
 explained_outcome (answers.NotDer at) = NotDer at
 explained_outcome (answers.Refused found) = ExplainedFault found
 
--- What is told of the report of these octets is due.
-abbrev pub DueOfReport : Telling → Option (List ℕ) → Limits → Kind → List ℕ → Outcome → List ℕ → Type 0
-DueOfReport telling file limits kind octets outcome text =
+-- The text is due that the report of these octets has.
+abbrev pub DueOfReport : (Report → List ℕ) → Limits → Kind → List ℕ → Outcome → List ℕ → Type 0
+DueOfReport text_of limits kind octets outcome text =
     (report : Report)
     × IsReportOf limits kind octets report
     × (outcome ≡ explained_outcome report.answer)
-    × (text ≡ told_text telling file report)
+    × (text ≡ text_of report)
 
 -- These octets aren't refused, and their report is due, with all elements.
 abbrev pub DueOfShownReport : Option (List ℕ) → Limits → Kind → List ℕ → Outcome → List ℕ → Type 0
@@ -60,7 +52,7 @@ DueOfShownReport file limits kind octets outcome text =
     × IsReportOf limits kind octets report
     × (is_refusal report.answer ≡ false)
     × (outcome ≡ Done)
-    × (text ≡ report_line true places_told file report)
+    × (text ≡ written_text (record { json = true; all = true; places = places_told }) file report)
 
 -- why no report of these octets is due: they are refused, or memory ran out
 abbrev pub Unreported : Limits → Kind → List ℕ → ReadError → Type 0

@@ -1,6 +1,6 @@
 //! What two inputs are to each other, of which each has to be one document.
 ghost use Rattle.std.specs.Prelude.{◌≡◌, ◌++◌, Bool, IfOk, MatchBool, codes, false, string_bytes, true};
-ghost use Rattle.pk_commands.specs.Comparisons.{Answers, AnswersDocument, AnswersKey, AnsweredPair, ComparedAs, ComparedFailed, IsNote, IsTold, IsUntold, RepliedComparing, first_unread, has_note, key_note, key_status, note_by, said_name, sameness_status, second_unread};
+ghost use Rattle.pk_commands.specs.Comparisons.{Answers, AnswersDocument, AnswersKey, AnswersQuestion, AnsweredPair, ComparedAs, ComparedFailed, IsNote, IsTold, IsUntold, RepliedComparing, first_unread, has_note, key_note, key_status, note_by, said_name, sameness_status, second_unread};
 ghost use Rattle.std.specs.Io.KnownBytes.{Keeps};
 
 use crate::comparison::{Compared, Comparison, PairNames, Question};
@@ -10,7 +10,7 @@ use crate::name::{file_name, told_name};
 use asn_documents::value::write_octets;
 use pk_documents::document::{Document, Valued};
 use pk_documents::kind::Kind;
-use pk_same::same::{Style, same_text};
+use pk_same::same::{Style, TwoDocuments, same_text};
 use pk_same::sameness::Sameness;
 use pk_same::text::DocumentNames;
 use pk_same_key::same_key::same_key_text;
@@ -133,17 +133,30 @@ fn answer(
         first: first_name.as_str(),
         second: second_name.as_str(),
     };
+    named_answer(alloc, first, second, names, comparison)
+}
+
+/// The same by their names as they are written.
+fn named_answer<'a>(
+    alloc: Global,
+    first: &'a [u8],
+    second: &'a [u8],
+    names: DocumentNames<'_>,
+    comparison: &Comparison,
+) -> Result<(String, u8), AllocError>
+    ensures { IfOk result (λ it. AnswersQuestion ⟦<Document as Valued>⟧.value
+        comparison.now.question comparison.now.limits comparison.now.kind
+        comparison.now.other_kind names.entry.first.now names.entry.second.now
+        first.now second.now it.1 (string_bytes it.0)) }
+{
+    let documents = TwoDocuments { first, second };
     let kind = comparison.kind;
     let limits = comparison.limits;
     match comparison.question {
-        Question::Document(form) => {
-            document_answer(alloc, first, second, kind, limits, names, form)
-        }
+        Question::Document(form) => document_answer(alloc, documents, names, kind, limits, form),
         Question::Key => {
             let other_kind = comparison.other_kind;
-            let (text, answer) = same_key_text(
-                alloc, first, second, kind, other_kind, limits, names,
-            )?;
+            let (text, answer) = same_key_text(alloc, documents, names, kind, other_kind, limits)?;
             Ok((text, key_status(answer)))
         }
     }
@@ -162,20 +175,19 @@ fn said_name(alloc: Global, question: Question, name: &str) -> Result<String, Al
 /// The same where the question is of documents.
 fn document_answer(
     alloc: Global,
-    first: &[u8],
-    second: &[u8],
+    documents: TwoDocuments<'_>,
+    names: DocumentNames<'_>,
     kind: Kind,
     limits: Limits,
-    names: DocumentNames<'_>,
     form: Style,
 ) -> Result<(String, u8), AllocError>
     ensures { IfOk result (λ it. AnswersDocument ⟦<Document as Valued>⟧.value form limits kind
-        names.entry.first.now names.entry.second.now first.now second.now it.1
-        (string_bytes it.0)) }
+        names.entry.first.now names.entry.second.now
+        documents.entry.first.now documents.entry.second.now it.1 (string_bytes it.0)) }
 {
-    let (mut text, sameness) = same_text(alloc, first, second, kind, limits, names, form)?;
+    let (mut text, sameness) = same_text(alloc, documents, names, kind, limits, form)?;
     let is_due = has_note(form, sameness, kind);
-    let note = note_text(alloc, is_due, first, second, kind, limits, names)?;
+    let note = note_text(alloc, is_due, documents, names, kind, limits)?;
     text.push_str(note.as_str())?;
     Ok((text, sameness_status(sameness)))
 }
@@ -184,19 +196,19 @@ fn document_answer(
 fn note_text(
     alloc: Global,
     is_due: bool,
-    first: &[u8],
-    second: &[u8],
+    documents: TwoDocuments<'_>,
+    names: DocumentNames<'_>,
     kind: Kind,
     limits: Limits,
-    names: DocumentNames<'_>,
 ) -> Result<String, AllocError>
     ensures { IfOk result (λ note. IsNote is_due ⟦<Document as Valued>⟧.value limits kind
-        names.entry.first.now names.entry.second.now first.now second.now (string_bytes note)) }
+        names.entry.first.now names.entry.second.now
+        documents.entry.first.now documents.entry.second.now (string_bytes note)) }
 {
     if !is_due {
         return Ok(String::new(alloc));
     }
-    let (line, answer) = same_key_text(alloc, first, second, kind, kind, limits, names)?;
+    let (line, answer) = same_key_text(alloc, documents, names, kind, kind, limits)?;
     key_note(alloc, answer, line.as_str())
 }
 

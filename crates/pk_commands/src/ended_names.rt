@@ -1,6 +1,5 @@
 //! Names that are ended by an octet 0, as `find -print0` writes them.
-ghost use Rattle.std.specs.Prelude.{◌≡◌, ◌<◌, ◌∷◌, ◌++◌, ℕ, IfErr, IfOk, List, MatchResult, None, Option, Some, [], false, true};
-ghost use Rattle.std.specs.Io.KnownBytes.{Consumes, IsAtEnd};
+ghost use Rattle.std.specs.Prelude.{◌≡◌, ◌<◌, IfErr, IfOk, None, Option, Some, [], true};
 ghost use Rattle.pk_commands.specs.NameLists.{TakesOctet};
 ghost use Rattle.pk_commands.specs.declared.names.NamesFault.TheVariants.{Read};
 

@@ -1,5 +1,5 @@
 //! Documents in files.
-ghost use Rattle.std.specs.Prelude.{◌≡◌, None};
+ghost use Rattle.std.specs.Prelude.{None};
 
 use crate::opener::{Opener, Unopened};
 use std::alloc::Global;

@@ -1,5 +1,5 @@
 //! All of an input, or as much of it as is wanted.
-ghost use Rattle.std.specs.Prelude.{◌≡◌, ◌++◌, ◌<◌, ◌≤◌, IfOk, MatchResult, false, length};
+ghost use Rattle.std.specs.Prelude.{◌≡◌, ◌<◌, MatchResult, false, length};
 ghost use Rattle.asn_elements.specs.Whole.{IsFailedRead};
 ghost use Rattle.pk_commands.specs.Inputs.{StopsBehind, StopsTaking, Takes, TakesFirst};
 

@@ -2,8 +2,8 @@
 ghost use Rattle.std.specs.Prelude.{◌≡◌, ◌++◌, IfOk, OnOk, string_bytes};
 ghost use Rattle.std.specs.Char.Escape.{escape_ascii, escape_default};
 ghost use Rattle.std.specs.List.{list_any};
-ghost use Rattle.std.specs.Str.{chars, is_utf8};
-ghost use Rattle.pk_commands.specs.Names.{file_name, is_plain, needs_quotes, quoted, quoted_octets, told_name, told_text};
+ghost use Rattle.std.specs.Str.{chars};
+ghost use Rattle.pk_commands.specs.Names.{escaped, file_name, is_plain, needs_quotes, quoted, quoted_octets, told_name, told_text};
 
 use std::alloc::{AllocError, Global};
 
@@ -69,10 +69,18 @@ pub fn push_quoted(text: &mut String, name: &str) -> Result<(), AllocError>
     ensures { OnOk result (string_bytes text.new ≡ string_bytes text.old ++ quoted name.now) }
 {
     text.push_str("\"")?;
-    for c in name.chars() {
+    push_escapes(text, name)?;
+    text.push_str("\"")
+}
+
+/// Appends a text, with quotes and what isn't printable ASCII escaped.
+pub fn push_escapes(text: &mut String, word: &str) -> Result<(), AllocError>
+    ensures { OnOk result (string_bytes text.new ≡ string_bytes text.old ++ escaped word.now) }
+{
+    for c in word.chars() {
         push_escaped(text, c)?;
     }
-    text.push_str("\"")
+    Ok(())
 }
 
 /// Appends a character, or its escape where it isn't printable ASCII.

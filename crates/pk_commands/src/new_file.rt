@@ -11,7 +11,6 @@ use pk_documents::document::{Document, Valued};
 use std::alloc::{AllocError, Global};
 use std::io::{self, ErrorKind};
 use tlv_core::source::Source;
-use tlv_core::target::Target;
 
 /// Why a file isn't made.
 #[derive(Clone, Copy, Debug, PartialEq, Eq)]

@@ -1,5 +1,5 @@
 //! What opens documents by their names.
-ghost use Rattle.std.specs.Prelude.{◌≡◌, ℕ, IfErr, IfOk, List, Option, false, string_bytes};
+ghost use Rattle.std.specs.Prelude.{◌≡◌, ℕ, IfErr, IfOk, List, Option, false};
 ghost use Rattle.pk_commands.specs.Openings.{why_of};
 
 use std::alloc::Global;

@@ -1,69 +1,36 @@
-//! What is told of a report.
-ghost use Rattle.std.specs.Prelude.{◌≡◌, ◌++◌, ◌&&◌, IfOk, MatchOption, OnOk, false, string_bytes};
+//! What is written of a report, and how a run ends that writes it.
+ghost use Rattle.std.specs.Prelude.{◌≡◌, ◌++◌, ◌&&◌, [], IfOk, MatchOption, OnOk, false, string_bytes};
 ghost use Rattle.std.specs.Option.{option_map};
 ghost use Rattle.pk_explain.specs.Rules.{is_refusal};
 ghost use Rattle.pk_reports.specs.JsonMembers.{number_member, text_member};
 ghost use Rattle.pk_reports.specs.declared.report.Answer.TheVariants.{Refused};
-ghost use Rattle.pk_commands.specs.Reported.{error_line, error_object, explained_outcome, is_der, report_line, told_text};
+ghost use Rattle.pk_commands.specs.Outcomes.{words_of};
+ghost use Rattle.pk_commands.specs.Reported.{check_text, error_line, error_object, explained_outcome, is_der};
 
 use crate::outcome::Outcome;
 use json::Writer;
 use pk_explain::version::VERSION;
-use pk_explain::written::Form;
-use pk_reports::json_report::{check_json, report_json};
+use pk_reports::json_report::check_json;
 use pk_reports::report::{Answer, Report};
-use pk_reports::report_text;
 use std::alloc::{AllocError, Global};
 use tlv_core::fault::Fault;
 
-/// What a command tells of a report.
-#[derive(Clone, Copy, Debug, PartialEq, Eq)]
-pub enum Telling {
-    /// As `check` gives it in JSON, with up to so many places that aren't in DER; if that is to be `quiet`, nothing of
-    /// what is in DER.
-    Checked { quiet: bool, places: u64 },
-    /// As `explain` gives it.
-    Explained(Form),
-}
-
-/// What is told of a report, of a file by its name.
-pub fn told_text(
-    alloc: Global,
-    report: &Report,
-    telling: Telling,
-    file: Option<&str>,
-) -> Result<String, AllocError>
-    ensures { IfOk result (λ text. string_bytes text
-        ≡ told_text telling (option_map (λ r. r.now) file.entry) report.now) }
-{
-    match telling {
-        Telling::Checked { quiet, places } => {
-            if is_untold(quiet, report.answer) {
-                return Ok(String::new(alloc));
-            }
-            check_json(alloc, report, VERSION, file, places)
-        }
-        Telling::Explained(form) => {
-            if form.json {
-                return report_line(alloc, report, file, form.all, form.places);
-            }
-            report_text(alloc, report, form.all, form.places)
-        }
-    }
-}
-
-/// A report as a line of JSON, with up to so many places that aren't in DER.
-pub fn report_line(
+/// A report as `check` gives it in JSON, with up to so many places that aren't in DER; if that is to be `quiet`, nothing of
+/// what is in DER. It says which file it is of, if that has a name.
+pub fn check_text(
     alloc: Global,
     report: &Report,
     file: Option<&str>,
-    all: bool,
+    quiet: bool,
     places: u64,
 ) -> Result<String, AllocError>
     ensures { IfOk result (λ text. string_bytes text
-        ≡ report_line all places (option_map (λ r. r.now) file.entry) report.now) }
+        ≡ check_text quiet places (option_map (λ r. r.now) file.entry) report.now) }
 {
-    report_json(alloc, report, VERSION, file, all, places)
+    if is_left_out(quiet, report.answer) {
+        return Ok(String::new(alloc));
+    }
+    check_json(alloc, report, VERSION, file, places)
 }
 
 /// Why no report of a file is told, as JSON.
@@ -111,8 +78,8 @@ fn push_number(json: &mut Writer, name: &str, number: u64) -> Result<(), AllocEr
     json.u64(number)
 }
 
-/// Whether nothing is told of a document, of which this is the answer.
-fn is_untold(quiet: bool, answer: Answer) -> bool
+/// Whether nothing is written of a document that has this answer.
+fn is_left_out(quiet: bool, answer: Answer) -> bool
     ensures { result ≡ (quiet && is_der answer) }
 {
     quiet && is_der(answer)
@@ -137,7 +104,8 @@ pub fn refusal(answer: Answer) -> Option<Fault>
 
 /// How a run ends that tells of a report, by what checking answers.
 pub fn explained(answer: &Answer) -> Outcome
-    ensures { result ≡ explained_outcome answer.now }
+    ensures outcome { result ≡ explained_outcome answer.now }
+    ensures says_all { words_of result ≡ [] }
 {
     match answer {
         Answer::Der => Outcome::Done,

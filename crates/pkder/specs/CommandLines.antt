@@ -1,9 +1,7 @@
 -- The commands and options of the program, and what a command line asks for. What clap makes of the words of a
 -- command is `subcommand_of`.
-use Rattle.std.specs.Prelude.{All, ◌≡◌, ◌≤◌, ◌⊎◌, ◌&&◌, ◌||◌, ◌++◌, ℕ, Bool, IfSome, List, [], ◌∷◌, None, Option, Some, codes, false, if◌then◌else◌, map, option_map, string_bytes, true, unwrap_or}
+use Rattle.std.specs.Prelude.{◌≡◌, ◌≤◌, ◌⊎◌, ◌&&◌, ◌||◌, ◌++◌, ℕ, Bool, IfSome, List, [], ◌∷◌, None, Option, Some, codes, false, if◌then◌else◌, map, option_map, string_bytes, true, unwrap_or}
 use Rattle.std.specs.Char.{is_control}
-use Rattle.std.specs.Char.Escape.{escape_default}
-use Rattle.std.specs.Int.{IsInRange}
 use Rattle.std.specs.List.{filter, find, flat_map, fold, list_any}
 use Rattle.std.specs.Option.{option_or}
 use Rattle.std.specs.Str.{bytes_eq, chars}
@@ -21,6 +19,7 @@ use Rattle.pk_documents.specs.declared.kind.TheConstants.{KEY_WORDS, WORDS}
 use Rattle.pk_documents.specs.declared.request_part.Part.{Part}
 use Rattle.pk_documents.specs.declared.request_part.Part.TheVariants as parts
 use Rattle.pk_explain.specs.declared.written.Form.{Form}
+use Rattle.pk_commands.specs.Names.{IsPrintable, escaped, quoted}
 use Rattle.pk_commands.specs.Outcomes.{line_feed}
 use Rattle.pk_commands.specs.declared.task.Action.{Action}
 use Rattle.pk_commands.specs.declared.task.Action.TheVariants.{Check, Explain, Normalise, Show, Signed}
@@ -328,26 +327,18 @@ MeansBy (Some met) asked = MeansAsked met.0 met.1 asked
 abbrev pub has_control : Text → Bool
 has_control word = list_any is_control (chars word)
 
--- printable ASCII
-abbrev pub IsPlain : Text → Type 0
-IsPlain text = All (IsInRange 32 126) text
-
--- one line of it
+-- one line of printable ASCII
 abbrev pub IsPlainLine : Text → Type 0
-IsPlainLine text = (line : Text) × (text ≡ line ++ line_feed) × IsPlain line
+IsPlainLine text = (line : Text) × (text ≡ line ++ line_feed) × IsPrintable line
 
--- A character that is a quote or isn't printable ASCII stands as its escape, as Rust's `char::escape_default` has it:
--- `\n`, `\u{1b}`.
-abbrev pub escaped : Text → Text
-escaped word = flat_map escape_default (chars word)
-
-abbrev pub quoted : Text → Text
-quoted word = codes " \"" ++ (escaped word ++ codes "\"")
+-- a word in quotes, after a blank
+abbrev pub quoted_word : Text → Text
+quoted_word word = codes " " ++ quoted word
 
 -- what is told of words of which some have control characters: those that do
 abbrev pub controls_line : List Text → Text
 controls_line words =
-    codes "error: a word has control characters:" ++ (flat_map quoted (filter has_control words) ++ line_feed)
+    codes "error: a word has control characters:" ++ (flat_map quoted_word (filter has_control words) ++ line_feed)
 
 -- a value as it is told
 abbrev pub shown : Text → Text

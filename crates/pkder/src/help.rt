@@ -69,7 +69,7 @@ No signature is verified. Statuses: pkder help.
 
   pkder signed --part signature request.der > signature";
 
-/// What `help reasons` says. Its lines are those of the man page, which tools/advice_words.py sees.
+/// What `help reasons` says. Its lines are those of the man page, which tools/pages/advice_words.py sees.
 pub const REASONS: &str = "\
 What the reason means in 'fault at PLACE: REASON'. PLACE is an octet counted
 from 0: where the element begins that is refused, or where the field should

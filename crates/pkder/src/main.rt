@@ -2,8 +2,8 @@
 //! are, whether they are in DER, whether two are the same, their one DER text, a part of them.
 //!
 //! Proved here: which words ask for what, and that others are refused; in `respond`, what is done then, whatever the
-//! streams and files are that it is handed. Only tested, by the tables of `tests/` and tools/files.py: the texts of help
-//! and of lines that clap refuses, which file a name opens, and `main`, which hands on what the system gives.
+//! streams and files are that it is handed. Only tested, by the tables of `tests/` and tests/harness/files.py: the texts
+//! of help and of lines that clap refuses, which file a name opens, and `main`, which hands on what the system gives.
 #![tactic(auto)]
 
 mod command;

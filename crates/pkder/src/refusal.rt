@@ -1,12 +1,12 @@
 //! What is told of a line that is refused.
 ghost use Rattle.std.specs.Prelude.{◌≡◌, ◌++◌, IfOk, OnOk, false, map, option_map, string_bytes};
-ghost use Rattle.std.specs.Char.Escape.{escape_default};
 ghost use Rattle.std.specs.List.{list_any};
 ghost use Rattle.clap.specs.Words.{kind_of};
-ghost use Rattle.pkder.specs.CommandLines.{TellsOwn, advice_for_command as command_advice, advice_for_kind as kind_advice, advice_for_option as option_advice, advised_line, are_of_same, bad_value_line, command_advised, controls_line, escaped, has_control, no_kind_line, option_advised, quoted, shown, tip};
+ghost use Rattle.pkder.specs.CommandLines.{TellsOwn, advice_for_command as command_advice, advice_for_kind as kind_advice, advice_for_option as option_advice, advised_line, are_of_same, bad_value_line, command_advised, controls_line, has_control, no_kind_line, option_advised, shown, tip};
 
 use clap::Error;
 use clap::error::ErrorKind;
+use pk_commands::name::{push_escapes, push_quoted};
 use pk_documents::kind::WORDS;
 use std::alloc::{AllocError, Global};
 
@@ -207,6 +207,7 @@ fn controls_text(alloc: Global, words: &[String]) -> Result<String, AllocError>
     let mut text = String::from_str(alloc, "error: a word has control characters:")?;
     for word in words {
         if is_controlling(word.as_str()) {
+            text.push_str(" ")?;
             push_quoted(&mut text, word.as_str())?;
         }
     }
@@ -223,33 +224,4 @@ fn push_shown(text: &mut String, value: &str) -> Result<(), AllocError>
     } else {
         text.push_str(value)
     }
-}
-
-/// Appends a word in quotes, with what isn't printable ASCII escaped.
-fn push_quoted(text: &mut String, word: &str) -> Result<(), AllocError>
-    ensures { OnOk result (string_bytes text.new ≡ string_bytes text.old ++ quoted word.now) }
-{
-    text.push_str(" \"")?;
-    push_escapes(text, word)?;
-    text.push_str("\"")
-}
-
-/// Appends a word, with what isn't printable ASCII escaped.
-fn push_escapes(text: &mut String, word: &str) -> Result<(), AllocError>
-    ensures { OnOk result (string_bytes text.new ≡ string_bytes text.old ++ escaped word.now) }
-{
-    for c in word.chars() {
-        push_escaped(text, c)?;
-    }
-    Ok(())
-}
-
-/// Appends a character, or its escape where it isn't printable ASCII.
-fn push_escaped(text: &mut String, c: char) -> Result<(), AllocError>
-    ensures { OnOk result (string_bytes text.new ≡ string_bytes text.old ++ escape_default c) }
-{
-    for shown in c.escape_default() {
-        text.push(shown)?;
-    }
-    Ok(())
 }

@@ -6,7 +6,6 @@ ghost use Rattle.pk_commands.specs.Standards.{IsReadable, seen};
 ghost use Rattle.pkder.specs.Responses.{Does, Follows, Responds, SaysFault, first_name, is_binary};
 
 use crate::line::{Asked, LineFault, Order, asked_of};
-use crate::pair::Pair;
 use pk_commands::closing::{complain, finish};
 use pk_commands::comparison::PairNames;
 use pk_commands::convert::{Places, convert};

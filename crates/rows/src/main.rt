@@ -1,6 +1,6 @@
 //! A program that tests libraries on rows of tables: it does one task on octets with their public calls, and answers as
-//! pkder does. `tools/rows.py` hands it the rows of `tests/rows`, and `tools/refused_growths.py` refuses each growth of
-//! memory in turn meanwhile. Not part of pkder.
+//! pkder does. `tests/harness/rows.py` hands it the rows of `tests/rows`, and `tests/harness/growths.py` refuses each
+//! growth of memory in turn meanwhile. Not part of pkder.
 //!
 //! Standard input is a line of words, below, and the octets behind it. Of `tlv_core` and `ber_pull`:
 //!

@@ -1,13 +1,13 @@
 use Rattle.std.proofs.Common.{string_bytes, ◌∙◌}
 use Rattle.std.proofs.lemmas.Result.{IfOk-weaker}
 use Rattle.pk_documents.proofs.DocumentValues.{valued}
-use Rattle.pk_commands.proofs.Comparisons.{answers_document}
+use Rattle.pk_commands.proofs.Comparisons.{answers_named}
 use Rattle.pk_commands.proofs.compare.answer.Goals as goal
 
-pub returns-in-Document : goal.returns-in-Document
-returns-in-Document c =
-    IfOk-weaker c.document_answer.result _ _
-    (λ it h. answers_document valued c.args.comparison.now c.in-Document.form c.args.names.first.now
-    c.args.names.second.now c.as_str.result.now c.as_str-2.result.now c.args.first.now c.args.second.now it.1
-    (string_bytes it.0) c.in-Document.is (c.as_str.ensures.value ∙ c.in_ok-first_name.ensures)
-    (c.as_str-2.ensures.value ∙ c.in_ok-second_name.ensures) h) c.document_answer.ensures
+pub returns : goal.returns
+returns c =
+    IfOk-weaker c.named_answer.result _ _
+    (λ it h. answers_named valued c.args.comparison.now c.args.names.first.now c.args.names.second.now
+    c.as_str.result.now c.as_str-2.result.now c.args.first.now c.args.second.now it.1 (string_bytes it.0)
+    (c.as_str.ensures.value ∙ c.in_ok-first_name.ensures) (c.as_str-2.ensures.value ∙ c.in_ok-second_name.ensures) h)
+    c.named_answer.ensures

@@ -1,4 +1,5 @@
-use Rattle.std.proofs.Common.{◌∙◌, Err, IfOk, Ok, Result, ap, refl, rules}
+use Rattle.std.proofs.Common.{◌∙◌, ◌≡◌, Err, IfOk, MatchResult, Ok, Result, ap, false, refl, rules}
+use Rattle.tlv_core.specs.declared.fault.ReadError.TheVariants.{Memory as MemoryRead}
 use Rattle.x690.specs.Answers.{Spelled}
 use Rattle.x690.specs.DerTexts.{der}
 use Rattle.asn_documents.proofs.WholeInputs.{unread_whole}
@@ -8,48 +9,57 @@ use Rattle.pk_documents.specs.declared.kind.Kind.TheVariants.{Request}
 use Rattle.pkcs10.specs.Requests.{request_value_of}
 use Rattle.pk_documents.proofs.LawfulKinds.{kinds_are_lawful}
 use Rattle.pk_documents.proofs.RequestParts.{part_same}
-use Rattle.pk_commands.specs.Replies.{DueOfValue, Unreadable}
+use Rattle.pk_commands.specs.Endings.{IsWhole}
+use Rattle.pk_commands.specs.Replies.{DueOfValue, FailedBy, Unreadable}
 use Rattle.pk_commands.specs.declared.outcome.Outcome.TheVariants as outcomes
 use Rattle.pk_commands.proofs.Replies.{due_of_value, no_memory, text_fails, text_replies, text_silent, unread_fails, unread_replies}
 use Rattle.pk_commands.proofs.run.extract.Goals as goal
 
 -- one text, whatever the block
-is_due : {S E P : Type 0} (block : Result S E) → P → IfOk block (λ _. P)
-is_due (Ok block) h = h
-is_due (Err error) h = tt
+with_or_without : {S E : Type 0} (P Q : Type 0) (block : Result S E) → P → Q → MatchResult block (λ _. P) (λ _. Q)
+with_or_without P Q (Ok block) p q = p
+with_or_without P Q (Err error) p q = q
+
+is_whole : {S E : Type 0} (block : Result S E) → IfOk block (λ _. IsWhole outcomes.Done)
+is_whole (Ok block) = tt
+is_whole (Err error) = tt
 
 pub returns-in-Ok-clause-replied : goal.returns-in-Ok-clause-replied
 returns-in-Ok-clause-replied g c =
     let l = c.args.limits in
     let T = type_of Request in
     let part = c.args.part in
+    let text = part_of part (request_value_of c.in-Ok.request) in
     let before = g.R.Source.remaining c.args.src.now in
     let after = g.R.Source.remaining c.read_whole_input.new.src in
     let reads = c.in-Ok.ensures.reads in
     let due = due_of_value l T (part_of part) (part_same part) before after _ c.in-Ok._taken (kinds_are_lawful Request)
     (search rules) reads c.in-Ok.ensures.ends in
-    text_replies (λ _. part_of c.args.part (request_value_of c.in-Ok.request)) c.args.dst.now
-    c.write_part_text.new.dst g.W.Target.contents
-    g.W.Target.has_failed c.write_part_text.result outcomes.Done tt
-    (λ error. Unreadable l T error before after) (DueOfValue l T (part_of part) before after) _ c.new_block.result (is_due c.new_block.result refl)
-    due
+    text_replies (λ _. text) (λ _. outcomes.Done) (λ _. outcomes.Memory) c.args.dst.now c.write_part_text.new.dst
+    g.W.Target.contents g.W.Target.has_failed c.write_part_text.result
+    (λ error. Unreadable l T error before after) (DueOfValue l T (part_of part) before after) c.new_block.result
+    (is_whole c.new_block.result)
+    (with_or_without (DueOfValue l T (part_of part) before after outcomes.Done text)
+    (Unreadable l T MemoryRead before after) c.new_block.result due
     (no_memory l T before after reads.octets (der (request_value_of c.in-Ok.request)) reads.takes
     (λ more. reads.answers more ∙ ap (Spelled (der (request_value_of c.in-Ok.request))) reads.taken_are)
-    reads.spells.octets_fit)
+    reads.spells.octets_fit))
     c.write_part_text.ensures
 
 pub returns-in-Ok-clause-unwritten : goal.returns-in-Ok-clause-unwritten
 returns-in-Ok-clause-unwritten g c =
-    text_silent (λ _. part_of c.args.part (request_value_of c.in-Ok.request)) c.args.dst.now
-    c.write_part_text.new.dst g.W.Target.contents
-    g.W.Target.has_failed c.write_part_text.result outcomes.Done tt c.new_block.result c.write_part_text.ensures
+    text_silent (λ _. part_of c.args.part (request_value_of c.in-Ok.request)) (λ _. outcomes.Done)
+    (λ _. outcomes.Memory) c.args.dst.now c.write_part_text.new.dst g.W.Target.contents g.W.Target.has_failed
+    c.write_part_text.result c.new_block.result (is_whole c.new_block.result) c.write_part_text.ensures
 
 pub returns-in-Ok-clause-failed : goal.returns-in-Ok-clause-failed
 returns-in-Ok-clause-failed g c =
-    text_fails (λ _. part_of c.args.part (request_value_of c.in-Ok.request)) c.args.dst.now
-    c.write_part_text.new.dst g.W.Target.contents g.W.Target.has_failed
-    c.write_part_text.result outcomes.Done tt c.new_block.result
-    (g.R.Source.has_failed c.read_whole_input.new.src) c.in-Ok.ensures.read c.requires.writable
+    let source = g.R.Source.has_failed c.read_whole_input.new.src in
+    text_fails (λ _. part_of c.args.part (request_value_of c.in-Ok.request)) (λ _. outcomes.Done)
+    (λ _. outcomes.Memory) c.args.dst.now c.write_part_text.new.dst g.W.Target.contents g.W.Target.has_failed
+    c.write_part_text.result c.new_block.result source (is_whole c.new_block.result) c.requires.writable
+    (with_or_without (source ≡ false) (FailedBy outcomes.Memory source false) c.new_block.result c.in-Ok.ensures.read
+    (c.in-Ok.ensures.read, refl))
     c.write_part_text.ensures
 
 pub returns-in-Err-clause-replied : goal.returns-in-Err-clause-replied

@@ -18,8 +18,8 @@ invariant_of-blocks-clause-no_shorter g c = le_of_eq (ap known_length (sym c.req
 
 pub returns-in-Ok-clause-replied : goal.returns-in-Ok-clause-replied
 returns-in-Ok-clause-replied g c =
-    let l = c.args.limits in
-    let T = type_of c.args.kind in
+    let l = c.args.task.now.limits in
+    let T = type_of c.args.task.now.kind in
     let before = g.R.Source.remaining c.args.src.now in
     let after = g.R.Source.remaining c.normalise_whole_document.new.src in
     let came = held c.normalise_whole_document.new.dst in
@@ -58,8 +58,8 @@ returns-in-Ok-clause-failed g c =
 
 pub returns-in-Err-Write-clause-replied : goal.returns-in-Err-Write-clause-replied
 returns-in-Err-Write-clause-replied g c =
-    let l = c.args.limits in
-    let T = type_of c.args.kind in
+    let l = c.args.task.now.limits in
+    let T = type_of c.args.task.now.kind in
     let before = g.R.Source.remaining c.args.src.now in
     let after = g.R.Source.remaining c.normalise_whole_document.new.src in
     let first = append_known (g.W.Target.contents c.args.dst.now) [] in
@@ -93,8 +93,8 @@ returns-in-Err-Write-clause-unwritten g c = λ silent.
 
 pub returns-in-Err-Write-clause-failed : goal.returns-in-Err-Write-clause-failed
 returns-in-Err-Write-clause-failed g c =
-    let l = c.args.limits in
-    let T = type_of c.args.kind in
+    let l = c.args.task.now.limits in
+    let T = type_of c.args.task.now.kind in
     let before = g.R.Source.remaining c.args.src.now in
     let after = g.R.Source.remaining c.normalise_whole_document.new.src in
     let first = append_known (g.W.Target.contents c.args.dst.now) [] in
@@ -120,8 +120,8 @@ returns-in-Err-Write-clause-failed g c =
 
 pub returns-in-Err-Read-clause-replied : goal.returns-in-Err-Read-clause-replied
 returns-in-Err-Read-clause-replied g c =
-    let l = c.args.limits in
-    let T = type_of c.args.kind in
+    let l = c.args.task.now.limits in
+    let T = type_of c.args.task.now.kind in
     let before = g.R.Source.remaining c.args.src.now in
     let after = g.R.Source.remaining c.normalise_whole_document.new.src in
     let first = append_known (g.W.Target.contents c.args.dst.now) [] in

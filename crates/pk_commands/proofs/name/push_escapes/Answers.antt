@@ -4,10 +4,10 @@ use Rattle.std.proofs.lemmas.Iterator.Consumers.{YieldsList-end}
 use Rattle.std.proofs.lemmas.List.Concat.{flat_map-append}
 use Rattle.std.specs.Char.Escape.{escape_default}
 use Rattle.std.specs.List.{flat_map}
-use Rattle.pk_commands.proofs.name.push_quoted.Goals as goal
+use Rattle.pk_commands.proofs.name.push_escapes.Goals as goal
 
 pub loop-c-init : goal.loop-c-init
-loop-c-init c = sym (append-nil (string_bytes c.push_str.new.self))
+loop-c-init c = sym (append-nil (string_bytes c.args.text.now))
 
 pub loop-c-preserved : goal.loop-c-preserved
 loop-c-preserved c =
@@ -16,8 +16,7 @@ loop-c-preserved c =
 
 pub returns : goal.returns
 returns c =
-    let all = YieldsList-end (YieldsList-from_chars c.args.name.now c.utf8.name cc) c.loop-c.yielded _
+    let all = YieldsList-end (YieldsList-from_chars c.args.word.now c.utf8.word cc) c.loop-c.yielded _
     c.loop-c.yielded_by _ _ c.in-None.is c.next.ensures.steps in
     let whole = sym (map-id c.loop-c.yielded) ∙ all.0 in
-    let text = c.loop-c.invariant ∙ ap (λ cs. string_bytes c.push_str.new.self ++ flat_map escape_default cs) whole in
-    search (rules, append_assoc, text)
+    c.loop-c.invariant ∙ ap (λ cs. string_bytes c.args.text.now ++ flat_map escape_default cs) whole
