@@ -11,10 +11,11 @@ import re
 import subprocess
 import sys
 from concurrent.futures import ThreadPoolExecutor
+from pathlib import Path
 
-sys.path.insert(0, os.path.join(os.path.dirname(os.path.dirname(os.path.realpath(__file__))), "tools"))
-from independent_reader import answer, base_128, oid  # noqa: E402
-from secret_documents import (  # noqa: E402
+sys.path[0] = str(Path(__file__).resolve().parents[1])
+from tests.oracle.reader import answer, base_128, oid
+from tests.oracle.secret_documents import (
     ATTRIBUTES, ED25519, EXTENSION_REQUEST, IDENTIFIER, NAME_TYPE, OCTETS, PRINTABLE, SEQUENCE, SET, algorithm, bits,
     element, identifier, indefinite, number, public)
 

@@ -10,8 +10,9 @@ import shutil
 import subprocess
 import sys
 import tempfile
+from pathlib import Path
 
-TOP = os.path.dirname(os.path.dirname(os.path.realpath(__file__)))
+TOP = str(Path(__file__).resolve().parents[1])
 FILES = (("key", "smallest"), ("key", "p256"), ("key", "rsa2048"), ("request", "request-rsa2048"))
 CALLS = r"""
 #include <pkder.h>

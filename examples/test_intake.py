@@ -12,9 +12,9 @@ import tempfile
 import unittest
 
 HERE = os.path.dirname(os.path.realpath(__file__))
-sys.path[:0] = [HERE, f"{HERE}/../tools"]
-import intake  # noqa: E402
-import spellings  # noqa: E402
+sys.path[:1] = [os.path.dirname(HERE), HERE]
+import intake
+from tests.harness import spellings
 
 TABLE = f"{HERE}/../tests/manual/spellings.tsv"
 LABEL = "pem 'CERTIFICATE REQUEST'"

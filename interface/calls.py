@@ -5,21 +5,20 @@ Each line has six cells between tabs: rule, words, input, status, output, error.
 options, none left out, as
   normalise --kind key --depth 32 --octets 1048576
 (check and show the same; signed has --part in place of --kind; explain may have --all and --json behind them). Input
-and output are in hex, and the error is a line. tools/rows.py reads such a table too. Left out are help and command
-lines that are refused, which no call has, rows whose reads or writes fail, and rows that state no answer.
+and output are in hex, and the error is a line. tests/harness/rows.py reads such a table too. Left out are help and
+command lines that are refused, which no call has, rows whose reads or writes fail, and rows that state no answer.
 
 The program has no command `field`. A row of it stands behind each row of explain, with what that says behind `field`,
 and behind each row of check whose document is in DER, of which nothing is said. The last rows are of the documents that
 tests/pkder/explained/reports.txt names one field of. Their status is that of explain."""
 import json
-import os
 import re
 import sys
+from pathlib import Path
 
-HERE = os.path.dirname(os.path.realpath(__file__))
-sys.path.insert(0, f"{HERE}/../tools")
-import rows  # noqa: E402
-from explained_reports import FOLDER, blocks  # noqa: E402
+sys.path[0] = str(Path(__file__).resolve().parents[1])
+from tests.explained.reports import FOLDER, blocks
+from tests.harness import rows
 
 USUAL = {"depth": "32", "octets": "1048576"}
 FLAGS = ("--all", "--json")

@@ -7,17 +7,16 @@ answer: 'the same', 'another', or which of the two is refused and why, as 'secon
 They are made of the rows of `normalise` in a table by calls.py, whose texts come from standards and other tools: a
 document is the same as its text, and as another document just where their texts are equal; one that is refused is the
 same as none, itself among them. So each is put beside the last document and the last refused one of its kind. And of
-the rows of a table by hand, PAIRS.tsv: rule, kind, first, second, answer, which tools/rows.py tells how to write, with
-files of examples/. Pairs of documents are told both ways round."""
-import os
+the rows of a table by hand, PAIRS.tsv: rule, kind, first, second, answer, which tests/harness/rows.py tells how to
+write, with files of examples/. Pairs of documents are told both ways round."""
 import sys
+from pathlib import Path
 
-HERE = os.path.dirname(os.path.realpath(__file__))
-sys.path.insert(0, f"{HERE}/../tools")
-import rows  # noqa: E402
-from calls import USUAL  # noqa: E402
+TOP = sys.path[0] = str(Path(__file__).resolve().parents[1])
+from interface.calls import USUAL
+from tests.harness import rows
 
-EXAMPLES = f"{HERE}/../examples"
+EXAMPLES = f"{TOP}/examples"
 # Digits in hex.
 LONG = 20000
 

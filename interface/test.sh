@@ -94,7 +94,7 @@ in_c() {
     compiled filter_watched filter -O1 -g -fsanitize=address,undefined -fno-sanitize-recover=all
     compiled refuse refuse -O2 -Wl,--wrap=malloc,--wrap=realloc,--wrap=free
     compiled secrets secrets -O2 -Wl,--wrap=free
-    try "rows in C" python3 "$top/tools/rows.py" "$work/calls.tsv" "$work/filter" "$work/filter_watched"
+    try "rows in C" python3 "$top/tests/harness/rows.py" "$work/calls.tsv" "$work/filter" "$work/filter_watched"
     try "pairs in C under ASan and UBSan" pairs
     random_documents
     reports
@@ -114,12 +114,12 @@ random_documents() {
     else
         echo "left out: no program beside random documents (run 'python3 tools/build.py')"
     fi
-    try "random documents" python3 "$top/tools/random_documents.py" --count "${DOCUMENTS:-500}" --whole "$@"
+    try "random documents" python3 "$top/tests/oracle/random_documents.py" --count "${DOCUMENTS:-500}" --whole "$@"
 }
 
 # The library's reports, beside what is due of them, and beside the program's, word for word.
 reports() {
-    try "reports" python3 "$top/tools/explained_reports.py" "$work/filter"
+    try "reports" python3 "$top/tests/explained/reports.py" "$work/filter"
     if [ -f "$top/crates/pkder/out/pkder" ]; then
         try "reports under ASan and UBSan beside the program" same_reports
     else
@@ -362,7 +362,7 @@ documents() {
     set -- "PKG_CONFIG_PATH=$out" "LD_LIBRARY_PATH=$out" "PYTHONPATH=$site:$here/python/src" "PIP_TARGET=$site" \
         PIP_NO_INDEX=1 PIP_NO_BUILD_ISOLATION=0 PIP_QUIET=1 PIP_ROOT_USER_ACTION=ignore PYTHONDONTWRITEBYTECODE=1 \
         CARGO_NET_OFFLINE=true "RUSTUP_HOME=${RUSTUP_HOME:-$HOME/.rustup}" GOPROXY=off "GOCACHE=$work/gocache"
-    env "$@" python3 "$top/tools/transcripts.py" "$top/docs/library.md" "$here/python/README.md" \
+    env "$@" python3 "$top/tests/harness/transcripts.py" "$top/docs/library.md" "$here/python/README.md" \
         "$here/java/README.md" "$work/filter"
 }
 

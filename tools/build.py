@@ -15,9 +15,10 @@ import shutil
 import subprocess
 import sys
 import time
+from pathlib import Path
 
-import logic
-from logic import TOP
+TOP = sys.path[0] = str(Path(__file__).resolve().parents[1])
+from tools.gate import logic
 
 PROGRAM = "crates/pkder/out/pkder"
 MADE = (PROGRAM, "interface/out/libpkder.a", "interface/out/libpkder.so.0")

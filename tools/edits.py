@@ -30,11 +30,11 @@ Searches get half of their counts (--margin): most of an edit's time is a search
 edit which is refused and not a long proof, a function in which a search gave up has to be proved as it stands with half
 of them, too; where it isn't, its edits are tried with all of them.
 
-The record, tools/edits_refused.tsv, has for each file of a crate how many edits of it were refused, and the sum of the
-program logic (not of the kit that it comes in), of what the proofs of the file's functions rest on in the crate
-(tools/reach.py), and of the edits. An edit of code in several files is recorded by all of these; any other by the word
-'all', and rests on the whole crate. What the crate stands on isn't in it: a contract below that gets too weak to refuse
-an edit is found by the quarter that comes to the crate, and so is a false record.
+The record, tools/gate/edits_refused.tsv, has for each file of a crate how many edits of it were refused, and the sum of
+the program logic (not of the kit that it comes in), of what the proofs of the file's functions rest on in the crate
+(tools/gate/reach.py), and of the edits. An edit of code in several files is recorded by all of these; any other by the
+word 'all', and rests on the whole crate. What the crate stands on isn't in it: a contract below that gets too weak to
+refuse an edit is found by the quarter that comes to the crate, and so is a false record.
 
 What was refused is kept, round by round, for later runs on this machine, in clones too, in pkder/refused_edits of the
 user's folder for caches ($XDG_CACHE_HOME, or ~/.cache): by the sum of the edit, its crate, all crates below, the
@@ -55,15 +55,16 @@ import sys
 import tempfile
 import threading
 import tomllib
+from pathlib import Path
 
-from reach import PARTS, Reach, text_of
+TOP = sys.path[0] = str(Path(__file__).resolve().parents[1])
+from tools.gate.reach import PARTS, Reach, text_of
 
-TOOLS = os.path.dirname(os.path.realpath(__file__))
-RECORD = "tools/edits_refused.tsv"
+RECORD = "tools/gate/edits_refused.tsv"
 KEPT = os.path.join(os.environ.get("XDG_CACHE_HOME") or os.path.expanduser("~/.cache"), "pkder/refused_edits")
 # Edits of one crate that show whether this script tells apart what it must: how the name of each begins, and how what
 # is said of it must begin.
-CONTROL, CONTROL_CRATE = "tools/edits_control.toml", "tlv_core"
+CONTROL, CONTROL_CRATE = "tools/gate/edits_control.toml", "tlv_core"
 CONTROLLED = {"refused": "refused: ", "proved": "NOT REFUSED", "bad": "BAD EDIT", "named": "refused by a name alone"}
 NAME = re.compile(r"[A-Za-z0-9_-]+")
 HALF = "--margin"
@@ -716,7 +717,7 @@ def asked(names, record):
 
 
 def main(words):
-    os.chdir(os.path.dirname(TOOLS))
+    os.chdir(TOP)
     jobs = len(os.sched_getaffinity(0))
     if "--jobs" in words[:-1]:
         at = words.index("--jobs")

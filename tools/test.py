@@ -18,15 +18,18 @@ import subprocess
 import sys
 import time
 from concurrent.futures import ThreadPoolExecutor
+from pathlib import Path
 
-import build
+TOP = sys.path[0] = str(Path(__file__).resolve().parents[1])
+from tools import build
 
-FIRST = ("logic", "records", "lint", "proofs")
-ROWS = ["python3", "tools/rows.py"]
-GROWTHS = ["python3", "tools/refused_growths.py"]
-TRANSCRIPTS = ["python3", "tools/transcripts.py", "README.md", "docs/manual.md"]
+FIRST = ("logic", "gate", "pages", "lint", "proofs")
+ROWS = ["python3", "tests/harness/rows.py"]
+GROWTHS = ["python3", "tests/harness/growths.py"]
+TRANSCRIPTS = ["python3", "tests/harness/transcripts.py", "README.md", "docs/manual.md"]
+PAGES = ("about", "advice_words", "decisions", "identifier_names", "lists", "report_schema", "shape_names")
 EXPLAINED = ("answers", "listing", "places", "reports")
-ALLOCATIONS = ["sh", "tools/refuse_each_allocation.sh"]
+ALLOCATIONS = ["sh", "tests/harness/allocations.sh"]
 # `rt ci` (every crate, a few edits by the toolchain's own means, each program's stored run), and the library
 PROOFS = ["python3", "tools/build.py", "--again"]
 EDITS = ["env", "LIBRARIES=proved", "nice", "-n", "19", "python3", "tools/edits.py", "--quarter"]
@@ -81,38 +84,35 @@ def allocating():
 def parts(program=build.PROGRAM):
     """The parts by their names and in their order, each with what says its commands once it is its turn."""
     return {
-        "logic": lambda: [["python3", "tools/logic.py"]],
-        "records": lambda: [["python3", "tools/records.py"], ["python3", "tools/try_edits.py"],
-                            ["python3", "tools/what_to_read.py", "--check"],
-                            ["python3", "tools/shape_names.py"], ["python3", "tools/identifier_names.py"],
-                            ["python3", "tools/advice_words.py"], ["python3", "tools/report_schema.py"],
-                            ["python3", "tools/about.py"], ["python3", "tools/structure.py"],
-                            ["python3", "tools/lists.py"]],
-        "lint": lambda: [["python3", "tools/lint.py"]],
+        "logic": lambda: [["python3", "tools/gate/logic.py"]],
+        "gate": lambda: [["python3", "tools/gate/try_edits.py"], ["python3", "tools/gate/structure.py"]],
+        "pages": lambda: [["python3", "tools/pages/what_to_read.py", "--check"],
+                          *(["python3", f"tools/pages/{it}.py"] for it in PAGES)],
+        "lint": lambda: [["python3", "tools/gate/lint.py"]],
         "proofs": lambda: [PROOFS],
         "edits": lambda: [EDITS],
         "interface": lambda: [["sh", "interface/test.sh"]],
         # (a folder of tests/ is of the program whose crate has its name, or else of what reads it below)
         "rows": lambda: [rows_of(it, program) for it in sorted(os.listdir("tests")) if os.path.isdir(f"crates/{it}")],
         "transcripts": lambda: [[*TRANSCRIPTS, *builds(program)]],
-        "spellings": lambda: [["python3", "tools/spellings.py", "tests/manual/spellings.tsv"],
+        "spellings": lambda: [["python3", "tests/harness/spellings.py", "tests/manual/spellings.tsv"],
                               ["python3", "examples/test_intake.py", program]],
-        "completions": lambda: [["python3", "tools/completions.py", program]],
-        "files": lambda: [["python3", "tools/files.py", *builds(program)]],
+        "completions": lambda: [["python3", "tests/harness/completions.py", program]],
+        "files": lambda: [["python3", "tests/harness/files.py", *builds(program)]],
         "allocations": lambda: [[*ALLOCATIONS, program, *words] for words in allocating()],
         "reader": lambda: [
-            ["python3", "tools/try_reader.py", *tables("pkder"), "examples/answers.tsv"],
-            ["python3", "tools/random_documents.py", *builds(program)],
-            ["python3", "tools/hostile_families.py", *builds(program)],
+            ["python3", "tests/oracle/try_reader.py", *tables("pkder"), "examples/answers.tsv"],
+            ["python3", "tests/oracle/random_documents.py", *builds(program)],
+            ["python3", "tests/oracle/hostile_families.py", *builds(program)],
         ],
         "explained": lambda: [
-            *(["python3", f"tools/explained_{it}.py", *builds(program)] for it in EXPLAINED),
+            *(["python3", f"tests/explained/{it}.py", *builds(program)] for it in EXPLAINED),
             # (new pairs in each run; by hand PAIRS=10000000 JOBS=4 before each landing that touches reports)
-            ["python3", "tools/explained_pairs.py", *library_of(program), *builds(program)],
+            ["python3", "tests/explained/pairs.py", *library_of(program), *builds(program)],
         ],
         "growths": lambda: [[*GROWTHS, built("rows"), *tables("rows")]],
         # (what needs packagers' tools is tried by hand: tools/release.py --try)
-        "release": lambda: [["python3", "tools/release_checks.py"]],
+        "release": lambda: [["python3", "release/checks.py"]],
     }
 
 
@@ -120,8 +120,8 @@ def quick_parts(program):
     """The parts of a quick look, at this program or at the one that stands, or else at one that is made for a try."""
     if not program and not build.stands():
         print("Nothing is proved here: rows of each command, kind and reason, on a program made for a try.", flush=True)
-        found = parts() | {"tried": lambda: [["python3", "tools/tried_rows.py"]]}
-        return {it: found[it] for it in ("logic", "records", "lint", "tried")}
+        found = parts() | {"tried": lambda: [["python3", "tests/harness/tried_rows.py"]]}
+        return {it: found[it] for it in ("logic", "gate", "pages", "lint", "tried")}
     print(f"Nothing is proved here: the parts that try {program or build.PROGRAM}.", flush=True)
     found, left_out = parts(program or build.PROGRAM), ["proofs", "edits"]
     if program:
@@ -129,7 +129,7 @@ def quick_parts(program):
         found["rows"] = lambda: [rows_of("pkder", program)]
         left_out += ["interface", "growths", "release", "rows of other programs"]
     if not shutil.which("rt"):
-        left_out += ["logic", "records"]
+        left_out += ["logic"]
     print(f"left out: {', '.join(left_out)}", flush=True)
     os.environ["LIBRARY"] = "built"
     return {it: commands for it, commands in found.items() if it not in left_out}
@@ -215,7 +215,7 @@ def run_all(given, at_once):
 
 def main(words):
     program = os.path.abspath(words[1]) if words[:1] == ["quick"] and len(words) == 2 else None
-    os.chdir(build.TOP)
+    os.chdir(TOP)
     known = parts()
     if program and os.path.isfile(program) or words == ["quick"]:
         counts = run_all(quick_parts(program), 4)

@@ -1,0 +1,1 @@
+"""How the files that are handed out are made and tried; tools/release.py calls it."""

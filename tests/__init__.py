@@ -1,0 +1,1 @@
+"""What the built programs are tested by: tables of rows, harness/ that runs them, oracle/ that answers on its own."""

@@ -1,0 +1,358 @@
+#!/usr/bin/env python3
+"""files.py PROGRAM..: documents that are named on the line or by a list, and new files, by each program.
+
+Each run is in a folder of its own, which has files with names that hold spaces, quotes, line feeds and octets that
+aren't UTF-8, a folder, a dangling link, a file that nobody may read, and devices. What is due is written here by hand:
+an Ed25519 key in DER (RFC 8410), the same with its outer length in two octets where one will do, and the first 20
+octets of it. Nobody runs it, or whoever runs this. The last line is 'files: N passed, M failed'."""
+import json
+import os
+import pty
+import re
+import shutil
+import stat
+import subprocess
+import sys
+import tempfile
+from pathlib import Path
+
+TOP = sys.path[0] = str(Path(__file__).resolve().parents[2])
+from tools.gate.looks import counted
+
+SECONDS = 60
+EXAMPLES = f"{TOP}/examples"
+DER = bytes.fromhex("302e020100300506032b657004220420") + bytes(range(32))
+BER = b"\x30\x81" + DER[1:]
+CUT = DER[:20]
+# a public key with two lengths in more octets than they need
+TWO_LONG = bytes.fromhex("30812b30810506032b6570032100") + b"\xaa" * 32
+# a DSA key (1.2.840.10040.4.1) without parameters, whose octets are carried, and one with an octet less
+CARRIED = bytes.fromhex("3013020100300906072a8648ce3804010403020107")
+LESS = bytes.fromhex("3012020100300906072a8648ce38040104020201")
+ROOT, NOBODY = 0, 65534
+FILES = {b"der": DER, b"ber": BER, b"cut": CUT, b"a name": DER, b"qu\"o'te": CUT, b"line\nfeed": CUT, b"-dash": DER,
+         b"latin\xff1": DER, "é".encode(): DER, b"back\\slash": BER, b"\x1b[31m": DER}
+TOLD = {b"qu\"o'te": '"qu\\"o\\\'te"', b"line\nfeed": '"line\\nfeed"', b"latin\xff1": '"latin\\xff1"',
+        b"back\\slash": '"back\\\\slash"', b"\x1b[31m": '"\\u{1b}[31m"'}
+SAID = {DER: "DER", BER: "not DER at 1", CUT: "fault at 20: Truncated"}
+SHOWN = ("kind: key\nversion: 0\nalgorithm: 1.3.101.112\nparameters: none\nprivate key: curve, 32 octets\n"
+         "attributes: absent\npublic key: absent\n")
+NOTE = "private key: the same octets\n"
+BINARY = ("error: what is written is binary, and standard output is a terminal\n\n"
+          "  tip: --to NEW-FILE; with --to - it is written all the same\n\nFor more information, try '--help'.\n")
+
+
+def line_of(name):
+    """What `check` says of a file of the folder."""
+    told = TOLD.get(name) or os.fsdecode(name)
+    return f"{told}: " + ("the name is not UTF-8" if b"\xff" in name else SAID[FILES[name]])
+
+
+def is_not_regular(name):
+    return f"error: not a regular file: {name}\n\n  tip: '--to -' writes to standard output\n"
+
+
+def element(tag, *contents):
+    """An element of DER of fewer than 256 octets of contents."""
+    octets = b"".join(contents)
+    return bytes([tag, *([0x81] if len(octets) > 127 else []), len(octets)]) + octets
+
+
+def spellings():
+    """One key of P-256 (1.2.840.10045.3.1.7) in its usual spellings, each with its kind: ECPrivateKey (RFC 5915) with
+    the curve, PKCS #8 (RFC 5958) with the curve in the algorithm's parameters; with the public key and without it, the
+    curve twice, with attributes, and of version 2 (v2, 1) with the public key outside."""
+    curve, point = bytes.fromhex("06082a8648ce3d030107"), b"\4" + bytes(range(64))
+    algorithm = element(0x30, bytes.fromhex("06072a8648ce3d0201"), curve)
+    named, public = element(0xA0, curve), element(0xA1, element(3, b"\0", point))
+    name = element(0x30, bytes.fromhex("06092a864886f70d010914"), element(0x31, element(0x1E, b"\0k")))
+
+    def private(*fields):
+        return element(0x30, b"\2\1\1", element(4, bytes(range(1, 33))), *fields)
+
+    def key(version, inner, *fields):
+        return element(0x30, element(2, bytes([version])), algorithm, element(4, inner), *fields)
+
+    yield from (("ec", private(named)), ("ec", private(named, public)))
+    yield from (("key", key(0, private())), ("key", key(0, private(public))), ("key", key(0, private(named))))
+    yield from (("key", key(0, private(named, public))), ("key", key(0, private(public), element(0xA0, name))))
+    yield "key", key(1, private(), element(0x81, b"\0", point))
+
+
+class Folder:
+    """The folder of a run."""
+
+    def __init__(self, program):
+        self.program, self.path = os.path.abspath(program), tempfile.mkdtemp()
+        os.chmod(self.path, 0o777)
+        for name, octets in FILES.items():
+            self.write(name, octets)
+        os.mkdir(f"{self.path}/folder")
+        os.symlink("nothing", f"{self.path}/dangling")
+        os.symlink("der", f"{self.path}/link")
+        self.write(b"secret", DER)
+        os.chmod(f"{self.path}/secret", 0)
+        os.mkfifo(f"{self.path}/pipe")
+
+    def write(self, name, octets):
+        with open(os.path.join(os.fsencode(self.path), name), "wb") as file:
+            file.write(octets)
+
+    def read(self, name):
+        with open(f"{self.path}/{name}", "rb") as file:
+            return file.read()
+
+    def mode(self, name):
+        return stat.S_IMODE(os.lstat(f"{self.path}/{name}").st_mode)
+
+    def run(self, *words, given=b"", user=None, **how):
+        """The status, standard output and standard error of a run."""
+        how = {"stdout": subprocess.PIPE, "stderr": subprocess.PIPE} | how
+        ran = subprocess.run([self.program, *words], input=given, cwd=self.path, user=user, timeout=SECONDS,
+                             umask=0o022, **how)
+        text = lambda octets: octets if octets is None else octets.decode("utf-8", "surrogateescape")
+        return ran.returncode, text(ran.stdout), text(ran.stderr)
+
+
+def judged(at):
+    """Runs of check, show and explain: what is wrong with each, if anything is."""
+    names = list(FILES)
+    plain = [it for it in names if b"\xff" not in it]
+    lines = "".join(f"{line_of(it)}\n" for it in plain)
+    yield "check, all names of text", (2, lines, ""), at.run("check", "-k", "key", "--", *map(os.fsdecode, plain))
+    yield "check, a file in DER", (0, "der: DER\n", ""), at.run("check", "-k", "key", "der")
+    yield "check, a name before the kind", (1, "ber: not DER at 1\n", ""), at.run("check", "ber", "-k", "key")
+    yield "check, through a link", (0, "link: DER\n", ""), at.run("check", "-k", "key", "link")
+    unread = ("folder: is a directory\nmissing: no such file\ndangling: no such file\nder/x: not in a directory\n"
+              "der: DER\n")
+    yield ("check, what can't be read", (3, unread, ""),
+           at.run("check", "-k", "key", "folder", "missing", "dangling", "der/x", "der"))
+    user = NOBODY if os.geteuid() == ROOT else None
+    yield ("check, a file that nobody may read", (3, "secret: permission denied\nder: DER\n", ""),
+           at.run("check", "-k", "key", "secret", "der", user=user))
+    yield ("check, standard input between files", (2, "der: DER\nnot DER at 1\ncut: fault at 20: Truncated\n", ""),
+           at.run("check", "-k", "key", "der", "-", "cut", given=BER))
+    yield ("check, standard input that is refused", (2, "der: DER\n", "fault at 20: Truncated\n"),
+           at.run("check", "-k", "key", "der", "-", given=CUT))
+    yield "check, standard input by a dash", (0, "DER\n", ""), at.run("check", "-k", "key", "-", given=DER)
+    yield ("check, only what isn't in DER", (2, "ber: not DER at 1\ncut: fault at 20: Truncated\n", ""),
+           at.run("check", "-k", "key", "--quiet", "der", "ber", "link", "cut"))
+    yield "check, nothing to say", (0, "", ""), at.run("check", "-k", "key", "--quiet", "der")
+    yield "check, nothing to say of standard input", (0, "", ""), at.run("check", "-k", "key", "--quiet", given=DER)
+    yield ("show, two files", (0, f"der:\n{SHOWN}link:\n{SHOWN}", ""), at.run("show", "-k", "key", "der", "link"))
+    yield ("show, a file that is refused", (2, f"cut: fault at 20: Truncated\nder:\n{SHOWN}", ""),
+           at.run("show", "-k", "pkcs8", "cut", "der"))
+    alone = at.run("explain", "-k", "key", given=CUT)
+    yield ("explain, a file", (2, f"cut:\n{alone[1]}", ""), at.run("explain", "-k", "key", "cut"))
+
+
+def listed(at):
+    """Runs whose names a list has."""
+    names = list(FILES)
+    lines = "".join(f"{line_of(it)}\n" for it in names)
+    at.write(b"names", b"".join(it + b"\0" for it in names))
+    check = ("check", "-k", "key", "--files0-from")
+    yield "a list of all names", (3, lines, ""), at.run(*check, "names")
+    yield ("a list on standard input", (1, "der: DER\nber: not DER at 1\n", ""),
+           at.run(*check, "-", given=b"der\0ber\0"))
+    yield ("a list whose last name isn't ended", (1, "der: DER\nber: not DER at 1\n", ""),
+           at.run(*check, "-", given=b"der\0ber"))
+    yield "an empty list", (0, "", ""), at.run(*check, "-")
+    yield "a dash in a list is a file", (3, "-: no such file\n", ""), at.run(*check, "-", given=b"-\0")
+    yield "an empty name", (3, '"": no such file\nder: DER\n', ""), at.run(*check, "-", given=b"\0der\0")
+    yield ("names of the line before those of a list", (2, "cut: fault at 20: Truncated\nder: DER\n", ""),
+           at.run(*check, "-", "cut", given=b"der\0"))
+    yield "no such list", (3, "", "missing: no such file\n"), at.run(*check, "missing")
+    yield ("a name that is too long", (3, "der: DER\n", "-: a name is longer than 65536 octets\n"),
+           at.run(*check, "-", given=b"der\0" + b"x" * 65537 + b"\0"))
+    os.mkdir(f"{at.path}/many")
+    for number in range(1000):
+        name = os.path.join(os.fsencode(at.path), b"many", b"%d \n'\"\xff"[: 3 + number % 5] % number)
+        with open(name, "wb") as file:
+            file.write(DER)
+    found = subprocess.run(["find", "many", "-type", "f", "-print0"], cwd=at.path, capture_output=True, check=True)
+    ran = at.run(*check, "-", given=found.stdout)
+    yield "a thousand files, of which 200 have names that aren't UTF-8", (3, 800, 200, ""), (
+        ran[0], ran[1].count(": DER\n"), ran[1].count("\": the name is not UTF-8\n"), ran[2])
+    shutil.rmtree(f"{at.path}/many")
+
+
+def members(text, *names):
+    """These members of the objects of JSON, each on a line."""
+    return [{it: found[it] for it in names if it in found} for found in map(json.loads, text.splitlines())]
+
+
+def told_in_json(at):
+    """Runs of check and show that write objects of JSON."""
+    at.write(b"names", b"der\0ber\0cut\0line\nfeed\0missing\0latin\xff1\0")
+    status, text, error = at.run("check", "-k", "key", "--json", "--files0-from", "names")
+    due = [{"file": "der", "status": 0, "verdict": "der"}, {"file": "ber", "status": 1, "verdict": "not_der", "at": 1},
+           {"file": "cut", "status": 2, "verdict": "refused", "at": 20, "reason": "Truncated"},
+           {"file": "line\nfeed", "status": 2, "verdict": "refused", "at": 20, "reason": "Truncated"},
+           {"file": "missing", "status": 3, "error": "no such file"},
+           {"file": '"latin\\xff1"', "status": 3, "error": "the name is not UTF-8"}]
+    yield ("check, objects of JSON", (3, due, ""),
+           (status, members(text, "file", "status", "verdict", "at", "reason", "error"), error))
+    status, text, error = at.run("check", "-k", "key", "--json", "--quiet", "der", "ber")
+    yield ("check, objects of what isn't in DER", (1, [{"file": "ber", "verdict": "not_der"}], ""),
+           (status, members(text, "file", "verdict"), error))
+    status, text, error = at.run("check", "-k", "key", "--json", given=BER)
+    yield ("check, an object of standard input", (1, [{"kind": "key", "status": 1, "verdict": "not_der"}], ""),
+           (status, members(text, "file", "kind", "status", "verdict"), error))
+    for count in (1, 2):
+        status, text, error = at.run("check", "-k", "public", "--json", "--places", str(count), given=TWO_LONG)
+        told = [(len(it["not_der"]), it["not_der_places"]) for it in map(json.loads, text.splitlines())]
+        yield f"check, {count} of two places that aren't in DER", (1, [(count, 2)], ""), (status, told, error)
+    status, text, error = at.run("show", "-k", "key", "--json", "der", "missing")
+    due = [{"file": "der", "octets": 48}, {"file": "missing", "error": "no such file"}]
+    yield ("show, objects of JSON", (3, due, ""), (status, members(text, "file", "octets", "error"), error))
+
+
+def paired(at):
+    """Runs of same."""
+    same, key = ("same", "-k", "key"), ("same", "--key", "-k", "key")
+    written = list(spellings())
+    for number, (_, octets) in enumerate(written):
+        at.write(b"spelling%d" % number, octets)
+    at.write(b"carried", CARRIED)
+    at.write(b"less", LESS)
+    other = DER[:-1] + b"\xff"
+    at.write(b"other", other)
+    private = "another document: privateKey\n  der: 32 octets\n  other: 32 octets\nprivate key: other octets\n"
+    yield "the same, laid out otherwise", (0, "the same document\n", ""), at.run(*same, "der", "ber")
+    yield "a file with itself", (0, "the same document\n", ""), at.run(*same, "ber", "ber")
+    yield "another private key", (1, private, ""), at.run(*same, "der", "other")
+    yield "standard input first", (0, "the same document\n", ""), at.run(*same, "-", "ber", given=DER)
+    yield "standard input last", (0, "the same document\n", ""), at.run(*same, "ber", "-", given=DER)
+    yield ("standard input, in what differs", (1, private.replace("other:", "-:"), ""),
+           at.run(*same, "der", "-", given=other))
+    refused = "cut: fault at 20: Truncated\n"
+    yield "one that is refused", (2, refused, ""), at.run(*same, "der", "cut")
+    yield "a refused one with itself", (2, refused * 2, ""), at.run(*same, "cut", "cut")
+    yield ("names that are told in quotes", (2, '"line\\nfeed": fault at 20: Truncated\n', ""),
+           at.run(*same, "der", "line\nfeed"))
+    yield "no such file", (3, "", "missing: no such file\n"), at.run(*same, "missing", "cut")
+    yield "no such other file", (3, "", "folder: is a directory\n"), at.run(*same, "cut", "folder")
+    yield "the same key", (0, "the same key\n", ""), at.run(*key, "der", "ber")
+    yield "another key", (1, "another key\n", ""), at.run(*key, "der", "other")
+    for first, (kind, _) in enumerate(written):
+        for second, (other_kind, _) in enumerate(written):
+            words = ("--key", "-k", kind, "-k", other_kind, f"spelling{first}", f"spelling{second}")
+            yield f"spellings {first} and {second} of a key", (0, "the same key\n", ""), at.run("same", *words)
+            if kind == other_kind and first != second:
+                ran = at.run("same", "-k", kind, f"spelling{first}", f"spelling{second}")
+                yield (f"spellings {first} and {second} as documents", (1, "another document", NOTE, ""),
+                       (ran[0], ran[1][:16], ran[1][-len(NOTE):], ran[2]))
+    yield "keys of two algorithms", (1, "another key\n", ""), at.run(*key, "spelling2", "der")
+    yield "a key that is carried", (2, "not compared: id-dsa is carried\n", ""), at.run(*key, "carried", "carried")
+    yield "a refused key", (2, refused, ""), at.run(*key, "cut", "der")
+    yield "by the kind of the first", (2, "spelling0: fault at 5: WrongTag\n", ""), at.run(*key, "der", "spelling0")
+    yield ("a carried key in another document",
+           (1, "another document: privateKey\n  carried: 3 octets\n  less: 2 octets\n"
+            "private key: not compared: id-dsa is carried\n", ""), at.run(*same, "carried", "less"))
+    status, text, error = at.run(*same, "--json", "der", "line\nfeed")
+    fault = {"at": 20, "reason": "Truncated"}
+    due = {"form": 1, "kind": "key", "status": 2, "verdict": "refused", "first": {"file": "der"},
+           "second": {"file": "line\nfeed", "fault": fault}}
+    yield "an object of a refused one", (2, due, ""), (status, without_version(text), error)
+    status, text, error = at.run(*same, "--json", "der", "other")
+    due = {"form": 1, "kind": "key", "status": 1, "verdict": "another", "first": {"file": "der"},
+           "second": {"file": "other"}, "more": 0,
+           "differences": [{"field": "privateKey", "first": "32 octets", "second": "32 octets"}]}
+    yield "an object of what differs", (1, due, ""), (status, without_version(text), error)
+    with open("/dev/full", "wb") as full:
+        yield "a full disk", (3, None, "write failed after 0\n"), at.run(*same, "der", "ber", stdout=full)
+
+
+def without_version(text):
+    """The object of JSON on the one line of a text, without the version of the program."""
+    (line,) = text.splitlines()
+    return {name: it for name, it in json.loads(line).items() if name != "version"}
+
+
+def agreed(at):
+    """Runs of same over each two of the examples of a kind: they are the same where normalise writes the same."""
+    with open(f"{EXAMPLES}/answers.tsv", encoding="utf-8") as file:
+        kinds = {name: kind for kind, name in re.findall(r"\tnormalise --kind (\w+)\t@(\S+)", file.read())}
+    texts = {it: at.run("normalise", "-k", kind, f"{EXAMPLES}/{it}")[:2] for it, kind in kinds.items()}
+    for first in kinds:
+        for second in (it for it in kinds if kinds[it] == kinds[first] and it >= first):
+            status = at.run("same", "-k", kinds[first], f"{EXAMPLES}/{first}", f"{EXAMPLES}/{second}")[0]
+            due = max(texts[first][0], texts[second][0]) or int(texts[first] != texts[second])
+            yield f"{first} and {second}", due, status
+
+
+def made(at):
+    """Runs of normalise and signed, and the files that they leave."""
+    to = ("normalise", "-k", "key", "--to")
+    before = set(os.listdir(at.path))
+    yield "a new file", (0, "", ""), at.run(*to, "new", "ber")
+    yield "what is in it, and who may read it", (DER, 0o600), (at.read("new"), at.mode("new"))
+    yield "a file into itself", (0, "", ""), at.run(*to, "new", "new")
+    os.chmod(f"{at.path}/new", 0o640)
+    at.write(b"new", BER)
+    yield "a file with a mode into itself", (0, "", ""), at.run(*to, "new", "new")
+    yield "that is kept", (DER, 0o640), (at.read("new"), at.mode("new"))
+    yield "a refused file", (2, "", "cut: fault at 20: Truncated\n"), at.run(*to, "new", "cut")
+    yield "of which nothing is left", DER, at.read("new")
+    yield "a refused file, to one that isn't there", (2, "", "fault at 20: Truncated\n"), at.run(*to, "none", given=CUT)
+    os.symlink("folder/led", f"{at.path}/to")
+    yield "through a link to nothing", (0, "", ""), at.run(*to, "to", given=BER)
+    yield "the link stands", ("folder/led", DER), (os.readlink(f"{at.path}/to"), at.read("folder/led"))
+    for name, what in (("pipe", "a pipe"), ("folder", "a folder"), ("/dev/null", "a device")):
+        yield f"to {what}", (4, "", is_not_regular(name)), at.run(*to, name, "ber")
+    yield "to a folder that isn't there", (3, "", "none/new: no such folder\n"), at.run(*to, "none/new", "ber")
+    yield "to what isn't a folder", (3, "", "der/new: not in a folder\n"), at.run(*to, "der/new", "ber")
+    user = NOBODY if os.geteuid() == ROOT else None
+    os.chmod(f"{at.path}/folder", 0o555)
+    yield ("to a folder where nothing may be made", (3, "", "folder/new: permission denied\n"),
+           at.run(*to, "folder/new", "ber", user=user))
+    os.chmod(f"{at.path}/folder", 0o755)
+    public = bytes.fromhex("302a300506032b6570032100" + "aa" * 32)
+    yield "a public key", (0, "", ""), at.run("normalise", "-k", "public", "--to", "public", given=public)
+    yield "which anybody may read", (public, 0o644), (at.read("public"), at.mode("public"))
+    yield "to standard output", (0, DER.decode("latin-1"), ""), at.run(*to, "-", "ber")
+    yield "no such file", (3, "", "missing: no such file\n"), at.run(*to, "new", "missing")
+    yield "no other file is left", {"new", "to", "public"}, set(os.listdir(at.path)) - before
+
+
+def closed(at):
+    """Runs whose output fails."""
+    with open("/dev/full", "wb") as full:
+        check = at.run("check", "-k", "key", "der", "ber", stdout=full)
+        normalise = at.run("normalise", "-k", "key", "ber", stdout=full)
+    yield "check, a full disk", (3, None, "write failed after 0\n"), check
+    yield "normalise, a full disk", (3, None, "ber: write failed after 0\n"), normalise
+    for words in (("check", "-k", "key", "der"), ("show", "-k", "key", "der")):
+        reader, writer = os.pipe()
+        os.close(reader)
+        ran = at.run(*words, stdout=writer, preexec_fn=lambda: None)
+        os.close(writer)
+        yield f"{words[0]}, a pipe that nobody reads", (True, None), (ran[0] != 0, ran[1])
+    leader, terminal = pty.openpty()
+    yield ("normalise, to a terminal", (4, None, BINARY), at.run("normalise", "-k", "key", "ber", stdout=terminal))
+    yield ("signed, to a terminal", (4, None, BINARY), at.run("signed", "ber", stdout=terminal))
+    yield ("check, to a terminal", (0, None, ""), at.run("check", "-k", "key", "der", stdout=terminal))
+    yield "what the terminal got", b"der: DER\r\n", os.read(leader, 100)
+    yield ("normalise, to a terminal that is asked for", (0, None, ""),
+           at.run("normalise", "-k", "key", "--to", "-", "ber", stdout=terminal))
+    yield "what the terminal got then", DER[:2], os.read(leader, 100)[:2]
+    yield ("normalise, to a terminal and a file", (0, None, ""),
+           at.run("normalise", "-k", "key", "--to", "new", "ber", stdout=terminal))
+
+
+def looks(program):
+    """Each run of the program, and whether it is right."""
+    for runs in (judged, listed, told_in_json, paired, agreed, made, closed):
+        at = Folder(program)
+        try:
+            for what, due, found in runs(at):
+                yield f"{program}: {what}: due {due!r}\n  found {found!r}", due == found
+        finally:
+            shutil.rmtree(at.path)
+
+
+if __name__ == "__main__":
+    if not sys.argv[1:]:
+        sys.exit(__doc__)
+    sys.exit(counted("files", (it for program in sys.argv[1:] for it in looks(program))))

@@ -1,0 +1,1 @@
+"""What proves, builds, tests, installs and packs pkder; gate/ holds code and proofs to rules, pages/ pages to code."""

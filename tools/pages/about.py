@@ -1,0 +1,61 @@
+#!/usr/bin/env python3
+"""about.py: whether manifests, packages and pages say of pkder what tools/pages/about.toml and the version's source
+say.
+
+It builds nothing. The last line is 'about: N passed, M failed'."""
+import re
+import sys
+from pathlib import Path
+
+sys.path[0] = str(Path(__file__).resolve().parents[2])
+from release.packing import ABOUT, NUMBER, text_of
+from tools.gate.looks import counted
+
+MANIFESTS = ("interface/pkder.pc.in", "interface/python/pyproject.toml", "interface/rust/Cargo.toml")
+PAGES = ("README.md", "docs/install.md", "interface/python/README.md", "SECURITY.md", "docs/library.md")
+# what a file says of itself, and how often
+SAID = [
+    *((name, ABOUT["summary"], 1) for name in MANIFESTS),
+    ("debian/control", f"\nDescription: {ABOUT['summary']}", 4),
+    *((name, ABOUT["licence"], 1) for name in ("README.md", "debian/copyright", "interface/go/go.mod", *MANIFESTS[1:])),
+    ("debian/control", f"Maintainer: {ABOUT['maintainer']}\n", 1),
+    ("debian/changelog", f"\n -- {ABOUT['maintainer']}  ", 1),
+]
+
+
+def said_otherwise():
+    """Each text that a file should have, and whether it has it."""
+    for name, text, times in SAID:
+        yield f"{name}: it has {times} times {text!r}", text_of(name).count(text) == times
+
+
+def versions():
+    """The versions that the lists of changes begin with, and those in the names of files on pages."""
+    first = lambda pattern, name: re.search(pattern, text_of(name))[1]
+    yield "CHANGELOG.md: the version", first(r"(?m)^## \[([0-9.]+)\]", "CHANGELOG.md") == NUMBER
+    yield "debian/changelog: the version", first(r"^pkder \(([0-9.]+)-[0-9]+\)", "debian/changelog") == NUMBER
+    for name in PAGES:
+        found = re.findall(r"pkder(?:0|-dev)?[-_]([0-9]+\.[0-9]+\.[0-9]+)", text_of(name))
+        yield f"{name}: the versions of files, {sorted({*found})}", {*found} <= {NUMBER}
+
+
+def names():
+    """The names of the library as Debian's packages have them, and as the library does."""
+    due = re.findall(r"(?m)^ +(pkder_\w+);$", text_of("interface/pkder.map"))
+    found = re.findall(r"(?m)^ (pkder_\w+)@PKDER_0 ", text_of("debian/libpkder0.symbols"))
+    yield "debian/libpkder0.symbols: the names of interface/pkder.map", sorted(due) == sorted(found)
+
+
+def needs():
+    """What files need, as docs/install.md has it in its table."""
+    found = dict(re.findall(r"(?m)^\| `([\w.-]+)`[^|]*\|[^|]*\| ([^|]+?) \|$", text_of("docs/install.md")))
+    for name, need in ABOUT["lowest"].items():
+        yield f"docs/install.md: {name} needs {need}, not {found.get(name)}", found.get(name) == need
+
+
+def looks():
+    return [*said_otherwise(), *versions(), *names(), *needs()]
+
+
+if __name__ == "__main__":
+    sys.exit(counted("about", looks()))

@@ -1,0 +1,180 @@
+#!/usr/bin/env python3
+"""what_to_read.py [--check|--write|[--text] CALL]: which definitions the contracts of the public calls stand on.
+
+From the names in a call's clauses it follows definition by definition, through the imports of the files in specs/, and
+counts the lines of what it reaches, without comments, imports and empty lines: what an auditor of the call has to read.
+With a CALL it lists the files, with their lines and the names that are reached; with --text it prints these definitions
+as one text, with their comments, those of a file after those of the files that it imports. It doesn't follow into std
+and clap, which are trusted, into the plain reading, which laws tie to the rest, nor into src/: types that are declared
+there, and what a type stands for (`ghost value`).
+
+--check compares the table with the one in docs/definitions.md and ends in 'definitions: N passed, M failed', a line of
+the table counting once; --write puts it there."""
+import functools
+import os
+import re
+import sys
+from pathlib import Path
+
+TOP = sys.path[0] = str(Path(__file__).resolve().parents[2])
+from tools.gate.looks import counted
+
+PAGE = f"{TOP}/docs/definitions.md"
+OF_C = ("normalise", "check", "same", "signed", "show", "explain", "field", "reason_name", "interface")
+CALLS = {"run": "pk_commands/src/run.rt", "run_files": "pk_commands/src/files.rt", "asked_of": "pkder/src/line.rt",
+         "compare": "pk_commands/src/compare.rt", "show_text": "pk_show/src/lib.rt", "respond": "pkder/src/respond.rt"}
+CALLS |= {f"pkder_{it}": "pkder_c/src/lib.rt" for it in OF_C}
+PLAIN_READING = {f"x690.{it}" for it in ("Reading", "ReadHeaders", "ReadContents", "ReadTypes")}
+# what the plain reading answers, and the relation by which the law `answers::there_is_one_answer` says the same
+TIED = {"answer": "IsAnswer"}
+HEAD = "| Call | Files | Lines |"
+
+
+def imported(text):
+    """The names that a text imports, each with its module and its name there; of a whole module without one."""
+    found = {}
+    for crate, module, names in re.findall(r"use Rattle\.(\w+)\.specs\.(\w+)\.\{([^}]*)\}", text):
+        for one in names.split(","):
+            name, _, alias = one.strip().partition(" as ")
+            found[(alias or name).strip("◌")] = (f"{crate}.{module}", name.strip("◌"))
+    for crate, module, alias in re.findall(r"use Rattle\.(\w+)\.specs\.(\w+) as (\w+)", text):
+        found[alias] = (f"{crate}.{module}", None)
+    return found
+
+
+def defined_by(lines):
+    """The names that lines define: of data the constructors too, of a record not its fields."""
+    found, is_record = set(), False
+    for line in lines:
+        declared = re.match(r"\s*(?:pub )?(record|data) (\S+)", line)
+        typed = re.match(r"\s*(?:(?:abbrev|unfoldable) )?(?:pub )?((?:[^\s:(){}=]+ )+): ", line)
+        if declared:
+            is_record = declared[1] == "record"
+            found.add(declared[2].strip("◌"))
+        elif typed and not (is_record and line.startswith(" ")):
+            found |= {it.strip("◌") for it in typed[1].split()}
+            is_record = False
+    return found
+
+
+class Module:
+    """A file of definitions: which lines define a name, and where the names that they use come from."""
+
+    def __init__(self, name):
+        crate, _, file = name.partition(".")
+        with open(f"{TOP}/crates/{crate}/specs/{file}.antt", encoding="utf-8") as it:
+            text = it.read()
+        parts, self.texts = [], []
+        for chunk in text.split("\n\n"):
+            lines = [re.sub(r" -- .*", "", it) for it in chunk.split("\n")]
+            lines = [it for it in lines if it.strip() and not re.match(r"\s*--|(pub )?(use|mod) ", it)]
+            if lines and lines[0].startswith(" ") and parts:
+                parts[-1] += lines
+                self.texts[-1] += f"\n\n{chunk.rstrip()}"
+            elif lines:
+                parts.append(lines)
+                self.texts.append(chunk.strip("\n"))
+        self.defines = {it: (at, lines) for at, lines in enumerate(parts) for it in defined_by(lines)}
+        self.seen = {**imported(text), **{it: (name, it) for it in self.defines}}
+
+
+module_of = functools.cache(Module)
+
+
+def is_followed(module):
+    return module and module not in PLAIN_READING and os.path.isdir(f"{TOP}/crates/{module.split('.')[0]}")
+
+
+def names_in(lines):
+    """The names that lines use, each with what stands behind a full stop."""
+    return re.findall(r"(?<![\w.])([^\s(){}\[\],;.]+)(?:\.([^\s(){}\[\],;.]+))?", "\n".join(lines))
+
+
+def reached(function, file):
+    """The definitions that a function's clauses stand on: of each module their lines, by their place, with a name."""
+    with open(f"{TOP}/crates/{file}", encoding="utf-8") as it:
+        text = it.read()
+    clauses = re.search(rf"fn {function}\b.*?\n\s*\{{", text, re.DOTALL)[0].split("\n")
+    found, left = {}, [(imported(text), clauses)]
+    while left:
+        seen, lines = left.pop()
+        for head, behind in names_in(lines):
+            module, name = seen.get(head, ("", None))
+            name = name or behind
+            if not is_followed(module):
+                continue
+            place, defined = module_of(module).defines.get(name, (None, [name]))
+            if place in found.setdefault(module, {}):
+                continue
+            # (a name that the module only passes on has no place)
+            if place is not None:
+                found[module][place] = (name, defined)
+            left.append((module_of(module).seen, [*defined, TIED.get(name, "")]))
+    return {module: parts for module, parts in found.items() if parts}
+
+
+def in_order(modules):
+    """The modules, each after those that it imports."""
+    found = []
+
+    def visit(module):
+        if module in modules and module not in found:
+            for below in sorted({it for it, _ in module_of(module).seen.values()} - {module}):
+                visit(below)
+            found.append(module)
+
+    for module in sorted(modules):
+        visit(module)
+    return found
+
+
+def text_of(call):
+    """The definitions that a call stands on, as one text."""
+    modules = reached(call, CALLS[call])
+    for module in in_order(modules):
+        yield f"-- ======== crates/{module.replace('.', '/specs/')}.antt"
+        yield from (module_of(module).texts[place] for place in sorted(modules[module]))
+
+
+def count(parts):
+    return sum(len(lines) for _, lines in parts.values())
+
+
+def table():
+    """The lines of the table: a call's files and their lines, and those of all calls together."""
+    found = {f"`{name}`": reached(name, file) for name, file in CALLS.items()}
+    whole = {}
+    for modules in found.values():
+        for module, parts in modules.items():
+            whole.setdefault(module, {}).update(parts)
+    rows = {**found, "all of these": whole}.items()
+    return [HEAD, "|---|---|---|", *(f"| {name} | {len(it)} | {sum(map(count, it.values()))} |" for name, it in rows)]
+
+
+def main(words):
+    if words and words[0] in CALLS:
+        for module, parts in sorted(reached(words[0], CALLS[words[0]]).items()):
+            names = ", ".join(name for name, _ in parts.values())
+            print(f"{count(parts):5} crates/{module.replace('.', '/specs/')}.antt: {names}")
+        return 0
+    if words[:1] == ["--text"] and words[1:] and words[1] in CALLS:
+        print("\n\n".join(text_of(words[1])))
+        return 0
+    rows = table()
+    with open(PAGE, encoding="utf-8") as it:
+        page = it.read()
+    old = page[page.index(HEAD) :].split("\n\n")[0].split("\n")
+    if words == ["--write"]:
+        with open(PAGE, "w", encoding="utf-8") as it:
+            it.write(page.replace("\n".join(old), "\n".join(rows)))
+    elif words == ["--check"]:
+        looks = ((f"docs/definitions.md {'has' if it in old else 'lacks'}: {it}", it in rows and it in old)
+                 for it in {*rows, *old})
+        return counted("definitions", looks)
+    else:
+        print("\n".join(rows))
+    return 0
+
+
+if __name__ == "__main__":
+    sys.exit(main(sys.argv[1:]))
