@@ -1,4 +1,4 @@
-# Completions of pkder for bash, by tools/completions.py, from the program's help.
+# Completions of pkder for bash, by tests/harness/completions.py, from the program's help.
 _pkder() {
     local word=${COMP_WORDS[COMP_CWORD]} before=${COMP_WORDS[COMP_CWORD - 1]} words='' files=''
     # (bash takes --kind=key for three words)

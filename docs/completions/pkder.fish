@@ -1,4 +1,4 @@
-# Completions of pkder for fish, by tools/completions.py, from the program's help.
+# Completions of pkder for fish, by tests/harness/completions.py, from the program's help.
 complete -c pkder -f
 complete -c pkder -n __fish_use_subcommand -s h -l help -d 'Print help'
 complete -c pkder -n __fish_use_subcommand -s V -l version -d 'Print version'
