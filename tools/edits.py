@@ -1,7 +1,8 @@
 #!/usr/bin/env python3
 """edits.py WORD..: bugs planted in the code, which the proofs must refuse, and the record that all were refused.
 
-  --check      says in seconds, and proves nothing, which crates' records are stale: 'records: N passed, M failed'
+  --check      says in seconds, and proves nothing, which crates' records are stale, and which edits can't be applied:
+               'records: N passed, M failed'
   --quarter    tries the edits whose records are stale, and a quarter of all crates, which goes round with the commits;
                of the edits that are kept as refused it tries one of each crate, which goes round, too
   --stale [NAME ..]
@@ -268,14 +269,23 @@ class Record:
                 it.writelines("\t".join([name, files, *row]) + "\n" for files, row in rows)
         os.replace(f"{RECORD}.new", RECORD)
 
+    def unfit(self):
+        """The edits that can't be applied, and why."""
+        for name, crate in self.crates.items():
+            for edit in crate.edits():
+                if why := applied([edit], crate.folder)[1]:
+                    yield f"{name}/{edit.name}: {why}"
+
     def check(self):
-        """Says of each crate whose record is stale why, and counts."""
-        stale = self.stale()
+        """Says of each crate whose record is stale why, and of each edit that can't be applied, and counts."""
+        stale, unfit = self.stale(), [*self.unfit()]
         for it, why in stale.items():
             say(f"{it} {why}: python3 tools/edits.py --stale tries its edits, and writes {RECORD}")
+        for it in unfit:
+            say(it)
         passed = len(self.due) - len([it for it in stale if it in self.due])
-        say(f"records: {passed} passed, {len(stale) + (not self.due)} failed")
-        return 1 if stale or not self.due else 0
+        say(f"records: {passed} passed, {len(stale) + (not self.due) + len(unfit)} failed")
+        return 1 if stale or unfit or not self.due else 0
 
 
 # Checks.

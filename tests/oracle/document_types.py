@@ -11,7 +11,6 @@ LEAF, OPEN, FIELDS, MEMBERS = "leaf", "open", "fields", "members"
 UNIVERSAL, CONTEXT = 0, 2
 BIT_STRING, SEQUENCE, SET = ((UNIVERSAL, it) for it in (3, 16, 17))
 STRINGS = [(UNIVERSAL, it) for it in (3, 4, 7, 12, *range(18, 29), 30)]
-LEFT_OUT = (8, 9, 11, 13, 14, 15, 29)
 
 # `parts` are the fields, or the type of all members; `least` is how many members there have to be.
 Type = namedtuple("Type", "tag form name parts least is_private", defaults=(None, (), 0, False))
@@ -139,10 +138,6 @@ class Element:
     def is_of_segments(self):
         """Whether it's a string in segments."""
         return self.is_constructed and (self.tag in STRINGS or self.type.tag == (CONTEXT, 1))
-
-    def is_left_out(self):
-        """Whether it is of no type that an open value may have."""
-        return self.type.form == OPEN and self.tag[0] == UNIVERSAL and self.tag[1] in LEFT_OUT
 
 
 def joined(path, name):

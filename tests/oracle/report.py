@@ -13,7 +13,7 @@ from pathlib import Path
 sys.path[0] = str(Path(__file__).resolve().parents[2])
 from tests.oracle import reader
 from tests.oracle.document_types import (
-    BIT_STRING, BOOLEAN, EC, IDENTIFIER, INSIDE, INTEGER, NO_BOUND, NULL, OPEN, SEQUENCE, TYPES, Walk, header_at,
+    BIT_STRING, BOOLEAN, EC, IDENTIFIER, INSIDE, INTEGER, NO_BOUND, NULL, SEQUENCE, TYPES, Walk, header_at,
     joined)
 from tests.oracle.parts import Part, arcs
 from tests.oracle.reader import DEPTH, ENUMERATED, OCTETS, OUTERMOST, Container, Reader, leaf
@@ -79,8 +79,8 @@ class Front:
             is_sound = element.is_container() or element.is_of_segments() or not element.is_constructed
             is_last = not is_sound or element.is_too_long or not element.is_constructed and not element.is_whole
             self.size = element.begin if is_last or element.is_constructed else element.end
-        elif element.is_container() or element.is_constructed and element.type.form == OPEN:
-            is_last = element.is_too_long or element.is_left_out()
+        elif element.is_container():
+            is_last = element.is_too_long
             is_of_attributes = self.is_of_request and element.path == ATTRIBUTES
             self.size = element.at if is_of_attributes else self.size
         else:

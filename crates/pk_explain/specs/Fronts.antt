@@ -3,6 +3,8 @@
 use Rattle.std.specs.Prelude.{Bool, List, None, Option, Some, [], codes, cond, drop, false, length, min, nat_le, nat_lt, not, take, true, unwrap_or, ℕ, ◌&&◌, ◌-◌, ◌==◌, ◌||◌, ◌∷◌}
 use Rattle.std.specs.List.{slice_get}
 use Rattle.std.specs.Option.{is_some, option_map}
+use Rattle.tlv_core.specs.Identifier.{Tag}
+use Rattle.asn_names.specs.Levels.{holds_segments}
 use Rattle.asn_names.specs.declared.element.NamedElement.{NamedElement}
 use Rattle.asn_names.specs.declared.element.Parting.{Parting}
 use Rattle.asn_names.specs.declared.element.Parting.TheVariants.{Missing, Nowhere, Outermost as OutermostParts, Stopped, Unplaced}
@@ -48,27 +50,39 @@ is_in_place (Field name) = true
 is_in_place (Member number) = true
 is_in_place (Segment number) = true
 
--- elements of the type hold others, and aren't strings
-abbrev pub is_container_type : Shape → Bool
-is_container_type (Sequence' own p fields) = true
-is_container_type (ListOf' own least p member) = true
-is_container_type (SetOf' own least p member) = true
-is_container_type Open = true
-is_container_type (Leaf own contents) = false
-is_container_type (Containing' own p shape) = false
-is_container_type (Refused own) = false
-is_container_type (DefinedBy' path identifiers p first q second) = false
-is_container_type (Choice' p first q second) = false
-is_container_type (Named' name p shape) = false
-is_container_type (Private' p shape) = false
+-- elements of the type and tag hold others, and aren't strings; an open value does by its tag: SEQUENCE, SET, and any of
+-- another class than the universal one
+abbrev pub is_container_tag : Tag → Bool
+is_container_tag tag = not (tag.class == 0) || ((tag.number == 16) || (tag.number == 17))
 
-abbrev pub is_container : Option Shape → Bool
-is_container None = false
-is_container (Some shape) = is_container_type shape
+abbrev pub is_container_type : Tag → Shape → Bool
+is_container_type tag (Sequence' own p fields) = true
+is_container_type tag (ListOf' own least p member) = true
+is_container_type tag (SetOf' own least p member) = true
+is_container_type tag Open = is_container_tag tag
+is_container_type tag (Leaf own contents) = false
+is_container_type tag (Containing' own p shape) = false
+is_container_type tag (Refused own) = false
+is_container_type tag (DefinedBy' path identifiers p first q second) = false
+is_container_type tag (Choice' p first q second) = false
+is_container_type tag (Named' name p shape) = false
+is_container_type tag (Private' p shape) = false
+
+abbrev pub is_container_by : Tag → Option Shape → Bool
+is_container_by tag None = false
+is_container_by tag (Some shape) = is_container_type tag shape
+
+abbrev pub is_container : NamedElement → Bool
+is_container element = is_container_by element.header.tag (option_map (λ r. r.now) element.shape)
+
+-- an element is in constructed form, and has none: it is neither a container nor a string (X.690 8.2 to 8.14)
+abbrev pub is_misformed : NamedElement → Bool
+is_misformed element =
+    element.header.constructed && not (is_container element || holds_segments element.header.tag)
 
 abbrev pub mark_of_container : NamedElement → Mark
 mark_of_container element =
-    cond (is_container (option_map (λ r. r.now) element.shape))
+    cond (is_container element)
     (cond (is_field element.step (codes "subject")) marks.Subject
     (cond (is_field element.step (codes "attributes")) marks.Attributes marks.Waits)) marks.Ends
 
@@ -157,11 +171,14 @@ start = record { octets = 0; subject = None; ended = false }
 abbrev pub end_of_front : Reading → Reading
 end_of_front reading = record reading { ended = true }
 
--- One element more of a subject that is shown: of a container its header is.
+-- One element more of a subject that is shown: of a container its header is. One that is misformed is the last.
 abbrev pub after_subject : Reading → NamedElement → Reading
 after_subject reading element =
     cond (is_in_place element.step)
-    (record reading { octets = cond element.header.constructed (header_end element) (shown_end element) })
+    (record reading {
+      octets = cond element.header.constructed (header_end element) (shown_end element);
+      ended = is_misformed element;
+    })
     (end_of_front reading)
 
 abbrev pub behind_subject : Reading → Reading

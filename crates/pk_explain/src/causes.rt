@@ -3,7 +3,7 @@ ghost use Rattle.std.specs.Prelude.{◌<◌, ◌≡◌, IfOk, length, map, slice
 ghost use Rattle.std.specs.Option.{option_map};
 ghost use Rattle.x690.specs.DerTexts.{padded_less};
 ghost use Rattle.asn_elements.specs.Members.{ascends};
-ghost use Rattle.asn_names.specs.Levels.{is_string};
+ghost use Rattle.asn_names.specs.Levels.{holds_segments, is_string};
 ghost use Rattle.pk_explain.specs.Causes.{bits_cause, boolean_cause, cause_in_contents, cause_within, causes_of, holds_hidden, is_disordered, is_hidden, is_in_segments, is_out_of_order, is_set, length_cause, member_encodings, own_cause, encoding_of, unit_of, with_order};
 ghost use Rattle.pk_explain.specs.Contents.{contents_in};
 
@@ -15,7 +15,7 @@ use asn_shapes::shape::Shape;
 use pk_reports::report::Cause;
 use std::alloc::{AllocError, Global};
 use tlv_core::der::header_size;
-use tlv_core::tag::Class;
+use tlv_core::tag::{Class, Tag};
 
 /// The cause of each element, in order: its own, or that its members aren't in order.
 ///
@@ -177,15 +177,19 @@ fn is_in_segments(element: &NamedElement) -> bool
     }
     match element.shape {
         Some(Shape::Leaf(_, _) | Shape::Containing(_, _)) => true,
-        Some(Shape::Open) => {
-            let tag = element.header.tag;
-            tag.class() == Class::Universal && is_string(tag.number())
-        }
+        Some(Shape::Open) => holds_segments(element.header.tag),
         _ => false,
     }
 }
 
-/// Whether the universal tag is that of a string or a time, or of an ObjectDescriptor.
+/// Whether a value of the tag is a string, a time or an ObjectDescriptor.
+pub(crate) fn holds_segments(tag: Tag) -> bool
+    ensures { result ≡ holds_segments tag }
+{
+    tag.class() == Class::Universal && is_string(tag.number())
+}
+
+/// By the universal tags of X.680 8.4.
 fn is_string(number: u32) -> bool
     ensures { result ≡ is_string number }
 {

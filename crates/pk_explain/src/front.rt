@@ -1,14 +1,16 @@
 //! The front of a refused document: its first octets, as far as they say one of a few things that many documents say.
 ghost use Rattle.std.specs.Prelude.{◌≡◌, drop};
 ghost use Rattle.std.specs.Option.{option_map};
-ghost use Rattle.pk_explain.specs.Fronts.{after_element, after_outside_subject, after_subject, begins_key, behind_header, behind_length, behind_whole, cut_at, front_by, front_size, has_key_behind, header_end, is_container, is_deeper, is_in_place, is_kept, is_named, is_one_of, is_usual, is_usual_leaf, is_usual_mark, mark_of, mark_of_container, mark_of_leaf, shown_end, start};
+ghost use Rattle.pk_explain.specs.Fronts.{after_element, after_outside_subject, after_subject, begins_key, behind_header, behind_length, behind_whole, cut_at, front_by, front_size, has_key_behind, header_end, is_container, is_container_tag, is_deeper, is_in_place, is_kept, is_misformed, is_named, is_one_of, is_usual, is_usual_leaf, is_usual_mark, mark_of, mark_of_container, mark_of_leaf, shown_end, start};
 
+use crate::causes::holds_segments;
 use crate::places::{announced_end, end_behind};
 use crate::values::{Sort, contents_of, is_field, sort_of};
 use crate::ways::element_with;
 use asn_names::element::{NamedElement, Parting, Step};
 use asn_shapes::identifiers::identifier_of;
 use asn_shapes::shape::Shape;
+use tlv_core::tag::{Class, Tag};
 
 /// What an element is to whoever reads a refused document from its first octet on.
 #[derive(Clone, Copy)]
@@ -145,7 +147,18 @@ fn after_subject(reading: Reading, element: &NamedElement) -> Reading
     } else {
         shown_end(element)
     };
-    Reading { octets, ..reading }
+    Reading {
+        octets,
+        ended: is_misformed(element),
+        ..reading
+    }
+}
+
+/// Whether an element is in constructed form, and has none: it is neither a container nor a string (X.690 8.2 to 8.14).
+fn is_misformed(element: &NamedElement) -> bool
+    ensures { result ≡ is_misformed element.now }
+{
+    element.header.constructed && !(is_container(element) || holds_segments(element.header.tag))
 }
 
 /// One element more, in no subject.
@@ -230,7 +243,7 @@ pub(crate) fn is_usual_mark(mark: Mark) -> bool
 fn mark_of_container(element: &NamedElement) -> Mark
     ensures { result ≡ mark_of_container element.now }
 {
-    if !is_container(element.shape) {
+    if !is_container(element) {
         Mark::Ends
     } else if is_field(element.step, "subject") {
         Mark::Subject
@@ -241,15 +254,22 @@ fn mark_of_container(element: &NamedElement) -> Mark
     }
 }
 
-/// Whether elements of the type hold others, and aren't strings.
-fn is_container(shape: Option<&'static Shape>) -> bool
-    ensures { result ≡ is_container (option_map (λ r. r.now) shape.entry) }
+/// Whether elements of the type hold others, and aren't strings; by its tag, where that is open.
+fn is_container(element: &NamedElement) -> bool
+    ensures { result ≡ is_container element.now }
 {
-    match shape {
+    match element.shape {
         Some(Shape::Sequence(_, _) | Shape::ListOf(_, _, _) | Shape::SetOf(_, _, _)) => true,
-        Some(Shape::Open) => true,
+        Some(Shape::Open) => is_container_tag(element.header.tag),
         _ => false,
     }
+}
+
+/// SEQUENCE, SET, and any of another class than the universal one.
+fn is_container_tag(tag: Tag) -> bool
+    ensures { result ≡ is_container_tag tag }
+{
+    tag.class() != Class::Universal || tag.number() == 16 || tag.number() == 17
 }
 
 fn mark_of_leaf(element: &NamedElement, contents: Option<&[u8]>) -> Mark
