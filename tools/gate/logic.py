@@ -1,7 +1,7 @@
 #!/usr/bin/env python3
 """logic.py: whether the toolchain at hand has the logic that the proofs are for, and the version stands everywhere.
 
-VERSION in crates/pk_explain/src/version.rt has both, the number and the logic. It takes a second and proves nothing.
+VERSION in crates/explain/src/version.rt has both, the number and the logic. It takes a second and proves nothing.
 The last line is 'logic: N passed, M failed'."""
 import re
 import subprocess
@@ -9,7 +9,7 @@ import sys
 from pathlib import Path
 
 TOP = str(Path(__file__).resolve().parents[2])
-SOURCE = "crates/pk_explain/src/version.rt"
+SOURCE = "crates/explain/src/version.rt"
 NUMBERED = ("interface/pkder.pc.in", "interface/python/pyproject.toml", "interface/rust/Cargo.toml",
             "interface/rust/Cargo.lock")
 ANOTHER = """\

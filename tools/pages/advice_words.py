@@ -1,5 +1,5 @@
 #!/usr/bin/env python3
-"""advice_words.py: the words on reasons in crates/pk_reports, beside the manual's list of reasons; and those of
+"""advice_words.py: the words on reasons in crates/reports, beside the manual's list of reasons; and those of
 `pkder help reasons`, beside the man page.
 
 No proof sees that the words of a report are those of the manual. This compares each of the three texts of each reason
@@ -16,7 +16,7 @@ from tools.gate.logic import text_of
 from tools.gate.looks import counted
 from tools.pages.compare import compared
 
-WORDS, PAGE, REASONS = "crates/pk_reports/src/advice.rt", "docs/manual.md", "crates/tlv_core/src/reason.rt"
+WORDS, PAGE, REASONS = "crates/reports/src/advice.rt", "docs/manual.md", "crates/tlv_core/src/reason.rt"
 ARM = re.compile(r"Reason::(\w+) => Advice \{(.*?)\n        \}", re.S)
 FIELD = re.compile(r'(means|likely|act):\s*"((?:[^"\\]|\\.)*)"', re.S)
 PARTS = ("means", "likely", "act")

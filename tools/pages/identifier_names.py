@@ -1,5 +1,5 @@
 #!/usr/bin/env python3
-"""identifier_names.py: the names of object identifiers in crates/asn_shapes, beside what openssl knows by them.
+"""identifier_names.py: the names of object identifiers in crates/pkix_shapes, beside what openssl knows by them.
 
 Of each row of the table: its contents are those of its arcs (X.690 8.19), and openssl makes these octets of its name,
 or of the name that openssl has for it; no contents, no arcs and no name stand there twice. Where the machine has no
@@ -17,7 +17,7 @@ sys.path[0] = str(Path(__file__).resolve().parents[2])
 from tools.gate.logic import text_of
 from tools.gate.looks import counted
 
-TABLE = "crates/asn_shapes/src/identifiers.rt"
+TABLE = "crates/pkix_shapes/src/identifiers.rt"
 ROW = re.compile(r'\$make!\(\s*"([^"]+)",\s*"([0-9.]+)",\s*"((?:RFC|PKCS #)[^"]+)",\s*\[([^\]]*)\]')
 # What openssl calls those that it has under other names.
 OPENSSL = {

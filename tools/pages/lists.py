@@ -61,8 +61,8 @@ def statuses():
 
 def endings():
     """The statuses of the program: of outcomes, and of a line that is refused."""
-    found = re.findall(r"(?m)^status_of .* = ([0-9]+)$", text_of("crates/pk_commands/specs/Outcomes.antt"))
-    refused = re.findall(r"ensures status { result ≡ ([0-9]+) }", text_of("crates/pk_commands/src/closing.rt"))
+    found = re.findall(r"(?m)^status_of .* = ([0-9]+)$", text_of("crates/commands/specs/Outcomes.antt"))
+    refused = re.findall(r"ensures status { result ≡ ([0-9]+) }", text_of("crates/commands/src/closing.rt"))
     yield from ({"number": number} for number in sorted({*found, *refused}))
 
 

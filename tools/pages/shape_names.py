@@ -1,5 +1,5 @@
 #!/usr/bin/env python3
-"""shape_names.py: the types of crates/asn_shapes, with the names of their fields, beside the ASN.1 of docs/formats.md.
+"""shape_names.py: the types of crates/pkix_shapes, with the names of their fields, beside the ASN.1 of docs/formats.md.
 
 No proof sees that a name is the one of the ASN.1. This writes each type that has a name there as ASN.1, and compares it
 with the type of this name on the page, field by field in their order: names, types, tags, OPTIONAL and sizes. A field
@@ -17,7 +17,7 @@ from tools.gate.looks import counted
 from tools.pages.compare import compared
 
 PAGE = "docs/formats.md"
-TABLES = [f"crates/asn_shapes/src/{it}.rt" for it in ("universal", "shared", "keys", "requests")]
+TABLES = [f"crates/pkix_shapes/src/{it}.rt" for it in ("universal", "shared", "keys", "requests")]
 TOKEN = re.compile(r'\s+|//[^\n]*|("[^"]*"|[\w!]+(?:::\w+)*|[&(){}\[\],:=;])')
 CONSTANT = re.compile(r"const (\w+): ([^=]*) = ([^;]*);")
 LEAVES = {"Boolean": (1, "BOOLEAN"), "Integer": (2, "INTEGER"), "BitString": (3, "BIT STRING"),
@@ -161,7 +161,7 @@ def types_of_code(text):
 
 def looks():
     tables = "\n".join(map(text_of, TABLES))
-    return compared(("crates/asn_shapes", PAGE), types_of_code, tables, types_of_page(text_of(PAGE)))
+    return compared(("crates/pkix_shapes", PAGE), types_of_code, tables, types_of_page(text_of(PAGE)))
 
 
 if __name__ == "__main__":

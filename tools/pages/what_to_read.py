@@ -21,8 +21,8 @@ from tools.gate.looks import counted
 
 PAGE = f"{TOP}/docs/definitions.md"
 OF_C = ("normalise", "check", "same", "signed", "show", "explain", "field", "reason_name", "interface")
-CALLS = {"run": "pk_commands/src/run.rt", "run_files": "pk_commands/src/files.rt", "asked_of": "pkder/src/line.rt",
-         "compare": "pk_commands/src/compare.rt", "show_text": "pk_show/src/lib.rt", "respond": "pkder/src/respond.rt"}
+CALLS = {"run": "commands/src/run.rt", "run_files": "commands/src/files.rt", "asked_of": "pkder/src/line.rt",
+         "compare": "commands/src/compare.rt", "show_text": "pk_show/src/lib.rt", "respond": "pkder/src/respond.rt"}
 CALLS |= {f"pkder_{it}": "pkder_c/src/lib.rt" for it in OF_C}
 PLAIN_READING = {f"x690.{it}" for it in ("Reading", "ReadHeaders", "ReadContents", "ReadTypes")}
 # what the plain reading answers, and the relation by which the law `answers::there_is_one_answer` says the same

@@ -3,7 +3,7 @@ use Rattle.std.proofs.Common.{List, Option, Some, ◌≡◌, drop, subst, sym, �
 use Rattle.std.specs.Prelude.{IfOk}
 use Rattle.std.specs.Borrow.{Bor}
 use Rattle.std.specs.declared.result.Result.{Result}
-use Rattle.asn_shapes.specs.declared.shape.Shape.{Shape}
+use Rattle.pkix_shapes.specs.declared.shape.Shape.{Shape}
 use Rattle.asn_names.specs.Walks.{State, began, begins, begins_at, begins_taken, taken, without_innermost}
 use Rattle.asn_names.specs.declared.element.Level.{Level}
 use Rattle.asn_names.specs.declared.element.Parting.{Parting}

@@ -2,8 +2,8 @@
 use Rattle.std.proofs.Common.{List, None, Option, Some, ◌≡◌, ◌∙◌, ◌<◌, ◌∷◌, ap, drop, get_or, length, suc, sym, ℕ}
 use Rattle.std.proofs.Math.Seq.{drop-cons}
 use Rattle.std.specs.Borrow.{Bor}
-use Rattle.asn_outline.specs.declared.event.Event.{Event}
-use Rattle.asn_shapes.specs.declared.shape.Shape.{Shape}
+use Rattle.ber_outline.specs.declared.event.Event.{Event}
+use Rattle.pkix_shapes.specs.declared.shape.Shape.{Shape}
 use Rattle.asn_names.specs.Naming.{walked}
 use Rattle.asn_names.specs.Walks.{State, happened}
 use Rattle.asn_names.specs.declared.element.Parting.{Parting}

@@ -3,11 +3,11 @@ use Rattle.std.specs.Prelude.{Bool, None, Option, Some, cond, min, nat_le, true,
 use Rattle.std.specs.Borrow.{Bor}
 use Rattle.tlv_core.specs.Identifier.{Tag}
 use Rattle.x690.specs.TypeTerms.{fits_tag}
-use Rattle.asn_shapes.specs.Dues.{may_end, standing_in}
-use Rattle.asn_shapes.specs.Terms.{fields_of, term_of}
-use Rattle.asn_shapes.specs.declared.due.Standing.{Standing}
-use Rattle.asn_shapes.specs.declared.due.Standing.TheVariants as stands
-use Rattle.asn_shapes.specs.declared.shape.Shape.{Choice', Containing', DefinedBy', Leaf, ListOf', Named', Open, Private', Refused, Sequence', SetOf', Shape}
+use Rattle.pkix_shapes.specs.Dues.{may_end, standing_in}
+use Rattle.pkix_shapes.specs.Terms.{fields_of, term_of}
+use Rattle.pkix_shapes.specs.declared.due.Standing.{Standing}
+use Rattle.pkix_shapes.specs.declared.due.Standing.TheVariants as stands
+use Rattle.pkix_shapes.specs.declared.shape.Shape.{Choice', Containing', DefinedBy', Leaf, ListOf', Named', Open, Private', Refused, Sequence', SetOf', Shape}
 use Rattle.asn_names.specs.declared.element.Level.{Level}
 use Rattle.asn_names.specs.declared.element.Level.TheVariants.{Fields, Members, Segments}
 use Rattle.asn_names.specs.declared.element.Step.TheVariants as steps

@@ -1,9 +1,9 @@
 -- The elements of a document by their names, and where its type and the document part.
 use Rattle.std.specs.Prelude.{List, None, Option, Some, [], ℕ, ◌∷◌}
 use Rattle.std.specs.Borrow.{Bor}
-use Rattle.asn_outline.specs.declared.event.Event.{Event}
-use Rattle.asn_outline.specs.declared.event.Stop.{Stop}
-use Rattle.asn_shapes.specs.declared.shape.Shape.{Shape}
+use Rattle.ber_outline.specs.declared.event.Event.{Event}
+use Rattle.ber_outline.specs.declared.event.Stop.{Stop}
+use Rattle.pkix_shapes.specs.declared.shape.Shape.{Shape}
 use Rattle.asn_names.specs.Walks.{State, happened, stopped}
 use Rattle.asn_names.specs.declared.element.NamedElement.{NamedElement}
 use Rattle.asn_names.specs.declared.element.Parting.{Parting}

@@ -4,8 +4,8 @@ use Rattle.std.specs.Borrow.{Bor}
 use Rattle.tlv_core.specs.Identifier.{Tag}
 use Rattle.x690.specs.Lists.{one_of}
 use Rattle.x690.specs.TypeTerms.{fits_tag}
-use Rattle.asn_shapes.specs.Terms.{term_of}
-use Rattle.asn_shapes.specs.declared.shape.Shape.{Choice', Containing', DefinedBy', Leaf, ListOf', Named', Open, Private', Refused, Sequence', SetOf', Shape}
+use Rattle.pkix_shapes.specs.Terms.{term_of}
+use Rattle.pkix_shapes.specs.declared.shape.Shape.{Choice', Containing', DefinedBy', Leaf, ListOf', Named', Open, Private', Refused, Sequence', SetOf', Shape}
 use Rattle.asn_names.specs.Levels.{one_more}
 use Rattle.asn_names.specs.declared.element.NamedElement.{NamedElement}
 use Rattle.asn_names.specs.declared.resolved.Resolved.{Resolved}

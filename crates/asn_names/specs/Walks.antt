@@ -2,12 +2,12 @@
 use Rattle.std.specs.Prelude.{Bool, List, None, Option, Some, [], cond, drop, false, length, reverse, slice_get, slice_set, true, ℕ, ◌+◌, ◌++◌, ◌∷◌}
 use Rattle.std.specs.Borrow.{Bor}
 use Rattle.tlv_core.specs.Identifier.{Tag}
-use Rattle.asn_outline.specs.declared.announced.Announced.{Announced}
-use Rattle.asn_outline.specs.declared.event.Event.{Event}
-use Rattle.asn_outline.specs.declared.event.Event.TheVariants as events
-use Rattle.asn_outline.specs.declared.event.ElementHeader.{ElementHeader}
-use Rattle.asn_outline.specs.declared.event.Stop.{Stop}
-use Rattle.asn_shapes.specs.declared.shape.Shape.{Choice', Containing', DefinedBy', Leaf, ListOf', Named', Open, Private', Refused, Sequence', SetOf', Shape}
+use Rattle.ber_outline.specs.declared.announced.Announced.{Announced}
+use Rattle.ber_outline.specs.declared.event.Event.{Event}
+use Rattle.ber_outline.specs.declared.event.Event.TheVariants as events
+use Rattle.ber_outline.specs.declared.event.ElementHeader.{ElementHeader}
+use Rattle.ber_outline.specs.declared.event.Stop.{Stop}
+use Rattle.pkix_shapes.specs.declared.shape.Shape.{Choice', Containing', DefinedBy', Leaf, ListOf', Named', Open, Private', Refused, Sequence', SetOf', Shape}
 use Rattle.asn_names.specs.Levels.{level_of, may_close, outermost, place_in}
 use Rattle.asn_names.specs.Resolving.{leaf_at, resolved}
 use Rattle.asn_names.specs.declared.element.NamedElement.{NamedElement}

@@ -1,6 +1,6 @@
 //! An element of a document, with its place in the type.
-use asn_outline::event::ElementHeader;
-use asn_shapes::shape::{Fields, Shape};
+use ber_outline::event::ElementHeader;
+use pkix_shapes::shape::{Fields, Shape};
 
 /// How an element is reached from the one around it. Numbers count from 0.
 #[derive(Clone, Copy)]

@@ -1,12 +1,12 @@
 //! What is due in a container, and which place an element has there.
 ghost use Rattle.std.specs.Prelude.{◌≡◌};
-ghost use Rattle.asn_shapes.specs.Dues.{may_end};
-ghost use Rattle.asn_shapes.specs.Terms.{fields_of};
+ghost use Rattle.pkix_shapes.specs.Dues.{may_end};
+ghost use Rattle.pkix_shapes.specs.Terms.{fields_of};
 ghost use Rattle.asn_names.specs.Levels.{holds_segments, level_of, may_close, outermost, place_in};
 
 use crate::element::{Level, Step};
-use asn_shapes::due::{Standing, stands_as};
-use asn_shapes::shape::{Fields, Shape};
+use pkix_shapes::due::{Standing, stands_as};
+use pkix_shapes::shape::{Fields, Shape};
 use tlv_core::tag::{Class, Tag};
 
 /// The place of an element in a container.

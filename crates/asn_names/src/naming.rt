@@ -5,8 +5,8 @@ ghost use Rattle.asn_names.specs.Walks.{happened, innermost, state_of, stopped, 
 
 use crate::element::{Level, NamedElement, Parting};
 use crate::walk::{Beginning, Walk, begin_element, end_container};
-use asn_outline::event::{ElementHeader, Event, Stop};
-use asn_shapes::shape::Shape;
+use ber_outline::event::{ElementHeader, Event, Stop};
+use pkix_shapes::shape::Shape;
 use std::alloc::{AllocError, Global};
 
 /// The elements of a document, one after another, and where the type and the document part.

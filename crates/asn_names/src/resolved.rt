@@ -4,7 +4,7 @@ ghost use Rattle.x690.specs.Lists.{one_of};
 ghost use Rattle.asn_names.specs.Resolving.{contents, from_member, leaf_at, resolved};
 
 use crate::element::NamedElement;
-use asn_shapes::shape::Shape;
+use pkix_shapes::shape::Shape;
 use tlv_core::tag::Tag;
 
 /// What a type comes to.

@@ -5,8 +5,8 @@ ghost use Rattle.asn_names.specs.Walks.{began, begins_as, begins_at, begins_outs
 use crate::element::{Level, NamedElement, Parting, Step};
 use crate::level::{Place, level_of, may_close, outermost, place_in};
 use crate::resolved::{Before, resolve};
-use asn_outline::event::ElementHeader;
-use asn_shapes::shape::Shape;
+use ber_outline::event::ElementHeader;
+use pkix_shapes::shape::Shape;
 use std::alloc::AllocError;
 use std::slice::from_ref;
 use tlv_core::tag::Tag;

@@ -6,7 +6,7 @@ use Rattle.std.proofs.Math.Seq.{get_or-append_seam}
 use Rattle.std.proofs.lemmas.Bool.Decides.{nat_tests}
 use Rattle.std.proofs.lemmas.Option.{slice_get-get_or}
 use Rattle.std.proofs.lemmas.Slice.Eq.{bytes_eq-Decides}
-use Rattle.pk_reports.specs.declared.report.Line.{Line}
+use Rattle.reports.specs.declared.report.Line.{Line}
 use Rattle.pk_same.specs.Differences.{AreDifferences, IsAlone, SomeIsTold, WhatIsToldDiffers, is_of_field, outermost}
 use Rattle.pk_same.specs.Walks.{behind, deeper, differences, first_pass, follows, meet_field, meet_lines, meeting, octets_of, or_outermost, same_step, second_pass, told, walk}
 use Rattle.pk_same.specs.declared.walk.Difference.{Difference}

@@ -3,7 +3,7 @@ use Rattle.std.proofs.Common.{Bool, List, [], ap, arith, cond, false, length, le
 use Rattle.std.proofs.lemmas.Bool.{cases_lt, false≢true}
 use Rattle.std.proofs.lemmas.Bool.Decides.{nat_tests}
 use Rattle.x690.specs.Layouts.{same_tag}
-use Rattle.pk_reports.specs.declared.report.Line.{Line}
+use Rattle.reports.specs.declared.report.Line.{Line}
 use Rattle.pk_same.proofs.DifferenceLaws.{behind_ends, further}
 use Rattle.pk_same.specs.Differences.{AreInNone, IsInPrivateValues, PrivateValuesAreToldTogether}
 use Rattle.pk_same.specs.Walks.{are_private_values, behind, deeper, differences, first_pass, follows, has_inner, meet_field, meeting, opens, or_outermost, same_octets, same_step, second_pass, told, walk}

@@ -7,7 +7,7 @@ use Rattle.x690.specs.TypeTerms.{TypeTerm}
 use Rattle.pk_documents.specs.KindRows.{word_of}
 use Rattle.pk_documents.specs.Kinds.{type_of}
 use Rattle.pk_documents.specs.declared.kind.Kind.{Kind}
-use Rattle.pk_explain.specs.Written.{version}
+use Rattle.explain.specs.Written.{version}
 use Rattle.pk_same.specs.Sameness.{AreApart, AreRefused, AreSame, IsAccepted, IsJudged, IsReading, encoding_of, fault_of}
 use Rattle.pk_same.specs.Written.{IsCompared, IsWritten, refused_written}
 use Rattle.pk_same.specs.declared.reading.DocumentReading.{DocumentReading}

@@ -1,7 +1,7 @@
 -- What is told of the first elements that differ, by the lines of two reports.
 use Rattle.std.proofs.Common.{List, ap, length, map, ℕ, ◌-◌, ◌∙◌, ◌≡◌}
-use Rattle.pk_reports.specs.JsonLists.{first_ones}
-use Rattle.pk_reports.specs.declared.report.Line.{Line}
+use Rattle.reports.specs.JsonLists.{first_ones}
+use Rattle.reports.specs.declared.report.Line.{Line}
 use Rattle.pk_same.specs.Told.{Words, said_of}
 use Rattle.pk_same.specs.Walks.{differences}
 use Rattle.pk_same.specs.Written.{AreTheFirst}

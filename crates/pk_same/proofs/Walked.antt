@@ -1,6 +1,6 @@
 -- One round of the walk over the lists of two documents.
 use Rattle.std.proofs.Common.{List, ap, append_assoc, arith, length, suc, sym, zero, ℕ, ◌++◌, ◌-◌, ◌<◌, ◌∙◌, ◌≡◌}
-use Rattle.pk_reports.specs.declared.report.Line.{Line}
+use Rattle.reports.specs.declared.report.Line.{Line}
 use Rattle.pk_same.specs.Walks.{behind, first_pass, meeting, second_pass, told, walk}
 use Rattle.pk_same.specs.declared.walk.Difference.{Difference}
 use Rattle.pk_same.specs.declared.walk.Meeting.{Meeting}

@@ -1,7 +1,7 @@
 -- What the walk over the lists of two documents tells of an element.
 use Rattle.std.specs.Prelude.{Bool, List, None, Option, Some, [], false, length, slice_get, ℕ, ◌&&◌, ◌++◌, ◌-◌, ◌<◌, ◌==◌, ◌∷◌, ◌≡◌, ◌≢◌, ◌⊎◌, true}
 use Rattle.asn_names.specs.declared.element.Step.{Step}
-use Rattle.pk_reports.specs.declared.report.Line.{Line}
+use Rattle.reports.specs.declared.report.Line.{Line}
 use Rattle.pk_same.specs.Walks.{are_private_values, deeper, differences, octets_of, same_step}
 use Rattle.pk_same.specs.declared.walk.Difference.{Difference}
 

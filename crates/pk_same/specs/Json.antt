@@ -2,8 +2,8 @@
 use Rattle.std.specs.Prelude.{List, None, Option, Some, [], codes, flat_map, ℕ, ◌++◌}
 use Rattle.json.specs.Token.{Token}
 use Rattle.tlv_core.specs.declared.fault.Fault.{Fault}
-use Rattle.pk_reports.specs.Json.{inside_members, place_members}
-use Rattle.pk_reports.specs.JsonMembers.{list_member, number_member, object, object_member, text_member}
+use Rattle.reports.specs.Json.{inside_members, place_members}
+use Rattle.reports.specs.JsonMembers.{list_member, number_member, object, object_member, text_member}
 use Rattle.pk_same.specs.Told.{Words}
 
 -- the number of this form, the version of the program, the kind, and the answer

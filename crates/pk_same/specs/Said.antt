@@ -3,16 +3,16 @@ use Rattle.std.specs.Prelude.{Bool, List, None, Option, Some, [], codes, cond, d
 use Rattle.tlv_core.specs.Identifier.{Tag}
 use Rattle.asn_names.specs.declared.element.Step.{Step}
 use Rattle.asn_names.specs.declared.element.Step.TheVariants.{Field, Member}
-use Rattle.pk_reports.specs.Lines.{unused_part}
-use Rattle.pk_reports.specs.Paths.{path_text}
-use Rattle.pk_reports.specs.Picks.{way_of}
-use Rattle.pk_reports.specs.Texts.{quoted}
-use Rattle.pk_reports.specs.TypeWords.{tag_said}
-use Rattle.pk_reports.specs.Words.{sized}
-use Rattle.pk_reports.specs.declared.report.Length.{Length}
-use Rattle.pk_reports.specs.declared.report.Line.{Line}
-use Rattle.pk_reports.specs.declared.report.Value.{Value}
-use Rattle.pk_reports.specs.declared.report.Value.TheVariants as values
+use Rattle.reports.specs.Lines.{unused_part}
+use Rattle.reports.specs.Paths.{path_text}
+use Rattle.reports.specs.Picks.{way_of}
+use Rattle.reports.specs.Texts.{quoted}
+use Rattle.reports.specs.TypeWords.{tag_said}
+use Rattle.reports.specs.Words.{sized}
+use Rattle.reports.specs.declared.report.Length.{Length}
+use Rattle.reports.specs.declared.report.Line.{Line}
+use Rattle.reports.specs.declared.report.Value.{Value}
+use Rattle.reports.specs.declared.report.Value.TheVariants as values
 
 -- an element is a member of a list or a set
 abbrev pub is_member : Step → Bool

@@ -6,7 +6,7 @@ use Rattle.x690.specs.DerTexts.{der}
 use Rattle.x690.specs.Fitting.{Spells}
 use Rattle.x690.specs.TypeTerms.{TypeTerm}
 use Rattle.x690.specs.Values.{Same as SameValue, Value}
-use Rattle.pk_explain.specs.Answers.{IsRefused}
+use Rattle.explain.specs.Answers.{IsRefused}
 use Rattle.pk_same.specs.declared.reading.DocumentReading.{DocumentReading}
 use Rattle.pk_same.specs.declared.reading.DocumentReading.TheVariants.{Accepted, Refused as RefusedReading}
 use Rattle.pk_same.specs.declared.sameness.Sameness.{Sameness}

@@ -1,8 +1,8 @@
 -- What two documents are to each other, in lines.
 use Rattle.std.specs.Prelude.{List, None, Option, Some, [], codes, cond, decimal, flat_map, ℕ, ◌++◌, ◌==◌, ◌∷◌}
 use Rattle.tlv_core.specs.declared.fault.Fault.{Fault}
-use Rattle.pk_reports.specs.Reports.{inside_said, place_said}
-use Rattle.pk_reports.specs.Texts.{line_feed}
+use Rattle.reports.specs.Reports.{inside_said, place_said}
+use Rattle.reports.specs.Texts.{line_feed}
 use Rattle.pk_same.specs.Told.{Words}
 
 abbrev pub same_line : List ℕ

@@ -1,6 +1,6 @@
 -- What is told of the elements that differ.
 use Rattle.std.specs.Prelude.{List, None, Option, Some, codes, drop, string_bytes, ℕ}
-use Rattle.pk_reports.specs.declared.report.Line.{Line}
+use Rattle.reports.specs.declared.report.Line.{Line}
 use Rattle.pk_same.specs.Said.{field_said, value_said}
 use Rattle.pk_same.specs.declared.told.Told.{Told}
 use Rattle.pk_same.specs.declared.walk.Difference.{Difference}

@@ -4,9 +4,9 @@ use Rattle.std.specs.Str.{bytes_eq}
 use Rattle.x690.specs.Layouts.{same_tag}
 use Rattle.asn_names.specs.declared.element.Step.{Step}
 use Rattle.asn_names.specs.declared.element.Step.TheVariants.{Field, Member, Outermost, Outside, Segment}
-use Rattle.pk_reports.specs.declared.report.Line.{Line}
-use Rattle.pk_reports.specs.declared.report.Value.{Value}
-use Rattle.pk_reports.specs.declared.report.Value.TheVariants.{NotShown, Size}
+use Rattle.reports.specs.declared.report.Line.{Line}
+use Rattle.reports.specs.declared.report.Value.{Value}
+use Rattle.reports.specs.declared.report.Value.TheVariants.{NotShown, Size}
 use Rattle.pk_same.specs.declared.walk.Difference.{Difference}
 use Rattle.pk_same.specs.declared.walk.Meeting.{Meeting}
 use Rattle.pk_same.specs.declared.walk.Meeting.TheVariants.{Differ, Ended, Equal, First, Inside, Second}

@@ -6,12 +6,12 @@ use Rattle.tlv_core.specs.declared.fault.Fault.{Fault}
 use Rattle.pk_documents.specs.KindRows.{word_of}
 use Rattle.pk_documents.specs.Kinds.{type_of}
 use Rattle.pk_documents.specs.declared.kind.Kind.{Kind}
-use Rattle.pk_explain.specs.Reports.{IsReportOf}
-use Rattle.pk_explain.specs.Written.{version}
-use Rattle.pk_reports.specs.JsonLists.{first_ones}
-use Rattle.pk_reports.specs.Texts.{line_feed}
-use Rattle.pk_reports.specs.declared.report.Line.{Line}
-use Rattle.pk_reports.specs.declared.report.Report.{Report}
+use Rattle.explain.specs.Reports.{IsReportOf}
+use Rattle.explain.specs.Written.{version}
+use Rattle.reports.specs.JsonLists.{first_ones}
+use Rattle.reports.specs.Texts.{line_feed}
+use Rattle.reports.specs.declared.report.Line.{Line}
+use Rattle.reports.specs.declared.report.Report.{Report}
 use Rattle.pk_same.specs.Json.{another_object, refused_object, same_object}
 use Rattle.pk_same.specs.Sameness.{IsAccepted, IsSameness}
 use Rattle.pk_same.specs.Texts.{another_text, refused_text, same_line}

@@ -1,14 +1,14 @@
 //! What two documents are to each other as JSON: one object, in one line.
 ghost use Rattle.std.specs.Prelude.{◌≡◌, ◌++◌, IfOk, OnOk, flat_map, map, string_bytes};
 ghost use Rattle.json.specs.Print.{print};
-ghost use Rattle.pk_reports.specs.Texts.{line_feed};
+ghost use Rattle.reports.specs.Texts.{line_feed};
 ghost use Rattle.pk_same.specs.Json.{another_object, called_member, difference_members, fault_members, head_members, refused_object, same_object, words_object};
 ghost use Rattle.pk_same.specs.Told.{words_of};
 
 use crate::text::DocumentNames;
 use crate::told::Told;
-use pk_reports::json_report::{push_inside, push_place};
-use pk_reports::json_text::JsonText;
+use reports::json_report::{push_inside, push_place};
+use reports::json_text::JsonText;
 use std::alloc::{AllocError, Global};
 use tlv_core::fault::Fault;
 

@@ -3,13 +3,13 @@ ghost use Rattle.std.specs.Prelude.{◌≡◌, ◌++◌, IfOk, OnOk, drop, strin
 ghost use Rattle.pk_same.specs.Said.{arcs_said, characters_said, contents_said, field_said, identifier_said, is_member, is_unnamed, kind_along, kind_part, kind_said, line_said, value_said, wraps};
 
 use asn_names::element::Step;
-use pk_reports::paths::path;
-use pk_reports::picks::{steps_before, way_to};
-use pk_reports::report::{Length, Line, Value};
-use pk_reports::text::{push_number, push_quoted};
-use pk_reports::text_lines::push_unused;
-use pk_reports::type_words::push_tag;
-use pk_reports::words::push_size;
+use reports::paths::path;
+use reports::picks::{steps_before, way_to};
+use reports::report::{Length, Line, Value};
+use reports::text::{push_number, push_quoted};
+use reports::text_lines::push_unused;
+use reports::type_words::push_tag;
+use reports::words::push_size;
 use std::alloc::{AllocError, Global};
 use tlv_core::tag::Tag;
 

@@ -4,8 +4,8 @@ ghost use Rattle.pk_same.specs.Texts.{another_text, difference_lines, fault_line
 ghost use Rattle.pk_same.specs.Told.{words_of};
 
 use crate::told::Told;
-use pk_reports::text::push_between;
-use pk_reports::text_report::{push_inside, push_reason};
+use reports::text::push_between;
+use reports::text_report::{push_inside, push_reason};
 use std::alloc::{AllocError, Global};
 use tlv_core::fault::Fault;
 

@@ -1,11 +1,11 @@
 //! What is told of the elements that differ.
 ghost use Rattle.std.specs.Prelude.{◌≡◌, ◌++◌, ◌-◌, IfOk, OnOk, map, string_bytes};
-ghost use Rattle.pk_reports.specs.JsonLists.{first_ones};
+ghost use Rattle.reports.specs.JsonLists.{first_ones};
 ghost use Rattle.pk_same.specs.Told.{difference_field, said_of, side_value, words_of};
 
 use crate::said::{field_text, lines_from, push_value};
 use crate::walk::Difference;
-use pk_reports::report::Line;
+use reports::report::Line;
 use std::alloc::{AllocError, Global};
 
 /// As many elements that differ are told, at most.

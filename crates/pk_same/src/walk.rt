@@ -8,7 +8,7 @@ ghost use Rattle.pk_same.specs.Walks.{are_private_values, behind, deeper, differ
 
 use asn_elements::tags::is_same_tag;
 use asn_names::element::Step;
-use pk_reports::report::{Line, Value};
+use reports::report::{Line, Value};
 use std::alloc::{AllocError, Global};
 
 /// The DER encodings of two documents.

@@ -9,8 +9,8 @@ use Rattle.pk_documents.specs.Documents.{kind_of}
 use Rattle.pk_documents.specs.Kinds.{type_of}
 use Rattle.pk_documents.specs.declared.document.Document.{Document}
 use Rattle.pk_documents.specs.declared.kind.Kind.{Kind}
-use Rattle.pk_explain.specs.Answers.{IsRefused}
-use Rattle.pk_reports.specs.Texts.{line_feed}
+use Rattle.explain.specs.Answers.{IsRefused}
+use Rattle.reports.specs.Texts.{line_feed}
 use Rattle.pk_same.specs.Texts.{refused_text}
 use Rattle.pk_same_key.specs.Parts.{document_parts}
 use Rattle.pk_same_key.specs.Verdicts.{reason_of_both, verdict_of}

@@ -1,7 +1,7 @@
 -- What two private keys are to each other.
 use Rattle.std.specs.Prelude.{Bool, List, None, Option, Some, [], codes, cond, length, ℕ, ◌&&◌, ◌++◌, ◌==◌, ◌||◌}
 use Rattle.std.specs.Str.{bytes_eq}
-use Rattle.asn_shapes.specs.Identifiers.{Row, usual}
+use Rattle.pkix_shapes.specs.Identifiers.{Row, usual}
 use Rattle.pkix_definitions.specs.Identifiers.{ec_public_key}
 use Rattle.pk_same_key.specs.Parts.{Carried, Parts, Rsa, Scalar}
 use Rattle.pk_same_key.specs.declared.verdict.KeySameness.{KeySameness}

@@ -1,16 +1,16 @@
 //! Whether two documents hold one private key, as it is written.
 ghost use Rattle.std.specs.Prelude.{◌≡◌, ◌⊎◌, ◌++◌, IfOk, codes, string_bytes};
-ghost use Rattle.pk_reports.specs.Texts.{line_feed};
+ghost use Rattle.reports.specs.Texts.{line_feed};
 ghost use Rattle.pk_same.specs.Texts.{refused_text};
 ghost use Rattle.std.specs.Option.{option_map};
 ghost use Rattle.pk_same_key.specs.KeySameness.{AreCompared, AreRefusedKeys, IsKeyReading, fault_of, key_line};
 ghost use Rattle.pk_same_key.specs.Parts.{document_parts, parts_seen};
 ghost use Rattle.pk_same_key.specs.Verdicts.{named_by, reason_of, reason_of_both, verdict_of};
-ghost use Rattle.asn_shapes.specs.Identifiers.{usual};
+ghost use Rattle.pkix_shapes.specs.Identifiers.{usual};
 
 use crate::parts::{KeyParts, document_parts};
 use crate::verdict::{KeySameness, is_unnamed, verdict};
-use asn_shapes::identifiers::identifier_of;
+use pkix_shapes::identifiers::identifier_of;
 use pk_documents::document::{Document, Valued, read_whole_document};
 use pk_documents::kind::Kind;
 use pk_same::reading::is_any;

@@ -22,9 +22,9 @@ use Rattle.pkder.specs.declared.line.LineFault.TheVariants as faults
 use Rattle.pkder.specs.declared.line.Asked.{Asked}
 use Rattle.pkder.specs.declared.line.Asked.TheVariants.{Both, Each}
 use Rattle.pkder.specs.declared.pair.Pair.{Pair}
-use Rattle.pk_commands.specs.declared.task.Action.{Action}
-use Rattle.pk_commands.specs.declared.task.Action.TheVariants.{Check, Explain, Normalise, Show, Signed}
-use Rattle.pk_commands.specs.declared.task.Task.{Task}
+use Rattle.commands.specs.declared.task.Action.{Action}
+use Rattle.commands.specs.declared.task.Action.TheVariants.{Check, Explain, Normalise, Show, Signed}
+use Rattle.commands.specs.declared.task.Task.{Task}
 
 -- ---- the line
 

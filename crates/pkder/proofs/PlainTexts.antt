@@ -6,9 +6,9 @@ use Rattle.std.specs.List.{filter, flat_map}
 use Rattle.std.specs.Prelude.{codes, string_bytes, nat_lt}
 use Rattle.std.specs.Str.{chars}
 use Rattle.clap.specs.Words.{Text}
-use Rattle.pk_commands.proofs.Escapes.{Printable, as_it_is, escape_plain}
-use Rattle.pk_commands.specs.Names.{IsPrintable, escaped}
-use Rattle.pk_commands.specs.Outcomes.{line_feed}
+use Rattle.commands.proofs.Escapes.{Printable, as_it_is, escape_plain}
+use Rattle.commands.specs.Names.{IsPrintable, escaped}
+use Rattle.commands.specs.Outcomes.{line_feed}
 use Rattle.pkder.specs.CommandLines.{IsPlainLine, controls_line, has_control, quoted_word}
 
 -- ---- a text that is there

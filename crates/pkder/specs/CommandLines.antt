@@ -18,11 +18,11 @@ use Rattle.pk_documents.specs.declared.kind.Kind.TheVariants as kinds
 use Rattle.pk_documents.specs.declared.kind.TheConstants.{KEY_WORDS, WORDS}
 use Rattle.pk_documents.specs.declared.request_part.Part.{Part}
 use Rattle.pk_documents.specs.declared.request_part.Part.TheVariants as parts
-use Rattle.pk_explain.specs.declared.written.Form.{Form}
-use Rattle.pk_commands.specs.Names.{IsPrintable, escaped, quoted}
-use Rattle.pk_commands.specs.Outcomes.{line_feed}
-use Rattle.pk_commands.specs.declared.task.Action.{Action}
-use Rattle.pk_commands.specs.declared.task.Action.TheVariants.{Check, Explain, Normalise, Show, Signed}
+use Rattle.explain.specs.declared.written.Form.{Form}
+use Rattle.commands.specs.Names.{IsPrintable, escaped, quoted}
+use Rattle.commands.specs.Outcomes.{line_feed}
+use Rattle.commands.specs.declared.task.Action.{Action}
+use Rattle.commands.specs.declared.task.Action.TheVariants.{Check, Explain, Normalise, Show, Signed}
 use Rattle.pkder.specs.declared.refusal.BadValue.{BadValue}
 use Rattle.pkder.specs.declared.line.LineFault.{LineFault}
 use Rattle.pkder.specs.declared.line.LineFault.TheVariants as faults
@@ -30,10 +30,10 @@ use Rattle.pkder.specs.declared.line.Asked.{Asked}
 use Rattle.pkder.specs.declared.line.Asked.TheVariants.{Both, Each}
 use Rattle.pkder.specs.declared.line.Order.{Order}
 use Rattle.pkder.specs.declared.pair.Pair.{Pair}
-use Rattle.pk_commands.specs.declared.comparison.Comparison.{Comparison}
-use Rattle.pk_commands.specs.declared.comparison.Question.{Question}
-use Rattle.pk_commands.specs.declared.comparison.Question.TheVariants.{Document, Key}
-use Rattle.pk_commands.specs.declared.task.Task.{Task}
+use Rattle.commands.specs.declared.comparison.Comparison.{Comparison}
+use Rattle.commands.specs.declared.comparison.Question.{Question}
+use Rattle.commands.specs.declared.comparison.Question.TheVariants.{Document, Key}
+use Rattle.commands.specs.declared.task.Task.{Task}
 use Rattle.pk_same.specs.declared.same.Style.TheVariants.{Json, Text as TextForm}
 
 -- ---- the options: their names, and what stands for one that isn't given

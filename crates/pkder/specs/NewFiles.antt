@@ -1,6 +1,6 @@
 -- What clauses see of a file beside its place.
 use Rattle.std.specs.Prelude.{◌*◌, ◌+◌, Bool, None, cond, string_bytes, ℕ}
-use Rattle.pk_commands.specs.MadeFiles.{Made}
+use Rattle.commands.specs.MadeFiles.{Made}
 use Rattle.pkder.specs.declared.new_file.FileBeside.{FileBeside}
 
 -- what is in a file of the system isn't told

@@ -3,19 +3,19 @@ use Rattle.std.specs.Prelude.{◌≡◌, ◌⊎◌, ◌&&◌, ℕ, Bool, List, N
 use Rattle.std.specs.Option.{option_map}
 use Rattle.x690.specs.Values.{Value}
 use Rattle.pk_documents.specs.declared.document.Document.{Document}
-use Rattle.pk_commands.specs.Conversions.{Converts}
-use Rattle.pk_commands.specs.Endings.{IsWhole, Tells}
-use Rattle.pk_commands.specs.Judgements.{JudgesAll, Sources}
-use Rattle.pk_commands.specs.MadeFiles.{Made}
-use Rattle.pk_commands.specs.Outcomes.{line_of, status_of}
-use Rattle.pk_commands.specs.Pairs.{ComparesNamed}
-use Rattle.pk_commands.specs.Replies.{FailedBy}
-use Rattle.pk_commands.specs.Standards.{Ends, EndsAlone, Seen, file_named}
-use Rattle.pk_commands.specs.declared.new_file.Unmade.{Unmade}
-use Rattle.pk_commands.specs.declared.outcome.Outcome.{Outcome}
-use Rattle.pk_commands.specs.declared.outcome.Outcome.TheVariants as outcomes
-use Rattle.pk_commands.specs.declared.task.Action.{Action}
-use Rattle.pk_commands.specs.declared.task.Action.TheVariants.{Check, Explain, Normalise, Show, Signed}
+use Rattle.commands.specs.Conversions.{Converts}
+use Rattle.commands.specs.Endings.{IsWhole, Tells}
+use Rattle.commands.specs.Judgements.{JudgesAll, Sources}
+use Rattle.commands.specs.MadeFiles.{Made}
+use Rattle.commands.specs.Outcomes.{line_of, status_of}
+use Rattle.commands.specs.Pairs.{ComparesNamed}
+use Rattle.commands.specs.Replies.{FailedBy}
+use Rattle.commands.specs.Standards.{Ends, EndsAlone, Seen, file_named}
+use Rattle.commands.specs.declared.new_file.Unmade.{Unmade}
+use Rattle.commands.specs.declared.outcome.Outcome.{Outcome}
+use Rattle.commands.specs.declared.outcome.Outcome.TheVariants as outcomes
+use Rattle.commands.specs.declared.task.Action.{Action}
+use Rattle.commands.specs.declared.task.Action.TheVariants.{Check, Explain, Normalise, Show, Signed}
 use Rattle.pkder.specs.CommandLines.{Asks, AsksNothing}
 use Rattle.pkder.specs.declared.line.Asked.{Asked}
 use Rattle.pkder.specs.declared.line.Asked.TheVariants.{Both, Each}

@@ -6,7 +6,7 @@ ghost use Rattle.pkder.specs.CommandLines.{check_shape, command_named as command
 
 use crate::help::{CHECK, EXPLAIN, NORMALISE, PROGRAM, SAME, SHOW, SIGNED};
 use clap::{Arg, ArgAction, Command};
-use pk_explain::version::VERSION;
+use explain::version::VERSION;
 use std::alloc::{AllocError, Global};
 
 /// The program as far as a line needs it: with the command alone that the word behind the program's name names, else

@@ -12,10 +12,10 @@ use crate::pair::{Pair, read_pair};
 use crate::refusal::{BadValue, advice_for_kind, refusal_text};
 use clap::error::ErrorKind;
 use clap::{ArgMatches, Error};
-use pk_commands::task::{Action, Task};
+use commands::task::{Action, Task};
 use pk_documents::kind::{Kind, WORDS};
 use pk_documents::request_part::Part;
-use pk_explain::written::Form;
+use explain::written::Form;
 use std::alloc::{AllocError, Global};
 use tlv_core::limits::Limits;
 

@@ -16,11 +16,11 @@ mod respond;
 mod terminal;
 
 use new_file::FilesBeside;
-use pk_commands::closing::{complain, finish};
-use pk_commands::file_system::FileSystem;
-use pk_commands::flush::ToFlush;
-use pk_commands::outcome::Outcome;
-use pk_commands::standard::Standard;
+use commands::closing::{complain, finish};
+use commands::file_system::FileSystem;
+use commands::flush::ToFlush;
+use commands::outcome::Outcome;
+use commands::standard::Standard;
 use respond::{System, respond};
 use std::io::{BufReader, ErrorKind};
 use std::process::ExitCode;

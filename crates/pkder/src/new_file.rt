@@ -2,8 +2,8 @@
 ghost use Rattle.std.specs.Prelude.{◌≡◌};
 ghost use Rattle.pkder.specs.NewFiles.{mode_of};
 
-use pk_commands::flush::ToFlush;
-use pk_commands::new_file::{NewFile, NewFiles, Stage, Unmade};
+use commands::flush::ToFlush;
+use commands::new_file::{NewFile, NewFiles, Stage, Unmade};
 use std::fs::{self, File, Metadata, OpenOptions, Permissions};
 use std::io::{self, ErrorKind};
 use std::os::unix::fs::{MetadataExt, OpenOptionsExt, PermissionsExt, fchown};

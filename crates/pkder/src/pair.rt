@@ -6,7 +6,7 @@ ghost use Rattle.pkder.specs.CommandLines.{BadComparison, BadKinds, BadOther, Ba
 use crate::line::{is_flagged, read_limits, value};
 use crate::refusal::{BadValue, advice_for_kind};
 use clap::ArgMatches;
-use pk_commands::comparison::{Comparison, Question};
+use commands::comparison::{Comparison, Question};
 use pk_documents::kind::{KEY_WORDS, Kind, WORDS};
 use pk_same::same::Style;
 

@@ -6,7 +6,7 @@ ghost use Rattle.pkder.specs.CommandLines.{TellsOwn, advice_for_command as comma
 
 use clap::Error;
 use clap::error::ErrorKind;
-use pk_commands::name::{push_escapes, push_quoted};
+use commands::name::{push_escapes, push_quoted};
 use pk_documents::kind::WORDS;
 use std::alloc::{AllocError, Global};
 

@@ -1,23 +1,23 @@
 //! What the program does with the words of its line.
 ghost use Rattle.std.specs.Prelude.{◌≡◌, ◌&&◌, false, is_none, map, string_bytes};
 ghost use Rattle.std.specs.Option.{option_map};
-ghost use Rattle.pk_commands.specs.Judgements.{sources_of};
-ghost use Rattle.pk_commands.specs.Standards.{IsReadable, seen};
+ghost use Rattle.commands.specs.Judgements.{sources_of};
+ghost use Rattle.commands.specs.Standards.{IsReadable, seen};
 ghost use Rattle.pkder.specs.Responses.{Does, Follows, Responds, SaysFault, first_name, is_binary};
 
 use crate::line::{Asked, LineFault, Order, asked_of};
-use pk_commands::closing::{complain, finish};
-use pk_commands::comparison::PairNames;
-use pk_commands::convert::{Places, convert};
-use pk_commands::flush::Flush;
-use pk_commands::judge::judge;
-use pk_commands::new_file::NewFiles;
-use pk_commands::opener::Opener;
-use pk_commands::outcome::Outcome;
-use pk_commands::pair::compare_named;
-use pk_commands::standard::Standard;
-use pk_commands::streams::tell;
-use pk_commands::task::Action;
+use commands::closing::{complain, finish};
+use commands::comparison::PairNames;
+use commands::convert::{Places, convert};
+use commands::flush::Flush;
+use commands::judge::judge;
+use commands::new_file::NewFiles;
+use commands::opener::Opener;
+use commands::outcome::Outcome;
+use commands::pair::compare_named;
+use commands::standard::Standard;
+use commands::streams::tell;
+use commands::task::Action;
 use pk_documents::document::{Document, Valued};
 use std::alloc::Global;
 use tlv_core::source::Source;

@@ -8,9 +8,9 @@ use Rattle.pk_documents.specs.declared.document.Document.{Document}
 use Rattle.pk_documents.specs.declared.kind.Kind.{Kind}
 use Rattle.pk_documents.specs.declared.kind.Kind.TheVariants.{Request}
 use Rattle.pk_documents.specs.declared.request_part.Part.{Part}
-use Rattle.pk_explain.specs.Written.{IsFieldOf, IsWritten}
-use Rattle.pk_explain.specs.declared.written.Form.{Form}
-use Rattle.pk_reports.specs.declared.report.Answer.{Answer}
+use Rattle.explain.specs.Written.{IsFieldOf, IsWritten}
+use Rattle.explain.specs.declared.written.Form.{Form}
+use Rattle.reports.specs.declared.report.Answer.{Answer}
 use Rattle.pkder_c.specs.Calls.{AreLines, Checked, Compared, FieldRefused, IsField, IsPartText, IsPlace, IsReport, IsSame, IsText, KindRefused, PairRefused, PartRefused, Put, PutReport, ReportRefused, Reported, Wrote}
 use Rattle.pkder_c.specs.Numbers.{IsFormNumber, IsFormOf, part_number}
 use Rattle.pkder_c.specs.Outcomes.{checked_outcome, compared_outcome, refused_outcome, uncompared_outcome}

@@ -10,9 +10,9 @@ use Rattle.pk_documents.specs.declared.document.Document.{Document}
 use Rattle.pk_documents.specs.declared.kind.Kind.{Kind}
 use Rattle.pk_documents.specs.declared.kind.Kind.TheVariants.{Request}
 use Rattle.pk_documents.specs.declared.request_part.Part.{Part}
-use Rattle.pk_explain.specs.Written.{IsFieldOf, IsWritten}
-use Rattle.pk_explain.specs.declared.written.Form.{Form}
-use Rattle.pk_reports.specs.declared.report.Answer.{Answer}
+use Rattle.explain.specs.Written.{IsFieldOf, IsWritten}
+use Rattle.explain.specs.declared.written.Form.{Form}
+use Rattle.reports.specs.declared.report.Answer.{Answer}
 use Rattle.pkder_c.specs.Numbers.{IsFormNumber, IsFormOf, IsPartNumber, IsReasonNumber, part_number}
 use Rattle.pkder_c.specs.Outcomes.{accepted_outcome, checked_outcome, compared_outcome, refused_outcome, reported_outcome, too_small_outcome, uncompared_outcome, unreported_outcome}
 use Rattle.pkder_c.specs.Wholes.{IsWhole, WholeChecked, WholeFault, WholeLines, WholePart, WholeSame, WholeText}

@@ -2,8 +2,8 @@
 use Rattle.std.specs.Prelude.{ℕ, ◌+◌, ◌≡◌, ◌≤◌, cond}
 use Rattle.pk_documents.specs.declared.request_part.Part.{Part}
 use Rattle.pk_documents.specs.declared.request_part.Part.TheVariants as parts
-use Rattle.pk_explain.specs.Written.{places_told}
-use Rattle.pk_explain.specs.declared.written.Form.{Form}
+use Rattle.explain.specs.Written.{places_told}
+use Rattle.explain.specs.declared.written.Form.{Form}
 
 abbrev pub part_number : Part → ℕ
 part_number parts.Info = 1

@@ -2,8 +2,8 @@
 use Rattle.std.specs.Prelude.{ℕ, Bool, None, Option, Some, false, true}
 use Rattle.tlv_core.specs.Reasons.{number_of}
 use Rattle.tlv_core.specs.declared.reason.Reason.{Reason}
-use Rattle.pk_reports.specs.declared.report.Answer.{Answer}
-use Rattle.pk_reports.specs.declared.report.Answer.TheVariants as answers
+use Rattle.reports.specs.declared.report.Answer.{Answer}
+use Rattle.reports.specs.declared.report.Answer.TheVariants as answers
 use Rattle.pkder_c.specs.declared.outcome.PkderOutcome.{PkderOutcome}
 use Rattle.pkder_c.specs.declared.refusal.PairRefusal.{PairRefusal}
 use Rattle.pkder_c.specs.declared.refusal.PairRefusal.TheVariants as pairs

@@ -8,7 +8,7 @@ use crate::whole::{
     whole_field, whole_lines, whole_part, whole_place, whole_report, whole_same, whole_text,
 };
 use pk_documents::document::{Document, Valued};
-use pk_reports::report::Answer;
+use reports::report::Answer;
 use std::alloc::Global;
 
 /// The document's DER text.

@@ -7,7 +7,7 @@ use crate::outcome::{
     PkderOutcome, accepted, checked, compared, refused, reported, too_small, uncompared, unreported,
 };
 use crate::refusal::{PairRefusal, Refusal};
-use pk_reports::report::Answer;
+use reports::report::Answer;
 
 /// Writes the text of the document in `src` where `dst` begins, if it fits there; nothing otherwise.
 pub fn deliver(made: Result<Vec<u8>, Refusal>, src: &[u8], dst: &mut [u8]) -> PkderOutcome

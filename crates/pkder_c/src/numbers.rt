@@ -7,7 +7,7 @@ ghost use Rattle.pkder_c.specs.Numbers.{IsFormNumber, IsFormOf, IsPartNumber, Is
 
 use pk_documents::kind::Kind;
 use pk_documents::request_part::Part;
-use pk_explain::written::{Form, PLACES};
+use explain::written::{Form, PLACES};
 use tlv_core::limits::Limits;
 use tlv_core::reason::Reason;
 

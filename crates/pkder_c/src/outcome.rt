@@ -3,7 +3,7 @@ ghost use Rattle.std.specs.Prelude.{◌≡◌};
 ghost use Rattle.pkder_c.specs.Outcomes.{accepted_outcome, answered_outcome, checked_outcome, compared_outcome, inside_of, refused_outcome, reported_outcome, too_small_outcome, uncompared_outcome, unreported_outcome};
 
 use crate::refusal::{PairRefusal, Refusal};
-use pk_reports::report::Answer;
+use reports::report::Answer;
 use tlv_core::reason::Reason;
 
 /// What comes of a call. Numbers that a status doesn't use are 0.

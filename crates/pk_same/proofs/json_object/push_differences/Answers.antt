@@ -1,7 +1,7 @@
 use Rattle.std.proofs.Common.{[], ◌++◌, ◌∷◌, codes, flat_map, map}
 use Rattle.json.specs.Token.{begin_array, end_array, key}
-use Rattle.pk_reports.specs.JsonMembers.{number_member}
-use Rattle.pk_reports.proofs.Appends.{further, past}
+use Rattle.reports.specs.JsonMembers.{number_member}
+use Rattle.reports.proofs.Appends.{further, past}
 use Rattle.pk_same.specs.Json.{difference_members, words_object}
 use Rattle.pk_same.specs.Told.{words_of}
 use Rattle.pk_same.proofs.json_object.push_differences.Goals as goal

@@ -1,6 +1,6 @@
 use Rattle.std.proofs.Common.{◌++◌, codes}
-use Rattle.pk_reports.specs.JsonMembers.{number_member, text_member}
-use Rattle.pk_reports.proofs.Appends.{further, past}
+use Rattle.reports.specs.JsonMembers.{number_member, text_member}
+use Rattle.reports.proofs.Appends.{further, past}
 use Rattle.pk_same.specs.Json.{head_members}
 use Rattle.pk_same.proofs.json_object.push_head.Goals as goal
 

@@ -1,7 +1,7 @@
 use Rattle.std.proofs.Common.{[], ◌++◌, ◌∙◌, ◌∷◌, ap, codes, string_bytes}
 use Rattle.json.specs.Token.{begin_object, end_object}
-use Rattle.pk_reports.specs.JsonMembers.{text_member}
-use Rattle.pk_reports.proofs.Appends.{further, past}
+use Rattle.reports.specs.JsonMembers.{text_member}
+use Rattle.reports.proofs.Appends.{further, past}
 use Rattle.pk_same.specs.Json.{words_object}
 use Rattle.pk_same.proofs.json_object.push_words.Goals as goal
 

@@ -1,8 +1,8 @@
 use Rattle.std.proofs.Common.{◌∙◌, ◌&&◌, is_none, map, subst, sym}
 use Rattle.std.specs.Option.{option_map}
 use Rattle.pk_documents.proofs.DocumentValues.{valued}
-use Rattle.pk_commands.specs.Judgements.{JudgesAll, sources_of}
-use Rattle.pk_commands.specs.Standards.{seen}
+use Rattle.commands.specs.Judgements.{JudgesAll, sources_of}
+use Rattle.commands.specs.Standards.{seen}
 use Rattle.pkder.specs.Responses.{Follows}
 use Rattle.pkder.proofs.respond.follow.Goals as goal
 

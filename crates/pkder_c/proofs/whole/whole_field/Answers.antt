@@ -1,5 +1,5 @@
 use Rattle.std.proofs.Common.{subst, sym}
-use Rattle.pk_explain.specs.Written.{IsFieldOf}
+use Rattle.explain.specs.Written.{IsFieldOf}
 use Rattle.pkder_c.proofs.whole.whole_field.Goals as goal
 
 pub returns-in-Ok-clause-field : goal.returns-in-Ok-clause-field

@@ -1,5 +1,5 @@
 use Rattle.std.proofs.Common.{subst, sym}
-use Rattle.pk_explain.specs.Written.{IsWritten}
+use Rattle.explain.specs.Written.{IsWritten}
 use Rattle.pkder_c.proofs.whole.whole_report.Goals as goal
 
 pub returns-in-Ok-clause-report : goal.returns-in-Ok-clause-report

@@ -1,5 +1,5 @@
 use Rattle.std.proofs.Common.{◌++◌, ◌∙◌, ap, codes}
-use Rattle.pk_commands.specs.Outcomes.{line_feed}
+use Rattle.commands.specs.Outcomes.{line_feed}
 use Rattle.pkder.specs.CommandLines.{more, shown, tip}
 use Rattle.pkder.proofs.refusal.BadValue.text.Goals as goal
 

@@ -1,8 +1,0 @@
-use Rattle.std.proofs.Common.{◌∙◌, sym}
-use Rattle.asn_outline.proofs.Numbers.{too_great_behind}
-use Rattle.asn_outline.proofs.announced.+big_endian.Goals as goal
-
-pub returns-then-number : goal.returns-then-number
-returns-then-number t c =
-    too_great_behind c.args.high c.from.result c.args.octets.now c.from.ensures
-    (sym c.is_empty.ensures ∙ c.if-is_empty.false) c.if-number.true

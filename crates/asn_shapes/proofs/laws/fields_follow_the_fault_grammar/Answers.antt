@@ -1,5 +1,0 @@
-use Rattle.asn_shapes.proofs.Following.{due_laws}
-use Rattle.asn_shapes.proofs.laws.fields_follow_the_fault_grammar.Goals as goal
-
-pub returns : goal.returns
-returns c = due_laws

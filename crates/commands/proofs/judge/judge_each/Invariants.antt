@@ -1,0 +1,31 @@
+use Rattle.std.proofs.Common.{◌≡◌, drop, false, map, max, ℕ}
+use Rattle.pk_documents.proofs.DocumentValues.{valued}
+use Rattle.commands.specs.Judgements.{GoesThrough, Judges, StopsAt, part_of}
+use Rattle.commands.specs.Standards.{IsReadable, Seen, seen}
+use Rattle.commands.proofs.judge.judge_each.Given as goal
+
+-- What comes of the names that are left, behind what came of those before them, comes of all names.
+abbrev pub invariant-loop-name : goal.invariant-loop-name
+invariant-loop-name g l =
+    let Step = Judges valued (record {
+      input_failed = g.R.Source.has_failed;
+      input_remaining = g.R.Source.remaining;
+      failed = g.O.Document.Source.has_failed;
+      remaining = g.O.Document.Source.remaining;
+      told = g.O.Opener.told l.opener;
+      unopened = g.O.Opener.refuses l.opener;
+    }) l.task in
+    let see = seen g.R.Source.remaining g.W.Target.contents g.W.Target.has_failed g.W.Flush.is_flushed
+    g.E.Target.contents g.E.Target.has_failed in
+    let left = map part_of (map (λ name. name.now) (drop l.name-index l.names)) in
+    let all = map part_of (map (λ name. name.now) l.names) in
+    record {
+      through :
+          (new : Seen) (last : ℕ) → GoesThrough Step left (see l.standard) new last
+          → GoesThrough Step all (see l.initial.standard) new (max l.worst last);
+      stops :
+          (new : Seen) → StopsAt Step left (see l.standard) new
+          → StopsAt Step all (see l.initial.standard) new;
+      readable : IsReadable g.R.Source.has_failed l.standard.input;
+      writable : g.W.Target.has_failed l.standard.output ≡ false;
+    }

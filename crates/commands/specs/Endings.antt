@@ -1,0 +1,100 @@
+-- How a run ends over the streams of the program.
+use Rattle.std.specs.Prelude.{◌≡◌, ◌⊎◌, ℕ, Bool, List, [], None, Option, Result, false, true}
+use Rattle.std.specs.Io.KnownBytes.{Keeps}
+use Rattle.tlv_core.specs.declared.sink.WriteError.{WriteError}
+use Rattle.x690.specs.Values.{Value}
+use Rattle.asn_documents.specs.WrittenValues.{WritesText}
+use Rattle.pk_documents.specs.declared.document.Document.{Document}
+use Rattle.commands.specs.Files.{FilesTold, has_failed_write, line_behind}
+use Rattle.commands.specs.declared.comparison.Compared.{Compared}
+use Rattle.commands.specs.declared.comparison.Compared.TheVariants as compared
+use Rattle.commands.specs.declared.names.NamesFault.{NamesFault}
+use Rattle.commands.specs.declared.opener.Unopened.{Unopened as Why}
+use Rattle.commands.specs.Outcomes.{line_of, words_of}
+use Rattle.commands.specs.Replies.{FailedBy, IsSilent, Replied, written_outcome}
+use Rattle.commands.specs.declared.files.FilesEnd.{FilesEnd}
+use Rattle.commands.specs.declared.files.FilesEnd.TheVariants as ends
+use Rattle.commands.specs.declared.task.Task.{Task}
+use Rattle.commands.specs.declared.outcome.Outcome.{Outcome}
+use Rattle.commands.specs.declared.outcome.Outcome.TheVariants.{Done, NotDer, Fault, Explained, ReadFailed, WriteFailed, Memory}
+
+-- it says that all that was due is written
+abbrev pub IsWhole : Outcome → Type 0
+IsWhole Done = Unit {0}
+IsWhole (NotDer at) = Unit {0}
+IsWhole (Fault found) = ⊥
+IsWhole (Explained found) = Unit {0}
+IsWhole (ReadFailed at) = ⊥
+IsWhole (WriteFailed count) = ⊥
+IsWhole Memory = ⊥
+
+abbrev pub is_done : Outcome → Bool
+is_done Done = true
+is_done (NotDer at) = false
+is_done (Fault found) = false
+is_done (Explained found) = false
+is_done (ReadFailed at) = false
+is_done (WriteFailed count) = false
+is_done Memory = false
+
+-- How a run ends whose target is flushed behind it: as it ended; or the target isn't flushed behind what is whole, and
+-- then how many octets are out isn't told.
+abbrev pub EndsAs : Outcome → Outcome → Type 0
+EndsAs outcome end = (end ≡ outcome) ⊎ (IsWhole outcome × (end ≡ WriteFailed 0))
+
+-- A run over no named file replies so, and then the target is flushed.
+abbrev pub AnsweredAs : (Document → Value) → Task → Outcome → Option (List ℕ) → Option (List ℕ) → Option (List ℕ)
+    → Option (List ℕ) → Type 0
+AnsweredAs value_of task end before after old new =
+    (outcome : Outcome)
+    × (out : Option (List ℕ))
+    × Replied value_of task None outcome before after old out
+    × Keeps out new
+    × EndsAs outcome end
+
+-- A text is written, or its first octets, and then the target is flushed.
+abbrev pub Tells : List ℕ → Option (List ℕ) → Option (List ℕ) → Outcome → Type 0
+Tells text old new end =
+    (count : Result ℕ WriteError)
+    × (failed : Bool)
+    × (out : Option (List ℕ))
+    × WritesText text old out failed count
+    × Keeps out new
+    × EndsAs (written_outcome count Done) end
+
+-- What a task is answered over a source and a target: how it ends, what the source still tells and whether it has
+-- failed, what the target contains and whether it has failed, and whether it is flushed.
+pub record Served (value_of : Document → Value) (task : Task) (before after : Option (List ℕ)) (unread : Bool)
+    (end : Outcome) (old new : Option (List ℕ)) (unwritten flushed : Bool) : Type 0 where
+  pub answered : AnsweredAs value_of task end before after old new
+  pub silent : IsSilent end → new ≡ old
+  pub failed : FailedBy end unread unwritten
+  pub whole : IsWhole end → flushed ≡ true
+
+-- How a run over named documents ends whose target is flushed behind it: as it ended; or the target isn't flushed, and
+-- then how many octets are out isn't told.
+abbrev pub FilesEndAs : FilesEnd → FilesEnd → Type 0
+FilesEndAs end last = (last ≡ end) ⊎ ((has_failed_write end ≡ false) × (last ≡ ends.WriteFailed 0))
+
+-- What is said of the documents is written, and then the target is flushed.
+abbrev pub AnsweredFiles : (Document → Value) → (List ℕ → Option (List ℕ)) → (List ℕ → Why → Type 0)
+    → (Bool → Option (List ℕ) → Type 0) → Task → Option (List (List ℕ))
+    → (Option (List (List ℕ)) → NamesFault → Type 0) → Option (List ℕ) → Option (List ℕ) → FilesEnd → Type 0
+AnsweredFiles value_of told refuses leaves task list stops old new last =
+    (end : FilesEnd)
+    × (out : Option (List ℕ))
+    × FilesTold value_of told refuses leaves task list stops old out end
+    × Keeps out new
+    × FilesEndAs end last
+
+-- All of a line is written; or the target has failed, and its first octets are out, or none where it had failed before.
+abbrev pub WritesLine : List ℕ → Option (List ℕ) → Option (List ℕ) → Bool → Type 0
+WritesLine line old new failed = (count : Result ℕ WriteError) × WritesText line old new failed count
+
+-- the line on standard error of two documents, whose names are told so
+abbrev pub line_of_compared : List ℕ → List ℕ → Compared → List ℕ
+line_of_compared first second (compared.Told status) = []
+line_of_compared first second (compared.FirstFailed at) = line_behind first (words_of (ReadFailed at))
+line_of_compared first second (compared.SecondFailed at) = line_behind second (words_of (ReadFailed at))
+line_of_compared first second (compared.WriteFailed count) = line_of (WriteFailed count)
+line_of_compared first second compared.Memory = line_of Memory

@@ -1,0 +1,308 @@
+//! One task over any number of documents, which have names.
+ghost use Rattle.std.specs.Prelude.{◌≡◌, ◌+◌, ◌<◌, ◌≤◌, ◌++◌, ℕ, IfOk, List, MatchResult, OnOk, Option, false, length};
+ghost use Rattle.arrayvec.specs.ArrayString.{array_string_len};
+ghost use Rattle.commands.specs.Files.{CameAs, Entry, FilesTold, IsLeft, IsSaid, Went, front_of, has_failed_write, is_json, kept, named_line, said_line, said_text, status_of_came, status_of_end, words_of_came};
+ghost use Rattle.commands.specs.NameLists.{HasStopped};
+ghost use Rattle.commands.specs.Names.{told_name};
+ghost use Rattle.commands.specs.Openings.{why_of};
+
+use crate::lines::{LineWords, NamedLine};
+use crate::name::{file_name, told_name};
+use crate::names::{Names, NamesFault};
+use crate::opener::{Opener, Unopened};
+use crate::outcome::{Outcome, outcome_words, plain_words, status};
+use crate::reported::error_line;
+use crate::run::run;
+use crate::task::{Action, Task};
+use asn_documents::value::write_octets;
+use pk_documents::document::{Document, Valued};
+use std::alloc::{AllocError, Global};
+use tlv_core::target::{Target, ToWrite};
+
+/// What came of a document that has a name.
+#[derive(Clone, Copy, Debug, PartialEq, Eq)]
+pub enum Came {
+    Ran(Outcome),
+    Unopened(Unopened),
+}
+
+/// How a run over any number of documents ends.
+#[derive(Clone, Copy, Debug, PartialEq, Eq)]
+pub enum FilesEnd {
+    /// Behind the last name: the greatest status of the documents.
+    Through(u8),
+    /// The next name doesn't come.
+    NoName(NamesFault),
+    /// The writer failed after so many octets.
+    WriteFailed(u64),
+    /// There is no memory for what is to be said.
+    Memory,
+}
+
+/// What is said of a document, and its status.
+#[derive(Drop)]
+struct Said {
+    status: u8,
+    text: Vec<u8>,
+}
+
+/// How far a run has come: the greatest status, and how many octets are out.
+#[derive(Clone, Copy)]
+struct Progress {
+    status: u8,
+    out: u64,
+}
+
+/// Goes through the names, and writes what the task has to say of the document of each, one behind another.
+pub fn run_files<N: Names, O: Opener, W: Target>(
+    alloc: Global,
+    names: &mut N,
+    opener: &O,
+    dst: &mut W,
+    task: &Task,
+) -> FilesEnd
+    requires writable { W.has_failed dst.old ≡ false }
+    ensures told { FilesTold ⟦<Document as Valued>⟧.value (O.told opener.now) (O.refuses opener.now)
+        (IsLeft O.Document.has_failed O.Document.remaining) task.now (N.left names.old) (HasStopped N.left N.stops names.new)
+        (W.contents dst.old) (W.contents dst.new) result }
+    ensures failed { W.has_failed dst.new ≡ has_failed_write result }
+{
+    let mut progress = Progress { status: 0, out: 0 };
+    for _ in 0..u64::MAX {
+        match next_file(alloc, names, opener, dst, task, progress) {
+            Ok(further) => progress = further,
+            Err(end) => return end,
+        }
+    }
+    FilesEnd::NoName(NamesFault::TooMany)
+}
+
+/// Writes what the task has to say of the document of the next name, or says how the run ends.
+fn next_file<N: Names, O: Opener, W: Target>(
+    alloc: Global,
+    names: &mut N,
+    opener: &O,
+    dst: &mut W,
+    task: &Task,
+    progress: Progress,
+) -> Result<Progress, FilesEnd>
+    requires writable { W.has_failed dst.old ≡ false }
+    ensures told { (all : List Entry) (list : Option (List (List ℕ))) (old : Option (List ℕ))
+        → Went ⟦<Document as Valued>⟧.value (O.told opener.now) (O.refuses opener.now)
+        (IsLeft O.Document.has_failed O.Document.remaining) task.now list (N.left names.old) old (W.contents dst.old) progress.status progress.out all
+        → MatchResult result (λ further. (more : List Entry) × (length more ≡ length all + 1)
+        × Went ⟦<Document as Valued>⟧.value (O.told opener.now) (O.refuses opener.now)
+        (IsLeft O.Document.has_failed O.Document.remaining) task.now list (N.left names.new) old (W.contents dst.new) further.status further.out more)
+        (FilesTold ⟦<Document as Valued>⟧.value (O.told opener.now) (O.refuses opener.now)
+        (IsLeft O.Document.has_failed O.Document.remaining) task.now list (HasStopped N.left N.stops names.new) old (W.contents dst.new)) }
+    ensures failed { MatchResult result (λ _. W.has_failed dst.new ≡ false)
+        (λ end. W.has_failed dst.new ≡ has_failed_write end) }
+{
+    let name = match names.next_name(alloc) {
+        Ok(Some(name)) => name,
+        Ok(None) => return Err(FilesEnd::Through(progress.status)),
+        Err(fault) => return Err(FilesEnd::NoName(fault)),
+    };
+    let Ok(said) = said_of(alloc, opener, name.as_slice(), task) else {
+        return Err(FilesEnd::Memory);
+    };
+    let Some(out) = progress.out.checked_add(said.text.len() as u64) else {
+        return Err(FilesEnd::NoName(NamesFault::TooMany));
+    };
+    match write_octets(said.text.as_slice(), dst) {
+        Ok(_) => Ok(Progress {
+            status: progress.status.max(said.status),
+            out,
+        }),
+        Err(error) => Err(FilesEnd::WriteFailed(progress.out + error.written)),
+    }
+}
+
+/// What the task has to say of the document of a name.
+fn said_of<O: Opener>(
+    alloc: Global,
+    opener: &O,
+    name: &[u8],
+    task: &Task,
+) -> Result<Said, AllocError>
+    ensures { IfOk result (λ said. IsSaid ⟦<Document as Valued>⟧.value (O.told opener.now)
+        (O.refuses opener.now) (IsLeft O.Document.has_failed O.Document.remaining) task.now
+        name.now said.status said.text.items) }
+{
+    let file = file_name(alloc, name)?;
+    let (came, written) = came_of(alloc, opener, name, task, file.as_str());
+    let text = said_text(alloc, task.action, name, file.as_str(), &came, written)?;
+    Ok(Said {
+        status: came_status(&came),
+        text,
+    })
+}
+
+/// What comes of the document of a name, and what the task writes of it.
+fn came_of<O: Opener>(
+    alloc: Global,
+    opener: &O,
+    name: &[u8],
+    task: &Task,
+    file: &str,
+) -> (Came, Vec<u8>)
+    ensures { CameAs ⟦<Document as Valued>⟧.value (O.told opener.now name.now)
+        (O.refuses opener.now name.now) (IsLeft O.Document.has_failed O.Document.remaining)
+        task.now file.now result.0 result.1.items }
+{
+    match opener.open(alloc, name) {
+        Ok(mut src) => {
+            let mut dst = ToWrite::new(Vec::new(alloc));
+            let outcome = run(alloc, &mut src, &mut dst, task, Some(file));
+            (Came::Ran(kept(outcome)), dst.into_inner())
+        }
+        Err(why) => (Came::Unopened(why), Vec::new(alloc)),
+    }
+}
+
+/// How a run ended whose text is kept in memory.
+fn kept(outcome: Outcome) -> Outcome
+    ensures { result ≡ kept outcome }
+{
+    match outcome {
+        Outcome::WriteFailed(_) => Outcome::Memory,
+        other => other,
+    }
+}
+
+/// Words behind a name, as a line, if there are any.
+fn behind_name(alloc: Global, name: &[u8], words: &str) -> Result<Vec<u8>, AllocError>
+    requires { length words.now ≤ 128 }
+    ensures { IfOk result (λ text. text.items ≡ named_line name.now words.now) }
+{
+    Ok(NamedLine::new(alloc, name)?.line(words).into_bytes())
+}
+
+/// What is said of a document: what was written of it with its name in front, or its line.
+fn said_text(
+    alloc: Global,
+    action: Action,
+    name: &[u8],
+    file: &str,
+    came: &Came,
+    written: Vec<u8>,
+) -> Result<Vec<u8>, AllocError>
+    ensures { IfOk result (λ text. text.items
+        ≡ said_text action name.now file.now came.now written.items) }
+{
+    let words = words_of_came(came);
+    if !words.is_empty() {
+        return said_line(alloc, action, name, file, came, words.as_str());
+    }
+    let mut text = Vec::new(alloc);
+    if written.is_empty() {
+        return Ok(text);
+    }
+    push_front_of(alloc, &mut text, action, name)?;
+    text.extend_from_slice(written.as_slice())?;
+    Ok(text)
+}
+
+/// What is said of a document of which not all that was asked for is written: why, in words.
+fn said_line(
+    alloc: Global,
+    action: Action,
+    name: &[u8],
+    file: &str,
+    came: &Came,
+    words: &str,
+) -> Result<Vec<u8>, AllocError>
+    requires { length words.now ≤ 128 }
+    ensures { IfOk result (λ text. text.items
+        ≡ said_line action name.now file.now came.now words.now) }
+{
+    if is_json(action) {
+        let text = error_line(alloc, file, u64::from(came_status(came)), words)?;
+        return Ok(text.into_bytes());
+    }
+    behind_name(alloc, name, words)
+}
+
+/// Whether what an action writes is JSON.
+fn is_json(action: Action) -> bool
+    ensures { result ≡ is_json action }
+{
+    match action {
+        Action::Show { json } => json,
+        Action::Check { json, .. } => json,
+        Action::Explain(form) => form.json,
+        Action::Normalise | Action::Signed(_) => false,
+    }
+}
+
+/// Appends what stands in front of what the action writes.
+fn push_front_of(
+    alloc: Global,
+    text: &mut Vec<u8>,
+    action: Action,
+    name: &[u8],
+) -> Result<(), AllocError>
+    ensures { OnOk result (text.new.items ≡ text.old.items ++ front_of action name.now) }
+{
+    if is_json(action) {
+        return Ok(());
+    }
+    match action {
+        Action::Check { .. } => push_front(alloc, text, name, ": "),
+        Action::Show { .. } | Action::Explain(_) => push_front(alloc, text, name, ":\n"),
+        Action::Normalise | Action::Signed(_) => Ok(()),
+    }
+}
+
+/// Appends a name as it is told, and what stands behind it.
+fn push_front(
+    alloc: Global,
+    text: &mut Vec<u8>,
+    name: &[u8],
+    behind: &str,
+) -> Result<(), AllocError>
+    ensures { OnOk result (text.new.items ≡ text.old.items ++ told_name name.now ++ behind.now) }
+{
+    let shown = told_name(alloc, name)?;
+    text.extend_from_slice(shown.as_bytes())?;
+    text.extend_from_slice(behind.as_bytes())
+}
+
+/// Why not all that was asked for is written of a document; empty where what is written says all.
+pub fn words_of_came(came: &Came) -> LineWords
+    ensures words { result.bytes ≡ words_of_came came.now }
+    ensures short { array_string_len result < 128 }
+{
+    match came {
+        Came::Ran(outcome) => outcome_words(outcome),
+        Came::Unopened(why) => plain_words(why_unopened(*why)),
+    }
+}
+
+/// Why a document isn't opened, in words, which are short.
+fn why_unopened(why: Unopened) -> &'static str
+    ensures words { result.now ≡ why_of why }
+    ensures short { length result.now < 128 }
+{
+    why.why()
+}
+
+/// The exit status of what came of a document.
+pub fn came_status(came: &Came) -> u8
+    ensures { result ≡ status_of_came came.now }
+{
+    match came {
+        Came::Ran(outcome) => status(outcome),
+        Came::Unopened(_) => 3,
+    }
+}
+
+/// The exit status of a run over any number of documents.
+pub fn files_status(end: &FilesEnd) -> u8
+    ensures { result ≡ status_of_end end.now }
+{
+    match end {
+        FilesEnd::Through(status) => *status,
+        FilesEnd::NoName(_) | FilesEnd::WriteFailed(_) | FilesEnd::Memory => 3,
+    }
+}

@@ -1,0 +1,63 @@
+//! Lines whose memory is there before what they say is known.
+ghost use Rattle.std.specs.Prelude.{◌≡◌, ◌+◌, ◌≤◌, ◌++◌, IfOk, length, string_bytes, string_capacity, string_len};
+ghost use Rattle.commands.specs.Files.{line_behind};
+ghost use Rattle.commands.specs.Names.{told_name};
+
+use crate::name::told_name;
+use arrayvec::ArrayString;
+use std::alloc::{AllocError, Global};
+
+/// The words of a line, which ask for no memory.
+pub type LineWords = ArrayString<128>;
+
+/// As much room is kept behind a name.
+const ROOM: usize = 160;
+
+/// A name as it is told, and the memory for a line that begins with it.
+#[derive(Drop)]
+pub struct NamedLine {
+    text: String,
+    ghost room: { string_len text + 160 ≤ string_capacity text },
+}
+
+impl NamedLine {
+    ghost use Rattle.commands.specs.Lines.{name_of_line};
+
+    /// Takes the memory for a line that begins with this name.
+    pub fn new(alloc: Global, name: &[u8]) -> Result<NamedLine, AllocError>
+        ensures { IfOk result (λ named. name_of_line named ≡ told_name name.now) }
+    {
+        let mut text = told_name(alloc, name)?;
+        text.reserve(ROOM)?;
+        Ok(NamedLine { text })
+    }
+
+    /// The line of these words, if there are any. No memory is asked for.
+    pub fn line(self, words: &str) -> String
+        requires { length words.now ≤ 128 }
+        ensures { string_bytes result ≡ line_behind (name_of_line self) words.now }
+    {
+        let mut text = self.text;
+        if words.is_empty() {
+            text.clear();
+            return text;
+        }
+        push_within(&mut text, ": ");
+        push_within(&mut text, words);
+        push_within(&mut text, "\n");
+        text
+    }
+}
+
+/// Appends what there is room for.
+fn push_within(text: &mut String, piece: &str)
+    requires { string_len text.old + length piece.now ≤ string_capacity text.old }
+    ensures bytes { string_bytes text.new ≡ string_bytes text.old ++ piece.now }
+    ensures len { string_len text.new ≡ string_len text.old + length piece.now }
+    ensures capacity { string_capacity text.old ≤ string_capacity text.new }
+{
+    match text.push_str(piece) {
+        Ok(()) => {}
+        Err(_) => unreachable!(),
+    }
+}

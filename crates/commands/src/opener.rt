@@ -1,0 +1,57 @@
+//! What opens documents by their names.
+ghost use Rattle.std.specs.Prelude.{◌≡◌, ℕ, IfErr, IfOk, List, Option, false};
+ghost use Rattle.commands.specs.Openings.{why_of};
+
+use std::alloc::Global;
+use tlv_core::source::Source;
+
+/// Opens documents by their names.
+pub trait Opener {
+    ghost use Rattle.commands.specs.declared.opener.Unopened.{Unopened};
+
+    type Document: Source + Drop;
+
+    /// The octets that the document of a name tells, where it tells them.
+    ghost told: { Self → List ℕ → Option (List ℕ) };
+
+    /// Why the document of a name isn't opened.
+    ghost refuses: { Self → List ℕ → Unopened → Type 0 };
+
+    /// Opens the document of this name.
+    fn open(&self, alloc: Global, name: &[u8]) -> Result<Self::Document, Unopened>
+        ensures opened { IfOk result (λ source. Self.Document.remaining source
+            ≡ told self.now name.now) }
+        ensures readable { IfOk result (λ source. Self.Document.has_failed source ≡ false) }
+        ensures refused { IfErr result (refuses self.now name.now) };
+}
+
+/// Why a document isn't opened.
+#[derive(Clone, Copy, Debug, PartialEq, Eq)]
+pub enum Unopened {
+    NotFound,
+    Directory,
+    NotDirectory,
+    Denied,
+    NotUtf8,
+    TooLong,
+    Memory,
+    Other,
+}
+
+impl Unopened {
+    /// Why, in words.
+    pub fn why(self) -> &'static str
+        ensures { result.now ≡ why_of self }
+    {
+        match self {
+            Unopened::NotFound => "no such file",
+            Unopened::Directory => "is a directory",
+            Unopened::NotDirectory => "not in a directory",
+            Unopened::Denied => "permission denied",
+            Unopened::NotUtf8 => "the name is not UTF-8",
+            Unopened::TooLong => "the name is too long",
+            Unopened::Memory => "out of memory",
+            Unopened::Other => "can't be opened",
+        }
+    }
+}

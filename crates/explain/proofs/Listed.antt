@@ -1,0 +1,54 @@
+-- The walks over the elements of a document and of a file.
+use Rattle.std.proofs.Common.{List, None, Option, Some, ap, drop, sym, subst, ℕ, [], ◌∙◌, ◌++◌, ◌∷◌, length, slice_get, ◌+◌, ◌≡◌}
+use Rattle.std.proofs.Math.Numerals.{add-one}
+use Rattle.std.specs.Borrow.{Bor}
+use Rattle.pkix_shapes.specs.declared.shape.Shape.{Shape}
+use Rattle.explain.specs.Insides.{AddsContained, AddsInside, HasInsides, IsDocumentIn, contained, contained_at}
+use Rattle.reports.specs.declared.report.Line.{Line}
+use Rattle.explain.specs.Listings.{AddsDocument, AddsElement, Lists, ListsFile, Telling, behind_inside, first_inside, start_of, telling}
+use Rattle.explain.specs.Places.{Page}
+use Rattle.explain.specs.declared.inside.Inside.{Inside}
+use Rattle.asn_names.specs.declared.element.NamedElement.{NamedElement}
+use Rattle.tlv_core.specs.Limits.{Limits}
+
+pub started : (hidden : Option ℕ) (numbers : List ℕ) (lines : List Line) → hidden ≡ None → numbers ≡ []
+    → telling hidden numbers lines ≡ start_of lines
+started hidden numbers lines w n =
+    ap (λ one. telling one numbers lines) w ∙ ap (λ some. telling None some lines) n
+
+pub one_more : (page : Page) (number : ℕ) (start before end : Telling) → Lists page number start before
+    → AddsElement page number before end → Lists page (number + 1) start end
+one_more page number start before end lists adds =
+    subst (λ n. Lists page n start end) (sym (add-one number)) (before, lists, adds)
+
+pub file_more : (page : Page) (insides : List Inside) (number : ℕ) (others left : List Inside) (inside : Option Inside)
+    (line : ℕ) (before mid end : Telling) → ListsFile page insides number others before
+    → AddsElement page number before mid → inside ≡ first_inside others number → line ≡ length before.lines
+    → AddsDocument page.causes inside line mid end → left ≡ behind_inside others number
+    → ListsFile page insides (number + 1) left end
+file_more page insides number others left inside line before mid end lists adds e l document b =
+    subst (λ n. ListsFile page insides n left end) (sym (add-one number)) (
+      others,
+      before,
+      mid,
+      lists,
+      adds,
+      subst (λ at. AddsDocument page.causes (first_inside others number) at mid end) l
+          (subst (λ one. AddsDocument page.causes one line mid end) e document),
+      b,
+    )
+
+pub inside_more : (limits : Limits) (file : List ℕ) (elements : List NamedElement) (number : ℕ) (before after : List Inside)
+    → HasInsides limits file elements number before → AddsInside limits file elements number before after
+    → HasInsides limits file elements (number + 1) after
+inside_more limits file elements number before after has adds =
+    subst (λ n. HasInsides limits file elements n after) (sym (add-one number)) (before, has, adds)
+
+-- the document inside an element that contains one
+pub adds_inside : (limits : Limits) (file : List ℕ) (elements : List NamedElement) (number : ℕ) (element : NamedElement)
+    (shape : Bor Shape) (old new : List Inside) (inside : Inside) → slice_get elements number ≡ Some element
+    → contained element ≡ Some shape → IsDocumentIn limits file (drop number elements) number shape inside
+    → new ≡ old ++ (inside ∷ []) → AddsInside limits file elements number old new
+adds_inside limits file elements number element shape old new inside listed contains is e =
+    subst (λ found. AddsContained limits file elements number (contained_at found) old new) (sym listed)
+    (subst (λ type. AddsContained limits file elements number type old new) (sym contains) (inside, is, e))

@@ -1,0 +1,21 @@
+use Rattle.std.proofs.Common.{◌+◌}
+use Rattle.std.proofs.lemmas.List.{take_rest}
+use Rattle.explain.proofs.Taken.{all_taken, few_more, one_line}
+use Rattle.explain.proofs.notes.notes_of.Goals as goal
+
+pub loop-i-preserved : goal.loop-i-preserved
+loop-i-preserved c = record {
+  few = rw (c.in_ok-push_note-2.ensures, c.in_ok-push_note.ensures)
+      (few_more _ c.loop-i.i c.remark_on_repeat.result
+      (few_more _ c.loop-i.i c.remark_on.result c.loop-i.invariant.few));
+  are = one_line c.args.lines.now c.loop-i.i c.index-lines-i.result c.loop-i.context
+      c.context_behind-context.result c.remark_on.result c.remark_on_repeat.result c.loop-i.notes.items
+      c.push_note.new.notes.items _ _ c.loop-i-test.true c.index-lines-i.is
+      (rw (take_rest c.args.lines.now (c.loop-i.i + 1)) at c.remark_on.ensures) c.remark_on_repeat.ensures
+      c.context_behind-context.ensures c.in_ok-push_note.ensures c.in_ok-push_note-2.ensures c.loop-i.invariant.are;
+}
+
+pub returns-clause-are : goal.returns-clause-are
+returns-clause-are c =
+    all_taken c.args.lines.now c.loop-i.i c.loop-i.context c.loop-i.notes.items _ c.loop-i-test.false
+    c.loop-i.invariant.few c.loop-i.invariant.are

@@ -1,0 +1,142 @@
+-- Which lines a document has: one walk over its elements, and behind the line of an OCTET STRING one over the elements
+-- of the document inside it. What is inside a private element has none.
+use Rattle.std.specs.Prelude.{Bool, List, None, Option, Some, [], cond, length, min, suc, true, unwrap_or, zero, ℕ, ◌+◌, ◌-◌, ◌^◌, ◌++◌, ◌∷◌, ◌≡◌, ◌==◌}
+use Rattle.std.specs.List.{slice_get}
+use Rattle.asn_names.specs.declared.element.NamedElement.{NamedElement}
+use Rattle.explain.specs.Blames.{saturating_sum}
+use Rattle.explain.specs.Causes.{causes_of, line_cause}
+use Rattle.explain.specs.Fronts.{is_deeper}
+use Rattle.explain.specs.Lines.{AddsLine}
+use Rattle.explain.specs.Places.{Page, placed_in}
+use Rattle.explain.specs.declared.inside.Inside.{Inside}
+use Rattle.reports.specs.declared.report.Cause.{Cause}
+use Rattle.reports.specs.declared.report.Line.{Line}
+
+-- what is known between two elements of a document
+pub record Telling : Type 0 where
+  -- how deep the private element is that the next ones are hidden in
+  pub hidden : Option ℕ
+  -- of each element before, the number of its line; of one that has none, that of the line around it
+  pub numbers : List ℕ
+  pub lines : List Line
+
+abbrev pub telling : Option ℕ → List ℕ → List Line → Telling
+telling hidden numbers lines = record { hidden = hidden; numbers = numbers; lines = lines }
+
+-- before the first element, behind other lines
+abbrev pub start_of : List Line → Telling
+start_of lines = telling None [] lines
+
+-- the number of the line around an element; of the outermost one that around its document
+abbrev pub number_around : List ℕ → ℕ → NamedElement → ℕ
+number_around numbers outer element =
+    cond (element.header.depth == 0) outer (unwrap_or (slice_get numbers element.around) outer)
+
+abbrev pub own_number : Bool → ℕ → ℕ → ℕ
+own_number hidden line around = cond hidden around line
+
+-- how deep the private element is that what stands behind an element is hidden in
+abbrev pub hidden_behind : Option ℕ → NamedElement → Option ℕ
+hidden_behind hidden element =
+    cond (is_deeper hidden element) hidden (cond element.private (Some element.header.depth) None)
+
+-- One element more, with a cause or none: its line is added, unless it is hidden.
+pub record IsNext (page : Page) (cause : Option Cause) (element : NamedElement) (before after : Telling) : Type 0 where
+  pub line : AddsLine (is_deeper before.hidden element) page.octets
+      (placed_in page element (number_around before.numbers page.around element)) element cause before.lines after.lines
+  pub numbers : after.numbers ≡ before.numbers
+      ++ (own_number (is_deeper before.hidden element) (length before.lines)
+      (number_around before.numbers page.around element) ∷ [])
+  pub hidden : after.hidden ≡ hidden_behind before.hidden element
+
+abbrev pub AddsOne : Page → Option Cause → Option NamedElement → Telling → Telling → Type 0
+AddsOne page cause None before after = after ≡ before
+AddsOne page cause (Some element) before after = IsNext page cause element before after
+
+-- the same of the element of this number, with the cause that its line tells
+abbrev pub AddsElement : Page → ℕ → Telling → Telling → Type 0
+AddsElement page number before after =
+    AddsOne page (line_cause page.elements page.causes number) (slice_get page.elements number) before after
+
+-- the first elements of a document, so many, one after another
+abbrev pub Lists : Page → ℕ → Telling → Telling → Type 0
+Lists page zero start end = end ≡ start
+Lists page (suc number) start end =
+    (before : Telling) × Lists page number start before × AddsElement page number before end
+
+-- the place of an element in its document; 0 of none
+abbrev pub own_place : Option NamedElement → ℕ
+own_place None = 0
+own_place (Some element) = element.header.at
+
+-- the causes of the elements of a document inside, where those of the file have any
+abbrev pub causes_inside : List (Option Cause) → Inside → List (Option Cause)
+causes_inside [] inside = []
+causes_inside (cause ∷ causes) inside = causes_of inside.octets.items inside.named.elements.items
+
+-- a document inside an element of a file that is so deep, which has the line of this number
+abbrev pub page_inside : List (Option Cause) → Inside → ℕ → ℕ → Page
+page_inside causes inside depth number = record {
+  octets = inside.octets.items;
+  elements = inside.named.elements.items;
+  causes = causes_inside causes inside;
+  pieces = inside.pieces.items;
+  is_inside = true;
+  depth = min (depth + 1) (2 ^ 64 - 1);
+  around = number;
+}
+
+-- the lines of the document inside
+pub record ListsInside (page : Page) (before after : Telling) : Type 0 where
+  pub end : Telling
+  pub lists : Lists page (length page.elements) (start_of before.lines) end
+  pub lines : after.lines ≡ end.lines
+  pub numbers : after.numbers ≡ before.numbers
+  pub hidden : after.hidden ≡ before.hidden
+
+abbrev pub AddsBehind : List (Option Cause) → Inside → ℕ → Option Line → Telling → Telling → Type 0
+AddsBehind causes inside number None before after = after ≡ before
+AddsBehind causes inside number (Some line) before after =
+    ListsInside (page_inside causes inside line.depth number) before after
+
+-- Behind an element of a file with these causes, which has the line of this number, the lines of the document inside it
+-- are added.
+abbrev pub AddsDocument : List (Option Cause) → Option Inside → ℕ → Telling → Telling → Type 0
+AddsDocument causes None number before after = after ≡ before
+AddsDocument causes (Some inside) number before after =
+    AddsBehind causes inside number (slice_get before.lines number) before after
+
+-- the document inside the element of this number, where it is the first of those that are left; and those behind it
+abbrev pub first_inside : List Inside → ℕ → Option Inside
+first_inside [] number = None
+first_inside (inside ∷ insides) number = cond (inside.container == number) (Some inside) None
+
+abbrev pub behind_inside : List Inside → ℕ → List Inside
+behind_inside [] number = []
+behind_inside (inside ∷ insides) number = cond (inside.container == number) insides (inside ∷ insides)
+
+-- The first elements of a file, so many, each with the document inside it; of those documents these are left.
+abbrev pub ListsFile : Page → List Inside → ℕ → List Inside → Telling → Type 0
+ListsFile page insides zero left end = (left ≡ insides) × (end ≡ start_of [])
+ListsFile page insides (suc number) left end =
+    (others : List Inside) × (before : Telling) × (mid : Telling) × ListsFile page insides number others before
+    × AddsElement page number before mid
+    × AddsDocument page.causes (first_inside others number) (length before.lines) mid end
+    × (left ≡ behind_inside others number)
+
+-- All lines of a file.
+pub record IsListed (page : Page) (insides : List Inside) (lines : List Line) : Type 0 where
+  pub left : List Inside
+  pub end : Telling
+  pub lists : ListsFile page insides (length page.elements) left end
+  pub are : lines ≡ end.lines
+
+abbrev pub with_inside : ℕ → List Inside → ℕ
+with_inside count [] = count
+with_inside count (inside ∷ insides) =
+    with_inside (saturating_sum count (length inside.named.elements.items)) insides
+
+-- How many lines there are at most: one of each element of a file, one of each in the documents inside, and one of the
+-- fault.
+abbrev pub most_lines : List NamedElement → List Inside → ℕ
+most_lines elements insides = with_inside (saturating_sum (length elements) 1) insides

@@ -1,0 +1,125 @@
+-- What a report tells of contents: the number of the octets of what is private, of keys and signatures, and of strings
+-- that aren't a subject's; of others what they say.
+use Rattle.std.specs.Prelude.{Bool, List, None, Option, Some, [], cond, false, length, nat_le, nat_lt, not, string_bytes, true, ℕ, ◌&&◌, ◌==◌, ◌||◌, ◌∷◌, ◌<◌, ◌≡◌, codes}
+use Rattle.std.specs.Option.{option_map}
+use Rattle.tlv_core.specs.Identifier.{Tag}
+use Rattle.tlv_core.specs.ObjectIdentifier.{IsObjectIdentifier}
+use Rattle.tlv_core.specs.Texts.{oid_text}
+use Rattle.x690.specs.Lists.{same_octets}
+use Rattle.asn_names.specs.declared.element.NamedElement.{NamedElement}
+use Rattle.asn_names.specs.declared.element.Step.{Step}
+use Rattle.asn_names.specs.declared.element.Step.TheVariants.{Field, Member, Outermost, Outside, Segment}
+use Rattle.pkix_shapes.specs.Identifiers.{row_of, usual}
+use Rattle.pkix_shapes.specs.declared.shape.Contents.{Contents}
+use Rattle.pkix_shapes.specs.declared.shape.Contents.TheVariants as leaves
+use Rattle.pkix_shapes.specs.declared.shape.Shape.{Choice', Containing', DefinedBy', Leaf, ListOf', Named', Open, Private', Refused as RefusedType, Sequence', SetOf', Shape}
+use Rattle.explain.specs.declared.values.Sort.{Sort}
+use Rattle.explain.specs.declared.values.Sort.TheVariants.{Bits, Boolean, Characters, Identifier as IdentifierSort, Integer, Null, Octets}
+use Rattle.reports.specs.declared.report.Value.{Value}
+use Rattle.reports.specs.declared.report.Value.TheVariants as values
+
+-- an element is the field of this name
+abbrev pub is_field : Step → List ℕ → Bool
+is_field (Field name) word = same_octets name.now word
+is_field Outermost word = false
+is_field (Member number) word = false
+is_field (Segment number) word = false
+is_field Outside word = false
+
+abbrev pub sort_of_leaf : Contents → Sort
+sort_of_leaf leaves.Boolean = Boolean
+sort_of_leaf leaves.Integer = Integer
+sort_of_leaf leaves.Null = Null
+sort_of_leaf leaves.ObjectIdentifier = IdentifierSort
+sort_of_leaf leaves.BitString = Bits
+sort_of_leaf leaves.OctetString = Octets
+sort_of_leaf leaves.Utf8String = Characters
+
+-- The contents are told, in an element that isn't private.
+abbrev pub is_public : Sort → Step → Bool
+is_public Null step = true
+is_public IdentifierSort step = true
+is_public Integer step = true
+is_public Boolean step = true
+is_public Bits step = true
+is_public Characters step = is_field step (codes "value")
+is_public Octets step = false
+
+-- by universal tags (X.680 8.4)
+abbrev pub is_text_number : ℕ → Bool
+is_text_number number = (number == 12) || (nat_le 18 number && nat_le number 28) || (number == 30)
+
+abbrev pub sort_of_number : ℕ → Sort
+sort_of_number number =
+    cond (number == 1) Boolean
+    (cond ((number == 2) || (number == 10)) Integer
+    (cond (number == 3) Bits
+    (cond (number == 5) Null
+    (cond (number == 6) IdentifierSort
+    (cond (is_text_number number) Characters Octets)))))
+
+abbrev pub sort_of_type : Tag → Shape → Sort
+sort_of_type tag (Leaf own contents) = sort_of_leaf contents
+sort_of_type tag Open = cond (tag.class == 0) (sort_of_number tag.number) Octets
+sort_of_type tag (ListOf' own least p shape) = Octets
+sort_of_type tag (SetOf' own least p shape) = Octets
+sort_of_type tag (Sequence' own p fields) = Octets
+sort_of_type tag (Containing' own p shape) = Octets
+sort_of_type tag (RefusedType own) = Octets
+sort_of_type tag (DefinedBy' path identifiers p first q second) = Octets
+sort_of_type tag (Choice' p first q second) = Octets
+sort_of_type tag (Named' name p shape) = Octets
+sort_of_type tag (Private' p shape) = Octets
+
+abbrev pub sort_by : Tag → Option Shape → Sort
+sort_by tag None = Octets
+sort_by tag (Some shape) = sort_of_type tag shape
+
+-- what the contents of an element are: by its type, by its tag where that is open
+abbrev pub sort_of : NamedElement → Sort
+sort_of element = sort_by element.header.tag (option_map (λ r. r.now) element.shape)
+
+abbrev pub is_small : List ℕ → Bool
+is_small [] = false
+is_small (octet ∷ []) = nat_lt octet 128
+is_small (octet ∷ (other ∷ octets)) = false
+
+abbrev pub has_unused : List ℕ → Bool
+has_unused [] = false
+has_unused (unused ∷ octets) = nat_lt unused 8
+
+-- Of contents of this sort their number alone is told: they aren't short, or aren't what they have to be.
+abbrev pub IsSizeAlone : Sort → List ℕ → Type 0
+IsSizeAlone Null contents = (length contents == 0) ≡ false
+IsSizeAlone Boolean contents = (length contents == 1) ≡ false
+IsSizeAlone Integer contents = is_small contents ≡ false
+IsSizeAlone Bits contents = has_unused contents ≡ false
+IsSizeAlone Characters contents = ⊥
+IsSizeAlone Octets contents = Unit {0}
+IsSizeAlone IdentifierSort contents =
+    (usual contents ≡ None) × (IsObjectIdentifier contents → ⊥)
+
+-- The value says what contents of this sort are.
+abbrev pub Says : Sort → List ℕ → Value → Type 0
+Says sort contents values.Nothing = ⊥
+Says sort contents values.NotShown = ⊥
+Says sort contents (values.Size number) = (number ≡ length contents) × IsSizeAlone sort contents
+Says sort contents (values.Bits number unused) =
+    (sort ≡ Bits) × (octets : List ℕ) × (contents ≡ unused ∷ octets) × (number ≡ length octets) × (unused < 8)
+Says sort contents values.Null = (sort ≡ Null) × (contents ≡ [])
+Says sort contents (values.Boolean is) =
+    (sort ≡ Boolean) × (octet : ℕ) × (contents ≡ octet ∷ []) × (is ≡ not (octet == 0))
+Says sort contents (values.Number number) = (sort ≡ Integer) × (contents ≡ number ∷ []) × (number < 128)
+Says sort contents (values.Named known) =
+    (sort ≡ IdentifierSort) × (usual contents ≡ Some (row_of known.now))
+Says sort contents (values.Arcs text) =
+    (sort ≡ IdentifierSort) × (usual contents ≡ None) × IsObjectIdentifier contents × (string_bytes text ≡ oid_text contents)
+Says sort contents (values.Characters octets) = (sort ≡ Characters) × (octets.items ≡ contents)
+
+-- What is told of the contents of an element: their number alone where it is private, or where they aren't public.
+abbrev pub Tells : NamedElement → List ℕ → Value → Type 0
+Tells element contents value =
+    elim (element.private || not (is_public (sort_of element) element.step)) [
+      | true ↦ value ≡ values.Size (length contents)
+      | false ↦ Says (sort_of element) contents value
+    ]

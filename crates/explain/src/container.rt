@@ -1,0 +1,80 @@
+//! The container that a fault is about.
+ghost use Rattle.std.specs.Prelude.{◌≡◌, IfOk, Some, slice_get};
+ghost use Rattle.std.specs.Option.{is_some};
+ghost use Rattle.explain.specs.Blames.{IsContainerAt, IsContainerOf, IsNearest, IsNumberOf, end_of};
+
+use crate::inside::element_at;
+use crate::places::announced_end;
+use crate::ways::{Spot, enclosed, push_way};
+use asn_names::element::NamedElement;
+use reports::report::ToldContainer;
+use std::alloc::{AllocError, Global};
+use tlv_core::reason::Reason;
+
+/// Of PastEnd the nearest container of definite length round the element, of Missing the one that has ended.
+pub(crate) fn container_of(
+    alloc: Global,
+    elements: &[NamedElement],
+    spot: Spot,
+    why: Reason,
+) -> Result<Option<ToldContainer>, AllocError>
+    ensures { IfOk result (λ told.
+        IsContainerOf elements.now why spot.container spot.element told) }
+{
+    match container_number(elements, spot, why) {
+        Some(number) => container_at(alloc, elements, number),
+        None => Ok(None),
+    }
+}
+
+fn container_number(elements: &[NamedElement], spot: Spot, why: Reason) -> Option<usize>
+    ensures { IsNumberOf elements.now why spot.container spot.element result }
+{
+    match (why, spot.container, spot.element) {
+        (Reason::Missing, container, _) => container,
+        (Reason::PastEnd, None, Some(number)) => definite_around(elements, number),
+        _ => None,
+    }
+}
+
+fn container_at(
+    alloc: Global,
+    elements: &[NamedElement],
+    number: usize,
+) -> Result<Option<ToldContainer>, AllocError>
+    ensures { IfOk result (λ told. IsContainerAt elements.now (Some number) told) }
+{
+    let Some(element) = elements.get(number) else {
+        return Ok(None);
+    };
+    let mut way = Vec::new(alloc);
+    push_way(&mut way, elements, number)?;
+    Ok(Some(ToldContainer {
+        way,
+        at: element.header.at,
+        end: announced_end(element),
+    }))
+}
+
+/// The number of the nearest container of definite length around an element.
+fn definite_around(elements: &[NamedElement], number: usize) -> Option<usize>
+    ensures { IsNearest elements.now number result }
+{
+    let Some(element) = enclosed(elements, number) else {
+        return None;
+    };
+    let around = element.around as usize;
+    if has_end(elements, around) {
+        return Some(around);
+    }
+    definite_around(elements, around)
+}
+
+fn has_end(elements: &[NamedElement], number: usize) -> bool
+    ensures { result ≡ is_some (end_of (slice_get elements.now number)) }
+{
+    match element_at(elements, number) {
+        Some(element) => announced_end(element).is_some(),
+        None => false,
+    }
+}

@@ -1,0 +1,156 @@
+//! The report of a document: made of what may be told of it, so two documents of which the same may be told have one
+//! report.
+ghost use Rattle.std.specs.Prelude.{◌≡◌, ◌≤◌, IfOk, length};
+ghost use Rattle.explain.specs.Listings.{IsListed};
+ghost use Rattle.explain.specs.Notes.{most_notes, notes_by};
+ghost use Rattle.explain.specs.Reports.{IsReportBy, IsReportOf, announced_end};
+ghost use Rattle.explain.specs.Rules.{front_page, told_causes};
+
+use crate::causes::causes_of;
+use crate::disclosed::{Disclosed, disclose};
+use crate::fault_line::push_fault_line;
+use crate::inside::{Inside, documents_inside, named_elements};
+use crate::kinds::{shape_of, words_of};
+use crate::listing::lines_of;
+use crate::notes::notes_of;
+use crate::places::{Piece, Sheet, sum_of};
+use crate::told_fault::{Shown, told_blame};
+use asn_names::element::NamedElement;
+use asn_names::naming::Named;
+use pk_documents::kind::Kind;
+use reports::report::{Answer, Cause, Line, Note, Report};
+use std::alloc::{AllocError, Global};
+use tlv_core::limits::Limits;
+
+/// What is reported of octets that have to be one document of the kind.
+pub fn explain(
+    alloc: Global,
+    octets: &[u8],
+    kind: Kind,
+    limits: Limits,
+) -> Result<Report, AllocError>
+    ensures { IfOk result (λ report. IsReportOf limits kind octets.now report) }
+{
+    let told = disclose(alloc, octets, kind, limits)?;
+    let report = report_of(alloc, kind, limits, told)?;
+    Ok(report)
+}
+
+/// The report that is made of what may be told of a document, and of nothing else.
+fn report_of(
+    alloc: Global,
+    kind: Kind,
+    limits: Limits,
+    told: Disclosed<'_>,
+) -> Result<Report, AllocError>
+    ensures { IfOk result (λ report. IsReportBy limits kind told.entry report) }
+{
+    let Disclosed {
+        octets,
+        answer,
+        front,
+        way,
+        class,
+        looks,
+    } = told;
+    let root = shape_of(kind);
+    let named = named_elements(alloc, front, root, limits)?;
+    let insides = documents_inside(alloc, front, named.elements.as_slice(), limits)?;
+    let mut lines = told_lines(alloc, front, answer, &named, insides.as_slice())?;
+    push_fault_line(&mut lines, answer, way.as_slice().len() as u64)?;
+    let shown = Shown {
+        root,
+        named: &named,
+        octets,
+        front,
+        class,
+        lines: lines.as_slice(),
+    };
+    let blame = told_blame(alloc, answer, shown, way)?;
+    let notes = told_notes(alloc, answer, lines.as_slice())?;
+    let announced = announced_end(lines.as_slice());
+    Ok(Report {
+        kind: words_of(kind),
+        octets,
+        announced,
+        answer,
+        lines,
+        blame,
+        looks,
+        notes,
+    })
+}
+
+/// The lines of the elements of the front.
+fn told_lines(
+    alloc: Global,
+    front: &[u8],
+    answer: Answer,
+    named: &Named,
+    insides: &[Inside],
+) -> Result<Vec<Line>, AllocError>
+    ensures { IfOk result (λ lines. IsListed (front_page answer front.now named.now.elements.items)
+        insides.now lines.items) }
+{
+    let elements = named.elements.as_slice();
+    let causes = told_causes(alloc, front, answer, elements)?;
+    let whole = [Piece {
+        at: 0,
+        octets: front.len() as u64,
+    }];
+    let sheet = Sheet {
+        octets: front,
+        elements,
+        causes: causes.as_slice(),
+        pieces: &whole,
+        rest: &whole,
+        before: 0,
+        is_inside: false,
+        depth: 0,
+        around: 0,
+    };
+    let lines = lines_of(alloc, sheet, insides)?;
+    Ok(lines)
+}
+
+/// Why the elements of a sound document aren't in DER.
+fn told_causes(
+    alloc: Global,
+    octets: &[u8],
+    answer: Answer,
+    elements: &[NamedElement],
+) -> Result<Vec<Option<Cause>>, AllocError>
+    ensures { IfOk result (λ causes. causes.items ≡ told_causes answer octets.now elements.now) }
+{
+    match answer {
+        Answer::NotDer(_) => causes_of(alloc, octets, elements),
+        _ => Ok(Vec::new(alloc)),
+    }
+}
+
+/// The notes, of a document that is accepted.
+fn told_notes(alloc: Global, answer: Answer, lines: &[Line]) -> Result<Vec<Note>, AllocError>
+    ensures are { IfOk result (λ notes. notes.items ≡ notes_by answer lines.now) }
+    ensures few { IfOk result (λ notes. length notes.items ≤ most_notes) }
+{
+    match answer {
+        Answer::Refused(_) => Ok(Vec::new(alloc)),
+        _ => notes_of(alloc, lines),
+    }
+}
+
+/// Where the outermost element ends by its length, where that is told: by the first line.
+fn announced_end(lines: &[Line]) -> Option<u64>
+    ensures { result ≡ announced_end lines.now }
+{
+    let Some(outermost) = lines.first() else {
+        return None;
+    };
+    let Some(length) = outermost.length else {
+        return None;
+    };
+    let Some(contents) = length.contents else {
+        return None;
+    };
+    sum_of(outermost.at.saturating_add(length.header), contents)
+}

@@ -1,0 +1,356 @@
+//! The lines of a report: an element each.
+ghost use Rattle.std.specs.Prelude.{List, Option, Some, ℕ, [], ◌≡◌, IfOk, OnOk, length, min, slice_get, true, unwrap_or, ◌+◌, ◌-◌, ◌^◌};
+ghost use Rattle.std.specs.Option.{option_map};
+ghost use Rattle.asn_names.specs.declared.element.NamedElement.{NamedElement};
+ghost use Rattle.explain.specs.Causes.{line_cause};
+ghost use Rattle.explain.specs.Fronts.{is_deeper};
+ghost use Rattle.explain.specs.Lines.{AddsLine, IsHeaderLine, IsTold, inside_of, size_between};
+ghost use Rattle.explain.specs.Listings.{AddsDocument, AddsElement, IsListed, Lists, Telling, behind_inside, causes_inside, first_inside, hidden_behind, most_lines, number_around, own_number, own_place, start_of, telling};
+ghost use Rattle.explain.specs.Places.{SkipsIn, page_of};
+
+use crate::causes::{cause_within, causes_of};
+use crate::front::is_deeper;
+use crate::inside::{Inside, element_at};
+use crate::places::{Placed, Sheet, later_pieces, placed_in, told_length};
+use crate::values::{contents_of, told_value};
+use asn_names::element::NamedElement;
+use reports::report::{Cause, Line, Value};
+use std::alloc::{AllocError, Global};
+
+/// The line of an element.
+fn header_line(placed: Placed, element: &NamedElement, value: Value, cause: Option<Cause>) -> Line
+    ensures line { IsHeaderLine placed element.now result }
+    ensures value { result.value ≡ value }
+    ensures cause { result.cause ≡ cause }
+{
+    Line {
+        at: placed.at,
+        inside: inside_of(placed.is_inside, element.header.at),
+        depth: placed.depth.saturating_add(element.header.depth),
+        around: placed.around,
+        step: element.step,
+        type_name: type_name_of(element),
+        tag: element.header.tag,
+        constructed: element.header.constructed,
+        length: told_length(&element.header),
+        end: placed.end,
+        value,
+        cause,
+    }
+}
+
+fn type_name_of(element: &NamedElement) -> &'static str
+    ensures { result.now ≡ unwrap_or (option_map (λ r. r.now) element.now.type_name) [] }
+{
+    match element.type_name {
+        Some(name) => name,
+        None => "",
+    }
+}
+
+fn inside_of(is_inside: bool, at: u64) -> Option<u64>
+    ensures { result ≡ inside_of is_inside at }
+{
+    if is_inside { Some(at) } else { None }
+}
+
+/// What is told of the contents of an element.
+fn line_value(alloc: Global, octets: &[u8], element: &NamedElement) -> Result<Value, AllocError>
+    ensures { IfOk result (λ value. IsTold octets.now element.now value) }
+{
+    match contents_of(octets, element) {
+        Some(contents) => told_value(alloc, element, contents),
+        None => Ok(size_in_private(element)),
+    }
+}
+
+/// How many octets a private element of constructed form has.
+fn size_in_private(element: &NamedElement) -> Value
+    ensures { result ≡ size_between element.now.private element.now.begin element.now.end }
+{
+    match (element.begin, element.end) {
+        (Some(begin), Some(end)) => {
+            if element.private {
+                Value::Size(end.saturating_sub(begin))
+            } else {
+                Value::Nothing
+            }
+        }
+        _ => Value::Nothing,
+    }
+}
+
+/// The cause that the line of the element of this number tells: that of a private one is the first in it, since no line
+/// tells what is in it.
+fn line_cause(sheet: Sheet<'_>, number: usize) -> Option<Cause>
+    ensures { result ≡ line_cause sheet.entry.elements.now sheet.entry.causes.now number }
+{
+    let (Some(element), Some(cause)) = (
+        element_at(sheet.elements, number),
+        sheet.causes.get(number),
+    ) else {
+        return None;
+    };
+    if cause.is_some() || !element.private {
+        return *cause;
+    }
+    let behind = number + 1;
+    cause_within(
+        element.header.depth,
+        &sheet.elements[behind..],
+        &sheet.causes[behind..],
+    )
+}
+
+/// The number of the line around an element, by those of the elements before; of the outermost one that around its
+/// document.
+fn number_around(numbers: &[u64], outer: u64, element: &NamedElement) -> u64
+    ensures { result ≡ number_around numbers.now outer element.now }
+{
+    if element.header.depth == 0 {
+        return outer;
+    }
+    match numbers.get(element.around as usize) {
+        Some(number) => *number,
+        None => outer,
+    }
+}
+
+/// The number that stands for an element: that of its line, or of the line around it, where it is hidden.
+fn own_number(is_hidden: bool, line: u64, around: u64) -> u64
+    ensures { result ≡ own_number is_hidden line around }
+{
+    if is_hidden { around } else { line }
+}
+
+/// How deep the private element is that what stands behind an element is hidden in.
+fn hidden_behind(hidden: Option<u64>, element: &NamedElement) -> Option<u64>
+    ensures { result ≡ hidden_behind hidden element.now }
+{
+    if is_deeper(hidden, element) {
+        hidden
+    } else if element.private {
+        Some(element.header.depth)
+    } else {
+        None
+    }
+}
+
+/// Tells the next element, where it isn't hidden in a private one, and answers how deep such a one is.
+fn push_element(
+    alloc: Global,
+    lines: &mut Vec<Line>,
+    numbers: &mut Vec<u64>,
+    hidden: Option<u64>,
+    sheet: Sheet<'_>,
+    number: usize,
+) -> Result<Option<u64>, AllocError>
+    ensures { IfOk result (λ behind. SkipsIn sheet.entry
+        → AddsElement (page_of sheet.entry) number
+        (telling hidden numbers.old.items lines.old.items)
+        (telling behind numbers.new.items lines.new.items)) }
+{
+    let Some(element) = element_at(sheet.elements, number) else {
+        return Ok(hidden);
+    };
+    let around = number_around(numbers.as_slice(), sheet.around, element);
+    let is_hidden = is_deeper(hidden, element);
+    numbers.push(own_number(is_hidden, lines.len() as u64, around))?;
+    let placed = placed_in(sheet, element, around);
+    push_line(alloc, lines, is_hidden, sheet, placed, number)?;
+    Ok(hidden_behind(hidden, element))
+}
+
+/// Tells the element of this number, where it isn't hidden.
+fn push_line(
+    alloc: Global,
+    lines: &mut Vec<Line>,
+    is_hidden: bool,
+    sheet: Sheet<'_>,
+    placed: Placed,
+    number: usize,
+) -> Result<(), AllocError>
+    ensures { OnOk result ((element : NamedElement) → slice_get sheet.entry.elements.now number ≡ Some element
+        → AddsLine is_hidden sheet.entry.octets.now placed element
+        (line_cause sheet.entry.elements.now sheet.entry.causes.now number)
+        lines.old.items lines.new.items) }
+{
+    let Some(element) = element_at(sheet.elements, number) else {
+        return Ok(());
+    };
+    if is_hidden {
+        return Ok(());
+    }
+    let cause = line_cause(sheet, number);
+    let value = line_value(alloc, sheet.octets, element)?;
+    lines.push(header_line(placed, element, value, cause))?;
+    Ok(())
+}
+
+/// The lines of the elements inside an OCTET STRING.
+fn push_inside(alloc: Global, lines: &mut Vec<Line>, sheet: Sheet<'_>) -> Result<(), AllocError>
+    ensures { OnOk result ((end : Telling)
+        × Lists (page_of sheet.entry) (length sheet.entry.elements.now) (start_of lines.old.items) end
+        × (lines.new.items ≡ end.lines)) }
+{
+    let mut numbers = Vec::with_capacity(alloc, sheet.elements.len())?;
+    let mut hidden = None;
+    let mut rest = sheet.pieces;
+    let mut before: u64 = 0;
+    for i in 0..sheet.elements.len() {
+        let at = place_at(sheet.elements, i);
+        let (here, octets) = later_pieces(sheet.pieces, rest, before, at);
+        rest = here;
+        before = octets;
+        let part = Sheet {
+            rest,
+            before,
+            ..sheet
+        };
+        let next = push_element(alloc, lines, &mut numbers, hidden, part, i)?;
+        hidden = next;
+    }
+    Ok(())
+}
+
+/// The place of the element of this number, in its document.
+fn place_at(elements: &[NamedElement], number: usize) -> u64
+    ensures { result ≡ own_place (slice_get elements.now number) }
+{
+    match elements.get(number) {
+        Some(element) => element.header.at,
+        None => 0,
+    }
+}
+
+/// The document inside an element of the file, where it is the first of those that are left; and those behind it.
+fn next_inside<'a>(insides: &'a [Inside], number: usize) -> (Option<&'a Inside>, &'a [Inside])
+    ensures inside { option_map (λ r. r.now) result.0 ≡ first_inside insides.now number }
+    ensures behind { result.1.now ≡ behind_inside insides.now number }
+{
+    match insides {
+        [inside, behind @ ..] if inside.container == number => (Some(inside), behind),
+        _ => (None, insides),
+    }
+}
+
+/// The lines of a file's elements, and behind each OCTET STRING those of what is inside it.
+pub(crate) fn lines_of(
+    alloc: Global,
+    sheet: Sheet<'_>,
+    insides: &[Inside],
+) -> Result<Vec<Line>, AllocError>
+    ensures { IfOk result (λ lines. SkipsIn sheet.entry
+        → IsListed (page_of sheet.entry) insides.now lines.items) }
+{
+    let mut lines: Vec<Line> = Vec::with_capacity(alloc, most_lines(sheet.elements, insides))?;
+    let mut numbers = Vec::with_capacity(alloc, sheet.elements.len())?;
+    let mut hidden = None;
+    let mut left = insides;
+    for i in 0..sheet.elements.len() {
+        let number = lines.len();
+        let next = push_element(alloc, &mut lines, &mut numbers, hidden, sheet, i)?;
+        let (inside, behind) = next_inside(left, i);
+        left = behind;
+        push_inside_of(alloc, &mut lines, sheet, inside, number)?;
+        hidden = next;
+    }
+    Ok(lines)
+}
+
+/// How many lines there are at most: one of each element, and one of the fault.
+fn most_lines(elements: &[NamedElement], insides: &[Inside]) -> usize
+    ensures { result ≡ most_lines elements.now insides.now }
+{
+    let mut count = elements.len().saturating_add(1);
+    let mut left = insides;
+    while let [inside, behind @ ..] = left {
+        count = count.saturating_add(inside.named.elements.len());
+        left = behind;
+    }
+    count
+}
+
+/// The lines of the document inside an element that has the line of this number, where there is one.
+fn push_inside_of(
+    alloc: Global,
+    lines: &mut Vec<Line>,
+    file: Sheet<'_>,
+    inside: Option<&Inside>,
+    number: usize,
+) -> Result<(), AllocError>
+    ensures { OnOk result ((hidden : Option ℕ) (numbers : List ℕ)
+        → AddsDocument file.entry.causes.now (option_map (λ r. r.now) inside.entry) number
+        (telling hidden numbers lines.old.items) (telling hidden numbers lines.new.items)) }
+{
+    let Some(inside) = inside else {
+        return Ok(());
+    };
+    let Some(depth) = depth_inside(lines.as_slice(), number) else {
+        return Ok(());
+    };
+    let causes = causes_inside(alloc, file.causes, inside)?;
+    let sheet = inside_sheet(inside, causes.as_slice(), depth, number as u64);
+    push_inside(alloc, lines, sheet)
+}
+
+/// How deep a document is inside the element of the line of this number.
+fn depth_inside(lines: &[Line], number: usize) -> Option<u64>
+    ensures { result
+        ≡ option_map (λ line. min (line.depth + 1) (2 ^ 64 - 1)) (slice_get lines.now number) }
+{
+    match lines.get(number) {
+        Some(line) => Some(line.depth.saturating_add(1)),
+        None => None,
+    }
+}
+
+/// Why the elements inside aren't in DER, where those of the file have causes.
+fn causes_inside(
+    alloc: Global,
+    causes: &[Option<Cause>],
+    inside: &Inside,
+) -> Result<Vec<Option<Cause>>, AllocError>
+    ensures { IfOk result (λ all. all.items ≡ causes_inside causes.now inside.now) }
+{
+    if causes.is_empty() {
+        return Ok(Vec::new(alloc));
+    }
+    causes_of(
+        alloc,
+        inside.octets.as_slice(),
+        inside.named.elements.as_slice(),
+    )
+}
+
+/// A document inside the element of the line of this number.
+fn inside_sheet<'a>(
+    inside: &'a Inside,
+    causes: &'a [Option<Cause>],
+    depth: u64,
+    around: u64,
+) -> Sheet<'a>
+    ensures octets { result.octets.now ≡ inside.now.octets.items }
+    ensures elements { result.elements.now ≡ inside.now.named.elements.items }
+    ensures page { page_of result ≡ record {
+      octets = inside.now.octets.items;
+      elements = inside.now.named.elements.items;
+      causes = causes.now;
+      pieces = inside.now.pieces.items;
+      is_inside = true;
+      depth = depth;
+      around = around;
+    } }
+{
+    Sheet {
+        octets: inside.octets.as_slice(),
+        elements: inside.named.elements.as_slice(),
+        causes,
+        pieces: inside.pieces.as_slice(),
+        rest: inside.pieces.as_slice(),
+        before: 0,
+        is_inside: true,
+        depth,
+        around,
+    }
+}

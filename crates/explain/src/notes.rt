@@ -1,0 +1,489 @@
+//! What other standards forbid in an accepted document, by its lines.
+ghost use Rattle.std.specs.Prelude.{◌≡◌, ◌≤◌, IfOk, OnOk, length, option_and_then, slice_get};
+ghost use Rattle.std.specs.Option.{option_map};
+ghost use Rattle.pkix_definitions.specs.Identifiers.{ec_public_key, length_under};
+ghost use Rattle.x690.specs.Lists.{same_octets};
+ghost use Rattle.explain.specs.Notes.{add_note, arcs_of, are_same, context_behind, context_start, curve_behind, is_attribute, is_curve_named, is_point, is_public_key, is_repeated, is_same_field, is_same_identifier, is_same_step, is_single_valued, members_of, ml_dsa_lengths, ml_kem_lengths, most_notes, named, nist_encapsulation, nist_signature, notes_on, parameters, public_octets, remark_if, remark_on, remark_on_algorithm, remark_on_bits, remark_on_key, remark_on_repeat, remark_on_values, remark_once_more, slh_dsa_sha2_lengths, slh_dsa_shake_lengths};
+
+use crate::keys::{are_same_octets, curve_octets};
+use crate::values::is_field;
+use asn_names::element::Step;
+use reports::report::{Line, Note, Remark, Value};
+use std::alloc::{AllocError, Global};
+
+/// What the lines before say of the ones that follow.
+#[derive(Clone, Copy)]
+struct Context {
+    /// How many octets a coordinate of the curve has that was named behind the last algorithm, where it is a known one.
+    curve: Option<u64>,
+    /// How many octets a public key of the last algorithm has, where it is one of a single length.
+    public: Option<u64>,
+    /// The last attribute is of a type that has a single value.
+    is_single: bool,
+}
+
+/// There are at most so many notes: a document may have an extension many thousand times.
+const MOST_NOTES: usize = 100;
+
+/// The notes on the lines of an accepted document, in their order: the first ones, where there are many.
+pub(crate) fn notes_of(alloc: Global, lines: &[Line]) -> Result<Vec<Note>, AllocError>
+    ensures are { IfOk result (λ notes. notes.items ≡ notes_on lines.now) }
+    ensures few { IfOk result (λ notes. length notes.items ≤ most_notes) }
+{
+    let mut notes = Vec::new(alloc);
+    let mut context = start();
+    for i in 0..lines.len() {
+        let line = &lines[i];
+        push_note(&mut notes, i, remark_on(context, line, &lines[i + 1..]))?;
+        push_note(&mut notes, i, remark_on_repeat(lines, &lines[..i], line))?;
+        context = context_behind(context, line);
+    }
+    Ok(notes)
+}
+
+/// A remark on the line of this number, where there is one and room for it.
+fn push_note(notes: &mut Vec<Note>, line: usize, remark: Option<Remark>) -> Result<(), AllocError>
+    ensures { OnOk result (notes.new.items ≡ add_note notes.old.items line remark) }
+{
+    let Some(remark) = remark else {
+        return Ok(());
+    };
+    if notes.as_slice().len() >= MOST_NOTES {
+        return Ok(());
+    }
+    notes.push(Note {
+        line: line as u64,
+        remark,
+    })?;
+    Ok(())
+}
+
+fn start() -> Context
+    ensures { result ≡ context_start }
+{
+    Context {
+        curve: None,
+        public: None,
+        is_single: false,
+    }
+}
+
+fn context_behind(context: Context, line: &Line) -> Context
+    ensures { result ≡ context_behind context line.now }
+{
+    let name = named(&line.value);
+    if is_field(line.step, "algorithm") {
+        return Context {
+            public: public_octets_of(name),
+            curve: None,
+            ..context
+        };
+    }
+    if is_field(line.step, "type") {
+        return Context {
+            is_single: is_single_valued(name),
+            ..context
+        };
+    }
+    Context {
+        curve: curve_behind(context.curve, name),
+        ..context
+    }
+}
+
+/// The contents octets of an object identifier that has a usual name.
+fn named(value: &Value) -> Option<&'static [u8]>
+    ensures { option_map (λ r. r.now) result ≡ named value.now }
+{
+    match value {
+        Value::Named(identifier) => Some(identifier.contents),
+        _ => None,
+    }
+}
+
+/// The arcs of one that has none, in decimal.
+fn arcs_of(value: &Value) -> Option<&[u8]>
+    ensures { option_map (λ r. r.now) result ≡ arcs_of value.now }
+{
+    match value {
+        Value::Arcs(text) => Some(text.as_bytes()),
+        _ => None,
+    }
+}
+
+/// How many octets a coordinate has, behind another identifier.
+fn curve_behind(curve: Option<u64>, name: Option<&[u8]>) -> Option<u64>
+    ensures { result ≡ curve_behind curve (option_map (λ r. r.now) name.entry) }
+{
+    let Some(name) = name else {
+        return curve;
+    };
+    match curve_octets(name) {
+        Some(octets) => Some(octets),
+        None => curve,
+    }
+}
+
+/// An attribute of a single value: challengePassword, extensionRequest (RFC 2985 sections 5.4.1, 5.4.2).
+fn is_single_valued(name: Option<&[u8]>) -> bool
+    ensures { result ≡ is_single_valued (option_map (λ r. r.now) name.entry) }
+{
+    let Some(name) = name else {
+        return false;
+    };
+    are_same_octets(
+        name,
+        &[0x2A, 0x86, 0x48, 0x86, 0xF7, 0x0D, 0x01, 0x09, 0x07],
+    ) || are_same_octets(
+        name,
+        &[0x2A, 0x86, 0x48, 0x86, 0xF7, 0x0D, 0x01, 0x09, 0x0E],
+    )
+}
+
+/// The octets of a public key under the algorithm, where all have the same number.
+fn public_octets_of(name: Option<&[u8]>) -> Option<u64>
+    ensures { result ≡ option_and_then public_octets (option_map (λ r. r.now) name.entry) }
+{
+    match name {
+        Some(name) => public_octets(name),
+        None => None,
+    }
+}
+
+fn public_octets(algorithm: &[u8]) -> Option<u64>
+    ensures { result ≡ public_octets algorithm.now }
+{
+    if let Some(octets) = ml_dsa_octets(algorithm) {
+        return Some(octets);
+    }
+    if let Some(octets) = ml_kem_octets(algorithm) {
+        return Some(octets);
+    }
+    if let Some(octets) = slh_dsa_sha2_octets(algorithm) {
+        return Some(octets);
+    }
+    slh_dsa_shake_octets(algorithm)
+}
+
+/// Of ML-DSA-44, ML-DSA-65, ML-DSA-87 (RFC 9881).
+fn ml_dsa_octets(algorithm: &[u8]) -> Option<u64>
+    ensures { result ≡ length_under ml_dsa_lengths algorithm.now }
+{
+    if is_signature(algorithm, 17) {
+        Some(1312)
+    } else if is_signature(algorithm, 18) {
+        Some(1952)
+    } else if is_signature(algorithm, 19) {
+        Some(2592)
+    } else {
+        None
+    }
+}
+
+/// Of ML-KEM-512, ML-KEM-768, ML-KEM-1024 (RFC 9935).
+fn ml_kem_octets(algorithm: &[u8]) -> Option<u64>
+    ensures { result ≡ length_under ml_kem_lengths algorithm.now }
+{
+    if is_encapsulation(algorithm, 1) {
+        Some(800)
+    } else if is_encapsulation(algorithm, 2) {
+        Some(1184)
+    } else if is_encapsulation(algorithm, 3) {
+        Some(1568)
+    } else {
+        None
+    }
+}
+
+/// Of SLH-DSA with SHA2: 128s, 128f, 192s, 192f, 256s, 256f (RFC 9909).
+fn slh_dsa_sha2_octets(algorithm: &[u8]) -> Option<u64>
+    ensures { result ≡ length_under slh_dsa_sha2_lengths algorithm.now }
+{
+    if is_signature(algorithm, 20) {
+        Some(32)
+    } else if is_signature(algorithm, 21) {
+        Some(32)
+    } else if is_signature(algorithm, 22) {
+        Some(48)
+    } else if is_signature(algorithm, 23) {
+        Some(48)
+    } else if is_signature(algorithm, 24) {
+        Some(64)
+    } else if is_signature(algorithm, 25) {
+        Some(64)
+    } else {
+        None
+    }
+}
+
+/// Of SLH-DSA with SHAKE, in the same order.
+fn slh_dsa_shake_octets(algorithm: &[u8]) -> Option<u64>
+    ensures { result ≡ length_under slh_dsa_shake_lengths algorithm.now }
+{
+    if is_signature(algorithm, 26) {
+        Some(32)
+    } else if is_signature(algorithm, 27) {
+        Some(32)
+    } else if is_signature(algorithm, 28) {
+        Some(48)
+    } else if is_signature(algorithm, 29) {
+        Some(48)
+    } else if is_signature(algorithm, 30) {
+        Some(64)
+    } else if is_signature(algorithm, 31) {
+        Some(64)
+    } else {
+        None
+    }
+}
+
+/// A signature of NIST, 2.16.840.1.101.3.4.3.NUMBER.
+fn is_signature(algorithm: &[u8], number: u8) -> bool
+    ensures { result ≡ same_octets algorithm.now (nist_signature number) }
+{
+    are_same_octets(
+        algorithm,
+        &[0x60, 0x86, 0x48, 0x01, 0x65, 0x03, 0x04, 0x03, number],
+    )
+}
+
+/// A key encapsulation of NIST, 2.16.840.1.101.3.4.4.NUMBER.
+fn is_encapsulation(algorithm: &[u8], number: u8) -> bool
+    ensures { result ≡ same_octets algorithm.now (nist_encapsulation number) }
+{
+    are_same_octets(
+        algorithm,
+        &[0x60, 0x86, 0x48, 0x01, 0x65, 0x03, 0x04, 0x04, number],
+    )
+}
+
+/// id-ecPublicKey, 1.2.840.10045.2.1.
+fn is_ec_public_key(algorithm: &[u8]) -> bool
+    ensures { result ≡ same_octets algorithm.now ec_public_key }
+{
+    are_same_octets(algorithm, &[0x2A, 0x86, 0x48, 0xCE, 0x3D, 0x02, 0x01])
+}
+
+/// What is remarked on a line, by what the lines before say and by the lines behind.
+fn remark_on(context: Context, line: &Line, behind: &[Line]) -> Option<Remark>
+    ensures { result ≡ remark_on context line.now behind.now }
+{
+    if is_field(line.step, "algorithm") {
+        return remark_on_algorithm(named(&line.value), parameters(behind));
+    }
+    if is_field(line.step, "values") && context.is_single {
+        return remark_on_values(members_of(line.depth, behind));
+    }
+    if is_public_key(line.step) {
+        return remark_on_key(context, &line.value);
+    }
+    None
+}
+
+/// A remark, where this is so.
+fn remark_if(said: bool, remark: Remark) -> Option<Remark>
+    ensures { result ≡ remark_if said remark }
+{
+    if said { Some(remark) } else { None }
+}
+
+/// The parameters behind an algorithm.
+fn parameters(behind: &[Line]) -> Option<&Line>
+    ensures { option_map (λ r. r.now) result ≡ parameters behind.now }
+{
+    match behind.first() {
+        Some(line) if is_field(line.step, "parameters") => Some(line),
+        _ => None,
+    }
+}
+
+fn remark_on_algorithm(name: Option<&[u8]>, parameters: Option<&Line>) -> Option<Remark>
+    ensures { result ≡ remark_on_algorithm (option_map (λ r. r.now) name.entry)
+        (option_map (λ r. r.now) parameters.entry) }
+{
+    let Some(algorithm) = name else {
+        return None;
+    };
+    if public_octets(algorithm).is_some() {
+        return remark_if(parameters.is_some(), Remark::NeedlessParameters);
+    }
+    remark_if(
+        is_ec_public_key(algorithm) && !is_curve_named(parameters),
+        Remark::NoNamedCurve,
+    )
+}
+
+/// Whether parameters are an object identifier.
+fn is_curve_named(parameters: Option<&Line>) -> bool
+    ensures { result ≡ is_curve_named (option_map (λ r. r.now) parameters.entry) }
+{
+    match parameters {
+        Some(line) => named(&line.value).is_some() || arcs_of(&line.value).is_some(),
+        None => false,
+    }
+}
+
+fn remark_on_values(members: u64) -> Option<Remark>
+    ensures { result ≡ remark_on_values members }
+{
+    remark_if(members > 1, Remark::SeveralValues(members))
+}
+
+/// How many members an element of this depth has, by the lines behind its own.
+fn members_of(depth: u64, behind: &[Line]) -> u64
+    ensures { result ≡ members_of depth behind.now }
+{
+    let mut count = 0;
+    for i in 0..behind.len() {
+        let line = &behind[i];
+        if line.depth <= depth {
+            return count;
+        }
+        if line.depth - 1 == depth {
+            count += 1;
+        }
+    }
+    count
+}
+
+fn is_public_key(step: Step) -> bool
+    ensures { result ≡ is_public_key step }
+{
+    is_field(step, "subjectPublicKey") || is_field(step, "publicKey") || is_field(step, "")
+}
+
+fn remark_on_key(context: Context, value: &Value) -> Option<Remark>
+    ensures { result ≡ remark_on_key context value.now }
+{
+    match value {
+        Value::Bits(octets, unused) => {
+            remark_on_bits(context.public, context.curve, *octets, *unused)
+        }
+        _ => None,
+    }
+}
+
+/// A public key of so many octets and unused bits, where so many are due, or a point with coordinates of so many.
+fn remark_on_bits(
+    public: Option<u64>,
+    curve: Option<u64>,
+    octets: u64,
+    unused: u8,
+) -> Option<Remark>
+    ensures { result ≡ remark_on_bits public curve octets unused }
+{
+    match (public, curve) {
+        (Some(due), _) => remark_if(octets != due, Remark::KeySize(octets, due)),
+        (None, None) => None,
+        (None, Some(_)) if unused != 0 => Some(Remark::PointBits),
+        (None, Some(coordinate)) => {
+            remark_if(!is_point(coordinate, octets), Remark::PointSize(octets))
+        }
+    }
+}
+
+/// A point is a first octet and one coordinate or two (RFC 5480 section 2.2, SEC 1 section 2.3.3).
+fn is_point(coordinate: u64, octets: u64) -> bool
+    ensures { result ≡ is_point coordinate octets }
+{
+    if octets <= coordinate {
+        return false;
+    }
+    let other = octets - coordinate - 1;
+    other == 0 || other == coordinate
+}
+
+/// How many earlier members of a list are looked at for the same identifier.
+const MOST_MEMBERS: usize = 32;
+
+/// What is remarked on a line, where one of the same list before it says the same.
+fn remark_on_repeat(lines: &[Line], before: &[Line], line: &Line) -> Option<Remark>
+    ensures { result ≡ remark_on_repeat lines.now before.now line.now }
+{
+    let Some(remark) = remark_once_more(lines, line) else {
+        return None;
+    };
+    remark_if(is_repeated(before, line), remark)
+}
+
+/// What may not stand there twice: an extension (RFC 5280 section 4.2), an attribute of a request (RFC 2986 section
+/// 4.1).
+fn remark_once_more(lines: &[Line], line: &Line) -> Option<Remark>
+    ensures { result ≡ remark_once_more lines.now line.now }
+{
+    if is_field(line.step, "extnID") {
+        return Some(Remark::ExtensionTwice);
+    }
+    remark_if(
+        is_field(line.step, "type") && is_attribute(lines.get(line.around as usize)),
+        Remark::AttributeTwice,
+    )
+}
+
+/// Whether an element is an attribute of a request.
+fn is_attribute(around: Option<&Line>) -> bool
+    ensures { result ≡ is_attribute (option_map (λ r. r.now) around.entry) }
+{
+    match around {
+        Some(around) => is_name(around.type_name, "RequestAttribute"),
+        None => false,
+    }
+}
+
+fn is_name(name: &str, word: &str) -> bool
+    ensures { result ≡ same_octets name.now word.now }
+{
+    name == word
+}
+
+/// Whether the same identifier as the same field stands in one of the last members of the list before it.
+fn is_repeated(before: &[Line], line: &Line) -> bool
+    ensures { result ≡ is_repeated before.now line.now }
+{
+    let list = line.depth.saturating_sub(2);
+    let mut most = MOST_MEMBERS;
+    for back in 0..before.len() {
+        let other = &before[before.len() - 1 - back];
+        if most == 0 || other.depth <= list {
+            return false;
+        }
+        if is_same_field(line, other) {
+            if is_same_identifier(line, other) {
+                return true;
+            }
+            most -= 1;
+        }
+    }
+    false
+}
+
+fn is_same_field(line: &Line, other: &Line) -> bool
+    ensures { result ≡ is_same_field line.now other.now }
+{
+    other.depth == line.depth && is_same_step(other.step, line.step)
+}
+
+fn is_same_step(one: Step, other: Step) -> bool
+    ensures { result ≡ is_same_step one other }
+{
+    (is_field(one, "extnID") && is_field(other, "extnID"))
+        || (is_field(one, "type") && is_field(other, "type"))
+}
+
+fn is_same_identifier(line: &Line, other: &Line) -> bool
+    ensures { result ≡ is_same_identifier line.now other.now }
+{
+    are_same(named(&other.value), named(&line.value))
+        || are_same(arcs_of(&other.value), arcs_of(&line.value))
+}
+
+/// Whether two are there, and are the same.
+fn are_same(one: Option<&[u8]>, other: Option<&[u8]>) -> bool
+    ensures { result ≡ are_same (option_map (λ r. r.now) one.entry)
+        (option_map (λ r. r.now) other.entry) }
+{
+    match (one, other) {
+        (Some(one), Some(other)) => are_same_octets(one, other),
+        _ => false,
+    }
+}

@@ -1,0 +1,240 @@
+//! Where the elements of a document stand in the file, and where they end.
+ghost use Rattle.std.specs.Prelude.{true, ◌-◌, ◌≡◌, ◌≤◌};
+ghost use Rattle.explain.specs.Blames.{announced_end};
+ghost use Rattle.explain.specs.Lines.{end_behind, told_length};
+ghost use Rattle.explain.specs.Places.{Skips, SkipsIn, end_by_length, end_of, is_in_first, page_of, place_in_file, place_of, placed_in, sum_of, told_end};
+
+use asn_names::element::NamedElement;
+use ber_outline::event::ElementHeader;
+use reports::report::{Cause, Length};
+
+/// Octets that stand in the file one behind another.
+#[derive(Clone, Copy)]
+pub(crate) struct Piece {
+    /// The place of the first one in the file.
+    pub(crate) at: u64,
+    pub(crate) octets: u64,
+}
+
+/// A document whose elements are told: the file, or what one OCTET STRING contains.
+#[derive(Clone, Copy)]
+pub(crate) struct Sheet<'a> {
+    pub(crate) octets: &'a [u8],
+    pub(crate) elements: &'a [NamedElement],
+    /// Why they aren't in DER; of a document that is or that is refused there are none.
+    pub(crate) causes: &'a [Option<Cause>],
+    /// Where its octets stand in the file, in order.
+    pub(crate) pieces: &'a [Piece],
+    /// Those behind the first `before` octets, so that a later place is found without a walk over all of them.
+    pub(crate) rest: &'a [Piece],
+    pub(crate) before: u64,
+    pub(crate) is_inside: bool,
+    /// How deep its outermost element is.
+    pub(crate) depth: u64,
+    /// The number of the line around it; of the file its own first one.
+    pub(crate) around: u64,
+}
+
+/// Where an element stands: its place and its end in the file, and the line around it.
+#[derive(Clone, Copy)]
+pub(crate) struct Placed {
+    pub(crate) at: u64,
+    pub(crate) end: Option<u64>,
+    pub(crate) is_inside: bool,
+    /// How deep the outermost element of its document is.
+    pub(crate) depth: u64,
+    pub(crate) around: u64,
+}
+
+/// Where an element stands, by its document and the line around it.
+pub(crate) fn placed_in(sheet: Sheet<'_>, element: &NamedElement, around: u64) -> Placed
+    ensures { SkipsIn sheet.entry
+        → result ≡ placed_in (page_of sheet.entry) element.now around }
+{
+    Placed {
+        at: place_in_file(sheet, element.header.at),
+        end: told_end(sheet, element),
+        is_inside: sheet.is_inside,
+        depth: sheet.depth,
+        around,
+    }
+}
+
+/// The place in the file of an element of a document.
+fn place_in_file(sheet: Sheet<'_>, at: u64) -> u64
+    ensures { SkipsIn sheet.entry → result ≡ place_in_file sheet.entry.pieces.now at }
+{
+    match place_in(sheet, at) {
+        Some(place) => place,
+        None => at,
+    }
+}
+
+/// Where an element ends in the file: by its length, else by where its contents end.
+fn told_end(sheet: Sheet<'_>, element: &NamedElement) -> Option<u64>
+    ensures { SkipsIn sheet.entry → result ≡ told_end (page_of sheet.entry) element.now }
+{
+    if !sheet.is_inside {
+        if let Some(end) = end_by_length(&element.header) {
+            return Some(end);
+        }
+    }
+    match element.end {
+        Some(end) => end_in(sheet, end_behind(element, end)),
+        None => None,
+    }
+}
+
+/// Where an element ends whose contents end there: behind its end-of-contents octets, where it has an indefinite length
+/// (X.690 8.1.1.1, 8.1.5).
+pub(crate) fn end_behind(element: &NamedElement, end: u64) -> u64
+    ensures { result ≡ end_behind element.now.header.announced end }
+{
+    match element.header.announced {
+        Some(announced) if announced.length.is_none() => end.saturating_add(2),
+        _ => end,
+    }
+}
+
+/// Where an element of definite length ends by its header.
+pub(crate) fn end_by_length(header: &ElementHeader) -> Option<u64>
+    ensures { result ≡ end_by_length header.now }
+{
+    let Some(length) = told_length(header) else {
+        return None;
+    };
+    let Some(contents) = length.contents else {
+        return None;
+    };
+    sum_of(header.at.saturating_add(length.header), contents)
+}
+
+/// The length of an element, where it may be told: where it has at most four octets. A damaged one may have taken
+/// octets of a private element for its own, also where what comes of it is accepted.
+pub(crate) fn told_length(header: &ElementHeader) -> Option<Length>
+    ensures { result ≡ told_length header.now }
+{
+    let Some(announced) = header.announced else {
+        return None;
+    };
+    let size = announced.contents.saturating_sub(header.at);
+    if size > 6 {
+        return None;
+    }
+    Some(Length {
+        header: size,
+        contents: announced.length,
+    })
+}
+
+/// Where an element of definite length ends by its header, whatever its length.
+pub(crate) fn announced_end(element: &NamedElement) -> Option<u64>
+    ensures { result ≡ announced_end element.now }
+{
+    match element.header.announced {
+        Some(announced) => match announced.length {
+            Some(length) => Some(announced.contents.saturating_add(length)),
+            None => None,
+        },
+        None => None,
+    }
+}
+
+/// The sum, where 64 bits have it.
+pub(crate) fn sum_of(place: u64, octets: u64) -> Option<u64>
+    ensures { result ≡ sum_of place octets }
+{
+    if octets <= u64::MAX - place {
+        Some(place + octets)
+    } else {
+        None
+    }
+}
+
+/// The place in the file of the octet of this number, counted over the pieces.
+pub(crate) fn place_of(pieces: &[Piece], number: u64) -> Option<u64>
+    ensures { result ≡ place_of pieces.now number }
+{
+    let mut rest = pieces;
+    let mut left = number;
+    while let [piece, behind @ ..] = rest {
+        if left < piece.octets {
+            return sum_of(piece.at, left);
+        }
+        left -= piece.octets;
+        rest = behind;
+    }
+    None
+}
+
+/// The place in the file behind so many octets of the pieces.
+pub(crate) fn end_of(pieces: &[Piece], count: u64) -> Option<u64>
+    ensures { result ≡ end_of pieces.now count }
+{
+    if count == 0 {
+        return place_of(pieces, 0);
+    }
+    match place_of(pieces, count - 1) {
+        Some(last) => sum_of(last, 1),
+        None => None,
+    }
+}
+
+/// The place in the file of the octet of this number of a document.
+fn place_in(sheet: Sheet<'_>, number: u64) -> Option<u64>
+    ensures { SkipsIn sheet.entry → result ≡ place_of sheet.entry.pieces.now number }
+{
+    if number < sheet.before {
+        place_of(sheet.pieces, number)
+    } else {
+        place_of(sheet.rest, number - sheet.before)
+    }
+}
+
+/// The place in the file behind so many octets of a document.
+fn end_in(sheet: Sheet<'_>, count: u64) -> Option<u64>
+    ensures { SkipsIn sheet.entry → result ≡ end_of sheet.entry.pieces.now count }
+{
+    if count == 0 {
+        return place_in(sheet, 0);
+    }
+    match place_in(sheet, count - 1) {
+        Some(last) => sum_of(last, 1),
+        None => None,
+    }
+}
+
+/// The pieces from that of the octet of this number on, and how many octets those before have.
+fn pieces_from(pieces: &[Piece], number: u64) -> (&[Piece], u64)
+    ensures within { result.1 ≤ number }
+    ensures skips { Skips pieces.now result.1 result.0.now }
+    ensures here { is_in_first result.0.now (number - result.1) ≡ true }
+{
+    let mut rest = pieces;
+    let mut before: u64 = 0;
+    while let [piece, behind @ ..] = rest {
+        if number - before < piece.octets {
+            return (rest, before);
+        }
+        before += piece.octets;
+        rest = behind;
+    }
+    (rest, before)
+}
+
+/// The same, found from the pieces behind so many octets on.
+pub(crate) fn later_pieces<'a>(
+    pieces: &'a [Piece],
+    rest: &'a [Piece],
+    before: u64,
+    number: u64,
+) -> (&'a [Piece], u64)
+    ensures skips { Skips pieces.now before rest.now → Skips pieces.now result.1 result.0.now }
+    ensures here { is_in_first result.0.now (number - result.1) ≡ true }
+{
+    if number < before {
+        return pieces_from(pieces, number);
+    }
+    let (here, count) = pieces_from(rest, number - before);
+    (here, before + count)
+}

@@ -1,5 +1,0 @@
--- What one action replies.
-use Rattle.pk_commands.specs.Replies.{NormaliseReplies}
-
-pub normalise_replies : NormaliseReplies
-normalise_replies value_of kind limits file outcome before after old new replied = replied

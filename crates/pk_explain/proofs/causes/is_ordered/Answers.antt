@@ -1,5 +1,0 @@
-use Rattle.pk_explain.proofs.Ordered.{behind_none}
-use Rattle.pk_explain.proofs.causes.is_ordered.Goals as goal
-
-pub loop-left-init : goal.loop-left-init
-loop-left-init c = behind_none _

@@ -1,5 +1,0 @@
-use Rattle.std.proofs.Common.{refl}
-use Rattle.pk_explain.proofs.written.explained_field.Goals as goal
-
-pub returns : goal.returns
-returns c = (c.in_ok-report.report, c.in_ok-report.ensures, refl, c.in_ok-text.ensures)

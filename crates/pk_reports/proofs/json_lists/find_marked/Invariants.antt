@@ -1,9 +1,0 @@
-use Rattle.std.proofs.Common.{◌≡◌, ◌++◌, length}
-use Rattle.pk_reports.specs.JsonLists.{marked_in}
-use Rattle.pk_reports.proofs.json_lists.find_marked.Given as goal
-
-abbrev pub invariant-loop-rest : goal.invariant-loop-rest
-invariant-loop-rest l = l.marked.items ++ marked_in l.rest ≡ marked_in l.lines
-
-abbrev pub decreases-loop-rest : goal.decreases-loop-rest
-decreases-loop-rest l = length l.rest

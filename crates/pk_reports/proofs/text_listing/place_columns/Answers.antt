@@ -1,9 +1,0 @@
-use Rattle.std.proofs.Common.{◌∙◌, ap}
-use Rattle.pk_reports.specs.Listings.{place_width}
-use Rattle.pk_reports.proofs.text_listing.place_columns.Goals as goal
-
-pub returns-in-Some : goal.returns-in-Some
-returns-in-Some c = c.digits.ensures ∙ ap place_width c.in-Some.ensures.value
-
-pub returns-in-None : goal.returns-in-None
-returns-in-None c = ap place_width c.in-None.ensures.value

@@ -1,0 +1,43 @@
+//! Which field an element belongs to.
+ghost use Rattle.std.specs.Prelude.{◌≡◌};
+ghost use Rattle.pkix_shapes.specs.Dues.{due_in, name_due_in, name_of, standing_in, standing_of};
+ghost use Rattle.pkix_shapes.specs.Terms.{fields_of};
+
+use crate::shape::{Fields, Shape};
+use tlv_core::tag::Tag;
+
+/// What an element of a tag is among the fields of a SEQUENCE that are left.
+#[derive(Clone, Copy)]
+pub enum Standing {
+    /// It belongs to the field of this name and type; these are behind it.
+    Field(&'static str, &'static Shape, &'static Fields),
+    /// It belongs to none: the field of this name and type is due.
+    Wrong(&'static str, &'static Shape),
+    /// It belongs to none, and none is due any more.
+    Extra,
+}
+
+/// What an element of the tag is, where these fields are left.
+pub fn stands_as(fields: &'static Fields, tag: Tag) -> Standing
+    ensures due { standing_of result ≡ due_in (fields_of fields.now) tag }
+    ensures named { name_of result ≡ name_due_in fields.now tag }
+    ensures whole { result ≡ standing_in fields.now tag }
+{
+    match fields {
+        Fields::End => Standing::Extra,
+        Fields::Required(name, shape, behind) => {
+            if shape.fits(tag) {
+                Standing::Field(name, shape, behind)
+            } else {
+                Standing::Wrong(name, shape)
+            }
+        }
+        Fields::Optional(name, shape, behind) => {
+            if shape.fits(tag) {
+                Standing::Field(name, shape, behind)
+            } else {
+                stands_as(behind, tag)
+            }
+        }
+    }
+}

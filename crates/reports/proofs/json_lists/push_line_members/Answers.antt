@@ -1,0 +1,34 @@
+use Rattle.std.proofs.Common.{[], ◌++◌, ◌∙◌, ap, codes}
+use Rattle.reports.specs.JsonLists.{form_members, length_members, line_members, value_member}
+use Rattle.reports.specs.JsonMembers.{number_member, optional, said_member}
+use Rattle.reports.specs.Paths.{with_step}
+use Rattle.reports.proofs.Appends.{further, past}
+use Rattle.reports.proofs.json_lists.push_line_members.Goals as goal
+
+pub returns : goal.returns
+unfolding line_members
+returns c =
+    let old = c.args.json.now in
+    let line = c.args.line.now in
+    let at = number_member (codes "at") line.at in
+    let header = optional length_members line.length in
+    let depth = number_member (codes "depth") line.depth in
+    let name = said_member (codes "name") (with_step [] line.step) in
+    let type = said_member (codes "type") line.type_name.now in
+    let form = form_members line in
+    let end = optional (number_member (codes "end")) line.end in
+    let named = c.in_ok-said.ensures
+    ∙ ap (λ w. c.number-2.new.self ++ said_member (codes "name") w) (c.as_str.ensures.value ∙ c.in_ok-name.ensures) in
+    let two = further c.push_length.new.json c.number.new.self old at header
+    c.in_ok-number.ensures c.in_ok-push_length.ensures in
+    let three = further c.number-2.new.self c.push_length.new.json old (at ++ header) depth
+    two c.in_ok-number-2.ensures in
+    let four = further c.said.new.self c.number-2.new.self old (at ++ header ++ depth) name three named in
+    let five = further c.said-2.new.self c.said.new.self old (at ++ header ++ depth ++ name) type
+    four c.in_ok-said-2.ensures in
+    let six = further c.push_form.new.json c.said-2.new.self old (at ++ header ++ depth ++ name ++ type) form
+    five c.in_ok-push_form.ensures in
+    let seven = further c.optional_number.new.self c.push_form.new.json old
+    (at ++ header ++ depth ++ name ++ type ++ form) end six c.in_ok-optional_number.ensures in
+    past c.push_value.result c.push_value.new.json c.optional_number.new.self old
+    (at ++ header ++ depth ++ name ++ type ++ form ++ end) (value_member line.value) seven c.push_value.ensures

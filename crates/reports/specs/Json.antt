@@ -1,0 +1,116 @@
+-- A report as tokens of JSON: one object, whose members stand in this order, and are absent where they say nothing.
+use Rattle.std.specs.Prelude.{Bool, List, None, Option, Some, [], codes, cond, flat_map, length, nat_lt, ℕ, ◌++◌, ◌-◌, ◌==◌}
+use Rattle.json.specs.Token.{Token}
+use Rattle.tlv_core.specs.Reasons.{name_of}
+use Rattle.tlv_core.specs.declared.reason.Reason.{Reason}
+use Rattle.reports.specs.declared.report.Answer.{Answer}
+use Rattle.reports.specs.declared.report.Answer.TheVariants.{Der, NotDer, Refused}
+use Rattle.reports.specs.declared.report.Blame.{Blame}
+use Rattle.reports.specs.declared.report.Line.{Line}
+use Rattle.reports.specs.declared.report.Note.{Note}
+use Rattle.reports.specs.declared.report.Report.{Report}
+use Rattle.reports.specs.Field.{field_said}
+use Rattle.reports.specs.Hints.{do_said, likely_said}
+use Rattle.reports.specs.JsonLists.{line_object, not_der_members, note_object}
+use Rattle.reports.specs.JsonMembers.{list_member, number_member, object, object_member, optional, said_member, text_member}
+use Rattle.reports.specs.JsonWords.{looks_word}
+use Rattle.reports.specs.Words.{due_said, found_said}
+
+-- a place and a reason
+unfoldable pub place_members : ℕ → Reason → List Token
+place_members at why = number_member (codes "at") at ++ text_member (codes "reason") (name_of why)
+
+-- those of a fault inside privateKey, where there is one
+unfoldable pub inside_members : Option (ℕ × Reason) → List Token
+inside_members None = []
+inside_members (Some inside) = object_member (codes "inside") (place_members inside.0 inside.1)
+
+unfoldable pub verdict_members : ℕ → List ℕ → List Token
+verdict_members status verdict = number_member (codes "status") status ++ text_member (codes "verdict") verdict
+
+-- what check answers
+unfoldable pub answer_members : Answer → List Token
+answer_members Der = verdict_members 0 (codes "der")
+answer_members (NotDer at) = verdict_members 1 (codes "not_der") ++ number_member (codes "at") at
+answer_members (Refused fault) =
+    verdict_members 2 (codes "refused") ++ place_members fault.at fault.why ++ inside_members fault.inside
+
+-- The number of this form of a report, the version of the program, the file, and the answer.
+unfoldable pub head_members : Report → List ℕ → Option (List ℕ) → List Token
+head_members report version file =
+    number_member (codes "form") 1 ++ text_member (codes "version") version
+    ++ optional (text_member (codes "file")) file ++ text_member (codes "kind") report.kind.word.now
+    ++ number_member (codes "octets") report.octets ++ answer_members report.answer
+
+-- the place of the fault in the file, where it has one
+abbrev pub file_place : Option Blame → Option ℕ
+file_place None = None
+file_place (Some blame) = blame.file_at
+
+-- that place, and the path of the field that the report is about
+unfoldable pub about_members : Report → List Token
+about_members report =
+    optional (number_member (codes "file_at")) (file_place report.blame)
+    ++ said_member (codes "field") (field_said report)
+
+-- how many there are more of the latter, where there are more
+abbrev pub more_than : ℕ → ℕ → Option ℕ
+more_than less more = cond (nat_lt less more) (Some (more - less)) None
+
+-- where the outermost element ends, beside the octets that there are
+unfoldable pub missing_members : ℕ → Option ℕ → List Token
+missing_members octets None = []
+missing_members octets (Some announced) = optional (number_member (codes "missing")) (more_than octets announced)
+
+-- how many octets follow: as is told, or behind where the outermost element ends
+abbrev pub follow_by : Option ℕ → Option ℕ → ℕ → Option ℕ
+follow_by (Some more) announced octets = Some more
+follow_by None (Some announced) octets = more_than announced octets
+follow_by None None octets = None
+
+unfoldable pub more_members : ℕ → Option ℕ → Option ℕ → List Token
+more_members octets announced told = optional (number_member (codes "more")) (follow_by told announced octets)
+
+-- what is said in numbers of a document that is refused
+unfoldable pub number_members : Report → Blame → List Token
+number_members report blame =
+    missing_members report.octets report.announced ++ optional (number_member (codes "over")) blame.over
+    ++ more_members report.octets report.announced blame.more
+
+-- what is due and what was found, in words
+unfoldable pub due_members : Report → List Token
+due_members report = said_member (codes "due") (due_said report) ++ said_member (codes "found") (found_said report)
+
+-- the usual cause and what to do, in words
+unfoldable pub advice_members : Report → List Token
+advice_members report = said_member (codes "likely") (likely_said report) ++ said_member (codes "do") (do_said report)
+
+-- where it isn't in DER, if that is the answer
+unfoldable pub places_members : ℕ → Answer → Report → List Token
+places_members places Der report = []
+places_members places (NotDer at) report = not_der_members places report report.lines.items
+places_members places (Refused fault) report = []
+
+-- all its elements, where they are asked for
+unfoldable pub lines_member : Bool → List Line → List Token
+lines_member all lines = cond all (list_member (codes "lines") (flat_map line_object lines)) []
+
+unfoldable pub notes_member : Report → List Note → List Token
+notes_member report notes =
+    cond (length notes == 0) [] (list_member (codes "notes") (flat_map (note_object report) notes))
+
+-- What check says: what is certain of the document.
+unfoldable pub check_object : Report → List ℕ → Option (List ℕ) → ℕ → List Token
+check_object report version file places =
+    object (head_members report version file ++ about_members report
+    ++ optional (number_members report) report.blame ++ said_member (codes "looks_like") (looks_word report.looks)
+    ++ places_members places report.answer report)
+
+-- What explain says: the same, and what there is to say in words, the elements and the notes.
+unfoldable pub report_object : Report → List ℕ → Option (List ℕ) → Bool → ℕ → List Token
+report_object report version file all places =
+    object (head_members report version file ++ about_members report
+    ++ due_members report ++ optional (number_members report) report.blame
+    ++ said_member (codes "looks_like") (looks_word report.looks) ++ advice_members report
+    ++ places_members places report.answer report ++ lines_member all report.lines.items
+    ++ notes_member report report.notes.items)

@@ -1,0 +1,152 @@
+-- The elements of a report, and what is said of some, as tokens of JSON.
+use Rattle.std.specs.Prelude.{Bool, List, None, Some, [], codes, cond, false, flat_map, nat_lt, length, string_bytes, take, true, ℕ, ◌++◌, ◌∷◌}
+use Rattle.std.specs.List.{slice_get}
+use Rattle.std.specs.Str.{is_utf8}
+use Rattle.hex.specs.Hex.{encode_lower}
+use Rattle.json.specs.Token.{Token}
+use Rattle.tlv_core.specs.Classes.{class_of}
+use Rattle.tlv_core.specs.Identifier.{Tag}
+use Rattle.asn_names.specs.declared.element.Step.{Step}
+use Rattle.reports.specs.declared.json_lists.Marked.{Marked}
+use Rattle.reports.specs.declared.report.Cause.{Cause}
+use Rattle.reports.specs.declared.report.Length.{Length}
+use Rattle.reports.specs.declared.report.Line.{Line}
+use Rattle.reports.specs.declared.report.Note.{Note}
+use Rattle.reports.specs.declared.report.Remark.{Remark}
+use Rattle.reports.specs.declared.report.Remark.TheVariants as remarks
+use Rattle.reports.specs.declared.report.Report.{Report}
+use Rattle.reports.specs.declared.report.Value.{Value}
+use Rattle.reports.specs.declared.report.Value.TheVariants as values
+use Rattle.reports.specs.Picks.{is_place_alone, way_of}
+use Rattle.reports.specs.JsonMembers.{boolean_member, list_member, number_member, object, object_member, optional, said_member, text_member}
+use Rattle.reports.specs.JsonWords.{cause_word, class_word, remark_word}
+use Rattle.reports.specs.Paths.{with_root, with_step, with_way}
+
+-- the path of an element, by the number of the line of the one around it, and by the step from there
+unfoldable pub path_of : Report → ℕ → Step → List ℕ
+path_of report around step =
+    with_root report.kind.type_name.now (with_step (with_way [] (way_of report.lines.items around)) step)
+
+-- an element by its path and its place
+unfoldable pub field_members : Report → ℕ → Step → ℕ → List Token
+field_members report around step at =
+    said_member (codes "field") (path_of report around step) ++ number_member (codes "at") at
+
+-- a tag by its class and its number
+unfoldable pub tag_members : List ℕ → ℕ → List Token
+tag_members class number =
+    object_member (codes "tag") (text_member (codes "class") class ++ number_member (codes "number") number)
+
+abbrev pub tag_member : Tag → List Token
+tag_member tag = tag_members (class_word (class_of tag.class)) tag.number
+
+-- a header by the number of its octets, and the number of octets of contents that it announces
+unfoldable pub length_members : Length → List Token
+length_members it =
+    number_member (codes "header") it.header ++ optional (number_member (codes "length")) it.contents
+
+-- a character string that is UTF-8 as it is, another one in hexadecimal digits
+unfoldable pub characters_member : List ℕ → List Token
+characters_member octets =
+    cond (is_utf8 octets) (text_member (codes "characters") octets)
+    (text_member (codes "hexadecimal") (encode_lower octets))
+
+-- what is told of contents
+unfoldable pub value_members : Value → List Token
+value_members values.Nothing = []
+value_members values.NotShown = boolean_member (codes "shown") false
+value_members (values.Size octets) = number_member (codes "octets") octets
+value_members (values.Bits octets unused) =
+    number_member (codes "octets") octets ++ number_member (codes "unused_bits") unused
+value_members values.Null = boolean_member (codes "null") true
+value_members (values.Boolean value) = boolean_member (codes "boolean") value
+value_members (values.Number number) = number_member (codes "integer") number
+value_members (values.Named id) =
+    text_member (codes "identifier") id.now.arcs.now ++ text_member (codes "name") id.now.name.now
+value_members (values.Arcs arcs) = text_member (codes "identifier") (string_bytes arcs)
+value_members (values.Characters octets) = characters_member octets.items
+
+-- nothing is told
+abbrev pub is_untold : Value → Bool
+is_untold values.Nothing = true
+is_untold values.NotShown = false
+is_untold (values.Size octets) = false
+is_untold (values.Bits octets unused) = false
+is_untold values.Null = false
+is_untold (values.Boolean value) = false
+is_untold (values.Number number) = false
+is_untold (values.Named id) = false
+is_untold (values.Arcs arcs) = false
+is_untold (values.Characters octets) = false
+
+unfoldable pub value_member : Value → List Token
+value_member value = cond (is_untold value) [] (object_member (codes "value") (value_members value))
+
+-- the tag of an element and whether it is constructed, where more than its place is told
+unfoldable pub form_members : Line → List Token
+form_members line =
+    cond (is_place_alone line.step line.value) []
+    (tag_member line.tag ++ boolean_member (codes "constructed") line.constructed)
+
+-- an element
+unfoldable pub line_members : Line → List Token
+line_members line =
+    number_member (codes "at") line.at ++ optional length_members line.length
+    ++ number_member (codes "depth") line.depth ++ said_member (codes "name") (with_step [] line.step)
+    ++ said_member (codes "type") line.type_name.now ++ form_members line
+    ++ optional (number_member (codes "end")) line.end ++ value_member line.value
+
+abbrev pub line_object : Line → List Token
+line_object line = object (line_members line)
+
+-- an element that isn't in DER
+abbrev pub marked_by : Line → Cause → Marked
+marked_by line cause = record { at = line.at; around = line.around; step = line.step; cause = cause }
+
+-- all of those
+abbrev pub marked_in : List Line → List Marked
+marked_in [] = []
+marked_in (line ∷ lines) =
+    elim line.cause [ None ↦ marked_in lines | Some cause ↦ marked_by line cause ∷ marked_in lines ]
+
+unfoldable pub marked_object : Report → Marked → List Token
+marked_object report it =
+    object (field_members report it.around it.step it.at ++ text_member (codes "what") (cause_word it.cause))
+
+-- up to so many
+abbrev pub first_ones : {A : Type 0} → ℕ → List A → List A
+first_ones most items = cond (nat_lt most (length items)) (take most items) items
+
+-- up to so many of these elements, and how many there are
+unfoldable pub some_members : Report → ℕ → List Marked → List Token
+some_members report places marked =
+    list_member (codes "not_der") (flat_map (marked_object report) (first_ones places marked))
+    ++ number_member (codes "not_der_places") (length marked)
+
+-- those that aren't in DER
+abbrev pub not_der_members : ℕ → Report → List Line → List Token
+not_der_members places report lines = some_members report places (marked_in lines)
+
+-- the numbers that a remark has
+unfoldable pub remark_members : Remark → List Token
+remark_members (remarks.PointSize octets) = number_member (codes "octets") octets
+remark_members remarks.PointBits = []
+remark_members remarks.NoNamedCurve = []
+remark_members remarks.ExtensionTwice = []
+remark_members remarks.AttributeTwice = []
+remark_members (remarks.SeveralValues count) = number_member (codes "values") count
+remark_members (remarks.KeySize octets due) =
+    number_member (codes "octets") octets ++ number_member (codes "due_octets") due
+remark_members remarks.NeedlessParameters = []
+
+abbrev pub field_of_line : Report → Line → List Token
+field_of_line report line = field_members report line.around line.step line.at
+
+-- a remark
+unfoldable pub note_members : Report → Note → List Token
+note_members report note =
+    optional (field_of_line report) (slice_get report.lines.items note.line)
+    ++ text_member (codes "what") (remark_word note.remark) ++ remark_members note.remark
+
+abbrev pub note_object : Report → Note → List Token
+note_object report note = object (note_members report note)

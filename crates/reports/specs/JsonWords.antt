@@ -1,0 +1,51 @@
+-- Words of JSON that stay as they are, whatever the words of the text become.
+use Rattle.std.specs.Prelude.{List, [], codes, ℕ}
+use Rattle.tlv_core.specs.declared.tag.Class.{Class}
+use Rattle.tlv_core.specs.declared.tag.Class.TheVariants.{Application, Context, Private, Universal}
+use Rattle.reports.specs.declared.report.Cause.{Cause}
+use Rattle.reports.specs.declared.report.Cause.TheVariants as causes
+use Rattle.reports.specs.declared.report.Looks.{Looks}
+use Rattle.reports.specs.declared.report.Looks.TheVariants as looks
+use Rattle.reports.specs.declared.report.Remark.{Remark}
+use Rattle.reports.specs.declared.report.Remark.TheVariants as remarks
+
+-- the class of a tag (X.690 8.1.2.2)
+abbrev pub class_word : Class → List ℕ
+class_word Universal = codes "universal"
+class_word Application = codes "application"
+class_word Context = codes "context"
+class_word Private = codes "private"
+
+-- why an element isn't in DER
+abbrev pub cause_word : Cause → List ℕ
+cause_word causes.LongLength = codes "long_length"
+cause_word causes.IndefiniteLength = codes "indefinite_length"
+cause_word causes.Segments = codes "segments"
+cause_word causes.True = codes "true"
+cause_word causes.UnusedBits = codes "unused_bits"
+cause_word causes.Default = codes "default"
+cause_word causes.Order = codes "order"
+
+-- what the file may be instead; a document of another kind by the word of that
+abbrev pub looks_word : Looks → List ℕ
+looks_word looks.Unknown = []
+looks_word looks.Empty = codes "empty"
+looks_word (looks.Pem label) = codes "pem"
+looks_word (looks.Kind kind) = kind.word.now
+looks_word looks.RsaPrivateKey = codes "rsa_private_key"
+looks_word looks.RsaPublicKey = codes "rsa_public_key"
+looks_word looks.Certificate = codes "certificate"
+looks_word looks.Pkcs12 = codes "pkcs12"
+looks_word looks.Hexadecimal = codes "hexadecimal"
+looks_word looks.Base64 = codes "base64"
+
+-- what is remarked
+abbrev pub remark_word : Remark → List ℕ
+remark_word (remarks.PointSize octets) = codes "point_size"
+remark_word remarks.PointBits = codes "point_bits"
+remark_word remarks.NoNamedCurve = codes "no_named_curve"
+remark_word remarks.ExtensionTwice = codes "extension_twice"
+remark_word remarks.AttributeTwice = codes "attribute_twice"
+remark_word (remarks.SeveralValues count) = codes "several_values"
+remark_word (remarks.KeySize octets due) = codes "key_size"
+remark_word remarks.NeedlessParameters = codes "needless_parameters"

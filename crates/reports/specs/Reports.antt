@@ -1,0 +1,64 @@
+-- The text of a report.
+use Rattle.std.specs.Prelude.{Bool, List, None, Option, Some, [], codes, cond, decimal, flat_map, length, ℕ, ◌++◌, ◌==◌}
+use Rattle.tlv_core.specs.Reasons.{name_of}
+use Rattle.tlv_core.specs.declared.reason.Reason.{Reason}
+use Rattle.reports.specs.Field.{field_said}
+use Rattle.reports.specs.Hints.{do_said, likely_said, remark_said}
+use Rattle.reports.specs.Picks.{way_of}
+use Rattle.reports.specs.Listings.{listing}
+use Rattle.reports.specs.Paths.{path_text}
+use Rattle.reports.specs.Texts.{line_feed}
+use Rattle.reports.specs.Words.{due_said, found_said, sized}
+use Rattle.reports.specs.Wraps.{told_line}
+use Rattle.reports.specs.declared.report.Answer.{Answer}
+use Rattle.reports.specs.declared.report.Answer.TheVariants.{Der, NotDer, Refused}
+use Rattle.reports.specs.declared.report.Note.{Note}
+use Rattle.reports.specs.declared.report.Report.{Report}
+
+-- the kind, and the number of octets
+unfoldable pub head_line : Report → List ℕ
+head_line report = report.kind.word.now ++ codes ", " ++ sized report.octets ++ line_feed
+
+-- a place and a reason
+unfoldable pub place_said : ℕ → Reason → List ℕ
+place_said at why = decimal at ++ codes ": " ++ name_of why
+
+-- the place and reason of a fault inside, where there is one
+abbrev pub inside_said : Option (ℕ × Reason) → List ℕ
+inside_said None = []
+inside_said (Some inside) = codes " inside at " ++ place_said inside.0 inside.1
+
+-- what `check` answers, in its words
+abbrev pub answer_line : Answer → List ℕ
+answer_line Der = codes "DER" ++ line_feed
+answer_line (NotDer at) = codes "not DER at " ++ decimal at ++ line_feed
+answer_line (Refused fault) =
+    codes "fault at " ++ place_said fault.at fault.why ++ inside_said fault.inside ++ line_feed
+
+-- The field, what is due there, what stands there, the usual cause, and what to do.
+unfoldable pub told_lines : Report → List ℕ
+told_lines report =
+    line_feed ++ told_line (codes "field   ") (field_said report) ++ told_line (codes "due     ") (due_said report)
+    ++ told_line (codes "found   ") (found_said report) ++ told_line (codes "likely  ") (likely_said report)
+    ++ told_line (codes "do      ") (do_said report)
+
+abbrev pub told_of : Answer → Report → List ℕ
+told_of Der report = []
+told_of (NotDer at) report = told_lines report
+told_of (Refused fault) report = told_lines report
+
+-- the path to what a remark is about, and the remark
+unfoldable pub note_line : Report → Note → List ℕ
+note_line report note =
+    told_line (codes "note    ")
+    (path_text report.kind.type_name.now (way_of report.lines.items note.line) ++ codes ": "
+    ++ remark_said note.remark)
+
+unfoldable pub note_lines : Report → List Note → List ℕ
+note_lines report notes = cond (length notes == 0) [] (line_feed ++ flat_map (note_line report) notes)
+
+-- The text of a report, with all lines of the listing or some: of those that aren't in DER so many.
+abbrev pub report_lines : Report → Bool → ℕ → List ℕ
+report_lines report all places =
+    head_line report ++ answer_line report.answer ++ listing report all places ++ told_of report.answer report
+    ++ note_lines report report.notes.items

@@ -1,0 +1,180 @@
+-- What is said of the element that is refused, and of what is due in its place.
+use Rattle.std.specs.Prelude.{Bool, List, None, Option, Some, [], codes, cond, decimal, false, is_some, length, nat_lt, not, true, ℕ, ◌&&◌, ◌+◌, ◌++◌, ◌-◌, ◌==◌}
+use Rattle.tlv_core.specs.declared.fault.Fault.{Fault}
+use Rattle.tlv_core.specs.declared.reason.Reason.{Reason}
+use Rattle.tlv_core.specs.declared.reason.Reason.TheVariants as reasons
+use Rattle.reports.specs.declared.report.Answer.{Answer}
+use Rattle.reports.specs.declared.report.Answer.TheVariants.{Der, NotDer, Refused}
+use Rattle.reports.specs.declared.report.Blame.{Blame}
+use Rattle.reports.specs.declared.report.ToldContainer.{ToldContainer}
+use Rattle.reports.specs.declared.report.Due.{Due}
+use Rattle.reports.specs.declared.report.Due.TheVariants.{Fields, «Type», Unsaid}
+use Rattle.reports.specs.declared.report.Found.{Found}
+use Rattle.reports.specs.declared.report.Length.{Length}
+use Rattle.reports.specs.declared.report.Report.{Report}
+use Rattle.reports.specs.Paths.{path_text}
+use Rattle.reports.specs.ReasonDue.{reason_due}
+use Rattle.reports.specs.TypeWords.{fields_said, shape_said, tag_said}
+
+-- a number of octets
+abbrev pub sized : ℕ → List ℕ
+sized octets = decimal octets ++ cond (octets == 1) (codes " octet") (codes " octets")
+
+-- two texts with a semicolon between them, where both say something
+abbrev pub joined : List ℕ → List ℕ → List ℕ
+joined first second =
+    cond (length first == 0) second (cond (length second == 0) first (first ++ codes "; " ++ second))
+
+-- the types that may stand there
+abbrev pub due_type_said : Due → List ℕ
+due_type_said Unsaid = []
+due_type_said (Fields fields) = fields_said fields.now
+due_type_said («Type» shape) = shape_said shape.now
+
+-- what the reason alone asks for; else a type
+abbrev pub due_by : List ℕ → Due → List ℕ
+due_by words due = cond (length words == 0) (due_type_said due) words
+
+unfoldable pub due_of : List ℕ → Fault → Blame → List ℕ
+due_of kind fault blame = due_by (reason_due kind fault) blame.due
+
+-- the same of a document that is judged so
+abbrev pub due_judged : List ℕ → Answer → Option Blame → List ℕ
+due_judged kind (Refused fault) (Some blame) = due_of kind fault blame
+due_judged kind (Refused fault) None = []
+due_judged kind Der blame = []
+due_judged kind (NotDer at) blame = []
+
+abbrev pub due_said : Report → List ℕ
+due_said report = due_judged report.kind.word.now report.answer report.blame
+
+-- what length octets say
+abbrev pub contents_said : Option ℕ → List ℕ
+contents_said (Some octets) = codes " of " ++ sized octets
+contents_said None = codes " of indefinite length"
+
+abbrev pub length_said : Option Length → List ℕ
+length_said None = []
+length_said (Some length) = contents_said length.contents
+
+-- an element by its header
+unfoldable pub header_said : Found → List ℕ
+header_said found = tag_said found.tag ++ length_said found.length
+
+-- a container by its path and its place
+unfoldable pub placed : List ℕ → ToldContainer → List ℕ
+placed root container = path_text root container.way.items ++ codes " at " ++ decimal container.at
+
+-- the place where an element would end that passes this one by so many octets
+unfoldable pub would_end : ℕ → ℕ → List ℕ
+would_end end over = codes ", which would end at " ++ decimal (end + over) ++ codes "; "
+
+-- the place where the container ends, and by how many octets it is passed
+unfoldable pub ends_before : ℕ → ℕ → List ℕ
+ends_before end over =
+    codes ", which it is in, ends at " ++ decimal end ++ codes ": " ++ sized over ++ codes " too many"
+
+-- the container that ends at this place, and whose end an element passes by so many octets
+abbrev pub passed_at : List ℕ → ToldContainer → ℕ → Option ℕ → List ℕ
+passed_at root container over None = []
+passed_at root container over (Some end) =
+    would_end end over ++ placed root container ++ ends_before end over
+
+unfoldable pub passed_said : List ℕ → ToldContainer → ℕ → List ℕ
+passed_said root container over = passed_at root container over container.end
+
+-- of an element that has so many contents octets too many, in this container, or in none that ends
+abbrev pub over_said : List ℕ → Option ℕ → Option ToldContainer → List ℕ
+over_said root None container = []
+over_said root (Some over) (Some container) = passed_said root container over
+over_said root (Some over) None = codes ": " ++ sized over ++ codes " missing"
+
+unfoldable pub element_said : List ℕ → Blame → List ℕ
+element_said root blame = over_said root blame.over blame.container
+
+-- the container in which something is missing
+abbrev pub end_said : Option ℕ → List ℕ
+end_said None = []
+end_said (Some end) = codes " at " ++ decimal end
+
+abbrev pub ended : List ℕ → Option ToldContainer → List ℕ
+ended root None = []
+ended root (Some container) = placed root container ++ codes " ends" ++ end_said container.end
+
+unfoldable pub container_said : List ℕ → Blame → List ℕ
+container_said root blame = ended root blame.container
+
+-- the element that stands there; else the container that ends there
+abbrev pub found_by : List ℕ → Blame → Option Found → List ℕ
+found_by root blame (Some found) = header_said found ++ element_said root blame
+found_by root blame None = container_said root blame
+
+unfoldable pub found_of : List ℕ → Blame → List ℕ
+found_of root blame = found_by root blame blame.found
+
+abbrev pub found_in : List ℕ → Option Blame → List ℕ
+found_in root None = []
+found_in root (Some blame) = found_of root blame
+
+abbrev pub blamed_said : Report → List ℕ
+blamed_said report = found_in report.kind.type_name.now report.blame
+
+abbrev pub more_words : Bool → List ℕ
+more_words is_inside =
+    cond is_inside (codes " more inside privateKey, behind the key") (codes " more behind the document")
+
+-- so many octets behind what is inside privateKey, or behind a document whose length doesn't say where it ends
+unfoldable pub more_of : Bool → Bool → ℕ → List ℕ
+more_of is_inside is_announced more = cond (not is_inside && is_announced) [] (sized more ++ more_words is_inside)
+
+abbrev pub more_blamed : Bool → Bool → Option ℕ → List ℕ
+more_blamed is_inside is_announced None = []
+more_blamed is_inside is_announced (Some more) = more_of is_inside is_announced more
+
+abbrev pub more_in : Bool → Bool → Option Blame → List ℕ
+more_in is_inside is_announced None = []
+more_in is_inside is_announced (Some blame) = more_blamed is_inside is_announced blame.more
+
+-- the same of a document that is judged so
+abbrev pub more_by : Report → Answer → List ℕ
+more_by report (Refused fault) = more_in (is_some fault.inside) (is_some report.announced) report.blame
+more_by report Der = []
+more_by report (NotDer at) = []
+
+abbrev pub more_said : Report → List ℕ
+more_said report = more_by report report.answer
+
+-- Whether the outermost length says something of a document that is refused so: not where it is no document at all,
+-- nor where it wasn't read to its end.
+abbrev pub tells_size_by : Reason → ℕ → Bool
+tells_size_by reasons.TooLong at = false
+tells_size_by reasons.WrongTag at = not (at == 0)
+tells_size_by why at = true
+
+abbrev pub tells_size : Fault → Bool
+tells_size fault = tells_size_by fault.why fault.at
+
+-- how many octets there are, and how many there have to be
+unfoldable pub off_by : ℕ → ℕ → List ℕ
+off_by octets announced =
+    cond (nat_lt octets announced) (sized (announced - octets) ++ codes " missing")
+    (sized (octets - announced) ++ codes " more")
+
+unfoldable pub size_of : ℕ → ℕ → List ℕ
+size_of octets announced =
+    cond (octets == announced) []
+    (sized octets ++ codes "; the document says at 0 that it has " ++ decimal announced ++ codes ": "
+    ++ off_by octets announced)
+
+-- the same of a document that is judged so
+abbrev pub size_by : ℕ → Answer → Option ℕ → List ℕ
+size_by octets (Refused fault) (Some announced) = cond (tells_size fault) (size_of octets announced) []
+size_by octets (Refused fault) None = []
+size_by octets Der announced = []
+size_by octets (NotDer at) announced = []
+
+abbrev pub size_said : Report → List ℕ
+size_said report = size_by report.octets report.answer report.announced
+
+abbrev pub found_said : Report → List ℕ
+found_said report = joined (joined (blamed_said report) (more_said report)) (size_said report)

@@ -1,0 +1,244 @@
+//! What is likely, and what to do: by what the file looks like, else by the reason.
+ghost use Rattle.std.specs.Prelude.{◌≡◌, ◌++◌, IfOk, OnOk, string_bytes};
+ghost use Rattle.reports.specs.Hints.{cause_said, do_said, is_lines, likely_said, line_said, looks_act, looks_name, looks_said, looks_words, reason_act, reason_likely, remark_said, signed_words, sound_said};
+
+use crate::placed_advice::{push_fault_act, push_fault_likely};
+use crate::report::{Answer, Cause, Looks, Remark, Report};
+use crate::text::push_number;
+use crate::words::push_size;
+use std::alloc::{AllocError, Global};
+use tlv_core::fault::Fault;
+
+/// The usual cause.
+pub(crate) fn likely_text(alloc: Global, report: &Report) -> Result<String, AllocError>
+    ensures { IfOk result (λ text. string_bytes text ≡ likely_said report.now) }
+{
+    let mut text = String::new(alloc);
+    if let Answer::Refused(fault) = report.answer {
+        push_likely(&mut text, report, fault)?;
+    }
+    Ok(text)
+}
+
+#[tactic(auto, unfolding(crate::specs::Hints::reason_likely))]
+fn push_likely(text: &mut String, report: &Report, fault: Fault) -> Result<(), AllocError>
+    ensures { OnOk result (string_bytes text.new ≡ string_bytes text.old
+        ++ reason_likely report.now fault) }
+{
+    match report.looks {
+        Looks::Unknown => {
+            let line = line_words(report.octets, report.announced);
+            if line.is_empty() {
+                push_fault_likely(text, fault)
+            } else {
+                text.push_str(line)
+            }
+        }
+        looks => push_looks(text, looks),
+    }
+}
+
+/// Whether a line of a PEM text, of 64 letters or of 76, may be missing or stand twice.
+#[tactic(auto, unfolding(crate::specs::Hints::line_said))]
+fn line_words(octets: u64, announced: Option<u64>) -> &'static str
+    ensures { result.now ≡ line_said octets announced }
+{
+    let Some(announced) = announced else {
+        return "";
+    };
+    if octets < announced && is_lines(announced - octets) {
+        return "a line of the PEM text is missing";
+    }
+    if announced < octets && is_lines(octets - announced) {
+        return "a line of the PEM text stands twice";
+    }
+    ""
+}
+
+/// Whether lines of 64 letters of base64, or of 76, have so many octets.
+fn is_lines(octets: u64) -> bool
+    ensures { result ≡ is_lines octets }
+{
+    octets % 48 == 0 || octets % 57 == 0
+}
+
+/// What the file looks like.
+#[tactic(auto, unfolding(crate::specs::Hints::looks_said))]
+fn push_looks(text: &mut String, looks: Looks) -> Result<(), AllocError>
+    ensures { OnOk result (string_bytes text.new ≡ string_bytes text.old ++ looks_said looks) }
+{
+    text.push_str(looks_words(looks))?;
+    text.push_str(looks_name(looks))
+}
+
+/// What the file looks like, but for the label or the kind.
+#[tactic(auto, unfolding(crate::specs::Hints::looks_words))]
+fn looks_words(looks: Looks) -> &'static str
+    ensures { result.now ≡ looks_words looks }
+{
+    match looks {
+        Looks::Unknown => "",
+        Looks::Empty => "the file is empty",
+        Looks::Pem(_) => "this is PEM, labelled ",
+        Looks::Kind(_) => "this is a document of kind ",
+        Looks::RsaPrivateKey => "this is an RSAPrivateKey (PKCS #1)",
+        Looks::RsaPublicKey => "this is an RSAPublicKey (PKCS #1)",
+        Looks::Certificate => "this is a certificate",
+        Looks::Pkcs12 => "this is a PKCS #12 file",
+        Looks::Hexadecimal => "this is hexadecimal",
+        Looks::Base64 => "this is base64",
+    }
+}
+
+/// The label of PEM, or the word of a kind.
+#[tactic(auto, unfolding(crate::specs::Hints::looks_name))]
+fn looks_name(looks: Looks) -> &'static str
+    ensures { result.now ≡ looks_name looks }
+{
+    match looks {
+        Looks::Pem(label) => label,
+        Looks::Kind(kind) => kind.word,
+        _ => "",
+    }
+}
+
+/// What to do.
+pub(crate) fn do_text(alloc: Global, report: &Report) -> Result<String, AllocError>
+    ensures { IfOk result (λ text. string_bytes text ≡ do_said report.now) }
+{
+    let mut text = String::new(alloc);
+    match report.answer {
+        Answer::Der => {}
+        Answer::NotDer(_) => push_sound(&mut text, report.kind.word)?,
+        Answer::Refused(fault) => push_act(&mut text, report.looks, fault)?,
+    }
+    Ok(text)
+}
+
+/// What to do with a document of this kind that isn't in DER.
+#[tactic(auto, unfolding(crate::specs::Hints::sound_said))]
+fn push_sound(text: &mut String, kind: &str) -> Result<(), AllocError>
+    ensures { OnOk result (string_bytes text.new ≡ string_bytes text.old
+        ++ sound_said kind.now) }
+{
+    text.push_str(
+        "the document is sound. A program that takes DER alone refuses it; else keep what pkder \
+            normalise writes",
+    )?;
+    text.push_str(signed_words(kind))
+}
+
+/// What to do with what is signed, which a request alone has.
+fn signed_words(kind: &str) -> &'static str
+    ensures { result.now ≡ signed_words kind.now }
+{
+    if kind == "request" {
+        return ", and verify the signature over what pkder signed writes";
+    }
+    ""
+}
+
+#[tactic(auto, unfolding(crate::specs::Hints::reason_act))]
+fn push_act(text: &mut String, looks: Looks, fault: Fault) -> Result<(), AllocError>
+    ensures { OnOk result (string_bytes text.new ≡ string_bytes text.old
+        ++ reason_act looks fault) }
+{
+    match looks {
+        Looks::Unknown => push_fault_act(text, fault),
+        looks => push_looks_act(text, looks),
+    }
+}
+
+/// What to do with a file that looks so.
+#[tactic(auto, unfolding(crate::specs::Hints::looks_act))]
+fn push_looks_act(text: &mut String, looks: Looks) -> Result<(), AllocError>
+    ensures { OnOk result (string_bytes text.new ≡ string_bytes text.old ++ looks_act looks) }
+{
+    match looks {
+        Looks::Unknown => Ok(()),
+        Looks::Empty => text.push_str("fetch it again"),
+        Looks::Pem(_) => text.push_str(
+            "decode its base64, as the manual says under Getting the octets",
+        ),
+        Looks::Kind(kind) => {
+            text.push_str("read it with --kind ")?;
+            text.push_str(kind.word)
+        }
+        Looks::RsaPrivateKey => text.push_str(
+            "openssl pkcs8 -topk8 -nocrypt -inform DER -in FILE -outform DER makes it PKCS #8",
+        ),
+        Looks::RsaPublicKey => text.push_str(
+            "openssl rsa -RSAPublicKey_in -inform DER -in FILE -pubout -outform DER makes it kind public",
+        ),
+        Looks::Certificate => text.push_str(
+            "openssl x509 -inform DER -in FILE -pubkey -noout writes its public key",
+        ),
+        Looks::Pkcs12 => text.push_str(
+            "openssl pkcs12 -nodes -nocerts -in FILE writes its private key",
+        ),
+        Looks::Hexadecimal => text.push_str("xxd -r -p FILE writes its octets"),
+        Looks::Base64 => text.push_str("base64 -d FILE writes its octets"),
+    }
+}
+
+/// Why an element isn't in DER.
+#[tactic(auto, unfolding(crate::specs::Hints::cause_said))]
+pub(crate) fn cause_words(cause: Cause) -> &'static str
+    ensures { result.now ≡ cause_said cause }
+{
+    match cause {
+        Cause::LongLength => "a length in more octets than it needs",
+        Cause::IndefiniteLength => "a length of the indefinite form",
+        Cause::Segments => "a string in segments",
+        Cause::True => "TRUE by another octet than FF",
+        Cause::UnusedBits => "unused bits that aren't 0",
+        Cause::Default => "a default value written out, which DER leaves out",
+        Cause::Order => "members of a SET OF that aren't in the order of their octets",
+    }
+}
+
+/// What other standards say to what stands there.
+pub(crate) fn note_text(alloc: Global, remark: Remark) -> Result<String, AllocError>
+    ensures { IfOk result (λ text. string_bytes text ≡ remark_said remark) }
+{
+    let mut text = String::new(alloc);
+    push_remark(&mut text, remark)?;
+    Ok(text)
+}
+
+#[tactic(auto, unfolding(crate::specs::Hints::remark_said))]
+fn push_remark(text: &mut String, remark: Remark) -> Result<(), AllocError>
+    ensures { OnOk result (string_bytes text.new ≡ string_bytes text.old ++ remark_said remark) }
+{
+    match remark {
+        Remark::PointSize(octets) => {
+            text.push_str("a point of ")?;
+            push_size(text, octets)?;
+            text.push_str(", which none of this curve has (RFC 5480 section 2.2)")
+        }
+        Remark::PointBits => text.push_str("a point with unused bits (RFC 5480 section 2.2)"),
+        Remark::NoNamedCurve => text.push_str(
+            "id-ecPublicKey without a named curve (RFC 5480 section 2.1.1)",
+        ),
+        Remark::ExtensionTwice => text.push_str(
+            "an extension that stands there before (RFC 5280 section 4.2)",
+        ),
+        Remark::AttributeTwice => text.push_str(
+            "an attribute that stands there before (RFC 2986 section 4.1)",
+        ),
+        Remark::SeveralValues(count) => {
+            push_number(text, count)?;
+            text.push_str(" values of an attribute that has one (RFC 2985 section 5.4)")
+        }
+        Remark::KeySize(octets, due) => {
+            text.push_str("a key of ")?;
+            push_size(text, octets)?;
+            text.push_str(", where its algorithm has ")?;
+            push_number(text, due)?;
+            text.push_str(" (RFC 9881, RFC 9935, RFC 9909)")
+        }
+        Remark::NeedlessParameters => text.push_str(
+            "parameters beside an algorithm that has none (RFC 9881, RFC 9935, RFC 9909)",
+        ),
+    }
+}

@@ -1,0 +1,418 @@
+//! The elements of a report, and what is said of some, as JSON.
+ghost use Rattle.std.specs.Prelude.{[], ◌≡◌, ◌++◌, IfOk, OnOk, codes, flat_map, length, string_bytes};
+ghost use Rattle.std.specs.Option.{option_map};
+ghost use Rattle.reports.specs.JsonLists.{characters_member, field_members, field_of_line, first_ones, form_members, is_untold, length_members, line_members, line_object, marked_in, marked_object, not_der_members, note_members, note_object, path_of, remark_members, some_members, tag_member, tag_members, value_member, value_members};
+ghost use Rattle.reports.specs.JsonMembers.{list_member, number_member, optional};
+ghost use Rattle.reports.specs.JsonWords.{class_word};
+ghost use Rattle.reports.specs.Paths.{with_step};
+ghost use Rattle.tlv_core.specs.Classes.{class_of};
+
+use crate::json_text::JsonText;
+use crate::json_words::{word_of_cause, word_of_class, word_of_remark};
+use crate::paths::{push_path, push_root, push_step};
+use crate::picks::{is_place_alone, line_of, way_to};
+use crate::report::{Cause, Length, Line, Note, Remark, Report, Value};
+use asn_names::element::Step;
+use std::alloc::{AllocError, Global};
+use tlv_core::tag::Tag;
+
+/// An element that isn't in DER.
+#[derive(Clone, Copy)]
+pub(crate) struct Marked {
+    at: u64,
+    around: u64,
+    step: Step,
+    cause: Cause,
+}
+
+/// The elements that aren't in DER.
+fn find_marked(alloc: Global, lines: &[Line]) -> Result<Vec<Marked>, AllocError>
+    ensures { IfOk result (λ marked. marked.items ≡ marked_in lines.now) }
+{
+    let mut marked = Vec::new(alloc);
+    let mut rest = lines;
+    while let [line, behind @ ..] = rest {
+        if let Some(cause) = line.cause {
+            marked.push(Marked {
+                at: line.at,
+                around: line.around,
+                step: line.step,
+                cause,
+            })?;
+        }
+        rest = behind;
+    }
+    Ok(marked)
+}
+
+/// The path of an element, by the number of the line of the one around it.
+#[tactic(auto, unfolding(crate::specs::JsonLists::path_of))]
+fn path_to(alloc: Global, report: &Report, around: u64, step: Step) -> Result<String, AllocError>
+    ensures { IfOk result (λ text. string_bytes text ≡ path_of report.now around step) }
+{
+    let way = way_to(alloc, &report.lines, around)?;
+    let mut text = String::new(alloc);
+    push_path(&mut text, &way)?;
+    push_step(&mut text, step)?;
+    push_root(&mut text, report.kind.type_name)?;
+    Ok(text)
+}
+
+/// The members that tell an element by its path and its place.
+#[tactic(auto, unfolding(crate::specs::JsonLists::field_members))]
+fn push_field(
+    alloc: Global,
+    json: &mut JsonText,
+    report: &Report,
+    around: u64,
+    step: Step,
+    at: u64,
+) -> Result<(), AllocError>
+    ensures { OnOk result (json.new ≡ json.old ++ field_members report.now around step at) }
+{
+    let path = path_to(alloc, report, around, step)?;
+    json.said("field", path.as_str())?;
+    json.number("at", at)
+}
+
+#[tactic(auto, unfolding(crate::specs::JsonLists::marked_object))]
+fn push_marked(
+    alloc: Global,
+    json: &mut JsonText,
+    report: &Report,
+    marked: &Marked,
+) -> Result<(), AllocError>
+    ensures { OnOk result (json.new ≡ json.old ++ marked_object report.now marked.now) }
+{
+    json.begin_object()?;
+    push_field(alloc, json, report, marked.around, marked.step, marked.at)?;
+    json.text("what", word_of_cause(marked.cause))?;
+    json.end_object()
+}
+
+fn push_all_marked(
+    alloc: Global,
+    json: &mut JsonText,
+    report: &Report,
+    marked: &[Marked],
+) -> Result<(), AllocError>
+    ensures { OnOk result (json.new ≡ json.old ++ flat_map (marked_object report.now) marked.now) }
+{
+    let mut rest = marked;
+    while let [first, behind @ ..] = rest {
+        push_marked(alloc, json, report, first)?;
+        rest = behind;
+    }
+    Ok(())
+}
+
+/// Up to so many.
+fn up_to(marked: &[Marked], most: u64) -> &[Marked]
+    ensures { result.now ≡ first_ones most marked.now }
+{
+    if most < marked.len() as u64 {
+        &marked[..most as usize]
+    } else {
+        marked
+    }
+}
+
+fn push_list(
+    alloc: Global,
+    json: &mut JsonText,
+    report: &Report,
+    marked: &[Marked],
+) -> Result<(), AllocError>
+    ensures { OnOk result (json.new ≡ json.old
+        ++ list_member (codes "not_der") (flat_map (marked_object report.now) marked.now)) }
+{
+    json.begin_list_at("not_der")?;
+    push_all_marked(alloc, json, report, marked)?;
+    json.end_list()
+}
+
+fn count_of(marked: &[Marked]) -> u64
+    ensures { result ≡ length marked.now }
+{
+    marked.len() as u64
+}
+
+/// Up to so many of these elements, and how many there are.
+#[tactic(auto, unfolding(crate::specs::JsonLists::some_members))]
+fn push_some(
+    alloc: Global,
+    json: &mut JsonText,
+    report: &Report,
+    marked: &[Marked],
+    places: u64,
+) -> Result<(), AllocError>
+    ensures { OnOk result (json.new ≡ json.old ++ some_members report.now places marked.now) }
+{
+    push_list(alloc, json, report, up_to(marked, places))?;
+    json.number("not_der_places", count_of(marked))
+}
+
+/// The elements that aren't in DER, up to so many, and how many there are.
+pub(crate) fn push_not_der(
+    alloc: Global,
+    json: &mut JsonText,
+    report: &Report,
+    lines: &[Line],
+    places: u64,
+) -> Result<(), AllocError>
+    ensures { OnOk result (json.new ≡ json.old ++ not_der_members places report.now lines.now) }
+{
+    let marked = find_marked(alloc, lines)?;
+    push_some(alloc, json, report, &marked, places)
+}
+
+/// The numbers that a remark has.
+#[tactic(auto, unfolding(crate::specs::JsonLists::remark_members))]
+fn push_remark(json: &mut JsonText, remark: Remark) -> Result<(), AllocError>
+    ensures { OnOk result (json.new ≡ json.old ++ remark_members remark) }
+{
+    match remark {
+        Remark::PointSize(octets) => json.number("octets", octets),
+        Remark::SeveralValues(count) => json.number("values", count),
+        Remark::KeySize(octets, due) => {
+            json.number("octets", octets)?;
+            json.number("due_octets", due)
+        }
+        Remark::PointBits
+        | Remark::NoNamedCurve
+        | Remark::ExtensionTwice
+        | Remark::AttributeTwice
+        | Remark::NeedlessParameters => Ok(()),
+    }
+}
+
+/// The members that tell an element that is listed, where it is.
+fn push_field_of_line(
+    alloc: Global,
+    json: &mut JsonText,
+    report: &Report,
+    line: Option<&Line>,
+) -> Result<(), AllocError>
+    ensures { OnOk result (json.new ≡ json.old
+        ++ optional (field_of_line report.now) (option_map (λ r. r.now) line.entry)) }
+{
+    match line {
+        Some(line) => push_field(alloc, json, report, line.around, line.step, line.at),
+        None => Ok(()),
+    }
+}
+
+#[tactic(auto, unfolding(crate::specs::JsonLists::note_members))]
+fn push_note_members(
+    alloc: Global,
+    json: &mut JsonText,
+    report: &Report,
+    note: &Note,
+) -> Result<(), AllocError>
+    ensures { OnOk result (json.new ≡ json.old ++ note_members report.now note.now) }
+{
+    push_field_of_line(alloc, json, report, line_of(&report.lines, note.line))?;
+    json.text("what", word_of_remark(note.remark))?;
+    push_remark(json, note.remark)
+}
+
+fn push_note(
+    alloc: Global,
+    json: &mut JsonText,
+    report: &Report,
+    note: &Note,
+) -> Result<(), AllocError>
+    ensures { OnOk result (json.new ≡ json.old ++ note_object report.now note.now) }
+{
+    json.begin_object()?;
+    push_note_members(alloc, json, report, note)?;
+    json.end_object()
+}
+
+pub(crate) fn push_notes(
+    alloc: Global,
+    json: &mut JsonText,
+    report: &Report,
+    notes: &[Note],
+) -> Result<(), AllocError>
+    ensures { OnOk result (json.new ≡ json.old ++ flat_map (note_object report.now) notes.now) }
+{
+    let mut rest = notes;
+    while let [note, behind @ ..] = rest {
+        push_note(alloc, json, report, note)?;
+        rest = behind;
+    }
+    Ok(())
+}
+
+/// The word of a tag's class.
+fn class_of_tag(tag: Tag) -> &'static str
+    ensures { result.now ≡ class_word (class_of tag.class) }
+{
+    word_of_class(tag.class())
+}
+
+fn number_of_tag(tag: Tag) -> u64
+    ensures { result ≡ tag.number }
+{
+    u64::from(tag.number())
+}
+
+fn push_tag(json: &mut JsonText, tag: Tag) -> Result<(), AllocError>
+    ensures { OnOk result (json.new ≡ json.old ++ tag_member tag) }
+{
+    push_class_and_number(json, class_of_tag(tag), number_of_tag(tag))
+}
+
+#[tactic(auto, unfolding(crate::specs::JsonLists::tag_members))]
+fn push_class_and_number(json: &mut JsonText, class: &str, number: u64) -> Result<(), AllocError>
+    ensures { OnOk result (json.new ≡ json.old ++ tag_members class.now number) }
+{
+    json.begin_object_at("tag")?;
+    json.text("class", class)?;
+    json.number("number", number)?;
+    json.end_object()
+}
+
+#[tactic(auto, unfolding(crate::specs::JsonLists::length_members))]
+fn push_length(json: &mut JsonText, length: Option<Length>) -> Result<(), AllocError>
+    ensures { OnOk result (json.new ≡ json.old ++ optional length_members length) }
+{
+    match length {
+        None => Ok(()),
+        Some(length) => {
+            json.number("header", length.header)?;
+            json.optional_number("length", length.contents)
+        }
+    }
+}
+
+#[tactic(auto, unfolding(crate::specs::JsonLists::characters_member))]
+fn push_characters(alloc: Global, json: &mut JsonText, octets: &[u8]) -> Result<(), AllocError>
+    ensures { OnOk result (json.new ≡ json.old ++ characters_member octets.now) }
+{
+    match str::from_utf8(octets) {
+        Ok(text) => json.text("characters", text),
+        Err(_) => {
+            let digits = hex::encode(alloc, octets)?;
+            json.text("hexadecimal", digits.as_str())
+        }
+    }
+}
+
+fn is_nothing(value: &Value) -> bool
+    ensures { result ≡ is_untold value.now }
+{
+    match value {
+        Value::Nothing => true,
+        Value::NotShown
+        | Value::Size(_)
+        | Value::Bits(_, _)
+        | Value::Null
+        | Value::Boolean(_)
+        | Value::Number(_)
+        | Value::Named(_)
+        | Value::Arcs(_)
+        | Value::Characters(_) => false,
+    }
+}
+
+fn push_bits(json: &mut JsonText, octets: u64, unused: u64) -> Result<(), AllocError>
+    ensures { OnOk result (json.new ≡ json.old ++ (number_member (codes "octets") octets
+        ++ number_member (codes "unused_bits") unused)) }
+{
+    json.number("octets", octets)?;
+    json.number("unused_bits", unused)
+}
+
+#[tactic(auto, unfolding(crate::specs::JsonLists::value_members))]
+fn push_value_members(alloc: Global, json: &mut JsonText, value: &Value) -> Result<(), AllocError>
+    ensures { OnOk result (json.new ≡ json.old ++ value_members value.now) }
+{
+    match value {
+        Value::Nothing => Ok(()),
+        Value::NotShown => json.boolean("shown", false),
+        Value::Size(octets) => json.number("octets", *octets),
+        Value::Bits(octets, unused) => push_bits(json, *octets, u64::from(*unused)),
+        Value::Null => json.boolean("null", true),
+        Value::Boolean(value) => json.boolean("boolean", *value),
+        Value::Number(number) => json.number("integer", u64::from(*number)),
+        Value::Named(id) => {
+            json.text("identifier", id.arcs)?;
+            json.text("name", id.name)
+        }
+        Value::Arcs(arcs) => json.text("identifier", arcs.as_str()),
+        Value::Characters(octets) => push_characters(alloc, json, octets),
+    }
+}
+
+#[tactic(auto, unfolding(crate::specs::JsonLists::value_member))]
+fn push_value(alloc: Global, json: &mut JsonText, value: &Value) -> Result<(), AllocError>
+    ensures { OnOk result (json.new ≡ json.old ++ value_member value.now) }
+{
+    if is_nothing(value) {
+        return Ok(());
+    }
+    json.begin_object_at("value")?;
+    push_value_members(alloc, json, value)?;
+    json.end_object()
+}
+
+/// The name by which an element stands in the one around it.
+fn name_of(alloc: Global, step: Step) -> Result<String, AllocError>
+    ensures { IfOk result (λ text. string_bytes text ≡ with_step [] step) }
+{
+    let mut name = String::new(alloc);
+    push_step(&mut name, step)?;
+    Ok(name)
+}
+
+/// The tag of an element and whether it is constructed, where more than its place is told.
+#[tactic(auto, unfolding(crate::specs::JsonLists::form_members))]
+fn push_form(json: &mut JsonText, line: &Line) -> Result<(), AllocError>
+    ensures { OnOk result (json.new ≡ json.old ++ form_members line.now) }
+{
+    if is_place_alone(line) {
+        return Ok(());
+    }
+    push_tag(json, line.tag)?;
+    json.boolean("constructed", line.constructed)
+}
+
+#[tactic(auto, unfolding(crate::specs::JsonLists::line_members))]
+fn push_line_members(alloc: Global, json: &mut JsonText, line: &Line) -> Result<(), AllocError>
+    ensures { OnOk result (json.new ≡ json.old ++ line_members line.now) }
+{
+    let name = name_of(alloc, line.step)?;
+    json.number("at", line.at)?;
+    push_length(json, line.length)?;
+    json.number("depth", line.depth)?;
+    json.said("name", name.as_str())?;
+    json.said("type", line.type_name)?;
+    push_form(json, line)?;
+    json.optional_number("end", line.end)?;
+    push_value(alloc, json, &line.value)
+}
+
+fn push_line(alloc: Global, json: &mut JsonText, line: &Line) -> Result<(), AllocError>
+    ensures { OnOk result (json.new ≡ json.old ++ line_object line.now) }
+{
+    json.begin_object()?;
+    push_line_members(alloc, json, line)?;
+    json.end_object()
+}
+
+pub(crate) fn push_lines(
+    alloc: Global,
+    json: &mut JsonText,
+    lines: &[Line],
+) -> Result<(), AllocError>
+    ensures { OnOk result (json.new ≡ json.old ++ flat_map line_object lines.now) }
+{
+    let mut rest = lines;
+    while let [line, behind @ ..] = rest {
+        push_line(alloc, json, line)?;
+        rest = behind;
+    }
+    Ok(())
+}

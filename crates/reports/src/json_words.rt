@@ -1,0 +1,64 @@
+//! Words of JSON that stay as they are, whatever the words of the text become.
+ghost use Rattle.std.specs.Prelude.{◌≡◌};
+ghost use Rattle.reports.specs.JsonWords.{cause_word, class_word, looks_word, remark_word};
+
+use crate::report::{Cause, Looks, Remark};
+use tlv_core::tag::Class;
+
+pub(crate) fn word_of_class(class: Class) -> &'static str
+    ensures { result.now ≡ class_word class }
+{
+    match class {
+        Class::Universal => "universal",
+        Class::Application => "application",
+        Class::Context => "context",
+        Class::Private => "private",
+    }
+}
+
+pub(crate) fn word_of_cause(cause: Cause) -> &'static str
+    ensures { result.now ≡ cause_word cause }
+{
+    match cause {
+        Cause::LongLength => "long_length",
+        Cause::IndefiniteLength => "indefinite_length",
+        Cause::Segments => "segments",
+        Cause::True => "true",
+        Cause::UnusedBits => "unused_bits",
+        Cause::Default => "default",
+        Cause::Order => "order",
+    }
+}
+
+/// Empty where nothing is known.
+pub(crate) fn word_of_looks(looks: Looks) -> &'static str
+    ensures { result.now ≡ looks_word looks }
+{
+    match looks {
+        Looks::Unknown => "",
+        Looks::Empty => "empty",
+        Looks::Pem(_) => "pem",
+        Looks::Kind(kind) => kind.word,
+        Looks::RsaPrivateKey => "rsa_private_key",
+        Looks::RsaPublicKey => "rsa_public_key",
+        Looks::Certificate => "certificate",
+        Looks::Pkcs12 => "pkcs12",
+        Looks::Hexadecimal => "hexadecimal",
+        Looks::Base64 => "base64",
+    }
+}
+
+pub(crate) fn word_of_remark(remark: Remark) -> &'static str
+    ensures { result.now ≡ remark_word remark }
+{
+    match remark {
+        Remark::PointSize(_) => "point_size",
+        Remark::PointBits => "point_bits",
+        Remark::NoNamedCurve => "no_named_curve",
+        Remark::ExtensionTwice => "extension_twice",
+        Remark::AttributeTwice => "attribute_twice",
+        Remark::SeveralValues(_) => "several_values",
+        Remark::KeySize(_, _) => "key_size",
+        Remark::NeedlessParameters => "needless_parameters",
+    }
+}

@@ -1,0 +1,188 @@
+//! Which lines of a listing are picked, the way to a line, and of which line the place alone is told.
+ghost use Rattle.std.specs.Prelude.{◌≡◌, ◌++◌, IfOk, OnOk, cond, nat_lt, reverse, slice_get};
+ghost use Rattle.std.specs.Option.{option_map};
+ghost use Rattle.reports.specs.Picks.{causes, first_cause, is_beside, is_not_shown, is_place_alone, judge_line, numbers_from, start_of, ends_way, steps_to, way_of};
+
+use crate::report::{Line, Value};
+use asn_names::element::Step;
+use std::alloc::{AllocError, Global};
+
+/// Which lines are picked.
+#[derive(Clone, Copy)]
+pub(crate) enum Pick {
+    /// Those that aren't in DER, and those around them.
+    Causes,
+    /// The line of this number and those around it, the first 4, and the 6 before it.
+    Fault(u64),
+}
+
+/// What is known of the lines behind one.
+#[derive(Clone, Copy)]
+pub(crate) struct PickState {
+    /// The number of the next line that something behind it is in.
+    pub around: u64,
+    /// How many lines that aren't in DER are still passed over.
+    pub skip: u64,
+}
+
+/// A line that was looked at.
+#[derive(Clone, Copy)]
+pub(crate) struct Picking {
+    pub state: PickState,
+    /// Whether it is picked.
+    pub picked: bool,
+}
+
+/// The numbers of the lines that are picked, the last one first; of those that aren't in DER so many at the end aren't.
+pub(crate) fn picked(
+    alloc: Global,
+    lines: &[Line],
+    pick: Pick,
+    skip: u64,
+) -> Result<Vec<u64>, AllocError>
+    ensures { IfOk result (λ numbers. reverse numbers.items
+        ≡ numbers_from pick (start_of lines.now skip) 0 lines.now) }
+{
+    let mut numbers = Vec::new(alloc);
+    let mut state = PickState {
+        around: lines.len() as u64,
+        skip,
+    };
+    let mut number = lines.len();
+    while number > 0 {
+        number -= 1;
+        let picking = judge_line(pick, state, number as u64, &lines[number]);
+        if picking.picked {
+            numbers.push(number as u64)?;
+        }
+        state = picking.state;
+    }
+    Ok(numbers)
+}
+
+/// Whether the line of this number is picked, by what is known of those behind it.
+fn judge_line(pick: Pick, state: PickState, number: u64, line: &Line) -> Picking
+    ensures { result ≡ judge_line pick state number line.now }
+{
+    let on_way = state.around == number || ends_way(pick, state.skip, number, line);
+    let skip = if line.cause.is_some() {
+        state.skip.saturating_sub(1)
+    } else {
+        state.skip
+    };
+    let around = if on_way { line.around } else { state.around };
+    Picking {
+        state: PickState { around, skip },
+        picked: on_way || is_beside(pick, number),
+    }
+}
+
+/// Whether the way to a line that is at fault or not in DER ends at this one.
+fn ends_way(pick: Pick, skip: u64, number: u64, line: &Line) -> bool
+    ensures { result ≡ ends_way pick skip number line.now }
+{
+    match pick {
+        Pick::Causes => line.cause.is_some() && skip == 0,
+        Pick::Fault(fault) => number == fault,
+    }
+}
+
+/// Whether a line is picked that nothing picked may be in.
+fn is_beside(pick: Pick, number: u64) -> bool
+    ensures { result ≡ is_beside pick number }
+{
+    match pick {
+        Pick::Causes => false,
+        Pick::Fault(fault) => number < 4 || (number <= fault && fault - number < 7),
+    }
+}
+
+/// How many lines aren't in DER.
+pub(crate) fn causes(lines: &[Line]) -> u64
+    ensures { result ≡ causes lines.now }
+{
+    let mut count = 0;
+    let mut left = lines;
+    while let [line, behind @ ..] = left {
+        if line.cause.is_some() {
+            count += 1;
+        }
+        left = behind;
+    }
+    count
+}
+
+/// How many lines stand before the first that isn't in DER; all where there is none.
+pub(crate) fn first_cause(lines: &[Line]) -> u64
+    ensures { result ≡ first_cause lines.now }
+{
+    let mut count = 0;
+    let mut left = lines;
+    while let [line, behind @ ..] = left {
+        if line.cause.is_some() {
+            return count;
+        }
+        count += 1;
+        left = behind;
+    }
+    count
+}
+
+/// The way from the outermost element to the line of this number.
+#[tactic(auto, unfolding(crate::specs::Picks::way_of))]
+pub fn way_to(alloc: Global, lines: &[Line], number: u64) -> Result<Vec<Step>, AllocError>
+    ensures { IfOk result (λ way. way.items ≡ way_of lines.now number) }
+{
+    let mut way = Vec::new(alloc);
+    push_steps(&mut way, lines, number, 200)?;
+    Ok(way)
+}
+
+/// The last steps of the way to the line of this number, so many at most.
+fn push_steps(way: &mut Vec<Step>, lines: &[Line], number: u64, most: u64) -> Result<(), AllocError>
+    ensures { OnOk result (way.new.items ≡ way.old.items ++ steps_to most lines.now number) }
+{
+    if most == 0 {
+        return Ok(());
+    }
+    let Some(line) = line_of(lines, number) else {
+        return Ok(());
+    };
+    let before = steps_before(line.around, number, most - 1);
+    push_steps(way, lines, line.around, before)?;
+    way.push(line.step)?;
+    Ok(())
+}
+
+/// How many steps may stand before that to a line; none where what is around it doesn't stand before it.
+pub fn steps_before(around: u64, number: u64, most: u64) -> u64
+    ensures { result ≡ cond (nat_lt around number) most 0 }
+{
+    if around < number { most } else { 0 }
+}
+
+/// The line of this number.
+pub(crate) fn line_of(lines: &[Line], number: u64) -> Option<&Line>
+    ensures { option_map (λ r. r.now) result ≡ slice_get lines.now number }
+{
+    lines.get(number as usize)
+}
+
+/// Whether the place of an element is all that is told of it.
+pub(crate) fn is_place_alone(line: &Line) -> bool
+    ensures { result ≡ is_place_alone line.now.step line.now.value }
+{
+    match line.step {
+        Step::Outside => is_not_shown(&line.value),
+        _ => false,
+    }
+}
+
+fn is_not_shown(value: &Value) -> bool
+    ensures { result ≡ is_not_shown value.now }
+{
+    match value {
+        Value::NotShown => true,
+        _ => false,
+    }
+}

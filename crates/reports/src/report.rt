@@ -1,0 +1,215 @@
+//! What a report says of a document. Its texts are made of this and of nothing else, so what isn't here no text tells.
+//! A place is a number of octets from the start of the file, but where it is said to be inside `privateKey`.
+use asn_names::element::Step;
+use pkix_shapes::identifiers::Identifier;
+use pkix_shapes::shape::{Fields, Shape};
+use tlv_core::fault::Fault;
+use tlv_core::tag::Tag;
+
+/// The kind of a document, by the words of the program and of the standard.
+#[derive(Clone, Copy)]
+pub struct KindWords {
+    /// As `--kind` has it.
+    pub word: &'static str,
+    /// The name of its type in ASN.1.
+    pub type_name: &'static str,
+}
+
+/// What `check` answers.
+#[derive(Clone, Copy)]
+pub enum Answer {
+    Der,
+    /// It is sound, and not in DER from this place on.
+    NotDer(u64),
+    Refused(Fault),
+}
+
+/// What length octets say, and how many octets the header has.
+#[derive(Clone, Copy)]
+pub struct Length {
+    /// The octets of the header, identifier and length.
+    pub header: u64,
+    /// The octets of the contents that they announce. `None` of the indefinite form.
+    pub contents: Option<u64>,
+}
+
+/// What is told of contents.
+#[derive(Drop)]
+pub enum Value {
+    /// Of a container, and of what was not read whole: nothing.
+    Nothing,
+    /// Private: nothing, and not their number either.
+    NotShown,
+    /// Their number alone.
+    Size(u64),
+    /// Of a BIT STRING: the number of octets behind the first, and of unused bits.
+    Bits(u64, u8),
+    Null,
+    Boolean(bool),
+    /// An INTEGER below 128.
+    Number(u8),
+    /// An object identifier that has a usual name.
+    Named(&'static Identifier),
+    /// Another one, by its arcs in decimal.
+    Arcs(String),
+    /// A character string, by its octets.
+    Characters(Vec<u8>),
+}
+
+/// Why an element isn't in DER (X.690 clauses 10 and 11).
+#[derive(Clone, Copy)]
+pub enum Cause {
+    /// A definite length that isn't in the fewest octets (10.1).
+    LongLength,
+    /// The indefinite form (10.1).
+    IndefiniteLength,
+    /// A string in segments (10.2).
+    Segments,
+    /// A BOOLEAN that is TRUE by another octet than FF (11.1).
+    True,
+    /// Unused bits that aren't 0 (11.2.1).
+    UnusedBits,
+    /// A default value that is written out (11.5).
+    Default,
+    /// Members of a SET OF that aren't in order (11.6).
+    Order,
+}
+
+/// A line of the listing: an element. Of one that is `Outside` and `NotShown` its place alone is told.
+#[derive(Drop)]
+pub struct Line {
+    pub at: u64,
+    /// The place inside `privateKey`, of what is inside it.
+    pub inside: Option<u64>,
+    /// How many elements are around it, those around `privateKey` too.
+    pub depth: u64,
+    /// The number of the line of the element around it, from 0.
+    pub around: u64,
+    pub step: Step,
+    pub type_name: &'static str,
+    pub tag: Tag,
+    pub constructed: bool,
+    /// `None` where it isn't told.
+    pub length: Option<Length>,
+    /// The place where it ends. `None` where it doesn't, and where that isn't told.
+    pub end: Option<u64>,
+    pub value: Value,
+    /// The first cause why it isn't in DER.
+    pub cause: Option<Cause>,
+}
+
+/// What is due where a document is refused.
+#[derive(Clone, Copy)]
+pub enum Due {
+    /// It isn't a matter of type.
+    Unsaid,
+    /// One of these fields.
+    Fields(&'static Fields),
+    /// A value of this type.
+    Type(&'static Shape),
+}
+
+/// An element that is told of by its header.
+#[derive(Clone, Copy)]
+pub struct Found {
+    pub at: u64,
+    pub tag: Tag,
+    pub constructed: bool,
+    /// `None` where it isn't told.
+    pub length: Option<Length>,
+}
+
+/// A container that a fault is about, by its way from the outermost element.
+#[derive(Drop)]
+pub struct ToldContainer {
+    pub way: Vec<Step>,
+    pub at: u64,
+    /// The place where it ends, of definite length.
+    pub end: Option<u64>,
+}
+
+/// What is told of a fault.
+#[derive(Drop)]
+pub struct Blame {
+    /// The place of the fault in the file, also of what is inside `privateKey`. `None` where it has none there.
+    pub file_at: Option<u64>,
+    /// The way from the outermost element to the field that is refused, or in which something is missing.
+    pub way: Vec<Step>,
+    /// The number of the line that the fault is at, where it is listed.
+    pub line: Option<u64>,
+    pub due: Due,
+    /// What stands there, where it may be told.
+    pub found: Option<Found>,
+    /// Of PastEnd: the container whose end the element passes. Of Missing: the one that has ended.
+    pub container: Option<ToldContainer>,
+    /// Of Truncated and PastEnd: how many octets the element's announced contents have too many.
+    pub over: Option<u64>,
+    /// Of Trailing: how many octets follow, where that is told.
+    pub more: Option<u64>,
+}
+
+/// What the file may be instead, by one more look.
+#[derive(Clone, Copy)]
+pub enum Looks {
+    Unknown,
+    Empty,
+    /// PEM with this label; the kind that it is of, where there is one.
+    Pem(&'static str),
+    /// A document of this kind, sound.
+    Kind(KindWords),
+    /// RSAPrivateKey, RSAPublicKey (RFC 8017 A.1.1, A.1.2).
+    RsaPrivateKey,
+    RsaPublicKey,
+    /// Certificate (RFC 5280 section 4.1).
+    Certificate,
+    /// PFX (RFC 7292 section 4).
+    Pkcs12,
+    /// Hexadecimal figures; base64 without a label.
+    Hexadecimal,
+    Base64,
+}
+
+/// What other standards forbid and pkder carries.
+#[derive(Clone, Copy)]
+pub enum Remark {
+    /// The point of a named curve hasn't the octets of one (RFC 5480 section 2.2): there are so many.
+    PointSize(u64),
+    /// The point of a curve has unused bits.
+    PointBits,
+    /// id-ecPublicKey without a named curve (RFC 5480 section 2.1.1).
+    NoNamedCurve,
+    /// An extension that stands there before (RFC 5280 section 4.2).
+    ExtensionTwice,
+    /// An attribute that stands there before (RFC 2986 section 4.1).
+    AttributeTwice,
+    /// An attribute of a single value that has so many (RFC 2985 section 5.4).
+    SeveralValues(u64),
+    /// A key of another length than its algorithm has (RFC 9881, 9935, 9909): so many octets, and so many are due.
+    KeySize(u64, u64),
+    /// Parameters beside an algorithm that has none (the same).
+    NeedlessParameters,
+}
+
+/// A remark, and the number of the line that it is about.
+#[derive(Clone, Copy)]
+pub struct Note {
+    pub line: u64,
+    pub remark: Remark,
+}
+
+/// What is reported of a document.
+#[derive(Drop)]
+pub struct Report {
+    pub kind: KindWords,
+    /// How many octets the file has; one more than the limit where it has more than that.
+    pub octets: u64,
+    /// Where the outermost element ends by its length, whether the file reaches so far or not.
+    pub announced: Option<u64>,
+    pub answer: Answer,
+    pub lines: Vec<Line>,
+    /// Of a document that is refused.
+    pub blame: Option<Blame>,
+    pub looks: Looks,
+    /// Of a document that is accepted.
+    pub notes: Vec<Note>,
+}
