@@ -1,3 +1,3 @@
 pub mod Beginnings
 pub mod Lists
-pub mod Partings
+pub mod Mismatches

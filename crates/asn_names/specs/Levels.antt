@@ -3,10 +3,10 @@ use Rattle.std.specs.Prelude.{Bool, None, Option, Some, cond, min, nat_le, true,
 use Rattle.std.specs.Borrow.{Bor}
 use Rattle.tlv_core.specs.Identifier.{Tag}
 use Rattle.x690.specs.TypeTerms.{fits_tag}
-use Rattle.pkix_shapes.specs.Dues.{may_end, standing_in}
+use Rattle.pkix_shapes.specs.Dues.{match_in, may_end}
 use Rattle.pkix_shapes.specs.Terms.{fields_of, term_of}
-use Rattle.pkix_shapes.specs.declared.due.Standing.{Standing}
-use Rattle.pkix_shapes.specs.declared.due.Standing.TheVariants as stands
+use Rattle.pkix_shapes.specs.declared.due.FieldMatch.{FieldMatch}
+use Rattle.pkix_shapes.specs.declared.due.FieldMatch.TheVariants as matches
 use Rattle.pkix_shapes.specs.declared.shape.Shape.{Choice', Containing', DefinedBy', Leaf, ListOf', Named', Open, Private', Refused, Sequence', SetOf', Shape}
 use Rattle.asn_names.specs.declared.element.Level.{Level}
 use Rattle.asn_names.specs.declared.element.Level.TheVariants.{Fields, Members, Segments}
@@ -17,31 +17,31 @@ use Rattle.asn_names.specs.declared.level.Place.{Place}
 abbrev pub one_more : ℕ → ℕ
 one_more number = min (number + 1) (2 ^ 64 - 1)
 
--- a field's place: the fields behind it are due then
-abbrev pub place_of : Standing → Option Place
-place_of (stands.Field name shape behind) =
-    Some (record { step = steps.Field name; shape = Some shape; behind = Some (Fields behind) })
-place_of (stands.Wrong name shape) = None
-place_of stands.Extra = None
+-- a field's place: the fields after it are due then
+abbrev pub place_of : FieldMatch → Option Place
+place_of (matches.Field name shape after) =
+    Some (record { step = steps.Field name; shape = Some shape; after = Some (Fields after) })
+place_of (matches.Wrong name shape) = None
+place_of matches.Extra = None
 
 -- The place of an element of the tag where this is due: the field that it belongs to, the next member if it fits the
 -- type of members, or the next segment.
 abbrev pub place_in : Level → Tag → Option Place
-place_in (Fields left) tag = place_of (standing_in left.now tag)
+place_in (Fields left) tag = place_of (match_in left.now tag)
 place_in (Members shape least number) tag =
     cond (fits_tag (term_of shape.now) tag) (Some (record {
       step = steps.Member number;
       shape = Some shape;
-      behind = Some (Members shape least (one_more number));
+      after = Some (Members shape least (one_more number));
     })) None
 place_in (Segments number) tag =
-    Some (record { step = steps.Segment number; shape = None; behind = Some (Segments (one_more number)) })
+    Some (record { step = steps.Segment number; shape = None; after = Some (Segments (one_more number)) })
 
 -- the place of the outermost element, of this type
 abbrev pub outermost : Bor Shape → Tag → Option Place
 outermost root tag =
     cond (fits_tag (term_of root.now) tag)
-    (Some (record { step = steps.Outermost; shape = Some root; behind = None })) None
+    (Some (record { step = steps.Outermost; shape = Some root; after = None })) None
 
 -- BIT STRING, OCTET STRING, ObjectDescriptor, UTF8String, the other character strings and times, BMPString
 -- (X.680 8.4, table 1)

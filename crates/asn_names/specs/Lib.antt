@@ -1,4 +1,4 @@
 pub mod Levels
 pub mod Naming
 pub mod Resolving
-pub mod Walks
+pub mod NamingSteps

@@ -10,7 +10,7 @@ use Rattle.asn_names.specs.Levels.{one_more}
 use Rattle.asn_names.specs.declared.element.NamedElement.{NamedElement}
 use Rattle.asn_names.specs.declared.resolved.Resolved.{Resolved}
 
--- the contents octets between two places, of a primitive element that stands whole
+-- the contents octets between two places, of a primitive element that is whole
 abbrev pub part : List ℕ → Bool → Option ℕ → Option ℕ → List ℕ
 part document constructed None end = []
 part document constructed (Some begin) None = []
@@ -41,7 +41,7 @@ leaf_at document depth (number ∷ path) elements =
           cond (length path == 0) (contents document found) (leaf_at document (one_more depth) path inside)
     ]
 
--- What a type that stands at a place of the program's memory comes to: names and marks are taken off, and of two types
+-- What a type that is at a place of the program's memory comes to: names and marks are taken off, and of two types
 -- the one is chosen that the element has by its tag, or by an earlier leaf (`leaves` gives the contents of each).
 abbrev pub resolved : (List ℕ → List ℕ) → Tag → Option (Bor (List ℕ)) → Bool → ℕ × ℕ → Shape → Resolved
 resolved leaves tag name private pointer (Named' own p shape) = resolved leaves tag (Some own) private p.ref_ptr shape

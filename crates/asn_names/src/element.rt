@@ -47,9 +47,9 @@ pub enum Level {
     Segments(u64),
 }
 
-/// Where the type and the document part.
+/// where the document stops matching its type.
 #[derive(Clone, Copy)]
-pub enum Parting {
+pub enum Mismatch {
     /// Nowhere: the outermost element is whole, and each element has its place.
     Nowhere,
     /// The outermost element isn't of the type.

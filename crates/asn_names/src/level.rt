@@ -5,7 +5,7 @@ ghost use Rattle.pkix_shapes.specs.Terms.{fields_of};
 ghost use Rattle.asn_names.specs.Levels.{holds_segments, level_of, may_close, outermost, place_in};
 
 use crate::element::{Level, Step};
-use pkix_shapes::due::{Standing, stands_as};
+use pkix_shapes::due::{FieldMatch, match_field};
 use pkix_shapes::shape::{Fields, Shape};
 use tlv_core::tag::{Class, Tag};
 
@@ -15,8 +15,8 @@ pub(crate) struct Place {
     pub step: Step,
     /// Its type. A segment has none.
     pub shape: Option<&'static Shape>,
-    /// What is due behind it in the container around it, where there is one.
-    pub behind: Option<Level>,
+    /// What is due after it in the container around it, where there is one.
+    pub after: Option<Level>,
 }
 
 /// The place of an element of the tag where this is due.
@@ -24,11 +24,11 @@ pub(crate) fn place_in(level: Level, tag: Tag) -> Option<Place>
     ensures { result ≡ place_in level tag }
 {
     match level {
-        Level::Fields(left) => match stands_as(left, tag) {
-            Standing::Field(name, shape, behind) => Some(Place {
+        Level::Fields(left) => match match_field(left, tag) {
+            FieldMatch::Field(name, shape, after) => Some(Place {
                 step: Step::Field(name),
                 shape: Some(shape),
-                behind: Some(Level::Fields(behind)),
+                after: Some(Level::Fields(after)),
             }),
             _ => None,
         },
@@ -39,13 +39,13 @@ pub(crate) fn place_in(level: Level, tag: Tag) -> Option<Place>
             Some(Place {
                 step: Step::Member(number),
                 shape: Some(shape),
-                behind: Some(Level::Members(shape, least, number.saturating_add(1))),
+                after: Some(Level::Members(shape, least, number.saturating_add(1))),
             })
         }
         Level::Segments(number) => Some(Place {
             step: Step::Segment(number),
             shape: None,
-            behind: Some(Level::Segments(number.saturating_add(1))),
+            after: Some(Level::Segments(number.saturating_add(1))),
         }),
     }
 }
@@ -60,7 +60,7 @@ pub(crate) fn outermost(root: &'static Shape, tag: Tag) -> Option<Place>
     Some(Place {
         step: Step::Outermost,
         shape: Some(root),
-        behind: None,
+        after: None,
     })
 }
 
@@ -108,13 +108,13 @@ pub(crate) fn may_close(level: Level) -> bool
     }
 }
 
-/// Whether none of the fields has to stand.
+/// Whether none of the fields has to be there.
 fn fields_may_end(fields: &'static Fields) -> bool
     ensures { result ≡ may_end (fields_of fields.now) }
 {
     match fields {
         Fields::End => true,
         Fields::Required(..) => false,
-        Fields::Optional(_, _, behind) => fields_may_end(behind),
+        Fields::Optional(_, _, after) => fields_may_end(after),
     }
 }

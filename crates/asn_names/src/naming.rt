@@ -1,24 +1,24 @@
 //! The elements of a document by their names.
 ghost use Rattle.std.specs.Prelude.{◌≡◌, IfOk, reverse};
-ghost use Rattle.asn_names.specs.Naming.{named_by, walked};
-ghost use Rattle.asn_names.specs.Walks.{happened, innermost, state_of, stopped, stopped_in};
+ghost use Rattle.asn_names.specs.Naming.{after_events, named_by};
+ghost use Rattle.asn_names.specs.NamingSteps.{happened, innermost, state_of, stopped, stopped_in};
 
-use crate::element::{Level, NamedElement, Parting};
-use crate::walk::{Beginning, Walk, begin_element, end_container};
+use crate::element::{Level, Mismatch, NamedElement};
+use crate::naming_state::{Beginning, NamingState, begin_element, end_container};
 use ber_outline::event::{ElementHeader, Event, Stop};
 use pkix_shapes::shape::Shape;
 use std::alloc::{AllocError, Global};
 
-/// The elements of a document, one after another, and where the type and the document part.
+/// The elements of a document, one after another, and where the document stops matching its type.
 #[derive(Drop)]
-pub struct Named {
+pub struct NamedElements {
     pub elements: Vec<NamedElement>,
-    pub parting: Parting,
+    pub mismatch: Mismatch,
 }
 
 /// The elements that the headers of a document are, by its type: `events` and `stop` are its outline.
 ///
-/// They end where the type and the document part. An element that has no place in the type is the last one, and
+/// They end where the document stops matching its type. An element that has no place in the type is the last one, and
 /// private. It takes time as the events, each with the earlier elements of its container where its type goes by one.
 pub fn name_elements(
     alloc: Global,
@@ -26,24 +26,24 @@ pub fn name_elements(
     events: &[Event],
     stop: Option<Stop>,
     root: &'static Shape,
-) -> Result<Named, AllocError>
-    ensures { IfOk result (λ named. (named.elements.items, named.parting)
+) -> Result<NamedElements, AllocError>
+    ensures { IfOk result (λ named. (named.elements.items, named.mismatch)
         ≡ named_by document.now events.now stop root.entry) }
 {
     // (at most one for each event, and the one in which reading stops)
-    let mut walk = Walk {
+    let mut naming = NamingState {
         elements: Vec::with_capacity(alloc, events.len().saturating_add(1))?,
         containers: Vec::new(alloc),
     };
     let subject = Subject { document, root };
-    let parting = match take_events(&mut walk, &subject, events)? {
-        Some(parting) => parting,
-        None => stop_walk(&mut walk, document, root, stop)?,
+    let mismatch = match take_events(&mut naming, &subject, events)? {
+        Some(mismatch) => mismatch,
+        None => stop_naming(&mut naming, document, root, stop)?,
     };
-    walk.elements.shrink_to_fit();
-    Ok(Named {
-        elements: walk.elements,
-        parting,
+    naming.elements.shrink_to_fit();
+    Ok(NamedElements {
+        elements: naming.elements,
+        mismatch,
     })
 }
 
@@ -54,18 +54,18 @@ struct Subject<'a> {
     root: &'static Shape,
 }
 
-/// One event after another happens, up to where the type and the document part.
+/// One event after another happens, up to where the document stops matching its type.
 fn take_events(
-    walk: &mut Walk,
+    naming: &mut NamingState,
     subject: &Subject<'_>,
     events: &[Event],
-) -> Result<Option<Parting>, AllocError>
-    ensures { IfOk result (λ parting. (state_of walk.new, parting)
-        ≡ walked subject.now.document.now subject.now.root events.now (state_of walk.old)) }
+) -> Result<Option<Mismatch>, AllocError>
+    ensures { IfOk result (λ mismatch. (state_of naming.new, mismatch)
+        ≡ after_events subject.now.document.now subject.now.root events.now (state_of naming.old)) }
 {
     for event in events {
-        if let Some(parting) = take_event(walk, subject.document, subject.root, event)? {
-            return Ok(Some(parting));
+        if let Some(mismatch) = take_event(naming, subject.document, subject.root, event)? {
+            return Ok(Some(mismatch));
         }
     }
     Ok(None)
@@ -73,13 +73,13 @@ fn take_events(
 
 /// One event happens.
 fn take_event(
-    walk: &mut Walk,
+    naming: &mut NamingState,
     document: &[u8],
     root: &'static Shape,
     event: &Event,
-) -> Result<Option<Parting>, AllocError>
-    ensures { IfOk result (λ parting. (state_of walk.new, parting)
-        ≡ happened document.now root.entry event.now (state_of walk.old)) }
+) -> Result<Option<Mismatch>, AllocError>
+    ensures { IfOk result (λ mismatch. (state_of naming.new, mismatch)
+        ≡ happened document.now root.entry event.now (state_of naming.old)) }
 {
     match *event {
         Event::Primitive(header, begin, end) => {
@@ -89,7 +89,7 @@ fn take_event(
                 end: Some(end),
                 opens: false,
             };
-            begin_element(walk, document, root, &beginning)
+            begin_element(naming, document, root, &beginning)
         }
         Event::Begin(header, begin) => {
             let beginning = Beginning {
@@ -98,35 +98,35 @@ fn take_event(
                 end: None,
                 opens: true,
             };
-            begin_element(walk, document, root, &beginning)
+            begin_element(naming, document, root, &beginning)
         }
-        Event::End(at) => Ok(end_container(walk, at)),
+        Event::End(at) => Ok(end_container(naming, at)),
     }
 }
 
 /// All events have happened: the element that reading stops in is the last one.
-fn stop_walk(
-    walk: &mut Walk,
+fn stop_naming(
+    naming: &mut NamingState,
     document: &[u8],
     root: &'static Shape,
     stop: Option<Stop>,
-) -> Result<Parting, AllocError>
-    ensures { IfOk result (λ parting. (state_of walk.new, parting)
-        ≡ stopped document.now root.entry stop (state_of walk.old)) }
+) -> Result<Mismatch, AllocError>
+    ensures { IfOk result (λ mismatch. (state_of naming.new, mismatch)
+        ≡ stopped document.now root.entry stop (state_of naming.old)) }
 {
     let Some(stop) = stop else {
-        return Ok(match innermost(&walk.containers) {
-            Some(container) => Parting::Stopped(Some(container)),
-            None => Parting::Nowhere,
+        return Ok(match innermost(&naming.containers) {
+            Some(container) => Mismatch::Stopped(Some(container)),
+            None => Mismatch::Nowhere,
         });
     };
     if let Some(header) = stop.element {
         let beginning = stopped_in(header);
-        if let Some(parting) = begin_element(walk, document, root, &beginning)? {
-            return Ok(parting);
+        if let Some(mismatch) = begin_element(naming, document, root, &beginning)? {
+            return Ok(mismatch);
         }
     }
-    Ok(Parting::Stopped(innermost(&walk.containers)))
+    Ok(Mismatch::Stopped(innermost(&naming.containers)))
 }
 
 /// The element that reading stops in, by its header.

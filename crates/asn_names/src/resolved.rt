@@ -17,7 +17,7 @@ pub(crate) struct Resolved {
     pub shape: &'static Shape,
 }
 
-/// What stands before an element.
+/// What comes before an element.
 #[derive(Clone, Copy)]
 pub(crate) struct Before<'a> {
     pub document: &'a [u8],
@@ -27,7 +27,7 @@ pub(crate) struct Before<'a> {
     pub elements: &'a [NamedElement],
 }
 
-/// What the type comes to for an element of this tag, by what stands before it. The name and the mark are those around
+/// What the type comes to for an element of this tag, by what comes before it. The name and the mark are those around
 /// the type.
 pub(crate) fn resolve(
     before: Before<'_>,
@@ -71,7 +71,7 @@ fn is_one_of(octets: &[u8], others: &[&[u8]]) -> bool
 {
     match others {
         [] => false,
-        [other, behind @ ..] => octets == *other || is_one_of(octets, behind),
+        [other, after @ ..] => octets == *other || is_one_of(octets, after),
     }
 }
 
@@ -79,16 +79,16 @@ fn is_one_of(octets: &[u8], others: &[&[u8]]) -> bool
 fn leaf_at<'a>(document: &'a [u8], depth: u64, path: &[u32], elements: &[NamedElement]) -> &'a [u8]
     ensures { result.now ≡ leaf_at document.now depth path.now elements.now }
 {
-    let [number, behind @ ..] = path else {
+    let [number, after @ ..] = path else {
         return &document[..0];
     };
     let [found, inside @ ..] = from_member(depth, *number, elements) else {
         return &document[..0];
     };
-    if behind.is_empty() {
+    if after.is_empty() {
         return contents(document, found);
     }
-    leaf_at(document, depth.saturating_add(1), behind, inside)
+    leaf_at(document, depth.saturating_add(1), after, inside)
 }
 
 /// The elements from that of this number on, counted among those of the depth, up to a lesser depth.
@@ -97,7 +97,7 @@ fn from_member(depth: u64, number: u32, elements: &[NamedElement]) -> &[NamedEle
 {
     let mut left = number;
     let mut rest = elements;
-    while let [element, behind @ ..] = rest {
+    while let [element, after @ ..] = rest {
         if element.header.depth < depth {
             return &rest[..0];
         }
@@ -107,12 +107,12 @@ fn from_member(depth: u64, number: u32, elements: &[NamedElement]) -> &[NamedEle
             }
             left -= 1;
         }
-        rest = behind;
+        rest = after;
     }
     rest
 }
 
-/// The contents octets of a primitive element that stands whole.
+/// The contents octets of a primitive element that is whole.
 fn contents<'a>(document: &'a [u8], element: &NamedElement) -> &'a [u8]
     ensures { result.now ≡ contents document.now element.now }
 {

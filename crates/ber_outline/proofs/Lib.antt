@@ -1,4 +1,4 @@
 pub mod Numbers
-pub mod Points
+pub mod Positions
 pub mod Steps
-pub mod Walks
+pub mod Progress

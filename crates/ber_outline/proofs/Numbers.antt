@@ -13,9 +13,9 @@ grows high [] = omega arith
 grows high (x ∷ octets) =
     let more : high * 256 + x ≤ big_endian (high * 256 + x) octets = grows (high * 256 + x) octets in omega arith
 
--- a number that is too great stays so
-pub too_great : (high : ℕ) (octets : List ℕ) → 4294967296 ≤ high → None ≡ below_2_to_32 (big_endian high octets)
-too_great high octets h =
+-- a number that is too large stays so
+pub too_large : (high : ℕ) (octets : List ℕ) → 4294967296 ≤ high → None ≡ below_2_to_32 (big_endian high octets)
+too_large high octets h =
     let more = grows high octets in
     let over : nat_lt (big_endian high octets) 4294967296 ≡ false = grind (arith, nat_tests) in
     rw over refl
@@ -26,8 +26,8 @@ unfolding der_header shortest_length
 header_longer tag form = length-append (identifier tag form) (0 ∷ [])
 
 -- nor does one octet more help
-pub too_great_behind : (high first : ℕ) (octets : List ℕ) → first ≡ slice_index_or octets 0 0
+pub too_large_after : (high first : ℕ) (octets : List ℕ) → first ≡ slice_index_or octets 0 0
     → (length octets == 0) ≡ false → 4294967296 ≤ high * 256 + first → None ≡ below_2_to_32 (big_endian high octets)
-too_great_behind high first [] is some h = let z = some in cc
-too_great_behind high first (x ∷ octets) is some h =
-    too_great (high * 256 + x) octets (subst (λ y. 4294967296 ≤ high * 256 + y) is h)
+too_large_after high first [] is some h = let z = some in cc
+too_large_after high first (x ∷ octets) is some h =
+    too_large (high * 256 + x) octets (subst (λ y. 4294967296 ≤ high * 256 + y) is h)

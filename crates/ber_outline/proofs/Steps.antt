@@ -20,11 +20,11 @@ use Rattle.ber_pull.proofs.Nexts.{place_taken}
 use Rattle.ber_pull.specs.View.{IsReadFailure}
 use Rattle.asn_elements.proofs.CallSteps.{call_steps}
 use Rattle.ber_outline.specs.Announced.{announced}
-use Rattle.ber_outline.specs.Outlines.{HeaderStands, StopsWith, innermost_of}
-use Rattle.ber_outline.specs.Steps.{AllOpen, Leads, Ready, StopsAt, insides, point}
+use Rattle.ber_outline.specs.Outlines.{HeaderAt, StopsWith, innermost_of}
+use Rattle.ber_outline.specs.Steps.{AllOpen, Leads, Ready, StopsAt, insides, position}
 use Rattle.ber_outline.specs.declared.event.Event.TheVariants.{Begin, End, Primitive}
 use Rattle.ber_outline.specs.declared.event.ElementHeader.{ElementHeader}
-use Rattle.ber_outline.proofs.Points.{closed_is, ended_some, heard_run, heard_takes, inside_is, insides_behind, left_is, length_behind, length_insides, open_all_behind, opened, place_within, refused_run, takes_forward}
+use Rattle.ber_outline.proofs.Positions.{closed_is, ended_some, heard_run, heard_takes, inside_is, insides_after, left_is, length_after, length_insides, open_all_after, opened, place_within, refused_run, takes_forward}
 
 -- the place that was asked for
 pub place_is : (s : Standing) (at : ℕ) → s.given ≡ None → at ≡ place s → at ≡ s.taken
@@ -49,12 +49,12 @@ end_said s next k left left' none is x =
 
 -- the header with this identifier, before these octets
 abbrev made : Tag → Bool → ℕ → ℕ → ℕ → List ℕ → ElementHeader
-made tag form at depth behind rest = record {
+made tag form at depth after rest = record {
   at = at;
   tag = tag;
   constructed = form;
   depth = depth;
-  announced = announced behind rest;
+  announced = announced after rest;
 }
 
 -- no container ends where none is open
@@ -77,7 +77,7 @@ module _ (document : List ℕ) (s : Standing) (left : List ℕ) (w : Ready docum
 
   pub next_stops : (f : Fault) (k : ℕ) (left' : List ℕ)
       → Hears (read_next s) s.taken (Some left) (Refused f) k (Some left')
-      → StopsWith s.limits f None (point s left)
+      → StopsWith s.limits f None (position s left)
   next_stops f k left' x = next_run ∙ refused_run (read_next s) f _ _ _ _ x
 
   pub next_errs : (e : ReadError) (k : ℕ) (left' : List ℕ)
@@ -103,19 +103,19 @@ module _ (document : List ℕ) (s : Standing) (left : List ℕ) (w : Ready docum
       announced = announced m.taken left';
     }
 
-    pub takes_behind : TakesFrom 0 document m.taken left'
-    takes_behind = takes_both 0 s.taken m.taken document left left' w.reading.takes (heard_takes _ _ _ _ _ _ next)
+    pub takes_after : TakesFrom 0 document m.taken left'
+    takes_after = takes_both 0 s.taken m.taken document left left' w.reading.takes (heard_takes _ _ _ _ _ _ next)
 
-    -- the place behind the identifier
+    -- the place after the identifier
     pub behind_is : s.taken + length (identifier tag form) ≡ m.taken
     behind_is =
         let stands = next_steps.stands s.limits (innermost_of (insides s.containers)) s.taken left s.taken tag form
         m.taken left' (next_took _ _ _ next) in
         sym stands.1.behind_is
 
-    pub behind_within : s.taken + length (identifier tag form) ≤ length document
-    behind_within =
-        subst (λ k. k ≤ length document) (sym behind_is) (place_within document m.taken left' takes_behind)
+    pub after_within : s.taken + length (identifier tag form) ≤ length document
+    after_within =
+        subst (λ k. k ≤ length document) (sym behind_is) (place_within document m.taken left' takes_after)
 
     -- what the header says that is made of the octets of the document
     pub header_is : (at depth : ℕ) → at ≡ s.taken → depth ≡ length s.containers
@@ -133,10 +133,10 @@ module _ (document : List ℕ) (s : Standing) (left : List ℕ) (w : Ready docum
         ∙ (ap (λ d. made tag form s.taken d (s.taken + length (identifier tag form))
         (drop (s.taken + length (identifier tag form)) document)) deep
         ∙ (ap (λ k. made tag form s.taken (length s.containers) k (drop k document)) behind_is
-        ∙ ap (made tag form s.taken (length s.containers) m.taken) (left_is document m.taken left' takes_behind)))
+        ∙ ap (made tag form s.taken (length s.containers) m.taken) (left_is document m.taken left' takes_after)))
 
-    header_stands : HeaderStands s.limits the_header (point s left) m.taken left'
-    header_stands = record {
+    is_header_at : HeaderAt s.limits the_header (position s left) m.taken left'
+    is_header_at = record {
       identifier = next_took _ _ _ next;
       depth = length_insides s.containers;
       announces = refl;
@@ -161,21 +161,21 @@ module _ (document : List ℕ) (s : Standing) (left : List ℕ) (w : Ready docum
 
     pub primitive_stops : (f : Fault) (k : ℕ) (left'' : List ℕ) → form ≡ false
         → Hears (read_primitive m the_given) m.taken (Some left') (Refused f) k (Some left'')
-        → StopsWith s.limits f (Some the_header) (point s left)
+        → StopsWith s.limits f (Some the_header) (position s left)
     primitive_stops f k left'' is x = (
       m.taken,
       left',
-      header_stands,
+      is_header_at,
       rw is (primitive_run is ∙ refused_run (read_primitive m the_given) f _ _ _ _ x),
     )
 
     pub enter_stops : (f : Fault) (k : ℕ) (left'' : List ℕ) → form ≡ true
         → Hears (read_entering m the_given) m.taken (Some left') (Refused f) k (Some left'')
-        → StopsWith s.limits f (Some the_header) (point s left)
+        → StopsWith s.limits f (Some the_header) (position s left)
     enter_stops f k left'' is x = (
       m.taken,
       left',
-      header_stands,
+      is_header_at,
       rw is (enter_run is ∙ refused_run (read_entering m the_given) f _ _ _ _ x),
     )
 
@@ -212,12 +212,12 @@ module _ (document : List ℕ) (s : Standing) (left : List ℕ) (w : Ready docum
         let sum : begin + length contents ≡ end = omega arith in
         let fewer : 1 + 2 * s.taken + length n.containers ≤ 2 * n.taken + length s.containers = omega arith in
         record {
-          happens = (m.taken, left', contents, header_stands, is, took, sum, ends, ap insides same);
+          happens = (m.taken, left', contents, is_header_at, is, took, sum, ends, ap insides same);
           reading = record {
             fine = fine;
             none_given = ap (λ z. z.given) uses;
             open_all = subst AllOpen (sym same) w.reading.open_all;
-            takes = takes_both 0 m.taken n.taken document left' left'' takes_behind takes;
+            takes = takes_both 0 m.taken n.taken document left' left'' takes_after takes;
           };
           same_limits = ap (λ z. z.limits) uses ∙ ap (λ z. z.limits) mid;
           depth = many;
@@ -244,7 +244,7 @@ module _ (document : List ℕ) (s : Standing) (left : List ℕ) (w : Ready docum
             m.taken,
             left',
             enclosing n,
-            header_stands,
+            is_header_at,
             is,
             took,
             begins,
@@ -254,7 +254,7 @@ module _ (document : List ℕ) (s : Standing) (left : List ℕ) (w : Ready docum
             fine = fine;
             none_given = ap (λ z. z.given) opens;
             open_all = subst AllOpen (sym same) (opened shape (used n.taken m), w.reading.open_all);
-            takes = takes_both 0 m.taken n.taken document left' left'' takes_behind takes;
+            takes = takes_both 0 m.taken n.taken document left' left'' takes_after takes;
           };
           same_limits = ap (λ z. z.limits) opens ∙ ap (λ z. z.limits) mid;
           depth = deep;
@@ -278,24 +278,24 @@ module _ (document : List ℕ) (s : Standing) (left : List ℕ) (w : Ready docum
     pub end_leads : l ≡ closing m → l.error ≡ None → (end : ℕ) → end ≡ s.taken
         → Leads document (End end) s left l left'
     end_leads closes fine end is =
-        let behind : l.containers ≡ without_first s.containers =
+        let after : l.containers ≡ without_first s.containers =
         ap (λ z. z.containers) closes ∙ (ap (λ z. without_first z.containers) mid ∙ closed_is s.containers) in
         let took : l.taken ≡ m.taken = ap (λ z. z.taken) closes in
         let takes = heard_takes _ _ _ _ _ _ next in
         let forward : s.taken ≤ m.taken = takes_forward _ _ _ _ takes in
-        let many : length l.containers ≡ length s.containers - 1 = ap length behind ∙ length_behind s.containers in
+        let many : length l.containers ≡ length s.containers - 1 = ap length after ∙ length_after s.containers in
         let some = some_open in
         let fewer : 1 + 2 * s.taken + length l.containers ≤ 2 * l.taken + length s.containers = omega arith in
         record {
           happens = (
             next_took _ _ _ next ∙ (ap (λ p. Took (ContainerEnds p) m.taken left') (sym is)
                 ∙ ap (λ k. Took (ContainerEnds end) k left') (sym took)),
-            ap insides behind ∙ insides_behind s.containers,
+            ap insides after ∙ insides_after s.containers,
           );
           reading = record {
             fine = fine;
             none_given = ap (λ z. z.given) closes ∙ (ap (λ z. z.given) mid ∙ w.reading.none_given);
-            open_all = subst AllOpen (sym behind) (open_all_behind s.containers w.reading.open_all);
+            open_all = subst AllOpen (sym after) (open_all_after s.containers w.reading.open_all);
             takes = subst (λ k. TakesFrom 0 document k left') (sym took)
                 (takes_both 0 s.taken m.taken document left left' w.reading.takes takes);
           };

@@ -12,8 +12,8 @@ abbrev pub announcing : ℕ → Option ℕ → Option Announced
 announcing contents None = None
 announcing contents (Some number) = Some (record { contents = contents; length = Some number })
 
--- What the length octets say that stand at a place, before others: one octet up to 7F is the length itself (8.1.3.4),
--- 80 the indefinite form (8.1.3.6), any other but FF tells how many octets follow that are the length (8.1.3.5).
+-- What the length octets say that are at a place, before others: one octet up to 7F is the length itself (8.1.3.4),
+-- 80 the indefinite form (8.1.3.6), any other but FF says how many octets follow that are the length (8.1.3.5).
 abbrev pub announced : ℕ → List ℕ → Option Announced
 announced place [] = None
 announced place (first ∷ octets) =

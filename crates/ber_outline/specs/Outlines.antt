@@ -1,4 +1,4 @@
--- The outline of a document: the headers that stand in it, one after another, and where its containers end, by the
+-- The outline of a document: the headers that are in it, one after another, and where its containers end, by the
 -- plain reading of headers.
 use Rattle.std.specs.Prelude.{List, None, Option, Some, [], false, length, true, ℕ, ◌+◌, ◌∷◌, ◌≡◌}
 use Rattle.tlv_core.specs.Limits.{Limits}
@@ -14,13 +14,13 @@ use Rattle.ber_outline.specs.declared.event.Stop.{Stop}
 
 -- A point of a document: what encloses the members of each open container, the innermost first; the place, and the
 -- octets from there on.
-pub record Point : Type 0 where
+pub record Position : Type 0 where
   pub containers : List Enclosing
   pub place : ℕ
   pub octets : List ℕ
 
 -- the start of a document
-abbrev pub start : List ℕ → Point
+abbrev pub start : List ℕ → Position
 start octets = record { containers = []; place = 0; octets = octets }
 
 -- what encloses an element
@@ -32,55 +32,55 @@ abbrev pub without_innermost : List Enclosing → List Enclosing
 without_innermost [] = []
 without_innermost (enclosing ∷ around) = around
 
--- The header stands at the point: `behind` is the place behind its identifier, and `rest` follows there.
-pub record HeaderStands (limits : Limits) (header : ElementHeader) (p : Point) (behind : ℕ) (rest : List ℕ) : Type 0 where
+-- The header is at the point: `after` is the place after its identifier, and `rest` follows there.
+pub record HeaderAt (limits : Limits) (header : ElementHeader) (p : Position) (after : ℕ) (rest : List ℕ) : Type 0 where
   pub identifier : run (next_tag limits (innermost_of p.containers)) p.place p.octets
-      ≡ Took (ElementStands header.at header.tag header.constructed) behind rest
+      ≡ Took (ElementStands header.at header.tag header.constructed) after rest
   pub depth : header.depth ≡ length p.containers
-  pub announces : header.announced ≡ announced behind rest
+  pub announces : header.announced ≡ announced after rest
 
 -- The event leads from one point to the next.
-abbrev pub Happens : Limits → Event → Point → Point → Type 0
+abbrev pub Happens : Limits → Event → Position → Position → Type 0
 Happens limits (Primitive header begin end) p q =
-    (behind : ℕ) × (rest : List ℕ) × (contents : List ℕ)
-    × HeaderStands limits header p behind rest
+    (after : ℕ) × (rest : List ℕ) × (contents : List ℕ)
+    × HeaderAt limits header p after rest
     × (header.constructed ≡ false)
-    × (run (primitive_contents limits (innermost_of p.containers) header.at) behind rest
+    × (run (primitive_contents limits (innermost_of p.containers) header.at) after rest
     ≡ Took contents q.place q.octets)
     × (begin + length contents ≡ end) × (end ≡ q.place) × (q.containers ≡ p.containers)
 Happens limits (Begin header begin) p q =
-    (behind : ℕ) × (rest : List ℕ) × (inside : Enclosing)
-    × HeaderStands limits header p behind rest
+    (after : ℕ) × (rest : List ℕ) × (inside : Enclosing)
+    × HeaderAt limits header p after rest
     × (header.constructed ≡ true)
-    × (run (in_container limits (innermost_of p.containers) header.at true Done) behind rest
+    × (run (in_container limits (innermost_of p.containers) header.at true Done) after rest
     ≡ Took inside q.place q.octets)
     × (begin ≡ q.place) × (q.containers ≡ inside ∷ p.containers)
 Happens limits (End at) p q =
     (run (next_tag limits (innermost_of p.containers)) p.place p.octets ≡ Took (ContainerEnds at) q.place q.octets)
     × (q.containers ≡ without_innermost p.containers)
 
--- behind the identifier of an element the fault is found in its length, or in its contents if it is primitive
-abbrev pub StopsBehind : Limits → ElementHeader → Fault → Point → ℕ → List ℕ → Type 0
-StopsBehind limits header fault p behind rest =
+-- after the identifier of an element the fault is found in its length, or in its contents if it is primitive
+abbrev pub StopsAfter : Limits → ElementHeader → Fault → Position → ℕ → List ℕ → Type 0
+StopsAfter limits header fault p after rest =
     elim header.constructed [
-      | false ↦ run (primitive_contents limits (innermost_of p.containers) header.at) behind rest ≡ Halted fault
-      | true ↦ run (in_container limits (innermost_of p.containers) header.at true Done) behind rest ≡ Halted fault
+      | false ↦ run (primitive_contents limits (innermost_of p.containers) header.at) after rest ≡ Halted fault
+      | true ↦ run (in_container limits (innermost_of p.containers) header.at true Done) after rest ≡ Halted fault
     ]
 
--- What stands at the point stops with the fault: in its identifier, or in the element of this header.
-abbrev pub StopsWith : Limits → Fault → Option ElementHeader → Point → Type 0
+-- What is at the point stops with the fault: in its identifier, or in the element of this header.
+abbrev pub StopsWith : Limits → Fault → Option ElementHeader → Position → Type 0
 StopsWith limits fault None p = run (next_tag limits (innermost_of p.containers)) p.place p.octets ≡ Halted fault
 StopsWith limits fault (Some header) p =
-    (behind : ℕ) × (rest : List ℕ) × HeaderStands limits header p behind rest
-    × StopsBehind limits header fault p behind rest
+    (after : ℕ) × (rest : List ℕ) × HeaderAt limits header p after rest
+    × StopsAfter limits header fault p after rest
 
--- The events are all that happens from the point on, one behind another: up to the end of the outermost element, or up
--- to where what stands next stops.
-unfoldable pub Outlines : Limits → List Event → Option Stop → Point → Type 0
+-- The events are all that happens from the point on, one after another: up to the end of the outermost element, or up
+-- to where what comes next stops.
+unfoldable pub Outlines : Limits → List Event → Option Stop → Position → Type 0
 Outlines limits [] None p = ⊥
 Outlines limits [] (Some stop) p = StopsWith limits stop.fault stop.element p
 Outlines limits (event ∷ events) stop p =
-    (q : Point) × Happens limits event p q
+    (q : Position) × Happens limits event p q
     × elim q.containers [
       | [] ↦ (events ≡ []) × (stop ≡ None)
       | enclosing ∷ around ↦ Outlines limits events stop q

@@ -6,7 +6,7 @@ ghost use Rattle.ber_outline.specs.Announced.{announced, below_2_to_32};
 /// What length octets announce.
 #[derive(Clone, Copy)]
 pub struct Announced {
-    /// The place behind them, where the contents begin.
+    /// The place after them, where the contents begin.
     pub contents: u64,
     /// The number of contents octets, below 2^32. `None` of the indefinite form.
     pub length: Option<u64>,
@@ -35,12 +35,12 @@ pub(crate) fn announced_length(document: &[u8], place: usize) -> Option<Announce
             length: None,
         });
     }
-    let behind = &octets[1..];
+    let after = &octets[1..];
     let count = usize::from(first) - 128;
-    if first == 255 || behind.len() < count {
+    if first == 255 || after.len() < count {
         return None;
     }
-    match big_endian(0, &behind[..count]) {
+    match big_endian(0, &after[..count]) {
         Some(number) => Some(Announced {
             contents: contents + count as u64,
             length: Some(number),

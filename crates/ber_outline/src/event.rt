@@ -1,4 +1,4 @@
-//! What an outline tells. A place in a document is the number of octets that stand before it.
+//! What an outline says. A place in a document is the number of octets that come before it.
 use crate::announced::Announced;
 use tlv_core::fault::Fault;
 use tlv_core::tag::Tag;

@@ -2,8 +2,8 @@
 //!
 //! Proved: each header is what the plain reading gives at its place, with its tag, its form, its depth, the length that
 //! it announces, and where its contents begin and end. The list is whole: these are all the headers of the outermost
-//! element, none left out and none told twice; or, where reading stops at a fault, all that stand before it, and this
-//! is the plain reading's fault. Of contents nothing is told.
+//! element, none left out and none listed twice; or, where reading stops at a fault, all that come before it, and this
+//! is the plain reading's fault. Of contents nothing is shown.
 #![tactic(auto)]
 
 pub mod announced;

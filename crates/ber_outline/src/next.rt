@@ -2,7 +2,7 @@
 ghost use Rattle.std.specs.Prelude.{◌≡◌, ◌+◌, ◌<◌, ◌≤◌, ◌^◌, MatchResult, drop, length};
 ghost use Rattle.tlv_core.specs.Identifier.{identifier};
 ghost use Rattle.ber_outline.specs.Announced.{announced};
-ghost use Rattle.ber_outline.specs.Steps.{Leads, Ready, StopsAt, open_behind};
+ghost use Rattle.ber_outline.specs.Steps.{Leads, Ready, StopsAt, open_after};
 
 use crate::announced::announced_length;
 use crate::event::{ElementHeader, Event};
@@ -11,8 +11,8 @@ use tlv_core::der::header_size;
 use tlv_core::fault::ReadError;
 use tlv_core::tag::Tag;
 
-/// What stands next, `depth` containers being open. An error comes with the header of the element that it is in, where
-/// its identifier stands. What `room` holds before and behind isn't said.
+/// What comes next, `depth` containers being open. An error comes with the header of the element that it is in, where
+/// its identifier stands. What `room` holds before and after isn't said.
 pub(crate) fn next_event(
     pull: &mut Pull<'_, &[u8]>,
     document: &[u8],
@@ -52,10 +52,10 @@ pub(crate) fn next_event(
     }
 }
 
-/// How many containers are open behind an event, `depth` being open before it.
-pub(crate) fn depth_behind(depth: u64, event: &Event) -> u64
+/// How many containers are open after an event, `depth` being open before it.
+pub(crate) fn depth_after(depth: u64, event: &Event) -> u64
     requires { depth < 2 ^ 63 }
-    ensures { result ≡ open_behind event.now depth }
+    ensures { result ≡ open_after event.now depth }
 {
     match event {
         Event::Primitive(..) => depth,
@@ -64,7 +64,7 @@ pub(crate) fn depth_behind(depth: u64, event: &Event) -> u64
     }
 }
 
-/// The header whose identifier, of this tag and form, stands at a place of the document.
+/// The header whose identifier, of this tag and form, is at a place of the document.
 fn header_at(document: &[u8], at: u64, tag: Tag, constructed: bool, depth: u64) -> ElementHeader
     requires { at + length (identifier tag constructed) ≤ length document.now }
     ensures { result ≡ record {
@@ -76,13 +76,13 @@ fn header_at(document: &[u8], at: u64, tag: Tag, constructed: bool, depth: u64) 
           (drop (at + length (identifier tag constructed)) document.now);
     } }
 {
-    // (a header of length 0 has one octet behind its identifier)
-    let behind = at + (header_size(tag, 0) - 1);
+    // (a header of length 0 has one octet after its identifier)
+    let after = at + (header_size(tag, 0) - 1);
     ElementHeader {
         at,
         tag,
         constructed,
         depth,
-        announced: announced_length(document, behind as usize),
+        announced: announced_length(document, after as usize),
     }
 }

@@ -10,10 +10,10 @@ use borrow.Rule.Slice.PartMut.{put_mid}
 use Rattle.std.specs.Io.KnownBytes.{Appends, Keeps, append_known}
 use Rattle.commands.specs.KnownOctets.{known_length}
 
--- what waits behind the first octets of what waited
-pub waiting_behind : (items : List ℕ) (begin end count : ℕ) → begin + count ≤ end
+-- what waits after the first octets of what waited
+pub waiting_after : (items : List ℕ) (begin end count : ℕ) → begin + count ≤ end
     → slice_range items (begin + count) end ≡ drop count (slice_range items begin end)
-waiting_behind items begin end count few =
+waiting_after items begin end count few =
     let rest : end - begin ≡ count + (end - (begin + count)) = omega (arith, few) in
     sym (ap (λ n. drop count (take n (drop begin items))) rest
     ∙ drop-take count (end - (begin + count)) (drop begin items)
@@ -46,7 +46,7 @@ slice_is items begin end few =
     let whole : end ≡ begin + (end - begin) = omega (arith, few) in
     sym (ap (λ n. drop begin (take n items)) whole ∙ drop-take begin (end - begin) items)
 
--- A piece stands behind what waited.
+-- A piece comes after what waited.
 pub waits_more : (items stands : List ℕ) (begin end : ℕ) (piece : List ℕ)
     → take (end + length piece) stands ≡ take end items ++ piece → begin ≤ end → end ≤ length items
     → slice_range stands begin (end + length piece) ≡ slice_range items begin end ++ piece
@@ -56,11 +56,11 @@ waits_more items stands begin end piece is few within =
     ∙ ap (λ l. l ++ piece) (sym (slice_is items begin end few))
 
 -- so it is where a piece was copied into the block
-pub waits_behind : (items stands shown copied piece : List ℕ) (begin end : ℕ)
+pub waits_after : (items stands shown copied piece : List ℕ) (begin end : ℕ)
     → stands ≡ put_mid end (end + length piece - end) shown copied → shown ≡ items → copied ≡ piece
     → begin ≤ end → end ≤ length items
     → slice_range stands begin (end + length piece) ≡ slice_range items begin end ++ piece
-waits_behind items stands shown copied piece begin end put same is few within =
+waits_after items stands shown copied piece begin end put same is few within =
     let long : length copied ≡ length piece = ap length is in
     let fits : end ≤ length shown = omega (arith, within, ap length same) in
     let first : take (end + length piece) stands ≡ take end items ++ piece =
@@ -71,12 +71,12 @@ waits_behind items stands shown copied piece begin end put same is few within =
     waits_more items stands begin end piece first few within
 
 -- The first octets of those that waited went out, and the others still wait.
-pub kept_behind : (known after : Option (List ℕ)) (items shown : List ℕ) (begin end count : ℕ) → shown ≡ items
+pub kept_after : (known after : Option (List ℕ)) (items shown : List ℕ) (begin end count : ℕ) → shown ≡ items
     → begin ≤ end → count ≤ length (slice_range shown begin end)
     → Appends known after (take count (slice_range shown begin end))
     → Keeps (append_known known (slice_range items begin end))
     (append_known after (slice_range items (begin + count) end))
-kept_behind known after items shown begin end count same ordered few out =
+kept_after known after items shown begin end count same ordered few out =
     let waits = slice_range items begin end in
     let short : count ≤ length waits = subst (λ h. count ≤ length (slice_range h begin end)) same few in
     let most : length waits ≤ end - begin =
@@ -86,7 +86,7 @@ kept_behind known after items shown begin end count same ordered few out =
     append_known-moved known after (take count waits) (slice_range items (begin + count) end) waits
     (subst (λ h. Appends known after (take count (slice_range h begin end))) same out)
     (sym (take-append-drop count waits)
-    ∙ ap (λ r. take count waits ++ r) (sym (waiting_behind items begin end count within)))
+    ∙ ap (λ r. take count waits ++ r) (sym (waiting_after items begin end count within)))
 
 -- Nothing waits at first.
 pub none_waits : (known before : Option (List ℕ)) → known ≡ before → append_known known [] ≡ before

@@ -9,7 +9,8 @@ use Rattle.commands.specs.declared.comparison.Comparison.{Comparison}
 pub answers_named : (value_of : Document → Value) (comparison : Comparison)
     (name other said other_said first second : List ℕ) (status : ℕ) (text : List ℕ)
     → said ≡ said_name comparison.question name → other_said ≡ said_name comparison.question other
-    → AnswersQuestion value_of comparison.question comparison.limits comparison.kind comparison.other_kind said other_said
+    → AnswersQuestion value_of comparison.question comparison.limits comparison.kind comparison.other_kind said
+    other_said
     first second status text
     → Answers value_of comparison name other first second status text
 answers_named value_of comparison name other said other_said first second status text s o h =
@@ -17,5 +18,6 @@ answers_named value_of comparison name other said other_said first second status
     (λ z. AnswersQuestion value_of comparison.question comparison.limits comparison.kind comparison.other_kind
     (said_name comparison.question name) z first second status text) o
     (subst
-    (λ z. AnswersQuestion value_of comparison.question comparison.limits comparison.kind comparison.other_kind z other_said
+    (λ z.
+    AnswersQuestion value_of comparison.question comparison.limits comparison.kind comparison.other_kind z other_said
     first second status text) s h)

@@ -5,7 +5,7 @@ use Rattle.pk_documents.specs.declared.document.Document.{Document}
 use Rattle.commands.specs.Conversions.{ClosesConverted, Converts, ConvertsTo}
 use Rattle.commands.specs.Endings.{Served, is_done}
 use Rattle.commands.specs.MadeFiles.{Made}
-use Rattle.commands.specs.Names.{told_name}
+use Rattle.commands.specs.Names.{shown_name}
 use Rattle.commands.specs.Standards.{Ends, Seen}
 use Rattle.commands.specs.declared.new_file.Unmade.{Unmade}
 use Rattle.commands.specs.declared.opener.Unopened.{Unopened as Why}
@@ -22,27 +22,30 @@ done_is (ReadFailed at) done = absurd cc
 done_is (WriteFailed count) done = absurd cc
 done_is Memory done = absurd cc
 
-module _ {File : Type 0} (value_of : Document → Value) (told : List ℕ → Option (List ℕ)) (unopened : List ℕ → Why → Type 0)
-    (made_of : File → Made) (refuses : List ℕ → Unmade → Type 0) (task : Task) (name told_as : List ℕ)
-    (to : Option (List ℕ)) (old new : Seen) (status : ℕ) (result : Result Outcome Unmade) (before after : Option (List ℕ))
+module _ {File : Type 0} (value_of : Document → Value) (known : List ℕ → Option (List ℕ))
+    (unopened : List ℕ → Why → Type 0)
+    (made_of : File → Made) (refuses : List ℕ → Unmade → Type 0) (task : Task) (name known_as : List ℕ)
+    (to : Option (List ℕ)) (old new : Seen) (status : ℕ) (result : Result Outcome Unmade)
+    (before after : Option (List ℕ))
     (unread : Bool) where
   -- what is done with the document of a name, once that is opened
   pub converts_named : (from named : Option (List ℕ)) (input : Option (Option (List ℕ))) → Some name ≡ from → to ≡ named
-      → told_as ≡ told_name name → before ≡ told name
+      → known_as ≡ shown_name name → before ≡ known name
       → ConvertsTo made_of refuses task (Served value_of task before after unread) to result old.output new.output
       new.output_failed new.flushed
-      → ClosesConverted (Ends old new status) (Some told_as) to result
-      → Converts value_of told unopened made_of refuses task from named input old new status
-  converts_named from named input from_is to_is told_is before_is converted closed =
-      subst (λ it. Converts value_of told unopened made_of refuses task it named input old new status) from_is
-      (subst (λ it. Converts value_of told unopened made_of refuses task (Some name) it input old new status) to_is
+      → ClosesConverted (Ends old new status) (Some known_as) to result
+      → Converts value_of known unopened made_of refuses task from named input old new status
+  converts_named from named input from_is to_is known_is before_is converted closed =
+      subst (λ it. Converts value_of known unopened made_of refuses task it named input old new status) from_is
+      (subst (λ it. Converts value_of known unopened made_of refuses task (Some name) it input old new status) to_is
       (inr (inr (
         result,
         after,
         unread,
         subst
-            (λ it. ConvertsTo made_of refuses task (Served value_of task it after unread) to result old.output new.output
+            (λ it.
+            ConvertsTo made_of refuses task (Served value_of task it after unread) to result old.output new.output
             new.output_failed new.flushed)
             before_is converted,
-        subst (λ it. ClosesConverted (Ends old new status) (Some it) to result) told_is closed,
+        subst (λ it. ClosesConverted (Ends old new status) (Some it) to result) known_is closed,
       ))))

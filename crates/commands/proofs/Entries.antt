@@ -9,7 +9,7 @@ use Rattle.std.specs.Io.KnownBytes.{Appends}
 use Rattle.std.specs.List.{fold}
 use Rattle.x690.specs.Values.{Value}
 use Rattle.pk_documents.specs.declared.document.Document.{Document}
-use Rattle.commands.specs.Files.{AreSaid, Entry, FilesTold, GivesUp, IsSaid, Went, names_of, texts_of}
+use Rattle.commands.specs.Files.{AreSaid, Entry, FilesSaid, GivesUp, IsSaid, Went, names_of, texts_of}
 use Rattle.commands.specs.NameLists.{NoneLeft, TakesNames}
 use Rattle.commands.specs.declared.files.FilesEnd.TheVariants as ends
 use Rattle.commands.specs.declared.names.NamesFault.{NamesFault}
@@ -18,56 +18,58 @@ use Rattle.commands.specs.declared.opener.Unopened.{Unopened as Why}
 use Rattle.commands.specs.declared.task.Task.{Task}
 use Rattle.commands.proofs.NameLists.{list_begins, list_ends, names_go_on}
 
-fold_behind : {A B : Type 0} (f : B → A → B) (a : B) (xs : List A) (x : A) → fold f a (xs ++ x ∷ []) ≡ f (fold f a xs) x
-fold_behind f a [] x = refl
-fold_behind f a (y ∷ xs) x = fold_behind f (f a y) xs x
+fold_after : {A B : Type 0} (f : B → A → B) (a : B) (xs : List A) (x : A) → fold f a (xs ++ x ∷ []) ≡ f (fold f a xs) x
+fold_after f a [] x = refl
+fold_after f a (y ∷ xs) x = fold_after f (f a y) xs x
 
-texts_behind : (all : List Entry) (it : Entry) → texts_of (all ++ it ∷ []) ≡ texts_of all ++ it.text
-texts_behind all it =
+texts_after : (all : List Entry) (it : Entry) → texts_of (all ++ it ∷ []) ≡ texts_of all ++ it.text
+texts_after all it =
     flat_map-append (λ e. e.text) all (it ∷ []) ∙ ap (λ text. texts_of all ++ text) (append-nil it.text)
 
-names_behind_all : (all : List Entry) (it : Entry) → names_of (all ++ it ∷ []) ≡ names_of all ++ it.name ∷ []
-names_behind_all all it = map-append (λ e. e.name) all (it ∷ [])
+names_after_all : (all : List Entry) (it : Entry) → names_of (all ++ it ∷ []) ≡ names_of all ++ it.name ∷ []
+names_after_all all it = map-append (λ e. e.name) all (it ∷ [])
 
-module _ (value_of : Document → Value) (told : List ℕ → Option (List ℕ))
-    (refuses : List ℕ → Why → Type 0) (leaves : Bool → Option (List ℕ) → Type 0) (task : Task) (list left : Option (List (List ℕ)))
-    (stops : Option (List (List ℕ)) → NamesFault → Type 0) (old mid : Option (List ℕ)) (status out : ℕ) (all : List Entry)
-    (went : Went value_of told refuses leaves task list left old mid status out all) where
-  pub through : NoneLeft left → FilesTold value_of told refuses leaves task list stops old mid (ends.Through status)
+module _ (value_of : Document → Value) (known : List ℕ → Option (List ℕ))
+    (refuses : List ℕ → Why → Type 0) (leaves : Bool → Option (List ℕ) → Type 0) (task : Task)
+    (list left : Option (List (List ℕ)))
+    (stops : Option (List (List ℕ)) → NamesFault → Type 0) (old mid : Option (List ℕ)) (status out : ℕ)
+    (all : List Entry)
+    (went : Went value_of known refuses leaves task list left old mid status out all) where
+  pub through : NoneLeft left → FilesSaid value_of known refuses leaves task list stops old mid (ends.Through status)
   through none = (all, went.said, (list_ends list left (names_of all) went.named none, went.written, went.status_is))
 
-  pub no_name : (fault : NamesFault) → GivesUp (AreSaid value_of told refuses leaves task) stops list all fault
-      → FilesTold value_of told refuses leaves task list stops old mid (ends.NoName fault)
+  pub no_name : (fault : NamesFault) → GivesUp (AreSaid value_of known refuses leaves task) stops list all fault
+      → FilesSaid value_of known refuses leaves task list stops old mid (ends.NoName fault)
   no_name fault gives_up = (all, went.said, (list_begins list left (names_of all) went.named, went.written, gives_up))
 
   -- the next name doesn't come
   pub stopped : (fault : NamesFault) → stops left fault
-      → FilesTold value_of told refuses leaves task list stops old mid (ends.NoName fault)
+      → FilesSaid value_of known refuses leaves task list stops old mid (ends.NoName fault)
   stopped fault stops_so = no_name fault (inl (left, went.named, stops_so))
 
-  pub no_memory_for : FilesTold value_of told refuses leaves task list stops old mid ends.Memory
+  pub no_memory_for : FilesSaid value_of known refuses leaves task list stops old mid ends.Memory
   no_memory_for = (all, went.said, (list_begins list left (names_of all) went.named, went.written))
 
   module _ (new : Option (List (List ℕ))) (last : Option (List ℕ)) (name text : List ℕ) (this : ℕ)
-      (said : IsSaid value_of told refuses leaves task name this text) (next : TakesNames left new (name ∷ [])) where
+      (said : IsSaid value_of known refuses leaves task name this text) (next : TakesNames left new (name ∷ [])) where
     abbrev it : Entry
     it = record { name = name; status = this; text = text }
 
-    all_said : AreSaid value_of told refuses leaves task (all ++ it ∷ [])
+    all_said : AreSaid value_of known refuses leaves task (all ++ it ∷ [])
     all_said =
-        All-append (λ e. IsSaid value_of told refuses leaves task e.name e.status e.text) all (it ∷ []) went.said
-        (All-cons (λ e. IsSaid value_of told refuses leaves task e.name e.status e.text) it [] said
-        (All-nil (λ e. IsSaid value_of told refuses leaves task e.name e.status e.text)))
+        All-append (λ e. IsSaid value_of known refuses leaves task e.name e.status e.text) all (it ∷ []) went.said
+        (All-cons (λ e. IsSaid value_of known refuses leaves task e.name e.status e.text) it [] said
+        (All-nil (λ e. IsSaid value_of known refuses leaves task e.name e.status e.text)))
 
     all_named : TakesNames list new (names_of (all ++ it ∷ []))
     all_named =
-        subst (TakesNames list new) (sym (names_behind_all all it))
+        subst (TakesNames list new) (sym (names_after_all all it))
         (names_go_on list left new (names_of all) (name ∷ []) went.named next)
 
     pub goes_further : (status_new out_new : ℕ) → status_new ≡ max status this → out_new ≡ out + length text
         → Appends mid last text
         → (more : List Entry) × (length more ≡ length all + 1)
-        × Went value_of told refuses leaves task list new old last status_new out_new more
+        × Went value_of known refuses leaves task list new old last status_new out_new more
     goes_further status_new out_new status_is out_is written = (
       all ++ it ∷ [],
       length-append all (it ∷ []),
@@ -75,23 +77,23 @@ module _ (value_of : Document → Value) (told : List ℕ → Option (List ℕ))
         said = all_said;
         named = all_named;
         written =
-            subst (Appends old last) (sym (texts_behind all it))
+            subst (Appends old last) (sym (texts_after all it))
             (Appends-trans old mid last (texts_of all) text went.written written);
         status_is =
             status_is ∙ ap (λ n. max n this) went.status_is
-            ∙ sym (fold_behind (λ most e. max most e.status) 0 all it);
+            ∙ sym (fold_after (λ most e. max most e.status) 0 all it);
         counted =
             out_is ∙ ap (λ n. n + length text) went.counted ∙ sym (length-append (texts_of all) text)
-            ∙ ap length (sym (texts_behind all it));
+            ∙ ap length (sym (texts_after all it));
       },
     )
 
     -- the octets can't be counted with those of its text
     pub uncounted : 2 ^ 64 ≤ out + length text
-        → FilesTold value_of told refuses leaves task list stops old mid (ends.NoName TooMany)
+        → FilesSaid value_of known refuses leaves task list stops old mid (ends.NoName TooMany)
     uncounted many =
         let length_is : length (texts_of (all ++ it ∷ [])) ≡ length (texts_of all) + length text =
-        ap length (texts_behind all it) ∙ length-append (texts_of all) text in
+        ap length (texts_after all it) ∙ length-append (texts_of all) text in
         no_name TooMany
         (inr (
           refl,
@@ -105,16 +107,16 @@ module _ (value_of : Document → Value) (told : List ℕ → Option (List ℕ))
 
     pub cut_short : (count written : ℕ) → count ≡ out + written → written ≤ length text
         → Appends mid last (take written text)
-        → FilesTold value_of told refuses leaves task list stops old last (ends.WriteFailed count)
+        → FilesSaid value_of known refuses leaves task list stops old last (ends.WriteFailed count)
     cut_short count written count_is few appended =
         let whole = texts_of (all ++ it ∷ []) in
         let count_of : count ≡ length (texts_of all) + written =
         count_is ∙ ap (λ n. n + written) went.counted in
         let part : take count whole ≡ texts_of all ++ take written text =
-        ap (λ n. take n whole) count_of ∙ ap (take (length (texts_of all) + written)) (texts_behind all it)
+        ap (λ n. take n whole) count_of ∙ ap (take (length (texts_of all) + written)) (texts_after all it)
         ∙ take-append-add (texts_of all) text written in
         let long : length whole ≡ length (texts_of all) + length text =
-        ap length (texts_behind all it) ∙ length-append (texts_of all) text in (
+        ap length (texts_after all it) ∙ length-append (texts_of all) text in (
           all ++ it ∷ [],
           all_said,
           (
@@ -126,11 +128,12 @@ module _ (value_of : Document → Value) (told : List ℕ → Option (List ℕ))
         )
 
 -- nothing is done yet
-pub begins : (value_of : Document → Value) (told : List ℕ → Option (List ℕ)) (refuses : List ℕ → Why → Type 0)
-    (leaves : Bool → Option (List ℕ) → Type 0) (task : Task) (list : Option (List (List ℕ))) (old : Option (List ℕ)) → TakesNames list list [] → Appends old old []
-    → Went value_of told refuses leaves task list list old old 0 0 []
-begins value_of told refuses leaves task list old named written = record {
-  said = All-nil (λ e. IsSaid value_of told refuses leaves task e.name e.status e.text);
+pub begins : (value_of : Document → Value) (known : List ℕ → Option (List ℕ)) (refuses : List ℕ → Why → Type 0)
+    (leaves : Bool → Option (List ℕ) → Type 0) (task : Task) (list : Option (List (List ℕ))) (old : Option (List ℕ))
+    → TakesNames list list [] → Appends old old []
+    → Went value_of known refuses leaves task list list old old 0 0 []
+begins value_of known refuses leaves task list old named written = record {
+  said = All-nil (λ e. IsSaid value_of known refuses leaves task e.name e.status e.text);
   named = named;
   written = written;
   status_is = refl;

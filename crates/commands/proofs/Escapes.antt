@@ -22,12 +22,12 @@ plain_first xs ys x e h = All-head Printable x ys (subst IsPrintable e h)
 pub plain_others : (xs ys : List ℕ) (x : ℕ) → xs ≡ x ∷ ys → IsPrintable xs → IsPrintable ys
 plain_others xs ys x e h = All-rest Printable x ys xs e h
 
--- one of them goes behind the text
-pub goes_on : (text longer before behind : List ℕ) (x : ℕ) → Printable x → before ≡ x ∷ behind
-    → longer ≡ text ++ encode_utf8 x → longer ++ behind ≡ text ++ before
-goes_on text longer before behind x plain is e =
-    ap (λ t. t ++ behind) (e ∙ ap (λ t. text ++ t) (encode_ascii x (omega (arith, plain.1))))
-    ∙ append_assoc text (x ∷ []) behind ∙ ap (λ t. text ++ t) (sym is)
+-- one of them goes after the text
+pub goes_on : (text longer before after : List ℕ) (x : ℕ) → Printable x → before ≡ x ∷ after
+    → longer ≡ text ++ encode_utf8 x → longer ++ after ≡ text ++ before
+goes_on text longer before after x plain is e =
+    ap (λ t. t ++ after) (e ∙ ap (λ t. text ++ t) (encode_ascii x (omega (arith, plain.1))))
+    ∙ append_assoc text (x ∷ []) after ∙ ap (λ t. text ++ t) (sym is)
 
 -- ---- the escape of a character
 
@@ -64,7 +64,7 @@ unicode_plain c =
     (both IsPrintable (nat_lt c 0x10_0000) _ _ (code_plain (0x1_0000 ∷ 0x1000 ∷ 0x100 ∷ 0x10 ∷ 1 ∷ []) c)
     (code_plain (0x10_0000 ∷ 0x1_0000 ∷ 0x1000 ∷ 0x100 ∷ 0x10 ∷ 1 ∷ []) c)))))
 
--- a letter behind the backslash, or none
+-- a letter after the backslash, or none
 abbrev Letter : ℕ → Type 0
 Letter n = (n ≡ 0) ⊎ Printable n
 

@@ -1,4 +1,4 @@
--- Parts of a run, and what comes of them one behind another.
+-- Parts of a run, and what comes of them one after another.
 use Rattle.std.proofs.Common.{◌≡◌, ◌∙◌, ◌++◌, ◌+◌, ◌<◌, ◌≤◌, List, [], ◌∷◌, None, Option, Some, ap, arith, cond, drop, false, get_or, inl, inr, length, map, max, refl, subst, sym, true, ℕ}
 use Rattle.std.specs.List.{list_any}
 use Rattle.std.proofs.Math.ListN.{drop_of_length-le}
@@ -7,7 +7,7 @@ use Rattle.x690.specs.Values.{Value}
 use Rattle.pk_documents.specs.declared.document.Document.{Document}
 use Rattle.commands.specs.Judgements.{Goes, GoesThrough, Judges, JudgesListed, JudgesNames, Listed, Named, Part, Sources, StopsAt, StopsEnded, StopsWords, leaves_of, part_of, parts_named, parts_of}
 use Rattle.commands.specs.NameLists.{known_names, source_of, words_of}
-use Rattle.commands.specs.Names.{told_name}
+use Rattle.commands.specs.Names.{shown_name}
 use Rattle.commands.specs.Standards.{Seen, is_dash}
 use Rattle.commands.specs.declared.ended_names.EndedNames.{EndedNames}
 use Rattle.commands.specs.declared.names.Words.{Words}
@@ -15,78 +15,81 @@ use Rattle.commands.specs.declared.task.Task.{Task}
 
 module _ {Origin Opened : Type 0} (value_of : Document → Value) (sources : Sources Origin Opened) (task : Task)
     (old new : Seen) (end : Option ℕ) where
-  -- the names of a list that standard input tells
-  pub listed_from_input : (list told_as : List ℕ) (source : Origin) (first names : EndedNames Origin) → is_dash list ≡ true
-      → old.input ≡ Some (sources.input_remaining source) → new.input ≡ None → told_as ≡ told_name list
+  -- the names of a list that are known of standard input
+  pub listed_from_input : (list known_as : List ℕ) (source : Origin) (first names : EndedNames Origin)
+      → is_dash list ≡ true
+      → old.input ≡ Some (sources.input_remaining source) → new.input ≡ None → known_as ≡ shown_name list
       → source_of first ≡ source
-      → JudgesNames value_of sources.told sources.unopened (leaves_of sources) task told_as
+      → JudgesNames value_of sources.known sources.unopened (leaves_of sources) task known_as
       (known_names [] (sources.input_remaining (source_of first)))
       (StopsEnded sources.input_failed sources.input_remaining names) old new end
       → Judges value_of sources task (Listed list) old new end
-  listed_from_input list told_as source first names dash some none told_is first_is judged = inr (
+  listed_from_input list known_as source first names dash some none known_is first_is judged = inr (
     none ∙ sym (ap (λ it. cond it None old.input) dash),
     subst (λ it. JudgesListed value_of sources task list it old.input old new end) (sym dash)
         (subst (λ it. JudgesListed value_of sources task list true it old new end) (sym some) (
           names,
           subst
-              (λ it. JudgesNames value_of sources.told sources.unopened (leaves_of sources) task (told_name list)
+              (λ it. JudgesNames value_of sources.known sources.unopened (leaves_of sources) task (shown_name list)
               (known_names [] (sources.input_remaining it))
               (StopsEnded sources.input_failed sources.input_remaining names) old new end)
               first_is
               (subst
-              (λ it. JudgesNames value_of sources.told sources.unopened (leaves_of sources) task it
+              (λ it. JudgesNames value_of sources.known sources.unopened (leaves_of sources) task it
               (known_names [] (sources.input_remaining (source_of first)))
               (StopsEnded sources.input_failed sources.input_remaining names) old new end)
-              told_is judged),
+              known_is judged),
         )),
   )
 
-  pub listed_from_file : (list told_as : List ℕ) (source : Opened) (first names : EndedNames Opened)
-      → is_dash list ≡ false → sources.remaining source ≡ sources.told list → new.input ≡ old.input
-      → told_as ≡ told_name list → source_of first ≡ source
-      → JudgesNames value_of sources.told sources.unopened (leaves_of sources) task told_as
-      (known_names [] (sources.remaining (source_of first))) (StopsEnded sources.failed sources.remaining names) old new end
+  pub listed_from_file : (list known_as : List ℕ) (source : Opened) (first names : EndedNames Opened)
+      → is_dash list ≡ false → sources.remaining source ≡ sources.known list → new.input ≡ old.input
+      → known_as ≡ shown_name list → source_of first ≡ source
+      → JudgesNames value_of sources.known sources.unopened (leaves_of sources) task known_as
+      (known_names [] (sources.remaining (source_of first)))
+      (StopsEnded sources.failed sources.remaining names) old new end
       → Judges value_of sources task (Listed list) old new end
-  listed_from_file list told_as source first names file told_are same told_is first_is judged = inr (
+  listed_from_file list known_as source first names file known_are same known_is first_is judged = inr (
     same ∙ sym (ap (λ it. cond it None old.input) file),
     subst (λ it. JudgesListed value_of sources task list it old.input old new end) (sym file)
         (inr (
           names,
           subst
-              (λ it. JudgesNames value_of sources.told sources.unopened (leaves_of sources) task (told_name list)
+              (λ it. JudgesNames value_of sources.known sources.unopened (leaves_of sources) task (shown_name list)
               (known_names [] it) (StopsEnded sources.failed sources.remaining names) old new end)
-              (ap sources.remaining first_is ∙ told_are)
+              (ap sources.remaining first_is ∙ known_are)
               (subst
-              (λ it. JudgesNames value_of sources.told sources.unopened (leaves_of sources) task it
+              (λ it. JudgesNames value_of sources.known sources.unopened (leaves_of sources) task it
               (known_names [] (sources.remaining (source_of first))) (StopsEnded sources.failed sources.remaining names)
               old new end)
-              told_is judged),
+              known_is judged),
         )),
   )
 
   -- the documents of names
-  pub named_by_words : (names : List (List ℕ)) (told_as : List ℕ) (first last : Words) → words_of first ≡ names
-      → new.input ≡ old.input → told_as ≡ told_name []
-      → JudgesNames value_of sources.told sources.unopened (leaves_of sources) task told_as (Some (words_of first))
+  pub named_by_words : (names : List (List ℕ)) (known_as : List ℕ) (first last : Words) → words_of first ≡ names
+      → new.input ≡ old.input → known_as ≡ shown_name []
+      → JudgesNames value_of sources.known sources.unopened (leaves_of sources) task known_as (Some (words_of first))
       (StopsWords last) old new end
       → Judges value_of sources task (Named names) old new end
-  named_by_words names told_as first last names_are same told_is judged = (
+  named_by_words names known_as first last names_are same known_is judged = (
     same,
     inr (
       last,
       subst
-          (λ it. JudgesNames value_of sources.told sources.unopened (leaves_of sources) task (told_name []) (Some it)
+          (λ it. JudgesNames value_of sources.known sources.unopened (leaves_of sources) task (shown_name []) (Some it)
           (StopsWords last) old new end)
           names_are
           (subst
-          (λ it. JudgesNames value_of sources.told sources.unopened (leaves_of sources) task it (Some (words_of first))
+          (λ it. JudgesNames value_of sources.known sources.unopened (leaves_of sources) task it (Some (words_of first))
           (StopsWords last) old new end)
-          told_is judged),
+          known_is judged),
     ),
   )
 
 module _ (Step : Part → Seen → Seen → Option ℕ → Type 0) where
-  pub goes_one : (part : Part) (old new : Seen) (end : Option ℕ) → Step part old new end → Goes Step (part ∷ []) old new end
+  pub goes_one : (part : Part) (old new : Seen) (end : Option ℕ) → Step part old new end
+      → Goes Step (part ∷ []) old new end
   goes_one part old new None step = inl step
   goes_one part old new (Some status) step = (new, status, 0, step, (refl, refl), omega arith)
 
@@ -106,12 +109,13 @@ module _ (Step : Part → Seen → Seen → Option ℕ → Type 0) where
   )
 
   pub stops_further : (parts others : List Part) (old between new : Seen) (first : ℕ)
-      → GoesThrough Step parts old between first → StopsAt Step others between new → StopsAt Step (parts ++ others) old new
+      → GoesThrough Step parts old between first → StopsAt Step others between new
+      → StopsAt Step (parts ++ others) old new
   stops_further [] others old between new first (same, none) stops = subst (λ at. StopsAt Step others at new) same stops
   stops_further (part ∷ parts) others old between new first (next, one, rest, step, through, first_is) stops =
       inr (next, one, step, stops_further parts others next between new rest through stops)
 
-  -- what is behind the part that the run ends with doesn't matter
+  -- what is after the part that the run ends with doesn't matter
   pub stops_before : (parts others : List Part) (old new : Seen) → StopsAt Step parts old new
       → StopsAt Step (parts ++ others) old new
   stops_before [] others old new stops = elim stops [ ]
@@ -125,7 +129,7 @@ module _ (Step : Part → Seen → Seen → Option ℕ → Type 0) where
   one_further parts part old between new first last through step =
       goes_further parts (part ∷ []) old between new first last through (goes_one part between new (Some last) step)
 
--- Each name by itself, so many of them being done: what comes of those that are left, behind what came of those before
+-- Each name by itself, so many of them being done: what comes of those that are left, after what came of those before
 -- them, comes of all names.
 module _ (Step : Part → Seen → Seen → Option ℕ → Type 0) {Name : Type 0} (text_of : Name → List ℕ) (names : List Name)
     (done : ℕ) (none : Name) (is_left : done < length names) (start now next : Seen) (worst : ℕ) where
@@ -172,7 +176,7 @@ module _ (Step : Part → Seen → Seen → Option ℕ → Type 0) {Name : Type 
       (through now 0
       (subst (λ it. GoesThrough Step (map part_of (map text_of it)) now now 0) none (refl, refl)))
 
--- All names, and the list behind them.
+-- All names, and the list after them.
 module _ (Step : Part → Seen → Seen → Option ℕ → Type 0) (names : List (List ℕ)) (old new : Seen) where
   pub each_by_itself : (end : Option ℕ) → list_any is_dash names ≡ true → Goes Step (map part_of names) old new end
       → Goes Step (parts_named names) old new end
@@ -186,14 +190,16 @@ module _ (Step : Part → Seen → Seen → Option ℕ → Type 0) (names : List
       (goes_one Step (Named names) old new end step)
 
   module _ (list : List ℕ) (listed : Option (List ℕ)) (is_listed : Some list ≡ listed) where
-    pub stops_in_names : (end : Option ℕ) → None ≡ end → StopsAt Step (parts_named names) old new → Goes Step (parts_of names listed) old new end
+    pub stops_in_names : (end : Option ℕ) → None ≡ end → StopsAt Step (parts_named names) old new
+        → Goes Step (parts_of names listed) old new end
     stops_in_names end none stops =
         subst (λ it. Goes Step (parts_of names it) old new end) is_listed
         (subst (Goes Step (parts_of names (Some list)) old new) none
         (stops_before Step (parts_named names) (Listed list ∷ []) old new stops))
 
     module _ (between : Seen) (first : ℕ) (through : GoesThrough Step (parts_named names) old between first) where
-      pub stops_in_list : (end : Option ℕ) → None ≡ end → Step (Listed list) between new None → Goes Step (parts_of names listed) old new end
+      pub stops_in_list : (end : Option ℕ) → None ≡ end → Step (Listed list) between new None
+          → Goes Step (parts_of names listed) old new end
       stops_in_list end none step =
           subst (λ it. Goes Step (parts_of names it) old new end) is_listed
           (subst (Goes Step (parts_of names (Some list)) old new) none

@@ -10,5 +10,5 @@ pub mod Pairs
 pub mod Replies
 pub mod ReplyLaws
 pub mod ShortWords
-pub mod ToldNames
+pub mod ShownNames
 pub mod Tokens

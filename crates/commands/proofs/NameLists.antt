@@ -2,58 +2,58 @@
 use Rattle.std.proofs.Common.{◌≡◌, ◌∙◌, ◌++◌, All, Bool, List, [], ◌∷◌, None, Option, Some, ap, append-nil, append_assoc, cond, false, length, refl, sym, true, ℕ, ◌==◌}
 use Rattle.std.proofs.lemmas.List.Elements.{All-append, All-cons, All-nil}
 use Rattle.std.specs.Io.KnownBytes.{Consumes}
-use Rattle.commands.specs.NameLists.{BeginsWith, IsListOf, NoneLeft, TakesNames, TakesNext, TakesOctet, known_names, names_behind}
+use Rattle.commands.specs.NameLists.{BeginsWith, IsListOf, NoneLeft, TakesNames, TakesNext, TakesOctet, known_names, names_after}
 
 -- ---- names of such octets
 
--- These octets of a name came, and what is left is behind them.
-abbrev pub Behind : Option (List ℕ) → List ℕ → Option (List ℕ) → Type 0
-Behind None name now = Unit {0}
-Behind (Some first) name None = ⊥
-Behind (Some first) name (Some now) = names_behind [] first ≡ names_behind name now
+-- These octets of a name came, and what is left is after them.
+abbrev pub After : Option (List ℕ) → List ℕ → Option (List ℕ) → Type 0
+After None name now = Unit {0}
+After (Some first) name None = ⊥
+After (Some first) name (Some now) = names_after [] first ≡ names_after name now
 
-pub behind_first : (first : Option (List ℕ)) → Behind first [] first
-behind_first None = tt
-behind_first (Some first) = refl
+pub after_first : (first : Option (List ℕ)) → After first [] first
+after_first None = tt
+after_first (Some first) = refl
 
-more_behind : (name now new : List ℕ) (octet : ℕ) (b : Bool) → (octet == 0) ≡ b → b ≡ false → now ≡ octet ∷ new
-    → names_behind name now ≡ names_behind (name ++ octet ∷ []) new
-more_behind name now new octet b is isnt took =
-    ap (names_behind name) took
-    ∙ ap (λ b. cond b (name ∷ names_behind [] new) (names_behind (name ++ octet ∷ []) new)) (is ∙ isnt)
+more_after : (name now new : List ℕ) (octet : ℕ) (b : Bool) → (octet == 0) ≡ b → b ≡ false → now ≡ octet ∷ new
+    → names_after name now ≡ names_after (name ++ octet ∷ []) new
+more_after name now new octet b is isnt took =
+    ap (names_after name) took
+    ∙ ap (λ b. cond b (name ∷ names_after [] new) (names_after (name ++ octet ∷ []) new)) (is ∙ isnt)
 
-pub behind_more : (first old new : Option (List ℕ)) (name : List ℕ) (octet : ℕ) → (octet == 0) ≡ false
-    → Consumes old new (octet ∷ []) → Behind first name old → Behind first (name ++ octet ∷ []) new
-behind_more None old new name octet isnt took h = tt
-behind_more (Some first) None new name octet isnt took h = absurd h
-behind_more (Some first) (Some old) None name octet isnt took h = absurd took
-behind_more (Some first) (Some old) (Some new) name octet isnt took h =
-    h ∙ more_behind name old new octet (octet == 0) refl isnt took
+pub after_more : (first old new : Option (List ℕ)) (name : List ℕ) (octet : ℕ) → (octet == 0) ≡ false
+    → Consumes old new (octet ∷ []) → After first name old → After first (name ++ octet ∷ []) new
+after_more None old new name octet isnt took h = tt
+after_more (Some first) None new name octet isnt took h = absurd h
+after_more (Some first) (Some old) None name octet isnt took h = absurd took
+after_more (Some first) (Some old) (Some new) name octet isnt took h =
+    h ∙ more_after name old new octet (octet == 0) refl isnt took
 
 -- an octet 0 ends the name
-pub name_ends : (first old new : Option (List ℕ)) (name : List ℕ) → Consumes old new (0 ∷ []) → Behind first name old
+pub name_ends : (first old new : Option (List ℕ)) (name : List ℕ) → Consumes old new (0 ∷ []) → After first name old
     → TakesNext (known_names [] first) (known_names [] new) (Some name)
 name_ends None old new name took h = tt
 name_ends (Some first) None new name took h = absurd h
 name_ends (Some first) (Some old) None name took h = absurd took
-name_ends (Some first) (Some old) (Some new) name took h = h ∙ ap (names_behind name) took
+name_ends (Some first) (Some old) (Some new) name took h = h ∙ ap (names_after name) took
 
 -- the end ends the last one
 pub last_ends : (first old new : Option (List ℕ)) (name : List ℕ) → (length name == 0) ≡ false → TakesOctet old new None
-    → Behind first name old → TakesNext (known_names [] first) (known_names [] new) (Some name)
+    → After first name old → TakesNext (known_names [] first) (known_names [] new) (Some name)
 last_ends None old new name some took h = tt
 last_ends (Some first) None new name some took h = absurd h
 last_ends (Some first) (Some old) None name some took h = absurd took.1
 last_ends (Some first) (Some old) (Some new) name some took h =
-    h ∙ ap (names_behind name) took.0 ∙ ap (λ b. cond b [] (name ∷ [])) some
-    ∙ ap (λ rest. name ∷ names_behind [] rest) (sym (took.1 ∙ took.0))
+    h ∙ ap (names_after name) took.0 ∙ ap (λ b. cond b [] (name ∷ [])) some
+    ∙ ap (λ rest. name ∷ names_after [] rest) (sym (took.1 ∙ took.0))
 
-pub none_behind : (first old new : Option (List ℕ)) (name : List ℕ) → (length name == 0) ≡ true → TakesOctet old new None
-    → Behind first name old → TakesNext (known_names [] first) (known_names [] new) None
-none_behind None old new name none took h = tt
-none_behind (Some first) None new name none took h = absurd h
-none_behind (Some first) (Some old) new name none took h =
-    h ∙ ap (names_behind name) took.0 ∙ ap (λ b. cond b [] (name ∷ [])) none
+pub none_after : (first old new : Option (List ℕ)) (name : List ℕ) → (length name == 0) ≡ true → TakesOctet old new None
+    → After first name old → TakesNext (known_names [] first) (known_names [] new) None
+none_after None old new name none took h = tt
+none_after (Some first) None new name none took h = absurd h
+none_after (Some first) (Some old) new name none took h =
+    h ∙ ap (names_after name) took.0 ∙ ap (λ b. cond b [] (name ∷ [])) none
 
 -- ---- the octets of a name that isn't ended
 

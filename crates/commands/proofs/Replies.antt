@@ -68,7 +68,7 @@ pub unread_fails : (error : ReadError) (outcome : Outcome) (source target : Bool
 unread_fails error outcome source target is h =
     subst (λ o. FailedBy o source target) (sym is) (unread_failed error source target h)
 
--- memory ran out behind a value that was taken
+-- memory ran out after a value that was taken
 pub no_memory : (limits : Limits) (type : TypeTerm) (before after : Option (List ℕ)) (octets text : List ℕ)
     → Consumes before after octets
     → ((more : List ℕ) → answer limits type (octets ++ more) ≡ Spelled text (length octets))
@@ -233,12 +233,14 @@ module _ {S E W : Type 0} (octets_of : S → List ℕ) (whole_of : S → Outcome
   text_silent (Ok text) ends h silent = absurd (written_speaks h.0 outcome (whole_of text) h.1 ends silent)
   text_silent (Err error) ends h silent = h.1
 
-  pub text_fails : (text : Result S E) (source : Bool) → IfOk text (λ t. IsWhole (whole_of t)) → has_failed first ≡ false
+  pub text_fails : (text : Result S E) (source : Bool) → IfOk text (λ t. IsWhole (whole_of t))
+      → has_failed first ≡ false
       → MatchResult text (λ _. source ≡ false) (λ error. FailedBy (why error) source false)
       → WroteText octets_of whole_of why text outcome (contents first) (contents last) (has_failed last) (last ≡ first)
       → FailedBy outcome source (has_failed last)
   text_fails (Ok text) source ends writable fine h =
-      written_fails (octets_of text) (contents first) (contents last) h.0 outcome (whole_of text) source (has_failed last)
+      written_fails (octets_of text) (contents first) (contents last) h.0 outcome (whole_of text) source
+      (has_failed last)
       h.1 ends h.2 fine
   text_fails (Err error) source ends writable fine h =
       subst (λ o. FailedBy o source (has_failed last)) (sym h.0)
@@ -261,7 +263,8 @@ module _ {W : Type 0} (first last : W) (contents : W → Option (List ℕ)) (fai
       (contents last) failed (last ≡ first)
       → RepliedAs Stopped Due outcome (contents first) (contents last)
   reply_replies Stopped Due (Ok reply) due h =
-      written_replies Stopped Due (contents first) (contents last) (string_bytes reply.text) h.0 failed outcome reply.whole
+      written_replies Stopped Due (contents first) (contents last)
+      (string_bytes reply.text) h.0 failed outcome reply.whole
       h.1 (whole_says reply.whole reply.says_all) h.2 due
   reply_replies Stopped Due (Err error) why h =
       unread_replies Stopped Due (contents first) (contents last) error outcome h.0 why

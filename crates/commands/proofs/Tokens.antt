@@ -1,4 +1,4 @@
--- Lists that were put one behind another.
+-- Lists that were put one after another.
 use Rattle.std.proofs.Common.{◌≡◌, ◌++◌, ◌∙◌, Err, List, Ok, Result, ap, append_assoc, sym}
 use Rattle.std.specs.Prelude.{OnOk}
 

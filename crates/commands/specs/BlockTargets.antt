@@ -13,7 +13,7 @@ waiting blocks = slice_range blocks.block.items blocks.begin blocks.end
 abbrev pub target_of : {W K : Type 0} {t : Ghosts W} {s : Starts K} → BlockTarget W K t s → W
 target_of blocks = blocks.target.now
 
--- the octets that are out, and then those that wait, where the target tells what it contains
+-- the octets that are out, and then those that wait, where that is known
 abbrev pub held : {W K : Type 0} {t : Ghosts W} {s : Starts K} → BlockTarget W K t s → Option (List ℕ)
 held {W} {K} {t} blocks = append_known (t.contents blocks.target.now) (waiting blocks)
 

@@ -17,10 +17,10 @@ use Rattle.pk_same_key.specs.KeySameness.{AreCompared, AreRefusedKeys}
 use Rattle.pk_same_key.specs.declared.verdict.KeySameness.{KeySameness}
 use Rattle.pk_same_key.specs.declared.verdict.KeySameness.TheVariants as keys
 use Rattle.commands.specs.Inputs.{StopsTaking, TakesFirst}
-use Rattle.commands.specs.Names.{file_name, told_name}
+use Rattle.commands.specs.Names.{file_name, shown_name}
 use Rattle.commands.specs.Outcomes.{line_feed}
 use Rattle.commands.specs.declared.comparison.Compared.{Compared}
-use Rattle.commands.specs.declared.comparison.Compared.TheVariants.{FirstFailed, Memory, SecondFailed, Told, WriteFailed}
+use Rattle.commands.specs.declared.comparison.Compared.TheVariants.{Answered, FirstFailed, Memory, SecondFailed, WriteFailed}
 use Rattle.commands.specs.declared.comparison.Comparison.{Comparison}
 use Rattle.commands.specs.declared.comparison.Question.{Question}
 use Rattle.commands.specs.declared.comparison.Question.TheVariants as questions
@@ -39,7 +39,7 @@ key_status keys.NotCompared = 2
 key_status (keys.Refused fault other) = 2
 
 abbrev pub compared_status : Compared → ℕ
-compared_status (Told status) = status
+compared_status (Answered status) = status
 compared_status (FirstFailed at) = 3
 compared_status (SecondFailed at) = 3
 compared_status (WriteFailed count) = 3
@@ -47,7 +47,7 @@ compared_status Memory = 3
 
 -- ---- what is written
 
--- Behind what is told of two private keys that aren't the same document stands whether they are the same key.
+-- After what is shown of two private keys that aren't the same document stands whether they are the same key.
 abbrev pub note_by : Sameness → Kind → Bool
 note_by documents.Same kind = false
 note_by documents.Another kind = is_key kind
@@ -83,11 +83,11 @@ IsNote true value_of limits kind name other first second note =
 abbrev pub AnswersDocument : (Document → Value) → Style → Limits → Kind → List ℕ → List ℕ → List ℕ → List ℕ → ℕ
     → List ℕ → Type 0
 AnswersDocument value_of form limits kind name other first second status text =
-    (sameness : Sameness) × (told : List ℕ) × (note : List ℕ)
-    × IsWritten form limits kind name other first second told sameness
+    (sameness : Sameness) × (first_text : List ℕ) × (note : List ℕ)
+    × IsWritten form limits kind name other first second first_text sameness
     × IsNote (has_note form sameness kind) value_of limits kind name other first second note
     × (status ≡ sameness_status sameness)
-    × (text ≡ told ++ note)
+    × (text ≡ first_text ++ note)
 
 abbrev pub AnswersKey : (Document → Value) → Limits → Kind → Kind → List ℕ → List ℕ → List ℕ → List ℕ → ℕ → List ℕ
     → Type 0
@@ -106,8 +106,8 @@ AnswersQuestion value_of questions.Key limits kind other_kind name other first s
 -- a name as the answer has it: JSON escapes by itself
 abbrev pub said_name : Question → List ℕ → List ℕ
 said_name (questions.Document Json) name = file_name name
-said_name (questions.Document Text) name = told_name name
-said_name questions.Key name = told_name name
+said_name (questions.Document Text) name = shown_name name
+said_name questions.Key name = shown_name name
 
 -- This text says of two documents, which have names, what they are to each other, and so does the status.
 abbrev pub Answers : (Document → Value) → Comparison → List ℕ → List ℕ → List ℕ → List ℕ → ℕ → List ℕ → Type 0
@@ -129,7 +129,7 @@ DueOfBoth value_of comparison name other before after other_before other_after s
 -- What comparing answers and writes: what is due; why not; or, where a write failed, the first octets of what is due.
 abbrev pub RepliedComparing : (Document → Value) → Comparison → List ℕ → List ℕ → Compared → Option (List ℕ)
     → Option (List ℕ) → Option (List ℕ) → Option (List ℕ) → Option (List ℕ) → Option (List ℕ) → Type 0
-RepliedComparing value_of comparison name other (Told status) before after other_before other_after old new =
+RepliedComparing value_of comparison name other (Answered status) before after other_before other_after old new =
     (text : List ℕ)
     × DueOfBoth value_of comparison name other before after other_before other_after status text
     × Appends old new text
@@ -157,16 +157,16 @@ second_unread (ReadAt at) = SecondFailed at
 second_unread MemoryRead = Memory
 
 -- it says that nothing is written
-abbrev pub IsUntold : Compared → Type 0
-IsUntold (Told status) = ⊥
-IsUntold (FirstFailed at) = Unit {0}
-IsUntold (SecondFailed at) = Unit {0}
-IsUntold (WriteFailed count) = ⊥
-IsUntold Memory = Unit {0}
+abbrev pub IsUnanswered : Compared → Type 0
+IsUnanswered (Answered status) = ⊥
+IsUnanswered (FirstFailed at) = Unit {0}
+IsUnanswered (SecondFailed at) = Unit {0}
+IsUnanswered (WriteFailed count) = ⊥
+IsUnanswered Memory = Unit {0}
 
 -- whether the sources and the target have failed, by how it ends
 abbrev pub ComparedFailed : Compared → Bool → Bool → Bool → Type 0
-ComparedFailed (Told status) first second target = (first ≡ false) × (second ≡ false) × (target ≡ false)
+ComparedFailed (Answered status) first second target = (first ≡ false) × (second ≡ false) × (target ≡ false)
 ComparedFailed (FirstFailed at) first second target = (first ≡ true) × (second ≡ false) × (target ≡ false)
 ComparedFailed (SecondFailed at) first second target = (first ≡ false) × (second ≡ true) × (target ≡ false)
 ComparedFailed (WriteFailed count) first second target = (first ≡ false) × (second ≡ false) × (target ≡ true)
@@ -175,17 +175,17 @@ ComparedFailed Memory first second target = (first ≡ false) × (second ≡ fal
 -- ---- over the streams of the program
 
 -- it says that what the documents are to each other is written
-abbrev pub IsTold : Compared → Type 0
-IsTold (Told status) = Unit {0}
-IsTold (FirstFailed at) = ⊥
-IsTold (SecondFailed at) = ⊥
-IsTold (WriteFailed count) = ⊥
-IsTold Memory = ⊥
+abbrev pub IsAnswered : Compared → Type 0
+IsAnswered (Answered status) = Unit {0}
+IsAnswered (FirstFailed at) = ⊥
+IsAnswered (SecondFailed at) = ⊥
+IsAnswered (WriteFailed count) = ⊥
+IsAnswered Memory = ⊥
 
--- How it ends behind which the target is flushed: as it ended; or the target isn't flushed behind what is told, and then
--- how many octets are out isn't told.
+-- How it ends after which the target is flushed: as it ended; or the target isn't flushed after what is shown, and then
+-- how many octets are out isn't known.
 abbrev pub ComparedAs : Compared → Compared → Type 0
-ComparedAs end last = (last ≡ end) ⊎ (IsTold end × (last ≡ WriteFailed 0))
+ComparedAs end last = (last ≡ end) ⊎ (IsAnswered end × (last ≡ WriteFailed 0))
 
 -- Comparing replies so, and then the target is flushed.
 abbrev pub AnsweredPair : (Document → Value) → Comparison → List ℕ → List ℕ → Compared → Option (List ℕ)

@@ -5,7 +5,7 @@ use Rattle.tlv_core.specs.declared.sink.WriteError.{WriteError}
 use Rattle.x690.specs.Values.{Value}
 use Rattle.asn_documents.specs.WrittenValues.{WritesText}
 use Rattle.pk_documents.specs.declared.document.Document.{Document}
-use Rattle.commands.specs.Files.{FilesTold, has_failed_write, line_behind}
+use Rattle.commands.specs.Files.{FilesSaid, has_failed_write, line_after}
 use Rattle.commands.specs.declared.comparison.Compared.{Compared}
 use Rattle.commands.specs.declared.comparison.Compared.TheVariants as compared
 use Rattle.commands.specs.declared.names.NamesFault.{NamesFault}
@@ -37,8 +37,8 @@ is_done (ReadFailed at) = false
 is_done (WriteFailed count) = false
 is_done Memory = false
 
--- How a run ends whose target is flushed behind it: as it ended; or the target isn't flushed behind what is whole, and
--- then how many octets are out isn't told.
+-- How a run ends whose target is flushed after it: as it ended; or the target isn't flushed after what is whole, and
+-- then how many octets are out isn't known.
 abbrev pub EndsAs : Outcome → Outcome → Type 0
 EndsAs outcome end = (end ≡ outcome) ⊎ (IsWhole outcome × (end ≡ WriteFailed 0))
 
@@ -53,8 +53,8 @@ AnsweredAs value_of task end before after old new =
     × EndsAs outcome end
 
 -- A text is written, or its first octets, and then the target is flushed.
-abbrev pub Tells : List ℕ → Option (List ℕ) → Option (List ℕ) → Outcome → Type 0
-Tells text old new end =
+abbrev pub SaysText : List ℕ → Option (List ℕ) → Option (List ℕ) → Outcome → Type 0
+SaysText text old new end =
     (count : Result ℕ WriteError)
     × (failed : Bool)
     × (out : Option (List ℕ))
@@ -62,7 +62,7 @@ Tells text old new end =
     × Keeps out new
     × EndsAs (written_outcome count Done) end
 
--- What a task is answered over a source and a target: how it ends, what the source still tells and whether it has
+-- What a task is answered over a source and a target: how it ends, what is still known of the source and whether it has
 -- failed, what the target contains and whether it has failed, and whether it is flushed.
 pub record Served (value_of : Document → Value) (task : Task) (before after : Option (List ℕ)) (unread : Bool)
     (end : Outcome) (old new : Option (List ℕ)) (unwritten flushed : Bool) : Type 0 where
@@ -71,8 +71,8 @@ pub record Served (value_of : Document → Value) (task : Task) (before after : 
   pub failed : FailedBy end unread unwritten
   pub whole : IsWhole end → flushed ≡ true
 
--- How a run over named documents ends whose target is flushed behind it: as it ended; or the target isn't flushed, and
--- then how many octets are out isn't told.
+-- How a run over named documents ends whose target is flushed after it: as it ended; or the target isn't flushed, and
+-- then how many octets are out isn't known.
 abbrev pub FilesEndAs : FilesEnd → FilesEnd → Type 0
 FilesEndAs end last = (last ≡ end) ⊎ ((has_failed_write end ≡ false) × (last ≡ ends.WriteFailed 0))
 
@@ -80,10 +80,10 @@ FilesEndAs end last = (last ≡ end) ⊎ ((has_failed_write end ≡ false) × (l
 abbrev pub AnsweredFiles : (Document → Value) → (List ℕ → Option (List ℕ)) → (List ℕ → Why → Type 0)
     → (Bool → Option (List ℕ) → Type 0) → Task → Option (List (List ℕ))
     → (Option (List (List ℕ)) → NamesFault → Type 0) → Option (List ℕ) → Option (List ℕ) → FilesEnd → Type 0
-AnsweredFiles value_of told refuses leaves task list stops old new last =
+AnsweredFiles value_of known refuses leaves task list stops old new last =
     (end : FilesEnd)
     × (out : Option (List ℕ))
-    × FilesTold value_of told refuses leaves task list stops old out end
+    × FilesSaid value_of known refuses leaves task list stops old out end
     × Keeps out new
     × FilesEndAs end last
 
@@ -91,10 +91,10 @@ AnsweredFiles value_of told refuses leaves task list stops old new last =
 abbrev pub WritesLine : List ℕ → Option (List ℕ) → Option (List ℕ) → Bool → Type 0
 WritesLine line old new failed = (count : Result ℕ WriteError) × WritesText line old new failed count
 
--- the line on standard error of two documents, whose names are told so
+-- the line on standard error of two documents, whose names are shown so
 abbrev pub line_of_compared : List ℕ → List ℕ → Compared → List ℕ
-line_of_compared first second (compared.Told status) = []
-line_of_compared first second (compared.FirstFailed at) = line_behind first (words_of (ReadFailed at))
-line_of_compared first second (compared.SecondFailed at) = line_behind second (words_of (ReadFailed at))
+line_of_compared first second (compared.Answered status) = []
+line_of_compared first second (compared.FirstFailed at) = line_after first (words_of (ReadFailed at))
+line_of_compared first second (compared.SecondFailed at) = line_after second (words_of (ReadFailed at))
 line_of_compared first second (compared.WriteFailed count) = line_of (WriteFailed count)
 line_of_compared first second compared.Memory = line_of Memory

@@ -5,7 +5,7 @@ use Rattle.std.specs.List.{flat_map, fold}
 use Rattle.x690.specs.Values.{Value}
 use Rattle.pk_documents.specs.declared.document.Document.{Document}
 use Rattle.commands.specs.NameLists.{BeginsWith, IsListOf, TakesNames, fault_of}
-use Rattle.commands.specs.Names.{file_name, told_name}
+use Rattle.commands.specs.Names.{file_name, shown_name}
 use Rattle.commands.specs.Openings.{why_of}
 use Rattle.commands.specs.Outcomes.{line_feed, line_of, status_of, words_of}
 use Rattle.commands.specs.Replies.{Replied}
@@ -45,12 +45,12 @@ has_failed_read (ReadFailed at) = true
 has_failed_read (WriteFailed count) = false
 has_failed_read Memory = false
 
--- A source is left that has failed, or hasn't, and tells these octets.
+-- A source is left that has failed, or hasn't, and has these octets.
 abbrev pub IsLeft : {Source : Type 0} → (Source → Bool) → (Source → Option (List ℕ)) → Bool → Option (List ℕ) → Type 0
 IsLeft {Source} has_failed remaining failed after =
     (source : Source) × (has_failed source ≡ failed) × (remaining source ≡ after)
 
--- A run of the task over the document, of which these octets are told, ends so, and writes this: where it says that a
+-- A run of the task over the document, of which these octets are known, ends so, and writes this: where it says that a
 -- read failed, it leaves a source that has failed; or the document isn't opened.
 abbrev pub CameAs : (Document → Value) → Option (List ℕ) → (Why → Type 0) → (Bool → Option (List ℕ) → Type 0) → Task
     → List ℕ → Came → List ℕ → Type 0
@@ -79,11 +79,11 @@ is_json (actions.Explain form) = form.json
 is_json actions.Normalise = false
 is_json (actions.Signed part) = false
 
--- what stands in front of a text that an action writes
+-- what is in front of a text that an action writes
 abbrev pub text_front : Action → List ℕ → List ℕ
-text_front (actions.Show json) name = told_name name ++ codes ":\n"
-text_front (actions.Check json quiet places) name = told_name name ++ codes ": "
-text_front (actions.Explain form) name = told_name name ++ codes ":\n"
+text_front (actions.Show json) name = shown_name name ++ codes ":\n"
+text_front (actions.Check json quiet places) name = shown_name name ++ codes ": "
+text_front (actions.Explain form) name = shown_name name ++ codes ":\n"
 text_front actions.Normalise name = []
 text_front (actions.Signed part) name = []
 
@@ -91,14 +91,14 @@ text_front (actions.Signed part) name = []
 abbrev pub front_of : Action → List ℕ → List ℕ
 front_of action name = cond (is_json action) [] (text_front action name)
 
--- words behind a name as it is told, as a line, where there are some
-abbrev pub line_behind : List ℕ → List ℕ → List ℕ
-line_behind told words = cond (length words == 0) [] (told ++ codes ": " ++ words ++ line_feed)
+-- words after a name as it is shown, as a line, where there are some
+abbrev pub line_after : List ℕ → List ℕ → List ℕ
+line_after shown words = cond (length words == 0) [] (shown ++ codes ": " ++ words ++ line_feed)
 
 abbrev pub named_line : List ℕ → List ℕ → List ℕ
-named_line name words = line_behind (told_name name) words
+named_line name words = line_after (shown_name name) words
 
--- what is said of a document of which not all that was asked for is written: why, behind its name or as JSON
+-- what is said of a document of which not all that was asked for is written: why, after its name or as JSON
 abbrev pub said_line : Action → List ℕ → List ℕ → Came → List ℕ → List ℕ
 said_line action name file came words =
     cond (is_json action) (error_line file (status_of_came came) words) (named_line name words)
@@ -112,10 +112,10 @@ said_text action name file came written =
 -- This is what the task says of the document of a name, and its status.
 abbrev pub IsSaid : (Document → Value) → (List ℕ → Option (List ℕ)) → (List ℕ → Why → Type 0)
     → (Bool → Option (List ℕ) → Type 0) → Task → List ℕ → ℕ → List ℕ → Type 0
-IsSaid value_of told refuses leaves task name status text =
+IsSaid value_of known refuses leaves task name status text =
     (came : Came)
     × (written : List ℕ)
-    × CameAs value_of (told name) (refuses name) leaves task (file_name name) came written
+    × CameAs value_of (known name) (refuses name) leaves task (file_name name) came written
     × (status ≡ status_of_came came)
     × (text ≡ said_text task.action name (file_name name) came written)
 
@@ -137,14 +137,14 @@ greatest entries = fold (λ most it. max most it.status) 0 entries
 
 abbrev pub AreSaid : (Document → Value) → (List ℕ → Option (List ℕ)) → (List ℕ → Why → Type 0)
     → (Bool → Option (List ℕ) → Type 0) → Task → List Entry → Type 0
-AreSaid value_of told refuses leaves task entries =
-    All (λ it. IsSaid value_of told refuses leaves task it.name it.status it.text) entries
+AreSaid value_of known refuses leaves task entries =
+    All (λ it. IsSaid value_of known refuses leaves task it.name it.status it.text) entries
 
 -- So far it has come: these documents of the list, of which all is out.
-pub record Went (value_of : Document → Value) (told : List ℕ → Option (List ℕ)) (refuses : List ℕ → Why → Type 0)
+pub record Went (value_of : Document → Value) (known : List ℕ → Option (List ℕ)) (refuses : List ℕ → Why → Type 0)
     (leaves : Bool → Option (List ℕ) → Type 0) (task : Task) (list left : Option (List (List ℕ)))
     (old new : Option (List ℕ)) (status out : ℕ) (entries : List Entry) : Type 0 where
-  pub said : AreSaid value_of told refuses leaves task entries
+  pub said : AreSaid value_of known refuses leaves task entries
   pub named : TakesNames list left (names_of entries)
   pub written : Appends old new (texts_of entries)
   pub status_is : status ≡ greatest entries
@@ -167,30 +167,30 @@ GivesUp are_said stops list entries fault =
     ((left : Option (List (List ℕ))) × TakesNames list left (names_of entries) × stops left fault)
     ⊎ ((fault ≡ TooMany) × IsPastCounting are_said list entries)
 
--- How it ends: behind the last document of the list, with the greatest status; or with the text of the last of these
--- documents, of which the first octets are out; or behind some, since no more are gone through, or no memory is left.
-abbrev pub EndsBehind : (List Entry → Type 0) → (Option (List (List ℕ)) → NamesFault → Type 0) → List Entry
+-- How it ends: after the last document of the list, with the largest status; or with the text of the last of these
+-- documents, of which the first octets are out; or after some, since no more are gone through, or no memory is left.
+abbrev pub EndsAfter : (List Entry → Type 0) → (Option (List (List ℕ)) → NamesFault → Type 0) → List Entry
     → Option (List (List ℕ)) → Option (List ℕ) → Option (List ℕ) → FilesEnd → Type 0
-EndsBehind are_said stops entries list old new (ends.Through status) =
+EndsAfter are_said stops entries list old new (ends.Through status) =
     IsListOf list (names_of entries) × Appends old new (texts_of entries) × (status ≡ greatest entries)
-EndsBehind are_said stops entries list old new (ends.WriteFailed count) =
+EndsAfter are_said stops entries list old new (ends.WriteFailed count) =
     BeginsWith list (names_of entries)
     × (count ≤ length (texts_of entries))
     × Appends old new (take count (texts_of entries))
-EndsBehind are_said stops entries list old new (ends.NoName fault) =
+EndsAfter are_said stops entries list old new (ends.NoName fault) =
     BeginsWith list (names_of entries)
     × Appends old new (texts_of entries)
     × GivesUp are_said stops list entries fault
-EndsBehind are_said stops entries list old new ends.Memory =
+EndsAfter are_said stops entries list old new ends.Memory =
     BeginsWith list (names_of entries) × Appends old new (texts_of entries)
 
-abbrev pub FilesTold : (Document → Value) → (List ℕ → Option (List ℕ)) → (List ℕ → Why → Type 0)
+abbrev pub FilesSaid : (Document → Value) → (List ℕ → Option (List ℕ)) → (List ℕ → Why → Type 0)
     → (Bool → Option (List ℕ) → Type 0) → Task → Option (List (List ℕ))
     → (Option (List (List ℕ)) → NamesFault → Type 0) → Option (List ℕ) → Option (List ℕ) → FilesEnd → Type 0
-FilesTold value_of told refuses leaves task list stops old new end =
+FilesSaid value_of known refuses leaves task list stops old new end =
     (entries : List Entry)
-    × AreSaid value_of told refuses leaves task entries
-    × EndsBehind (AreSaid value_of told refuses leaves task) stops entries list old new end
+    × AreSaid value_of known refuses leaves task entries
+    × EndsAfter (AreSaid value_of known refuses leaves task) stops entries list old new end
 
 abbrev pub has_failed_write : FilesEnd → Bool
 has_failed_write (ends.Through status) = false
@@ -204,9 +204,9 @@ status_of_end (ends.WriteFailed count) = 3
 status_of_end (ends.NoName fault) = 3
 status_of_end ends.Memory = 3
 
--- the line on standard error, of a list whose name is told so
+-- the line on standard error, of a list whose name is shown so
 abbrev pub line_of_end : List ℕ → FilesEnd → List ℕ
-line_of_end told (ends.Through status) = []
-line_of_end told (ends.WriteFailed count) = line_of (WriteFailed count)
-line_of_end told (ends.NoName fault) = line_behind told (fault_of fault)
-line_of_end told ends.Memory = line_of Memory
+line_of_end shown (ends.Through status) = []
+line_of_end shown (ends.WriteFailed count) = line_of (WriteFailed count)
+line_of_end shown (ends.NoName fault) = line_after shown (fault_of fault)
+line_of_end shown ends.Memory = line_of Memory

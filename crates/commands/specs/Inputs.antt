@@ -1,4 +1,5 @@
--- What taking the octets of an input does. They are told before the call and after it, where the source tells them.
+-- What taking the octets of an input does. They are known before the call and after it, where those of the source are
+-- known.
 use Rattle.std.specs.Prelude.{◌≡◌, ◌++◌, ◌<◌, ◌≤◌, ℕ, List, Option, length}
 use Rattle.std.specs.Io.KnownBytes.{Consumes, IsAtEnd, Keeps}
 use Rattle.tlv_core.specs.declared.fault.ReadError.{ReadError}
@@ -10,7 +11,7 @@ pub record TakesFirst (most : ℕ) (before after : Option (List ℕ)) (octets : 
   pub few : length octets ≤ most
   pub all : length octets < most → IsAtEnd after
 
--- Fewer than `most` were taken, and then a read failed; or memory ran out behind some.
+-- Fewer than `most` were taken, and then a read failed; or memory ran out after some.
 abbrev pub StopsTaking : ℕ → ReadError → Option (List ℕ) → Option (List ℕ) → Type 0
 StopsTaking most (Fault found) before after = ⊥
 StopsTaking most (Read at) before after =
@@ -26,9 +27,9 @@ pub record Takes (most count : ℕ) (before after : Option (List ℕ)) (old new 
   pub few : count ≤ most
   pub all : count ≡ 0 → IsAtEnd after
 
--- None more were taken, and a read failed; or memory ran out behind some.
-abbrev pub StopsBehind : ℕ → ReadError → Option (List ℕ) → Option (List ℕ) → List ℕ → Type 0
-StopsBehind most (Fault found) before after old = ⊥
-StopsBehind most (Read at) before after old = (at ≡ length old) × Keeps before after
-StopsBehind most Memory before after old =
+-- None more were taken, and a read failed; or memory ran out after some.
+abbrev pub StopsAfter : ℕ → ReadError → Option (List ℕ) → Option (List ℕ) → List ℕ → Type 0
+StopsAfter most (Fault found) before after old = ⊥
+StopsAfter most (Read at) before after old = (at ≡ length old) × Keeps before after
+StopsAfter most Memory before after old =
     (octets : List ℕ) × Consumes before after octets × (length octets ≤ most)

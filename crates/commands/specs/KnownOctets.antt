@@ -1,4 +1,4 @@
--- How many octets are told.
+-- How many octets are known.
 use Rattle.std.specs.Prelude.{ℕ, List, None, Option, Some, length}
 
 abbrev pub known_length : Option (List ℕ) → ℕ

@@ -10,14 +10,14 @@ use Rattle.commands.specs.declared.outcome.Outcome.{Outcome}
 use Rattle.commands.specs.declared.task.Task.{Task}
 
 -- Of a new file: the name whose place it is to have, whether its owner alone may read it until then, where it is, and
--- what is in it once it has its place, where that is told.
+-- what is in it once it has its place, where that is known.
 pub record Made : Type 0 where
   pub name : List ℕ
   pub is_private : Bool
   pub stage : Stage
   pub octets : Option (List ℕ)
 
--- what is told is no octets
+-- what is known is no octets
 abbrev pub IsEmpty : Option (List ℕ) → Type 0
 IsEmpty None = Unit {0}
 IsEmpty (Some octets) = octets ≡ []
@@ -34,8 +34,8 @@ placed_with made octets =
 abbrev pub removed : Made → Made
 removed made = record { name = made.name; is_private = made.is_private; stage = Gone; octets = made.octets }
 
--- It has its place where all that was due is in it, and otherwise it is gone; of a kind with private keys its owner alone
--- may read it.
+-- It has its place where all that was due is in it, and otherwise it is gone; of a kind with private keys
+-- its owner alone may read it.
 abbrev pub IsMade : List ℕ → Task → Outcome → Made → Type 0
 IsMade name task outcome made =
     (made.name ≡ name)

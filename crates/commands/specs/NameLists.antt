@@ -1,4 +1,5 @@
--- The names of a list, one after another. What is left of it is told before a call and after it, where the list tells it.
+-- The names of a list, one after another. What is left of it is known before a call and after it, where that is known
+-- of the list.
 use Rattle.std.specs.Prelude.{All, Bool, List, None, Option, Some, [], codes, cond, false, length, map, true, ℕ, ◌++◌, ◌==◌, ◌≡◌, ◌∷◌}
 use Rattle.std.specs.Io.KnownBytes.{Consumes, IsAtEnd, Keeps}
 use Rattle.commands.specs.declared.ended_names.EndedNames.{EndedNames}
@@ -36,22 +37,23 @@ abbrev pub HasStopped : {Names : Type 0} → (Names → Option (List (List ℕ))
 HasStopped {Names} left_of stops list left fault =
     (before : Names) × (left_of before ≡ left) × stops before list fault
 
--- the names behind these octets of a name, each ended by an octet 0, the last one perhaps by the end
-abbrev pub names_behind : List ℕ → List ℕ → List (List ℕ)
-names_behind name [] = cond (length name == 0) [] (name ∷ [])
-names_behind name (octet ∷ octets) =
-    cond (octet == 0) (name ∷ names_behind [] octets) (names_behind (name ++ octet ∷ []) octets)
+-- the names after these octets of a name, each ended by an octet 0, the last one perhaps by the end
+abbrev pub names_after : List ℕ → List ℕ → List (List ℕ)
+names_after name [] = cond (length name == 0) [] (name ∷ [])
+names_after name (octet ∷ octets) =
+    cond (octet == 0) (name ∷ names_after [] octets) (names_after (name ++ octet ∷ []) octets)
 
 abbrev pub known_names : List ℕ → Option (List ℕ) → Option (List (List ℕ))
 known_names name None = None
-known_names name (Some octets) = Some (names_behind name octets)
+known_names name (Some octets) = Some (names_after name octets)
 
 -- The first of the octets came, or none at their end.
 abbrev pub TakesOctet : Option (List ℕ) → Option (List ℕ) → Option ℕ → Type 0
 TakesOctet old new None = IsAtEnd old × Keeps old new
 TakesOctet old new (Some octet) = Consumes old new (octet ∷ [])
 
--- The next name of a list that a source tells is longer than it may be: so many octets came, and none of them ends it.
+-- The next name of a list that is known of a source is longer than it may be: so many octets came, and none of them
+-- ends it.
 abbrev pub IsTooLong : Option (List ℕ) → Option (List ℕ) → Type 0
 IsTooLong old new =
     (name : List ℕ) × Consumes old new name × (length name ≡ 65537) × All (λ octet. (octet == 0) ≡ false) name

@@ -1,4 +1,4 @@
--- How a name is told: as it is, or in quotes and escaped.
+-- How a name is shown: as it is, or in quotes and escaped.
 use Rattle.std.specs.Prelude.{All, Bool, List, codes, cond, false, length, not, ℕ, ◌++◌, ◌==◌, ◌||◌}
 use Rattle.std.specs.Char.{is_control}
 use Rattle.std.specs.Char.Escape.{escape_ascii, escape_default}
@@ -28,11 +28,11 @@ abbrev pub quoted_octets : List ℕ → List ℕ
 quoted_octets octets = codes "\"" ++ (flat_map escape_ascii octets ++ codes "\"")
 
 -- a name that is UTF-8
-abbrev pub told_text : List ℕ → List ℕ
-told_text name = cond (is_plain name) name (quoted name)
+abbrev pub shown_text : List ℕ → List ℕ
+shown_text name = cond (is_plain name) name (quoted name)
 
-abbrev pub told_name : List ℕ → List ℕ
-told_name name = cond (is_utf8 name) (told_text name) (quoted_octets name)
+abbrev pub shown_name : List ℕ → List ℕ
+shown_name name = cond (is_utf8 name) (shown_text name) (quoted_octets name)
 
 -- the same in JSON, which escapes by itself
 abbrev pub file_name : List ℕ → List ℕ

@@ -1,5 +1,5 @@
--- What a run answers and writes. Octets are told before the call and after it, where the source
--- or the target tells them.
+-- What a run answers and writes. Octets are known before the call and after it, where those of the source
+-- or the target are known.
 use Rattle.std.specs.Prelude.{◌≡◌, ◌≤◌, ◌⊎◌, ◌+◌, ℕ, Bool, Err, List, None, Ok, Option, Result, Some, false, length, take, true}
 use Rattle.std.specs.Io.KnownBytes.{Appends, IsAtEnd}
 use Rattle.tlv_core.specs.Limits.{Limits}
@@ -39,7 +39,7 @@ DoneWith limits type before after old new =
     ((value : Value) × (taken : ℕ) × (written : ℕ) × NormalisedAs limits type value before after old new taken written)
     × IsAtEnd after
 
--- Done is the whole of normalising: all of the input was taken. A fault is the answer to the octets told, which begin
+-- Done is the whole of normalising: all of the input was taken. A fault is the answer to the octets known, which begin
 -- with no spelling, or octets follow one; where a read failed, the octets before are too few, or nothing is known of
 -- what follows a value; where a write failed, the first octets of the text are out, so many.
 abbrev pub RepliedTo : Limits → TypeTerm → Outcome → Option (List ℕ) → Option (List ℕ) → Option (List ℕ)
@@ -66,7 +66,8 @@ abbrev pub RepliedAs : (ReadError → Type 0) → (Outcome → List ℕ → Type
     → Option (List ℕ) → Type 0
 RepliedAs Stopped Due Done old new = (text : List ℕ) × Due Done text × Appends old new text
 RepliedAs Stopped Due (NotDer at) old new = (text : List ℕ) × Due (NotDer at) text × Appends old new text
-RepliedAs Stopped Due (ExplainedFault found) old new = (text : List ℕ) × Due (ExplainedFault found) text × Appends old new text
+RepliedAs Stopped Due (ExplainedFault found) old new =
+    (text : List ℕ) × Due (ExplainedFault found) text × Appends old new text
 RepliedAs Stopped Due (WriteFailed count) old new =
     (text : List ℕ) × (whole : Outcome) × Due whole text × (count ≤ length text) × Appends old new (take count text)
 RepliedAs Stopped Due (Fault found) old new = Stopped (FaultRead found)

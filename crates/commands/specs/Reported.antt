@@ -10,7 +10,7 @@ use Rattle.pk_documents.specs.declared.kind.Kind.{Kind}
 use Rattle.explain.specs.Answers.{IsRefused}
 use Rattle.explain.specs.Reports.{IsReportOf}
 use Rattle.explain.specs.Rules.{is_refusal}
-use Rattle.explain.specs.Written.{places_told, version, written_text}
+use Rattle.explain.specs.Written.{places_shown, version, written_text}
 use Rattle.reports.specs.Json.{check_object}
 use Rattle.reports.specs.JsonMembers.{number_member, object, text_member}
 use Rattle.reports.specs.declared.report.Answer.{Answer}
@@ -52,7 +52,7 @@ DueOfShownReport file limits kind octets outcome text =
     × IsReportOf limits kind octets report
     × (is_refusal report.answer ≡ false)
     × (outcome ≡ Done)
-    × (text ≡ written_text (record { json = true; all = true; places = places_told }) file report)
+    × (text ≡ written_text (record { json = true; all = true; places = places_shown }) file report)
 
 -- why no report of these octets is due: they are refused, or memory ran out
 abbrev pub Unreported : Limits → Kind → List ℕ → ReadError → Type 0
@@ -60,7 +60,7 @@ Unreported limits kind octets (FaultRead found) = IsRefused limits (type_of kind
 Unreported limits kind octets (ReadAt at) = ⊥
 Unreported limits kind octets MemoryRead = Unit {0}
 
--- why no report of a file is told, as JSON
+-- why no report of a file is shown, as JSON
 abbrev pub error_object : List ℕ → ℕ → List ℕ → List Token
 error_object file status error =
     object (number_member (codes "form") 1 ++ text_member (codes "version") version

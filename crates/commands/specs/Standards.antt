@@ -17,8 +17,8 @@ abbrev pub file_named : Option (List ℕ) → Option (List ℕ)
 file_named None = None
 file_named (Some name) = cond (is_dash name) None (Some name)
 
--- What is told of the streams of a program: what standard input tells, if it isn't taken; what standard output contains,
--- whether it has failed, and whether it is flushed; what standard error contains, and whether it has failed.
+-- What is known of the streams of a program: what is known of standard input, if it isn't taken; what standard output
+-- contains, whether it has failed, and whether it is flushed; what standard error contains, and whether it has failed.
 pub record Seen : Type 0 where
   pub input : Option (Option (List ℕ))
   pub output : Option (List ℕ)
@@ -58,15 +58,15 @@ abbrev pub IsReadable : {Source : Type 0} → (Source → Bool) → Option Sourc
 IsReadable {Source} has_failed None = Unit {0}
 IsReadable {Source} has_failed (Some input) = has_failed input ≡ false
 
--- ---- what a name leads to: `-` to standard input, of which these octets are told, if it isn't taken
+-- ---- what a name leads to: `-` to standard input, of which these octets are known, if it isn't taken
 
 abbrev pub LeadsTo : (List ℕ → Option (List ℕ)) → List ℕ → Option (Option (List ℕ)) → Bool → Option (List ℕ) → Type 0
-LeadsTo told name input true octets = input ≡ Some octets
-LeadsTo told name input false octets = octets ≡ told name
+LeadsTo known name input true octets = input ≡ Some octets
+LeadsTo known name input false octets = octets ≡ known name
 
--- A document comes by its name, and these octets are told of it.
+-- A document comes by its name, and these octets are known of it.
 abbrev pub Comes : (List ℕ → Option (List ℕ)) → List ℕ → Option (Option (List ℕ)) → Option (List ℕ) → Type 0
-Comes told name input octets = LeadsTo told name input (is_dash name) octets
+Comes known name input octets = LeadsTo known name input (is_dash name) octets
 
 abbrev pub LeadsNowhere : (List ℕ → Why → Type 0) → List ℕ → Option (Option (List ℕ)) → Bool → Came → Type 0
 LeadsNowhere unopened name input true came = (input ≡ None) × (came ≡ Ran (ReadFailed 0))
@@ -76,6 +76,6 @@ LeadsNowhere unopened name input false came = (why : Why) × unopened name why �
 abbrev pub ComesNot : (List ℕ → Why → Type 0) → List ℕ → Option (Option (List ℕ)) → Came → Type 0
 ComesNot unopened name input came = LeadsNowhere unopened name input (is_dash name) came
 
--- what is left of standard input behind a document of this name
-abbrev pub input_behind : {Octets : Type 0} → List ℕ → Option Octets → Option Octets
-input_behind {Octets} name input = cond (is_dash name) None input
+-- what is left of standard input after a document of this name
+abbrev pub input_after : {Octets : Type 0} → List ℕ → Option Octets → Option Octets
+input_after {Octets} name input = cond (is_dash name) None input

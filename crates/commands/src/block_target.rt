@@ -19,7 +19,7 @@ pub trait Start {
     /// Which reference to a target it was handed.
     ghost name: { ℕ };
 
-    /// The octets that the target contained then, where it tells them.
+    /// The octets that the target contained then, where that is known.
     ghost before: { Option (List ℕ) };
 }
 
@@ -52,7 +52,7 @@ pub struct BlockTarget<'a, W: Target, K: Start> {
 impl<'a, W: Target, K: Start> BlockTarget<'a, W, K> {
     ghost use Rattle.commands.specs.BlockTargets.{has_failed_under, held, target_of, waiting};
 
-    /// Puts a piece behind what waits, and answers its length.
+    /// Puts a piece after what waits, and answers its length.
     fn hold(&mut self, piece: &[u8]) -> usize
         requires { self.old.end + length piece.now ≤ length self.old.block.items }
         ensures count { result ≡ length piece.now }

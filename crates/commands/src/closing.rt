@@ -2,7 +2,7 @@
 ghost use Rattle.std.specs.Prelude.{◌≡◌, ◌<◌, length};
 ghost use Rattle.commands.specs.Comparisons.{compared_status};
 ghost use Rattle.commands.specs.Endings.{WritesLine, line_of_compared};
-ghost use Rattle.commands.specs.Files.{line_behind, line_of_end, status_of_came, status_of_end, words_of_came};
+ghost use Rattle.commands.specs.Files.{line_after, line_of_end, status_of_came, status_of_end, words_of_came};
 ghost use Rattle.commands.specs.Lines.{name_of_line};
 ghost use Rattle.commands.specs.NameLists.{fault_of};
 ghost use Rattle.commands.specs.Outcomes.{line_of, status_of};
@@ -35,9 +35,9 @@ pub fn finish<W: Target>(outcome: &Outcome, dst: &mut W) -> u8
     status(outcome)
 }
 
-/// Writes the line of a document behind its name, if it has one, and answers the status of what came of it.
+/// Writes the line of a document after its name, if it has one, and answers the status of what came of it.
 pub fn finish_named<W: Target>(named: NamedLine, came: &Came, dst: &mut W) -> u8
-    ensures line { WritesLine (line_behind (name_of_line named) (words_of_came came.now))
+    ensures line { WritesLine (line_after (name_of_line named) (words_of_came came.now))
         (W.contents dst.old) (W.contents dst.new) (W.has_failed dst.new) }
     ensures status { result ≡ status_of_came came.now }
 {
@@ -78,7 +78,7 @@ fn why_no_name(fault: NamesFault) -> &'static str
     fault.why()
 }
 
-/// Writes why nothing is told of two documents, which have names, and answers the status.
+/// Writes why nothing is shown of two documents, which have names, and answers the status.
 pub fn finish_pair<W: Target>(
     first: NamedLine,
     second: NamedLine,
@@ -91,7 +91,7 @@ pub fn finish_pair<W: Target>(
     ensures status { result ≡ compared_status compared.now }
 {
     match compared {
-        Compared::Told(_) => {
+        Compared::Answered(_) => {
             finish(&Outcome::Done, dst);
         }
         Compared::FirstFailed(at) => {

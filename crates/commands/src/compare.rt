@@ -1,12 +1,12 @@
 //! What two inputs are to each other, of which each has to be one document.
 ghost use Rattle.std.specs.Prelude.{◌≡◌, ◌++◌, Bool, IfOk, MatchBool, codes, false, string_bytes, true};
-ghost use Rattle.commands.specs.Comparisons.{Answers, AnswersDocument, AnswersKey, AnswersQuestion, AnsweredPair, ComparedAs, ComparedFailed, IsNote, IsTold, IsUntold, RepliedComparing, first_unread, has_note, key_note, key_status, note_by, said_name, sameness_status, second_unread};
+ghost use Rattle.commands.specs.Comparisons.{Answers, AnswersDocument, AnswersKey, AnswersQuestion, AnsweredPair, ComparedAs, ComparedFailed, IsNote, IsAnswered, IsUnanswered, RepliedComparing, first_unread, has_note, key_note, key_status, note_by, said_name, sameness_status, second_unread};
 ghost use Rattle.std.specs.Io.KnownBytes.{Keeps};
 
 use crate::comparison::{Compared, Comparison, PairNames, Question};
 use crate::flush::Flush;
 use crate::input::read_all;
-use crate::name::{file_name, told_name};
+use crate::name::{file_name, shown_name};
 use asn_documents::value::write_octets;
 use pk_documents::document::{Document, Valued};
 use pk_documents::kind::Kind;
@@ -21,7 +21,7 @@ use tlv_core::limits::Limits;
 use tlv_core::source::{Failed, Source};
 use tlv_core::target::Target;
 
-/// Compares two inputs, and flushes the target behind what is told.
+/// Compares two inputs, and flushes the target after what is shown.
 pub fn answer_pair<R: Source, S: Source, W: Flush>(
     alloc: Global,
     first: &mut R,
@@ -37,10 +37,10 @@ pub fn answer_pair<R: Source, S: Source, W: Flush>(
         names.entry.first.now names.entry.second.now result (R.remaining first.old)
         (R.remaining first.new) (S.remaining second.old) (S.remaining second.new)
         (W.contents dst.old) (W.contents dst.new) }
-    // Nothing is written of what isn't told.
-    ensures unwritten { IsUntold result → dst.new ≡ dst.old }
-    // What is told is flushed.
-    ensures flushed { IsTold result → W.is_flushed dst.new ≡ true }
+    // Nothing is written of what isn't shown.
+    ensures unwritten { IsUnanswered result → dst.new ≡ dst.old }
+    // What is shown is flushed.
+    ensures flushed { IsAnswered result → W.is_flushed dst.new ≡ true }
     // A failed read, write or flush is answered where it failed, and nowhere else.
     ensures failed { ComparedFailed result (R.has_failed first.new) (S.has_failed second.new)
         (W.has_failed dst.new) }
@@ -65,7 +65,7 @@ pub fn compare<R: Source, S: Source, W: Target>(
         names.entry.first.now names.entry.second.now result (R.remaining first.old)
         (R.remaining first.new) (S.remaining second.old) (S.remaining second.new)
         (W.contents dst.old) (W.contents dst.new) }
-    ensures unwritten { IsUntold result → dst.new ≡ dst.old }
+    ensures unwritten { IsUnanswered result → dst.new ≡ dst.old }
     // A failed read or write is answered where it failed, and nowhere else.
     ensures failed { ComparedFailed result (R.has_failed first.new) (S.has_failed second.new)
         (W.has_failed dst.new) }
@@ -90,7 +90,7 @@ pub fn compare<R: Source, S: Source, W: Target>(
         return Compared::Memory;
     };
     match write_octets(text.as_bytes(), dst) {
-        Ok(_) => Compared::Told(status),
+        Ok(_) => Compared::Answered(status),
         Err(error) => Compared::WriteFailed(error.written),
     }
 }
@@ -168,7 +168,7 @@ fn said_name(alloc: Global, question: Question, name: &str) -> Result<String, Al
 {
     match question {
         Question::Document(Style::Json) => file_name(alloc, name.as_bytes()),
-        Question::Document(Style::Text) | Question::Key => told_name(alloc, name.as_bytes()),
+        Question::Document(Style::Text) | Question::Key => shown_name(alloc, name.as_bytes()),
     }
 }
 
@@ -212,7 +212,7 @@ fn note_text(
     key_note(alloc, answer, line.as_str())
 }
 
-/// Whether behind what is told of two documents stands whether they hold the same private key.
+/// Whether after what is shown of two documents stands whether they hold the same private key.
 fn has_note(form: Style, sameness: Sameness, kind: Kind) -> bool
     ensures { result ≡ has_note form sameness kind }
 {
@@ -274,15 +274,15 @@ fn key_status(answer: KeySameness) -> u8
 
 /// How comparing ends that ended so before the target was flushed.
 fn flushed<W: Flush>(dst: &mut W, compared: Compared) -> Compared
-    requires ended { IsTold compared → W.has_failed dst.old ≡ false }
+    requires ended { IsAnswered compared → W.has_failed dst.old ≡ false }
     ensures ends { ComparedAs compared result }
     ensures kept { Keeps (W.contents dst.old) (W.contents dst.new) }
-    ensures unwritten { IsUntold result → dst.new ≡ dst.old }
-    ensures flushed { IsTold result → W.is_flushed dst.new ≡ true }
+    ensures unwritten { IsUnanswered result → dst.new ≡ dst.old }
+    ensures flushed { IsAnswered result → W.is_flushed dst.new ≡ true }
     ensures failed { (first second : Bool) → ComparedFailed compared first second (W.has_failed dst.old)
         → ComparedFailed result first second (W.has_failed dst.new) }
 {
-    if !is_told(&compared) {
+    if !is_answered(&compared) {
         return compared;
     }
     match dst.flush() {
@@ -291,13 +291,13 @@ fn flushed<W: Flush>(dst: &mut W, compared: Compared) -> Compared
     }
 }
 
-fn is_told(compared: &Compared) -> bool
-    ensures { MatchBool result (IsTold compared.now) (IsTold compared.now → ⊥) }
+fn is_answered(compared: &Compared) -> bool
+    ensures { MatchBool result (IsAnswered compared.now) (IsAnswered compared.now → ⊥) }
 {
-    matches!(compared, Compared::Told(_))
+    matches!(compared, Compared::Answered(_))
 }
 
-/// How comparing ends where the target isn't flushed: how many octets it kept back isn't told.
+/// How comparing ends where the target isn't flushed: how many octets it kept back isn't known.
 fn unflushed() -> Compared
     ensures { result ≡ Compared.WriteFailed 0 }
 {

@@ -37,7 +37,7 @@ pub struct PairNames<'a> {
 #[derive(Clone, Copy, Debug, PartialEq, Eq)]
 pub enum Compared {
     /// What they are to each other is written, and this is the status that says it.
-    Told(u8),
+    Answered(u8),
     /// The reader of the first document failed after so many octets, and nothing is written.
     FirstFailed(u64),
     /// The same of the second document.
@@ -53,7 +53,7 @@ pub fn compared_status(compared: &Compared) -> u8
     ensures { result ≡ compared_status compared.now }
 {
     match compared {
-        Compared::Told(status) => *status,
+        Compared::Answered(status) => *status,
         Compared::FirstFailed(_)
         | Compared::SecondFailed(_)
         | Compared::WriteFailed(_)

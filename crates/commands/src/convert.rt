@@ -10,7 +10,7 @@ use crate::closing::{finish, finish_named, write_line};
 use crate::files::Came;
 use crate::flush::Flush;
 use crate::lines::NamedLine;
-use crate::name::told_name;
+use crate::name::shown_name;
 use crate::new_file::{NewFiles, Unmade, make_file};
 use crate::opener::Opener;
 use crate::outcome::Outcome;
@@ -41,7 +41,7 @@ pub fn convert<R: Source + Drop, W: Flush, E: Target, O: Opener, M: NewFiles>(
 ) -> u8
     requires readable { IsReadable R.has_failed standard.old.input }
     requires writable { W.has_failed standard.old.output ≡ false }
-    ensures converts { Converts ⟦<Document as Valued>⟧.value (O.told opener.now)
+    ensures converts { Converts ⟦<Document as Valued>⟧.value (O.known opener.now)
         (O.refuses opener.now) M.File.made (M.refuses files.now) task.now
         (file_named (option_map (λ r. r.now) places.entry.from))
         (file_named (option_map (λ r. r.now) places.entry.to))
@@ -101,7 +101,7 @@ fn convert_from<R: Source, W: Flush, M: NewFiles>(
     }
 }
 
-/// Writes the line of how a conversion ended, behind the name of the document if it has one, and answers the status.
+/// Writes the line of how a conversion ended, after the name of the document if it has one, and answers the status.
 fn finish_converted<W: Target>(
     alloc: Global,
     named: Option<NamedLine>,
@@ -152,11 +152,11 @@ fn unmade_line(alloc: Global, to: &str, why: Unmade) -> Result<String, AllocErro
     let mut line = String::new(alloc);
     if is_irregular(why) {
         line.push_str("error: not a regular file: ")?;
-        line.push_str(told_name(alloc, to.as_bytes())?.as_str())?;
+        line.push_str(shown_name(alloc, to.as_bytes())?.as_str())?;
         line.push_str("\n\n  tip: '--to -' writes to standard output\n")?;
         return Ok(line);
     }
-    line.push_str(told_name(alloc, to.as_bytes())?.as_str())?;
+    line.push_str(shown_name(alloc, to.as_bytes())?.as_str())?;
     line.push_str(": ")?;
     line.push_str(why.why())?;
     line.push_str("\n")?;

@@ -10,7 +10,7 @@ use tlv_core::source::{Failed, Source};
 /// A name has as many octets, at most.
 const MOST: usize = 65_536;
 
-/// The names that a source tells, each ended by an octet 0; the last one may be ended by the end.
+/// The names that are known of a source, each ended by an octet 0; the last one may be ended by the end.
 #[derive(Drop)]
 pub struct EndedNames<R: Source> {
     src: R,

@@ -7,7 +7,7 @@ use std::fs::{File, Files, OpenFile};
 use std::io::{BufReader, ErrorKind};
 use tlv_core::source::FromRead;
 
-/// Opens files by their paths. What they contain isn't told.
+/// Opens files by their paths. What they contain isn't known.
 #[derive(Drop)]
 pub struct FileSystem<'a, R: Files> {
     files: &'a R,
@@ -22,7 +22,7 @@ impl<'a, R: Files> FileSystem<'a, R> {
 impl<R: Files> Opener for FileSystem<'_, R> {
     type Document = FromRead<BufReader<R::File>>;
 
-    ghost told = { λ _ _. None };
+    ghost known = { λ _ _. None };
 
     // (which file a name has is the system's to say)
     ghost refuses = { λ _ _ _. Unit {0} };

@@ -1,13 +1,13 @@
 //! One task over any number of documents, which have names.
 ghost use Rattle.std.specs.Prelude.{◌≡◌, ◌+◌, ◌<◌, ◌≤◌, ◌++◌, ℕ, IfOk, List, MatchResult, OnOk, Option, false, length};
 ghost use Rattle.arrayvec.specs.ArrayString.{array_string_len};
-ghost use Rattle.commands.specs.Files.{CameAs, Entry, FilesTold, IsLeft, IsSaid, Went, front_of, has_failed_write, is_json, kept, named_line, said_line, said_text, status_of_came, status_of_end, words_of_came};
+ghost use Rattle.commands.specs.Files.{CameAs, Entry, FilesSaid, IsLeft, IsSaid, Went, front_of, has_failed_write, is_json, kept, named_line, said_line, said_text, status_of_came, status_of_end, words_of_came};
 ghost use Rattle.commands.specs.NameLists.{HasStopped};
-ghost use Rattle.commands.specs.Names.{told_name};
+ghost use Rattle.commands.specs.Names.{shown_name};
 ghost use Rattle.commands.specs.Openings.{why_of};
 
 use crate::lines::{LineWords, NamedLine};
-use crate::name::{file_name, told_name};
+use crate::name::{file_name, shown_name};
 use crate::names::{Names, NamesFault};
 use crate::opener::{Opener, Unopened};
 use crate::outcome::{Outcome, outcome_words, plain_words, status};
@@ -29,7 +29,7 @@ pub enum Came {
 /// How a run over any number of documents ends.
 #[derive(Clone, Copy, Debug, PartialEq, Eq)]
 pub enum FilesEnd {
-    /// Behind the last name: the greatest status of the documents.
+    /// After the last name: the largest status of the documents.
     Through(u8),
     /// The next name doesn't come.
     NoName(NamesFault),
@@ -46,14 +46,14 @@ struct Said {
     text: Vec<u8>,
 }
 
-/// How far a run has come: the greatest status, and how many octets are out.
+/// How far a run has come: the largest status, and how many octets are out.
 #[derive(Clone, Copy)]
 struct Progress {
     status: u8,
     out: u64,
 }
 
-/// Goes through the names, and writes what the task has to say of the document of each, one behind another.
+/// Goes through the names, and writes what the task has to say of the document of each, one after another.
 pub fn run_files<N: Names, O: Opener, W: Target>(
     alloc: Global,
     names: &mut N,
@@ -62,7 +62,7 @@ pub fn run_files<N: Names, O: Opener, W: Target>(
     task: &Task,
 ) -> FilesEnd
     requires writable { W.has_failed dst.old ≡ false }
-    ensures told { FilesTold ⟦<Document as Valued>⟧.value (O.told opener.now) (O.refuses opener.now)
+    ensures known { FilesSaid ⟦<Document as Valued>⟧.value (O.known opener.now) (O.refuses opener.now)
         (IsLeft O.Document.has_failed O.Document.remaining) task.now (N.left names.old) (HasStopped N.left N.stops names.new)
         (W.contents dst.old) (W.contents dst.new) result }
     ensures failed { W.has_failed dst.new ≡ has_failed_write result }
@@ -87,13 +87,13 @@ fn next_file<N: Names, O: Opener, W: Target>(
     progress: Progress,
 ) -> Result<Progress, FilesEnd>
     requires writable { W.has_failed dst.old ≡ false }
-    ensures told { (all : List Entry) (list : Option (List (List ℕ))) (old : Option (List ℕ))
-        → Went ⟦<Document as Valued>⟧.value (O.told opener.now) (O.refuses opener.now)
+    ensures known { (all : List Entry) (list : Option (List (List ℕ))) (old : Option (List ℕ))
+        → Went ⟦<Document as Valued>⟧.value (O.known opener.now) (O.refuses opener.now)
         (IsLeft O.Document.has_failed O.Document.remaining) task.now list (N.left names.old) old (W.contents dst.old) progress.status progress.out all
         → MatchResult result (λ further. (more : List Entry) × (length more ≡ length all + 1)
-        × Went ⟦<Document as Valued>⟧.value (O.told opener.now) (O.refuses opener.now)
+        × Went ⟦<Document as Valued>⟧.value (O.known opener.now) (O.refuses opener.now)
         (IsLeft O.Document.has_failed O.Document.remaining) task.now list (N.left names.new) old (W.contents dst.new) further.status further.out more)
-        (FilesTold ⟦<Document as Valued>⟧.value (O.told opener.now) (O.refuses opener.now)
+        (FilesSaid ⟦<Document as Valued>⟧.value (O.known opener.now) (O.refuses opener.now)
         (IsLeft O.Document.has_failed O.Document.remaining) task.now list (HasStopped N.left N.stops names.new) old (W.contents dst.new)) }
     ensures failed { MatchResult result (λ _. W.has_failed dst.new ≡ false)
         (λ end. W.has_failed dst.new ≡ has_failed_write end) }
@@ -125,7 +125,7 @@ fn said_of<O: Opener>(
     name: &[u8],
     task: &Task,
 ) -> Result<Said, AllocError>
-    ensures { IfOk result (λ said. IsSaid ⟦<Document as Valued>⟧.value (O.told opener.now)
+    ensures { IfOk result (λ said. IsSaid ⟦<Document as Valued>⟧.value (O.known opener.now)
         (O.refuses opener.now) (IsLeft O.Document.has_failed O.Document.remaining) task.now
         name.now said.status said.text.items) }
 {
@@ -146,7 +146,7 @@ fn came_of<O: Opener>(
     task: &Task,
     file: &str,
 ) -> (Came, Vec<u8>)
-    ensures { CameAs ⟦<Document as Valued>⟧.value (O.told opener.now name.now)
+    ensures { CameAs ⟦<Document as Valued>⟧.value (O.known opener.now name.now)
         (O.refuses opener.now name.now) (IsLeft O.Document.has_failed O.Document.remaining)
         task.now file.now result.0 result.1.items }
 {
@@ -170,8 +170,8 @@ fn kept(outcome: Outcome) -> Outcome
     }
 }
 
-/// Words behind a name, as a line, if there are any.
-fn behind_name(alloc: Global, name: &[u8], words: &str) -> Result<Vec<u8>, AllocError>
+/// Words after a name, as a line, if there are any.
+fn after_name(alloc: Global, name: &[u8], words: &str) -> Result<Vec<u8>, AllocError>
     requires { length words.now ≤ 128 }
     ensures { IfOk result (λ text. text.items ≡ named_line name.now words.now) }
 {
@@ -220,7 +220,7 @@ fn said_line(
         let text = error_line(alloc, file, u64::from(came_status(came)), words)?;
         return Ok(text.into_bytes());
     }
-    behind_name(alloc, name, words)
+    after_name(alloc, name, words)
 }
 
 /// Whether what an action writes is JSON.
@@ -235,7 +235,7 @@ fn is_json(action: Action) -> bool
     }
 }
 
-/// Appends what stands in front of what the action writes.
+/// Appends what is in front of what the action writes.
 fn push_front_of(
     alloc: Global,
     text: &mut Vec<u8>,
@@ -254,18 +254,13 @@ fn push_front_of(
     }
 }
 
-/// Appends a name as it is told, and what stands behind it.
-fn push_front(
-    alloc: Global,
-    text: &mut Vec<u8>,
-    name: &[u8],
-    behind: &str,
-) -> Result<(), AllocError>
-    ensures { OnOk result (text.new.items ≡ text.old.items ++ told_name name.now ++ behind.now) }
+/// Appends a name as it is shown, and what comes after it.
+fn push_front(alloc: Global, text: &mut Vec<u8>, name: &[u8], after: &str) -> Result<(), AllocError>
+    ensures { OnOk result (text.new.items ≡ text.old.items ++ shown_name name.now ++ after.now) }
 {
-    let shown = told_name(alloc, name)?;
+    let shown = shown_name(alloc, name)?;
     text.extend_from_slice(shown.as_bytes())?;
-    text.extend_from_slice(behind.as_bytes())
+    text.extend_from_slice(after.as_bytes())
 }
 
 /// Why not all that was asked for is written of a document; empty where what is written says all.

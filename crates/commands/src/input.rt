@@ -1,7 +1,7 @@
 //! All of an input, or as much of it as is wanted.
 ghost use Rattle.std.specs.Prelude.{◌≡◌, ◌<◌, MatchResult, false, length};
 ghost use Rattle.asn_elements.specs.Whole.{IsFailedRead};
-ghost use Rattle.commands.specs.Inputs.{StopsBehind, StopsTaking, Takes, TakesFirst};
+ghost use Rattle.commands.specs.Inputs.{StopsAfter, StopsTaking, Takes, TakesFirst};
 
 use std::alloc::Global;
 use tlv_core::fault::ReadError;
@@ -45,7 +45,7 @@ fn take_block<R: Source>(
     ensures takes { MatchResult result
         (λ count. Takes (length room.old) count (R.remaining src.old) (R.remaining src.new)
         octets.old.items octets.new.items)
-        (λ error. StopsBehind (length room.old) error (R.remaining src.old) (R.remaining src.new)
+        (λ error. StopsAfter (length room.old) error (R.remaining src.old) (R.remaining src.new)
         octets.old.items) }
     ensures read { MatchResult result (λ _. R.has_failed src.new ≡ false)
         (IsFailedRead (R.has_failed src.new)) }

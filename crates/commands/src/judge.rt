@@ -2,7 +2,7 @@
 ghost use Rattle.std.specs.Prelude.{◌≡◌, IfSome, false, map};
 ghost use Rattle.std.specs.List.{list_any};
 ghost use Rattle.std.specs.Option.{option_map};
-ghost use Rattle.commands.specs.Judgements.{Goes, Judges, JudgesAll, JudgesInput, JudgesNames, JudgesNone, part_of, parts_named, parts_of, sources_of, status_behind, status_through};
+ghost use Rattle.commands.specs.Judgements.{Goes, Judges, JudgesAll, JudgesInput, JudgesNames, JudgesNone, part_of, parts_named, parts_of, sources_of, status_after, status_through};
 ghost use Rattle.commands.specs.Files.{IsLeft};
 ghost use Rattle.commands.specs.Judgements.Part.{Listed, Named};
 ghost use Rattle.commands.specs.Lines.{name_of_line};
@@ -31,8 +31,8 @@ use tlv_core::target::Target;
 /// The status of a run that ended before its last document.
 const FAILED: u8 = 3;
 
-/// Says what the task has to say of the documents of these names, and of those of a list behind them, or of that of
-/// standard input where nothing is named, and answers the exit status: the greatest one, or 3 where the run ended before
+/// Says what the task has to say of the documents of these names, and of those of a list after them, or of that of
+/// standard input where nothing is named, and answers the exit status: the largest one, or 3 where the run ended before
 /// the last document.
 pub fn judge<R: Source + Drop, W: Flush, E: Target, O: Opener>(
     alloc: Global,
@@ -45,7 +45,7 @@ pub fn judge<R: Source + Drop, W: Flush, E: Target, O: Opener>(
     requires readable { IsReadable R.has_failed standard.old.input }
     requires writable { W.has_failed standard.old.output ≡ false }
     ensures { JudgesAll ⟦<Document as Valued>⟧.value (sources_of R.has_failed R.remaining O.Document.has_failed
-        O.Document.remaining (O.told opener.now) (O.refuses opener.now)) task.now (map (λ r. r.now) names.now)
+        O.Document.remaining (O.known opener.now) (O.refuses opener.now)) task.now (map (λ r. r.now) names.now)
         (option_map (λ r. r.now) list.entry)
         (seen R.remaining W.contents W.has_failed W.is_flushed E.contents E.has_failed standard.old)
         (seen R.remaining W.contents W.has_failed W.is_flushed E.contents E.has_failed standard.new)
@@ -69,7 +69,7 @@ fn judge_all<R: Source + Drop, W: Flush, E: Target, O: Opener>(
     requires readable { IsReadable R.has_failed standard.old.input }
     requires writable { W.has_failed standard.old.output ≡ false }
     ensures { Goes (Judges ⟦<Document as Valued>⟧.value (sources_of R.has_failed R.remaining O.Document.has_failed
-        O.Document.remaining (O.told opener.now) (O.refuses opener.now)) task.now)
+        O.Document.remaining (O.known opener.now) (O.refuses opener.now)) task.now)
         (parts_of (map (λ r. r.now) names.now) (option_map (λ r. r.now) list.entry))
         (seen R.remaining W.contents W.has_failed W.is_flushed E.contents E.has_failed standard.old)
         (seen R.remaining W.contents W.has_failed W.is_flushed E.contents E.has_failed standard.new)
@@ -99,7 +99,7 @@ fn judge_names<R: Source + Drop, W: Flush, E: Target, O: Opener>(
     ensures readable { IsReadable R.has_failed standard.new.input }
     ensures writable { IfSome result (λ _. W.has_failed standard.new.output ≡ false) }
     ensures goes { Goes (Judges ⟦<Document as Valued>⟧.value (sources_of R.has_failed R.remaining O.Document.has_failed
-        O.Document.remaining (O.told opener.now) (O.refuses opener.now)) task.now)
+        O.Document.remaining (O.known opener.now) (O.refuses opener.now)) task.now)
         (parts_named (map (λ r. r.now) names.now))
         (seen R.remaining W.contents W.has_failed W.is_flushed E.contents E.has_failed standard.old)
         (seen R.remaining W.contents W.has_failed W.is_flushed E.contents E.has_failed standard.new)
@@ -136,7 +136,7 @@ fn judge_each<R: Source + Drop, W: Flush, E: Target, O: Opener>(
     ensures readable { IsReadable R.has_failed standard.new.input }
     ensures writable { IfSome result (λ _. W.has_failed standard.new.output ≡ false) }
     ensures goes { Goes (Judges ⟦<Document as Valued>⟧.value (sources_of R.has_failed R.remaining O.Document.has_failed
-        O.Document.remaining (O.told opener.now) (O.refuses opener.now)) task.now)
+        O.Document.remaining (O.known opener.now) (O.refuses opener.now)) task.now)
         (map part_of (map (λ r. r.now) names.now))
         (seen R.remaining W.contents W.has_failed W.is_flushed E.contents E.has_failed standard.old)
         (seen R.remaining W.contents W.has_failed W.is_flushed E.contents E.has_failed standard.new)
@@ -162,7 +162,7 @@ fn judge_one<R: Source + Drop, W: Flush, E: Target, O: Opener>(
     ensures readable { IsReadable R.has_failed standard.new.input }
     ensures writable { IfSome result (λ _. W.has_failed standard.new.output ≡ false) }
     ensures judges { Judges ⟦<Document as Valued>⟧.value (sources_of R.has_failed R.remaining O.Document.has_failed
-        O.Document.remaining (O.told opener.now) (O.refuses opener.now)) task.now (part_of name.now)
+        O.Document.remaining (O.known opener.now) (O.refuses opener.now)) task.now (part_of name.now)
         (seen R.remaining W.contents W.has_failed W.is_flushed E.contents E.has_failed standard.old)
         (seen R.remaining W.contents W.has_failed W.is_flushed E.contents E.has_failed standard.new)
         result }
@@ -193,12 +193,12 @@ fn judge_input<R: Source + Drop, W: Flush, E: Target>(
     };
     let outcome = answer(alloc, &mut src, &mut standard.output, task);
     finish(&outcome, &mut standard.errors);
-    status_behind(&outcome)
+    status_after(&outcome)
 }
 
-/// The status of a run that goes on behind such an outcome, or nothing where it ends.
-fn status_behind(outcome: &Outcome) -> Option<u8>
-    ensures { result ≡ status_behind outcome.now }
+/// The status of a run that goes on after such an outcome, or nothing where it ends.
+fn status_after(outcome: &Outcome) -> Option<u8>
+    ensures { result ≡ status_after outcome.now }
 {
     match outcome {
         Outcome::WriteFailed(_) => None,
@@ -219,7 +219,7 @@ fn judge_named<R: Source + Drop, W: Flush, E: Target, O: Opener>(
     ensures readable { IsReadable R.has_failed standard.new.input }
     ensures writable { IfSome result (λ _. W.has_failed standard.new.output ≡ false) }
     ensures judges { Judges ⟦<Document as Valued>⟧.value (sources_of R.has_failed R.remaining O.Document.has_failed
-        O.Document.remaining (O.told opener.now) (O.refuses opener.now)) task.now
+        O.Document.remaining (O.known opener.now) (O.refuses opener.now)) task.now
         (Named (map (λ r. r.now) names.now))
         (seen R.remaining W.contents W.has_failed W.is_flushed E.contents E.has_failed standard.old)
         (seen R.remaining W.contents W.has_failed W.is_flushed E.contents E.has_failed standard.new)
@@ -251,7 +251,7 @@ fn judge_list<R: Source + Drop, W: Flush, E: Target, O: Opener>(
     ensures readable { IsReadable R.has_failed standard.new.input }
     ensures writable { IfSome result (λ _. W.has_failed standard.new.output ≡ false) }
     ensures judges { Judges ⟦<Document as Valued>⟧.value (sources_of R.has_failed R.remaining O.Document.has_failed
-        O.Document.remaining (O.told opener.now) (O.refuses opener.now)) task.now (Listed list.now)
+        O.Document.remaining (O.known opener.now) (O.refuses opener.now)) task.now (Listed list.now)
         (seen R.remaining W.contents W.has_failed W.is_flushed E.contents E.has_failed standard.old)
         (seen R.remaining W.contents W.has_failed W.is_flushed E.contents E.has_failed standard.new)
         result }
@@ -291,7 +291,7 @@ fn judge_list<R: Source + Drop, W: Flush, E: Target, O: Opener>(
     }
 }
 
-/// Says what the task has to say of the documents of the names of a list, whose own name stands in front of why the next
+/// Says what the task has to say of the documents of the names of a list, whose own name is in front of why the next
 /// one doesn't come.
 fn judge_listed<N: Names, R: Source + Drop, W: Flush, E: Target, O: Opener>(
     alloc: Global,
@@ -305,7 +305,7 @@ fn judge_listed<N: Names, R: Source + Drop, W: Flush, E: Target, O: Opener>(
     requires writable { W.has_failed standard.old.output ≡ false }
     ensures readable { IsReadable R.has_failed standard.new.input }
     ensures writable { IfSome result (λ _. W.has_failed standard.new.output ≡ false) }
-    ensures judges { JudgesNames ⟦<Document as Valued>⟧.value (O.told opener.now) (O.refuses opener.now)
+    ensures judges { JudgesNames ⟦<Document as Valued>⟧.value (O.known opener.now) (O.refuses opener.now)
         (IsLeft O.Document.has_failed O.Document.remaining) task.now (name_of_line list) (N.left names.old)
         (HasStopped N.left N.stops names.new)
         (seen R.remaining W.contents W.has_failed W.is_flushed E.contents E.has_failed standard.old)
@@ -318,7 +318,7 @@ fn judge_listed<N: Names, R: Source + Drop, W: Flush, E: Target, O: Opener>(
     status_through(&end)
 }
 
-/// The status of a run that goes on behind such an end, or nothing where it ends.
+/// The status of a run that goes on after such an end, or nothing where it ends.
 fn status_through(end: &FilesEnd) -> Option<u8>
     ensures { result ≡ status_through end.now }
 {

@@ -1,19 +1,19 @@
 //! Lines whose memory is there before what they say is known.
 ghost use Rattle.std.specs.Prelude.{◌≡◌, ◌+◌, ◌≤◌, ◌++◌, IfOk, length, string_bytes, string_capacity, string_len};
-ghost use Rattle.commands.specs.Files.{line_behind};
-ghost use Rattle.commands.specs.Names.{told_name};
+ghost use Rattle.commands.specs.Files.{line_after};
+ghost use Rattle.commands.specs.Names.{shown_name};
 
-use crate::name::told_name;
+use crate::name::shown_name;
 use arrayvec::ArrayString;
 use std::alloc::{AllocError, Global};
 
 /// The words of a line, which ask for no memory.
 pub type LineWords = ArrayString<128>;
 
-/// As much room is kept behind a name.
+/// As much room is kept after a name.
 const ROOM: usize = 160;
 
-/// A name as it is told, and the memory for a line that begins with it.
+/// A name as it is shown, and the memory for a line that begins with it.
 #[derive(Drop)]
 pub struct NamedLine {
     text: String,
@@ -25,9 +25,9 @@ impl NamedLine {
 
     /// Takes the memory for a line that begins with this name.
     pub fn new(alloc: Global, name: &[u8]) -> Result<NamedLine, AllocError>
-        ensures { IfOk result (λ named. name_of_line named ≡ told_name name.now) }
+        ensures { IfOk result (λ named. name_of_line named ≡ shown_name name.now) }
     {
-        let mut text = told_name(alloc, name)?;
+        let mut text = shown_name(alloc, name)?;
         text.reserve(ROOM)?;
         Ok(NamedLine { text })
     }
@@ -35,7 +35,7 @@ impl NamedLine {
     /// The line of these words, if there are any. No memory is asked for.
     pub fn line(self, words: &str) -> String
         requires { length words.now ≤ 128 }
-        ensures { string_bytes result ≡ line_behind (name_of_line self) words.now }
+        ensures { string_bytes result ≡ line_after (name_of_line self) words.now }
     {
         let mut text = self.text;
         if words.is_empty() {

@@ -1,24 +1,24 @@
-//! Names as they are told.
+//! Names as they are shown.
 ghost use Rattle.std.specs.Prelude.{◌≡◌, ◌++◌, IfOk, OnOk, string_bytes};
 ghost use Rattle.std.specs.Char.Escape.{escape_ascii, escape_default};
 ghost use Rattle.std.specs.List.{list_any};
 ghost use Rattle.std.specs.Str.{chars};
-ghost use Rattle.commands.specs.Names.{escaped, file_name, is_plain, needs_quotes, quoted, quoted_octets, told_name, told_text};
+ghost use Rattle.commands.specs.Names.{escaped, file_name, is_plain, needs_quotes, quoted, quoted_octets, shown_name, shown_text};
 
 use std::alloc::{AllocError, Global};
 
-/// A name as lines tell it: as it is or, where it is empty, isn't UTF-8 or has a control character, `"` or `\`, in quotes
-/// and escaped.
-pub fn told_name(alloc: Global, name: &[u8]) -> Result<String, AllocError>
-    ensures { IfOk result (λ text. string_bytes text ≡ told_name name.now) }
+/// A name as lines say it: as it is or, where it is empty, isn't UTF-8 or has a control character, `"` or `\`, in
+/// quotes and escaped.
+pub fn shown_name(alloc: Global, name: &[u8]) -> Result<String, AllocError>
+    ensures { IfOk result (λ text. string_bytes text ≡ shown_name name.now) }
 {
     match std::str::from_utf8(name) {
-        Ok(text) => told_text(alloc, text),
+        Ok(text) => shown_text(alloc, text),
         Err(_) => octets_text(alloc, name),
     }
 }
 
-/// The same as JSON tells it, which escapes by itself: in quotes and escaped only where it isn't UTF-8.
+/// The same as JSON says it, which escapes by itself: in quotes and escaped only where it isn't UTF-8.
 pub fn file_name(alloc: Global, name: &[u8]) -> Result<String, AllocError>
     ensures { IfOk result (λ text. string_bytes text ≡ file_name name.now) }
 {
@@ -29,8 +29,8 @@ pub fn file_name(alloc: Global, name: &[u8]) -> Result<String, AllocError>
 }
 
 /// A name that is UTF-8.
-fn told_text(alloc: Global, name: &str) -> Result<String, AllocError>
-    ensures { IfOk result (λ text. string_bytes text ≡ told_text name.now) }
+fn shown_text(alloc: Global, name: &str) -> Result<String, AllocError>
+    ensures { IfOk result (λ text. string_bytes text ≡ shown_text name.now) }
 {
     if is_plain(name) {
         return String::from_str(alloc, name);
@@ -40,7 +40,7 @@ fn told_text(alloc: Global, name: &str) -> Result<String, AllocError>
     Ok(text)
 }
 
-/// Whether a text is told as it is.
+/// Whether a text is shown as it is.
 fn is_plain(text: &str) -> bool
     ensures { result ≡ is_plain text.now }
 {
@@ -50,14 +50,14 @@ fn is_plain(text: &str) -> bool
     !has_quoted(text)
 }
 
-/// Whether there is a character in it that is told in quotes alone.
+/// Whether there is a character in it that is shown in quotes alone.
 fn has_quoted(text: &str) -> bool
     ensures { result ≡ list_any needs_quotes (chars text.now) }
 {
     text.chars().any(|c| needs_quotes(c))
 }
 
-/// Whether no text with this character is told as it is.
+/// Whether no text with this character is shown as it is.
 fn needs_quotes(c: char) -> bool
     ensures { result ≡ needs_quotes c }
 {

@@ -9,13 +9,13 @@ use std::alloc::Global;
 pub trait Names {
     ghost use Rattle.commands.specs.declared.names.NamesFault.{NamesFault};
 
-    /// The names that are left, where it tells them.
+    /// The names that are left, where that is known.
     ghost left: { Self → Option (List (List ℕ)) };
 
     /// Why the next one doesn't come, before the call that says so and after it.
     ghost stops: { Self → Self → NamesFault → Type 0 };
 
-    /// The next name, or `None` behind the last one.
+    /// The next name, or `None` after the last one.
     fn next_name(&mut self, alloc: Global) -> Result<Option<Vec<u8>>, NamesFault>
         ensures next { IfOk result (λ next. TakesNext (left self.old) (left self.new)
             (option_map (λ name. name.items) next)) }
@@ -75,14 +75,14 @@ impl Names for Words<'_> {
     ghost stops = { λ _ _ fault. fault ≡ Memory };
 
     fn next_name(&mut self, alloc: Global) -> Result<Option<Vec<u8>>, NamesFault> {
-        let [word, behind @ ..] = self.words else {
+        let [word, rest @ ..] = self.words else {
             return Ok(None);
         };
         let mut name = Vec::new(alloc);
         if name.extend_from_slice(word.as_bytes()).is_err() {
             return Err(NamesFault::Memory);
         }
-        self.words = behind;
+        self.words = rest;
         Ok(Some(name))
     }
 }

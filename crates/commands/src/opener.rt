@@ -11,8 +11,8 @@ pub trait Opener {
 
     type Document: Source + Drop;
 
-    /// The octets that the document of a name tells, where it tells them.
-    ghost told: { Self → List ℕ → Option (List ℕ) };
+    /// The octets of the document of a name, where they are known.
+    ghost known: { Self → List ℕ → Option (List ℕ) };
 
     /// Why the document of a name isn't opened.
     ghost refuses: { Self → List ℕ → Unopened → Type 0 };
@@ -20,7 +20,7 @@ pub trait Opener {
     /// Opens the document of this name.
     fn open(&self, alloc: Global, name: &[u8]) -> Result<Self::Document, Unopened>
         ensures opened { IfOk result (λ source. Self.Document.remaining source
-            ≡ told self.now name.now) }
+            ≡ known self.now name.now) }
         ensures readable { IfOk result (λ source. Self.Document.has_failed source ≡ false) }
         ensures refused { IfErr result (refuses self.now name.now) };
 }

@@ -2,9 +2,9 @@
 ghost use Rattle.std.specs.Prelude.{◌≡◌, false};
 ghost use Rattle.std.specs.Option.{option_map};
 ghost use Rattle.commands.specs.Endings.{WritesLine};
-ghost use Rattle.commands.specs.Files.{line_behind};
+ghost use Rattle.commands.specs.Files.{line_after};
 ghost use Rattle.commands.specs.Lines.{name_of_line};
-ghost use Rattle.commands.specs.Names.{told_name};
+ghost use Rattle.commands.specs.Names.{shown_name};
 ghost use Rattle.commands.specs.Outcomes.{words_of};
 ghost use Rattle.commands.specs.Pairs.{ComparesBoth, ComparesNamed, ComparesWith};
 ghost use Rattle.commands.specs.Standards.{IsReadable, seen};
@@ -30,8 +30,8 @@ struct NamedPair<'a> {
     names: PairNames<'a>,
     first: NamedLine,
     second: NamedLine,
-    ghost first_told: { name_of_line first ≡ told_name names.first.now },
-    ghost second_told: { name_of_line second ≡ told_name names.second.now },
+    ghost first_shown: { name_of_line first ≡ shown_name names.first.now },
+    ghost second_shown: { name_of_line second ≡ shown_name names.second.now },
 }
 
 /// Says what two documents are to each other on standard output, or on standard error why it doesn't, and answers the
@@ -45,7 +45,7 @@ pub fn compare_named<R: Source + Drop, W: Flush, E: Target, O: Opener>(
 ) -> u8
     requires readable { IsReadable R.has_failed standard.old.input }
     requires writable { W.has_failed standard.old.output ≡ false }
-    ensures { ComparesNamed ⟦<Document as Valued>⟧.value (O.told opener.now)
+    ensures { ComparesNamed ⟦<Document as Valued>⟧.value (O.known opener.now)
         (O.refuses opener.now) comparison.now names.entry.first.now names.entry.second.now
         (seen R.remaining W.contents W.has_failed W.is_flushed E.contents E.has_failed
         standard.old)
@@ -75,7 +75,7 @@ pub fn compare_named<R: Source + Drop, W: Flush, E: Target, O: Opener>(
     }
 }
 
-/// The same of a first document whose octets a source tells.
+/// The same of a first document whose octets are known of a source.
 fn compare_with<S: Source, R: Source + Drop, W: Flush, E: Target, O: Opener>(
     alloc: Global,
     comparison: &Comparison,
@@ -87,7 +87,7 @@ fn compare_with<S: Source, R: Source + Drop, W: Flush, E: Target, O: Opener>(
     requires first_readable { S.has_failed first.old ≡ false }
     requires readable { IsReadable R.has_failed standard.old.input }
     requires writable { W.has_failed standard.old.output ≡ false }
-    ensures { ComparesWith ⟦<Document as Valued>⟧.value (O.told opener.now)
+    ensures { ComparesWith ⟦<Document as Valued>⟧.value (O.known opener.now)
         (O.refuses opener.now) comparison.now named.entry.names.first.now
         named.entry.names.second.now
         (S.remaining first.old) (option_map R.remaining standard.old.input)
@@ -110,7 +110,7 @@ fn compare_with<S: Source, R: Source + Drop, W: Flush, E: Target, O: Opener>(
     }
 }
 
-/// The same of two documents whose octets sources tell.
+/// The same of two documents whose octets are known of sources.
 fn compare_both<S: Source, T: Source, R: Source + Drop, W: Flush, E: Target>(
     alloc: Global,
     comparison: &Comparison,
@@ -134,9 +134,9 @@ fn compare_both<S: Source, T: Source, R: Source + Drop, W: Flush, E: Target>(
     finish_pair(named.first, named.second, &compared, &mut standard.errors)
 }
 
-/// Writes that standard input is read already, behind the name of what is wanted of it, and answers the status.
+/// Writes that standard input is read already, after the name of what is wanted of it, and answers the status.
 pub fn finish_taken<W: Target>(named: NamedLine, dst: &mut W) -> u8
-    ensures line { WritesLine (line_behind (name_of_line named) (words_of (ReadFailed 0)))
+    ensures line { WritesLine (line_after (name_of_line named) (words_of (ReadFailed 0)))
         (W.contents dst.old) (W.contents dst.new) (W.has_failed dst.new) }
     ensures status { result ≡ 3 }
 {

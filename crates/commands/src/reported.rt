@@ -8,8 +8,8 @@ ghost use Rattle.commands.specs.Outcomes.{words_of};
 ghost use Rattle.commands.specs.Reported.{check_text, error_line, error_object, explained_outcome, is_der};
 
 use crate::outcome::Outcome;
-use json::Writer;
 use explain::version::VERSION;
+use json::Writer;
 use reports::json_report::check_json;
 use reports::report::{Answer, Report};
 use std::alloc::{AllocError, Global};
@@ -33,7 +33,7 @@ pub fn check_text(
     check_json(alloc, report, VERSION, file, places)
 }
 
-/// Why no report of a file is told, as JSON.
+/// Why no report of a file is shown, as JSON.
 pub fn error_line(alloc: Global, file: &str, status: u64, error: &str) -> Result<String, AllocError>
     ensures { IfOk result (λ text. string_bytes text ≡ error_line file.now status error.now) }
 {
@@ -102,7 +102,7 @@ pub fn refusal(answer: Answer) -> Option<Fault>
     }
 }
 
-/// How a run ends that tells of a report, by what checking answers.
+/// How a run ends that says of a report, by what checking answers.
 pub fn explained(answer: &Answer) -> Outcome
     ensures outcome { result ≡ explained_outcome answer.now }
     ensures says_all { words_of result ≡ [] }

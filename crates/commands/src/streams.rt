@@ -1,7 +1,7 @@
 //! What the program does with its streams, over any of them.
 ghost use Rattle.std.specs.Prelude.{◌≡◌, Bool, MatchBool, false, true};
 ghost use Rattle.std.specs.Io.KnownBytes.{Keeps};
-ghost use Rattle.commands.specs.Endings.{AnsweredAs, AnsweredFiles, EndsAs, FilesEndAs, IsWhole, Tells};
+ghost use Rattle.commands.specs.Endings.{AnsweredAs, AnsweredFiles, EndsAs, FilesEndAs, IsWhole, SaysText};
 ghost use Rattle.commands.specs.Files.{IsLeft, has_failed_write};
 ghost use Rattle.commands.specs.NameLists.{HasStopped};
 ghost use Rattle.commands.specs.Replies.{FailedBy, IsSilent};
@@ -18,7 +18,7 @@ use pk_documents::document::{Document, Valued};
 use std::alloc::Global;
 use tlv_core::source::{Failed, Source};
 
-/// Runs a task over no named file, and flushes the target behind what is whole.
+/// Runs a task over no named file, and flushes the target after what is whole.
 pub fn answer<R: Source, W: Flush>(alloc: Global, src: &mut R, dst: &mut W, task: &Task) -> Outcome
     requires readable { R.has_failed src.old ≡ false }
     requires writable { W.has_failed dst.old ≡ false }
@@ -35,10 +35,10 @@ pub fn answer<R: Source, W: Flush>(alloc: Global, src: &mut R, dst: &mut W, task
     flushed(dst, outcome)
 }
 
-/// Writes a text, and flushes the target behind it.
-pub fn tell<W: Flush>(text: &str, dst: &mut W) -> Outcome
+/// Writes a text, and flushes the target after it.
+pub fn say<W: Flush>(text: &str, dst: &mut W) -> Outcome
     requires writable { W.has_failed dst.old ≡ false }
-    ensures told { Tells text.now (W.contents dst.old) (W.contents dst.new) result }
+    ensures known { SaysText text.now (W.contents dst.old) (W.contents dst.new) result }
     ensures flushed { IsWhole result → W.is_flushed dst.new ≡ true }
     ensures failed { FailedBy result false (W.has_failed dst.new) }
 {
@@ -55,7 +55,7 @@ pub fn answer_files<N: Names, O: Opener, W: Flush>(
     task: &Task,
 ) -> FilesEnd
     requires writable { W.has_failed dst.old ≡ false }
-    ensures answered { AnsweredFiles ⟦<Document as Valued>⟧.value (O.told opener.now)
+    ensures answered { AnsweredFiles ⟦<Document as Valued>⟧.value (O.known opener.now)
         (O.refuses opener.now) (IsLeft O.Document.has_failed O.Document.remaining) task.now
         (N.left names.old) (HasStopped N.left N.stops names.new) (W.contents dst.old)
         (W.contents dst.new) result }
@@ -113,7 +113,7 @@ fn is_whole(outcome: &Outcome) -> bool
     )
 }
 
-/// The outcome where a target isn't flushed: how many octets it kept back isn't told.
+/// The outcome where a target isn't flushed: how many octets it kept back isn't known.
 fn unflushed() -> Outcome
     ensures { result ≡ Outcome.WriteFailed 0 }
 {

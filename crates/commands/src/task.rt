@@ -1,7 +1,7 @@
 //! What a command is to do.
+use explain::written::Form;
 use pk_documents::kind::Kind;
 use pk_documents::request_part::Part;
-use explain::written::Form;
 use tlv_core::limits::Limits;
 
 /// What to do with the document.

@@ -1,4 +1,4 @@
--- What may be told of a document, by the answer to it.
+-- What may be shown of a document, by the answer to it.
 use Rattle.std.proofs.Common.{Err, IfOk, List, None, Ok, Result, [], length, subst, sym, ℕ, ◌∙◌, ◌≡◌}
 use Rattle.tlv_core.specs.Limits.{Limits}
 use Rattle.tlv_core.specs.declared.fault.Fault.{Fault}
@@ -6,54 +6,67 @@ use Rattle.pk_documents.specs.Kinds.{type_of}
 use Rattle.pk_documents.specs.declared.kind.Kind.{Kind}
 use Rattle.explain.specs.Answers.{IsAnswer}
 use Rattle.explain.specs.Disclosures.{IsDisclosed, IsRefused, IsShown}
-use Rattle.explain.specs.Looks.{LooksLike}
+use Rattle.explain.specs.Guesses.{IsGuess}
 use Rattle.explain.specs.declared.disclosed.Disclosed.{Disclosed}
 use Rattle.reports.specs.declared.report.Answer.{Answer}
 use Rattle.reports.specs.declared.report.Answer.TheVariants.{Der, NotDer, Refused}
-use Rattle.reports.specs.declared.report.Looks.{Looks}
+use Rattle.reports.specs.declared.report.Guess.{Guess}
 
 -- of a document that is refused
-pub refused_told : {E : Type 0} → (limits : Limits) (of : Kind) (document : List ℕ) (answer : Answer) (fault : Fault)
-    (looks : Looks) (result : Result Disclosed E) → answer ≡ Refused fault → IsAnswer limits (type_of of) document answer
-    → LooksLike limits of document answer looks → IfOk result (λ told. told.octets ≡ length document)
-    → IfOk result (λ told. told.answer ≡ Refused fault)
-    → IfOk result (λ told. IsRefused limits of document fault told.front.now told.way.items told.class)
-    → IfOk result (λ told. told.looks ≡ looks) → IfOk result (λ told. IsDisclosed limits of document told)
-refused_told limits of document answer fault looks (Ok told) refused is like octets same shown alike =
-    let one : answer ≡ told.answer = refused ∙ sym same in
+pub refused_disclosed : {E : Type 0}
+    → (limits : Limits) (of : Kind) (document : List ℕ) (answer : Answer) (fault : Fault)
+    (guess : Guess) (result : Result Disclosed E) → answer ≡ Refused fault
+    → IsAnswer limits (type_of of) document answer
+    → IsGuess limits of document answer guess → IfOk result (λ disclosed. disclosed.octets ≡ length document)
+    → IfOk result (λ disclosed. disclosed.answer ≡ Refused fault)
+    → IfOk result
+    (λ disclosed. IsRefused limits of document fault disclosed.front.now disclosed.path.items disclosed.class)
+    → IfOk result (λ disclosed. disclosed.guess ≡ guess)
+    → IfOk result (λ disclosed. IsDisclosed limits of document disclosed)
+refused_disclosed limits of document answer fault guess (Ok disclosed) refused is like octets same shown alike =
+    let one : answer ≡ disclosed.answer = refused ∙ sym same in
     record {
       octets = octets;
       answer = subst (IsAnswer limits (type_of of) document) one is;
-      shown = subst (λ it. IsShown limits of document it told.front.now told.way.items told.class) (sym same) shown;
-      looks = subst (LooksLike limits of document told.answer) (sym alike)
-          (subst (λ it. LooksLike limits of document it looks) one like);
+      shown =
+          subst (λ it. IsShown limits of document it disclosed.front.now disclosed.path.items disclosed.class)
+          (sym same) shown;
+      guess = subst (IsGuess limits of document disclosed.answer) (sym alike)
+          (subst (λ it. IsGuess limits of document it guess) one like);
     }
-refused_told limits of document answer fault looks (Err error) refused is like octets same shown alike = tt
+refused_disclosed limits of document answer fault guess (Err error) refused is like octets same shown alike = tt
 
 -- of one that is in DER, or isn't and is accepted
-pub der_told : (limits : Limits) (of : Kind) (document : List ℕ) (answer : Answer) (looks : Looks) (told : Disclosed)
-    → answer ≡ Der → IsAnswer limits (type_of of) document answer → LooksLike limits of document answer looks
-    → told.octets ≡ length document → told.answer ≡ answer → told.front.now ≡ document → told.way.items ≡ []
-    → told.class ≡ None → told.looks ≡ looks → IsDisclosed limits of document told
-der_told limits of document answer looks told der is like octets same front way class alike = record {
+pub der_disclosed : (limits : Limits) (of : Kind) (document : List ℕ) (answer : Answer) (guess : Guess)
+    (disclosed : Disclosed)
+    → answer ≡ Der → IsAnswer limits (type_of of) document answer → IsGuess limits of document answer guess
+    → disclosed.octets ≡ length document → disclosed.answer ≡ answer → disclosed.front.now ≡ document
+    → disclosed.path.items ≡ []
+    → disclosed.class ≡ None → disclosed.guess ≡ guess → IsDisclosed limits of document disclosed
+der_disclosed limits of document answer guess disclosed der is like octets same front path class alike = record {
   octets = octets;
   answer = subst (IsAnswer limits (type_of of) document) (sym same) is;
-  shown = subst (λ it. IsShown limits of document it told.front.now told.way.items told.class) (sym (same ∙ der))
-      (front, way, class);
-  looks = subst (LooksLike limits of document told.answer) (sym alike)
-      (subst (λ it. LooksLike limits of document it looks) (sym same) like);
+  shown =
+      subst (λ it. IsShown limits of document it disclosed.front.now disclosed.path.items disclosed.class)
+      (sym (same ∙ der))
+      (front, path, class);
+  guess = subst (IsGuess limits of document disclosed.answer) (sym alike)
+      (subst (λ it. IsGuess limits of document it guess) (sym same) like);
 }
 
-pub not_der_told : (limits : Limits) (of : Kind) (document : List ℕ) (answer : Answer) (place : ℕ) (looks : Looks)
-    (told : Disclosed) → answer ≡ NotDer place → IsAnswer limits (type_of of) document answer
-    → LooksLike limits of document answer looks → told.octets ≡ length document → told.answer ≡ answer
-    → told.front.now ≡ document → told.way.items ≡ [] → told.class ≡ None → told.looks ≡ looks
-    → IsDisclosed limits of document told
-not_der_told limits of document answer place looks told sound is like octets same front way class alike = record {
-  octets = octets;
-  answer = subst (IsAnswer limits (type_of of) document) (sym same) is;
-  shown = subst (λ it. IsShown limits of document it told.front.now told.way.items told.class) (sym (same ∙ sound))
-      (front, way, class);
-  looks = subst (LooksLike limits of document told.answer) (sym alike)
-      (subst (λ it. LooksLike limits of document it looks) (sym same) like);
-}
+pub not_der_disclosed : (limits : Limits) (of : Kind) (document : List ℕ) (answer : Answer) (place : ℕ) (guess : Guess)
+    (disclosed : Disclosed) → answer ≡ NotDer place → IsAnswer limits (type_of of) document answer
+    → IsGuess limits of document answer guess → disclosed.octets ≡ length document → disclosed.answer ≡ answer
+    → disclosed.front.now ≡ document → disclosed.path.items ≡ [] → disclosed.class ≡ None → disclosed.guess ≡ guess
+    → IsDisclosed limits of document disclosed
+not_der_disclosed limits of document answer place guess disclosed sound is like octets same front path class alike =
+    record {
+      octets = octets;
+      answer = subst (IsAnswer limits (type_of of) document) (sym same) is;
+      shown =
+          subst (λ it. IsShown limits of document it disclosed.front.now disclosed.path.items disclosed.class)
+          (sym (same ∙ sound))
+          (front, path, class);
+      guess = subst (IsGuess limits of document disclosed.answer) (sym alike)
+          (subst (λ it. IsGuess limits of document it guess) (sym same) like);
+    }

@@ -12,7 +12,7 @@ use Rattle.explain.specs.Causes.{causes_of, first_of_both, is_disordered, is_dis
 use Rattle.reports.specs.declared.report.Cause.{Cause}
 use Rattle.reports.specs.declared.report.Cause.TheVariants.{Order}
 
--- of the first elements, so many, their own causes; of those behind them all
+-- of the first elements, so many, their own causes; of those after them all
 abbrev pub own_before : List ℕ → ℕ → List NamedElement → List (Option Cause)
 own_before document zero elements = causes_of document elements
 own_before document (suc number) [] = []
@@ -35,12 +35,13 @@ cond_first : (is : Bool) (one other : Option Cause) (causes : List (Option Cause
 cond_first true one other causes = refl
 cond_first false one other causes = refl
 
-cond_behind : (is : Bool) (cause : Option Cause) (one other : List (Option Cause))
+cond_after : (is : Bool) (cause : Option Cause) (one other : List (Option Cause))
     → cond is (cause ∷ one) (cause ∷ other) ≡ cause ∷ cond is one other
-cond_behind true cause one other = refl
-cond_behind false cause one other = refl
+cond_after true cause one other = refl
+cond_after false cause one other = refl
 
-first_ordered : (document : List ℕ) (element : NamedElement) (elements : List NamedElement) (causes : List (Option Cause))
+first_ordered : (document : List ℕ) (element : NamedElement) (elements : List NamedElement)
+    (causes : List (Option Cause))
     (cause : Option Cause)
     → cond (is_disordered_by document (Some element) (Some cause) elements causes) (Some Order ∷ causes)
     (cause ∷ causes)
@@ -48,17 +49,17 @@ first_ordered : (document : List ℕ) (element : NamedElement) (elements : List 
 first_ordered document element elements causes None = cond_first _ (Some Order) None causes
 first_ordered document element elements causes (Some cause) = refl
 
--- those behind the first one
-disordered_behind : (document : List ℕ) (element : NamedElement) (elements : List NamedElement) (cause : Option Cause)
+-- those after the first one
+disordered_after : (document : List ℕ) (element : NamedElement) (elements : List NamedElement) (cause : Option Cause)
     (causes : List (Option Cause)) (number : ℕ)
     → is_disordered document (element ∷ elements) (cause ∷ causes) (suc number)
     ≡ is_disordered document elements causes number
-disordered_behind document element elements cause causes number =
+disordered_after document element elements cause causes number =
     let one : suc number + 1 ≡ suc (number + 1) = omega arith in
     ap
-    (λ behind.
-    is_disordered_by document (slice_get elements number) (slice_get causes number) (drop behind (element ∷ elements))
-    (drop behind (cause ∷ causes)))
+    (λ later.
+    is_disordered_by document (slice_get elements number) (slice_get causes number) (drop later (element ∷ elements))
+    (drop later (cause ∷ causes)))
     one
 
 one_ordered : (document : List ℕ) (elements : List NamedElement) (number : ℕ)
@@ -72,9 +73,9 @@ one_ordered document (element ∷ elements) (suc number) =
     let causes = own_before document (suc number) elements in
     let own = own_cause document element in
     ap (λ is. cond is (own ∷ slice_set causes number (Some Order)) (own ∷ causes))
-    (disordered_behind document element elements own causes number)
-    ∙ (cond_behind (is_disordered document elements causes number) own (slice_set causes number (Some Order)) causes
-    ∙ ap (λ behind. own ∷ behind) (one_ordered document elements number))
+    (disordered_after document element elements own causes number)
+    ∙ (cond_after (is_disordered document elements causes number) own (slice_set causes number (Some Order)) causes
+    ∙ ap (λ later. own ∷ later) (one_ordered document elements number))
 
 -- the element before those that are done
 pub one_more_ordered : (document : List ℕ) (elements : List NamedElement) (before number after : ℕ)
@@ -98,13 +99,13 @@ not_less_than_none [] = refl
 not_less_than_none (octet ∷ octets) = refl
 
 -- no text is less than one without octets
-pub behind_none : (texts : List (List ℕ)) → ascends ([] ∷ texts) ≡ ascends texts
-behind_none [] = refl
-behind_none (text ∷ texts) = ap (λ less. not less && ascends (text ∷ texts)) (not_less_than_none text)
+pub after_none : (texts : List (List ℕ)) → ascends ([] ∷ texts) ≡ ascends texts
+after_none [] = refl
+after_none (text ∷ texts) = ap (λ less. not less && ascends (text ∷ texts)) (not_less_than_none text)
 
-or_equal : (less equal behind : Bool) → (less ≡ false → equal ≡ true) → (less || behind) ≡ (less || (equal && behind))
-or_equal true equal behind h = refl
-or_equal false equal behind h = ap (λ is. is && behind) (sym (h refl))
+or_equal : (less equal later : Bool) → (less ≡ false → equal ≡ true) → (less || later) ≡ (less || (equal && later))
+or_equal true equal later h = refl
+or_equal false equal later h = ap (λ is. is && later) (sym (h refl))
 
 least_octet : (octet : ℕ) → nat_lt 0 octet ≡ false → (0 == octet) ≡ true
 least_octet octet h = grind (arith, nat_tests)
@@ -121,7 +122,7 @@ less_at_none [] place h = absurd (omega (arith, h))
 less_at_none (octet ∷ octets) zero h = less_than_first octet octets
 less_at_none (octet ∷ octets) (suc place) h = less_at_none octets place (omega (arith, h))
 
--- what comes first by its octet there, or by those behind it
+-- what comes first by its octet there, or by those after it
 less_at : (first second : List ℕ) (place : ℕ) → place < length second
     → padded_less (drop place first) (drop place second)
     ≡ (nat_lt (unwrap_or (slice_get first place) 0) (get_or second place 0)
@@ -157,16 +158,16 @@ less_by first second place one h o =
     || (octet == get_or second place 0 && padded_less (drop (suc place) first) (drop (suc place) second)))
     (sym o)
 
-other_octet : (less equal behind : Bool) → equal ≡ false → (less || (equal && behind)) ≡ less
-other_octet true true behind h = refl
-other_octet true false behind h = refl
-other_octet false true behind h = absurd (cc)
-other_octet false false behind h = refl
+other_octet : (less equal later : Bool) → equal ≡ false → (less || (equal && later)) ≡ less
+other_octet true true later h = refl
+other_octet true false later h = refl
+other_octet false true later h = absurd (cc)
+other_octet false false later h = refl
 
-same_octet : (less equal behind : Bool) → less ≡ false → equal ≡ true → (less || (equal && behind)) ≡ behind
-same_octet true equal behind l e = absurd (cc)
-same_octet false true behind l e = refl
-same_octet false false behind l e = absurd (cc)
+same_octet : (less equal later : Bool) → less ≡ false → equal ≡ true → (less || (equal && later)) ≡ later
+same_octet true equal later l e = absurd (cc)
+same_octet false true later l e = refl
+same_octet false false later l e = absurd (cc)
 
 not_less : (one other : ℕ) → one ≡ other → nat_lt one other ≡ false
 not_less one other h = grind (arith, nat_tests)
@@ -182,18 +183,18 @@ less_here first second place one h o other =
     (ne_eqb one (get_or second place 0) other))
 
 -- where they are the same
-pub less_behind : (first second : List ℕ) (place one : ℕ) → place < length second
+pub less_after : (first second : List ℕ) (place one : ℕ) → place < length second
     → one ≡ unwrap_or (slice_get first place) 0 → one ≡ get_or second place 0
     → padded_less (drop (place + 1) first) (drop (place + 1) second)
     ≡ padded_less (drop place first) (drop place second)
-less_behind first second place one h o same =
-    ap (λ behind. padded_less (drop behind first) (drop behind second)) (add-one place)
+less_after first second place one h o same =
+    ap (λ later. padded_less (drop later first) (drop later second)) (add-one place)
     ∙ sym
     (less_by first second place one h o
     ∙ same_octet (nat_lt one (get_or second place 0)) (one == get_or second place 0) _
     (not_less one (get_or second place 0) same) (eq-eqb one (get_or second place 0) same))
 
--- behind all octets of the second
+-- after all octets of the second
 pub less_at_end : (first second : List ℕ) (place : ℕ) → length second ≤ place
     → false ≡ padded_less (drop place first) (drop place second)
 less_at_end first second place h =

@@ -5,7 +5,7 @@ use Rattle.std.specs.Borrow.{Bor}
 use Rattle.tlv_core.specs.Limits.{Limits}
 use Rattle.asn_names.specs.Naming.{named_by}
 use Rattle.asn_names.specs.declared.element.NamedElement.{NamedElement}
-use Rattle.asn_names.specs.declared.naming.Named.{Named}
+use Rattle.asn_names.specs.declared.naming.NamedElements.{NamedElements}
 use Rattle.ber_outline.specs.Outlines.{IsOutline}
 use Rattle.ber_outline.specs.declared.event.Event.{Event}
 use Rattle.ber_outline.specs.declared.event.Stop.{Stop}
@@ -13,9 +13,9 @@ use Rattle.pkix_shapes.specs.declared.shape.Shape.{Shape}
 use Rattle.explain.specs.Insides.{IsNamed}
 
 pub by_outline : {E : Type 0} → (limits : Limits) (document : List ℕ) (root : Bor Shape) (events : List Event)
-    (stop : Option Stop) (result : Result Named E) → IsOutline limits document events stop
-    → IfOk result (λ named. (named.elements.items, named.parting) ≡ named_by document events stop root)
-    → IfOk result (λ named. IsNamed limits document root (named.elements.items, named.parting))
+    (stop : Option Stop) (result : Result NamedElements E) → IsOutline limits document events stop
+    → IfOk result (λ named. (named.elements.items, named.mismatch) ≡ named_by document events stop root)
+    → IfOk result (λ named. IsNamed limits document root (named.elements.items, named.mismatch))
 by_outline limits document root events stop (Ok named) outline names =
     record { events = events; stop = stop; outline = outline; names = names }
 by_outline limits document root events stop (Err error) outline names = tt

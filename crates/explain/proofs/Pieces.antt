@@ -1,10 +1,10 @@
--- The places of octets that stand in pieces.
+-- The places of octets that are in pieces.
 use Rattle.std.proofs.Common.{List, Option, ap, arith, cond, drop, false, get_or, length, nat_lt, subst, sym, take, ℕ, [], ◌+◌, ◌-◌, ◌∙◌, ◌∷◌, ◌≡◌, ◌≤◌}
 use Rattle.std.proofs.Math.Nat.{zero-add}
 use Rattle.std.proofs.lemmas.List.{length-drop, take_all}
 use Rattle.std.proofs.lemmas.Bool.Decides.{nat_tests}
 use Rattle.asn_names.specs.declared.element.NamedElement.{NamedElement}
-use Rattle.explain.specs.Places.{Page, Skips, place_of, sum_of}
+use Rattle.explain.specs.Places.{ListedDocument, Skips, place_of, sum_of}
 use Rattle.explain.specs.declared.places.Piece.{Piece}
 use Rattle.reports.specs.declared.report.Cause.{Cause}
 
@@ -16,7 +16,7 @@ abbrev pub whole : ℕ → List Piece
 whole octets = record { at = 0; octets = octets } ∷ []
 
 -- a file with these causes
-abbrev pub file_with : List ℕ → List NamedElement → List (Option Cause) → Page
+abbrev pub file_with : List ℕ → List NamedElement → List (Option Cause) → ListedDocument
 file_with document elements causes = record {
   octets = document;
   elements = elements;
@@ -30,22 +30,22 @@ file_with document elements causes = record {
 not_in_first : (octets number : ℕ) → nat_lt (octets + number) octets ≡ false
 not_in_first octets number = grind (arith, nat_tests)
 
--- an octet behind the first piece stands in those behind it
-behind_first : (piece : Piece) (behind : List Piece) (number : ℕ)
-    → place_of (piece ∷ behind) (piece.octets + number) ≡ place_of behind number
-behind_first piece behind number =
+-- an octet after the first piece is in those after it
+after_first : (piece : Piece) (after : List Piece) (number : ℕ)
+    → place_of (piece ∷ after) (piece.octets + number) ≡ place_of after number
+after_first piece after number =
     let less : (piece.octets + number) - piece.octets ≡ number = omega arith in
     ap
     (λ first.
-    cond first (sum_of piece.at (piece.octets + number)) (place_of behind ((piece.octets + number) - piece.octets)))
-    (not_in_first piece.octets number) ∙ ap (place_of behind) less
+    cond first (sum_of piece.at (piece.octets + number)) (place_of after ((piece.octets + number) - piece.octets)))
+    (not_in_first piece.octets number) ∙ ap (place_of after) less
 
-skip_first : (pieces : List Piece) (before : ℕ) (piece : Piece) (behind : List Piece)
-    → Skips pieces before (piece ∷ behind) → Skips pieces (before + piece.octets) behind
-skip_first pieces before piece behind skips =
+skip_first : (pieces : List Piece) (before : ℕ) (piece : Piece) (after : List Piece)
+    → Skips pieces before (piece ∷ after) → Skips pieces (before + piece.octets) after
+skip_first pieces before piece after skips =
     λ number.
     let joined : before + (piece.octets + number) ≡ (before + piece.octets) + number = omega arith in
-    sym (behind_first piece behind number) ∙ (skips (piece.octets + number) ∙ ap (place_of pieces) joined)
+    sym (after_first piece after number) ∙ (skips (piece.octets + number) ∙ ap (place_of pieces) joined)
 
 abbrev pub no_piece : Piece
 no_piece = record { at = 0; octets = 0 }
@@ -53,19 +53,19 @@ no_piece = record { at = 0; octets = 0 }
 skip_one : (pieces : List Piece) (before : ℕ) (rest : List Piece) → 1 ≤ length rest → Skips pieces before rest
     → Skips pieces (before + (get_or rest 0 no_piece).octets) (drop 1 rest)
 skip_one pieces before [] some skips = absurd (omega arith)
-skip_one pieces before (piece ∷ behind) some skips = skip_first pieces before piece behind skips
+skip_one pieces before (piece ∷ after) some skips = skip_first pieces before piece after skips
 
-rest_behind : (rest : List Piece) → take (length rest - 1) (drop 1 rest) ≡ drop 1 rest
-rest_behind rest = take_all (length rest - 1) (drop 1 rest) (omega (arith, length-drop 1 rest))
+rest_after : (rest : List Piece) → take (length rest - 1) (drop 1 rest) ≡ drop 1 rest
+rest_after rest = take_all (length rest - 1) (drop 1 rest) (omega (arith, length-drop 1 rest))
 
 -- one piece more is skipped
 pub skip_next : (pieces : List Piece) (before : ℕ) (rest : List Piece) → 1 ≤ length rest → Skips pieces before rest
     → Skips pieces (before + (get_or rest 0 no_piece).octets) (take (length rest - 1) (drop 1 rest))
 skip_next pieces before rest some skips =
-    subst (λ behind. Skips pieces (before + (get_or rest 0 no_piece).octets) behind) (sym (rest_behind rest))
+    subst (λ after. Skips pieces (before + (get_or rest 0 no_piece).octets) after) (sym (rest_after rest))
     (skip_one pieces before rest some skips)
 
--- those behind some are found from those behind fewer
+-- those after some are found from those after fewer
 pub skip_later : (pieces : List Piece) (before : ℕ) (rest : List Piece) (count : ℕ) (here : List Piece)
     → Skips rest count here → Skips pieces before rest → Skips pieces (before + count) here
 skip_later pieces before rest count here later skips =

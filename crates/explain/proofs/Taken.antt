@@ -3,7 +3,7 @@ use Rattle.std.proofs.Common.{List, [], None, Option, Some, ap, append_assoc, ar
 use Rattle.std.specs.Prelude.{nat_lt, true, false}
 use Rattle.std.proofs.lemmas.Bool.{cases_lt, le-ltb, lt-ltb}
 use Rattle.std.proofs.lemmas.List.{append-nil, drop_all, drop_more, take-append-le, take_all}
-use Rattle.explain.specs.Notes.{add_note, context_behind, most_notes, note_on, notes_from, remark_on, remark_on_repeat}
+use Rattle.explain.specs.Notes.{add_note, context_after, most_notes, note_on, notes_from, remark_on, remark_on_repeat}
 use Rattle.explain.specs.declared.notes.Context.{Context}
 use Rattle.reports.specs.declared.report.Line.{Line}
 use Rattle.reports.specs.declared.report.Note.{Note}
@@ -22,19 +22,19 @@ few_more notes number remark h =
       | inr g ↦ let e : nat_lt (length notes) most_notes ≡ false = le-ltb (length notes) most_notes g in rw e h
     ]
 
--- what is added where there is room is what stands next
-pub next_taken : (notes behind : List Note) (number : ℕ) (remark : Option Remark)
-    → take most_notes (add_note notes number remark ++ behind)
-    ≡ take most_notes (notes ++ (note_on number remark ++ behind))
-next_taken notes behind number remark =
+-- what is added where there is room is what comes next
+pub next_taken : (notes after : List Note) (number : ℕ) (remark : Option Remark)
+    → take most_notes (add_note notes number remark ++ after)
+    ≡ take most_notes (notes ++ (note_on number remark ++ after))
+next_taken notes after number remark =
     elim (cases_lt (length notes) most_notes) [
       | inl l ↦ let e : nat_lt (length notes) most_notes ≡ true = lt-ltb (length notes) most_notes l in
-          rw (e, append_assoc notes (note_on number remark) behind) refl
+          rw (e, append_assoc notes (note_on number remark) after) refl
       | inr g ↦ let e : nat_lt (length notes) most_notes ≡ false = le-ltb (length notes) most_notes g in
           rw (
             e,
-            take-append-le most_notes notes behind g,
-            take-append-le most_notes notes (note_on number remark ++ behind) g,
+            take-append-le most_notes notes after g,
+            take-append-le most_notes notes (note_on number remark ++ after) g,
           ) refl
     ]
 
@@ -42,7 +42,7 @@ next_taken notes behind number remark =
 next_line : (lines : List Line) (number : ℕ) (line : Line) (context next : Context) (first second : Option Remark)
     → number < length lines → line ≡ get_or lines number line
     → first ≡ remark_on context line (drop (number + 1) lines)
-    → second ≡ remark_on_repeat lines (take number lines) line → next ≡ context_behind context line
+    → second ≡ remark_on_repeat lines (take number lines) line → next ≡ context_after context line
     → notes_from lines context number (drop number lines)
     ≡ note_on number first ++ (note_on number second ++ notes_from lines next (number + 1) (drop (number + 1) lines))
 next_line lines number line context next first second h e f s n =
@@ -50,20 +50,20 @@ next_line lines number line context next first second h e f s n =
     drop_more lines number line h ∙ ap (λ (x : Line). x ∷ drop (number + 1) lines) (sym e) in
     rw (d, f, s, n) (append_assoc (note_on number (remark_on context line (drop (number + 1) lines)))
     (note_on number (remark_on_repeat lines (take number lines) line))
-    (notes_from lines (context_behind context line) (number + 1) (drop (number + 1) lines)))
+    (notes_from lines (context_after context line) (number + 1) (drop (number + 1) lines)))
 
 pub one_line : (lines : List Line) (number : ℕ) (line : Line) (context next : Context) (first second : Option Remark)
     (notes mid new answer : List Note) → number < length lines → line ≡ get_or lines number line
     → first ≡ remark_on context line (drop (number + 1) lines)
-    → second ≡ remark_on_repeat lines (take number lines) line → next ≡ context_behind context line
+    → second ≡ remark_on_repeat lines (take number lines) line → next ≡ context_after context line
     → mid ≡ add_note notes number first → new ≡ add_note mid number second
     → take most_notes (notes ++ notes_from lines context number (drop number lines)) ≡ answer
     → take most_notes (new ++ notes_from lines next (number + 1) (drop (number + 1) lines)) ≡ answer
 one_line lines number line context next first second notes mid new answer h e f s n m w is =
     let rest : List Note = notes_from lines next (number + 1) (drop (number + 1) lines) in
-    let behind : List Note = note_on number second ++ rest in
+    let after : List Note = note_on number second ++ rest in
     ap (λ some. take most_notes (some ++ rest)) w ∙ next_taken mid rest number second
-    ∙ ap (λ some. take most_notes (some ++ behind)) m ∙ next_taken notes behind number first
+    ∙ ap (λ some. take most_notes (some ++ after)) m ∙ next_taken notes after number first
     ∙ ap (λ some. take most_notes (notes ++ some))
     (sym (next_line lines number line context next first second h e f s n))
     ∙ is

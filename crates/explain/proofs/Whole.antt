@@ -9,8 +9,8 @@ use Rattle.explain.specs.Causes.{line_cause}
 use Rattle.explain.specs.Fronts.{is_deeper}
 use Rattle.explain.specs.Lines.{AddsLine}
 use Rattle.explain.specs.ListingLaws.{HasLine, HasPrivate}
-use Rattle.explain.specs.Listings.{AddsBehind, AddsDocument, AddsOne, IsListed, IsNext, Lists, ListsFile, ListsInside, Telling, number_around, start_of}
-use Rattle.explain.specs.Places.{Page, placed_in}
+use Rattle.explain.specs.Listings.{AddsAfter, AddsDocument, AddsOne, IsListed, IsNext, ListingState, Lists, ListsFile, ListsInside, number_around, start_of}
+use Rattle.explain.specs.Places.{ListedDocument, placed_in}
 use Rattle.explain.specs.declared.inside.Inside.{Inside}
 use Rattle.explain.specs.declared.places.Placed.{Placed}
 use Rattle.reports.specs.declared.report.Cause.{Cause}
@@ -37,45 +37,49 @@ grew_line : (hidden : Bool) (octets : List ℕ) (placed : Placed) (element : Nam
 grew_line true octets placed element cause old new h = grew_none old new h
 grew_line false octets placed element cause old new h = grew_some old new (h.0 ∷ []) h.1
 
-grew_one : (page : Page) (cause : Option Cause) (found : Option NamedElement) (before after : Telling)
-    → AddsOne page cause found before after → Grew before.lines after.lines
-grew_one page cause None before after h = grew_none before.lines after.lines (ap (λ t. t.lines) h)
-grew_one page cause (Some element) before after h =
-    grew_line (is_deeper before.hidden element) page.octets _ element cause before.lines after.lines h.line
+grew_one : (document : ListedDocument) (cause : Option Cause) (found : Option NamedElement)
+    (before after : ListingState)
+    → AddsOne document cause found before after → Grew before.lines after.lines
+grew_one document cause None before after h = grew_none before.lines after.lines (ap (λ t. t.lines) h)
+grew_one document cause (Some element) before after h =
+    grew_line (is_deeper before.hidden element) document.octets _ element cause before.lines after.lines h.line
 
-grew_all : (page : Page) (number : ℕ) (start end : Telling) → Lists page number start end → Grew start.lines end.lines
-grew_all page zero start end h = grew_none start.lines end.lines (ap (λ t. t.lines) h)
-grew_all page (suc number) start end h =
-    grew_both start.lines h.0.lines end.lines (grew_all page number start h.0 h.1)
-    (grew_one page _ (slice_get page.elements number) h.0 end h.2)
+grew_all : (document : ListedDocument) (number : ℕ) (start end : ListingState) → Lists document number start end
+    → Grew start.lines end.lines
+grew_all document zero start end h = grew_none start.lines end.lines (ap (λ t. t.lines) h)
+grew_all document (suc number) start end h =
+    grew_both start.lines h.0.lines end.lines (grew_all document number start h.0 h.1)
+    (grew_one document _ (slice_get document.elements number) h.0 end h.2)
 
 -- what the document inside an element leaves of the lines and of what is hidden
-record Leaves (before after : Telling) : Type 0 where
+record Leaves (before after : ListingState) : Type 0 where
   grew : Grew before.lines after.lines
   hidden : after.hidden ≡ before.hidden
 
-leaves_same : (before after : Telling) → after ≡ before → Leaves before after
+leaves_same : (before after : ListingState) → after ≡ before → Leaves before after
 leaves_same before after e = record {
   grew = grew_none before.lines after.lines (ap (λ t. t.lines) e);
   hidden = ap (λ t. t.hidden) e;
 }
 
-leaves_inside : (page : Page) (before after : Telling) → ListsInside page before after → Leaves before after
-leaves_inside page before after h = record {
-  grew = subst (Grew before.lines) (sym h.lines) (grew_all page _ (start_of before.lines) h.end h.lists);
+leaves_inside : (document : ListedDocument) (before after : ListingState) → ListsInside document before after
+    → Leaves before after
+leaves_inside document before after h = record {
+  grew = subst (Grew before.lines) (sym h.lines) (grew_all document _ (start_of before.lines) h.end h.lists);
   hidden = h.hidden;
 }
 
-leaves_behind : (causes : List (Option Cause)) (inside : Inside) (number : ℕ) (line : Option Line) (before after : Telling)
-    → AddsBehind causes inside number line before after → Leaves before after
-leaves_behind causes inside number None before after h = leaves_same before after h
-leaves_behind causes inside number (Some line) before after h = leaves_inside _ before after h
+leaves_after : (causes : List (Option Cause)) (inside : Inside) (number : ℕ) (line : Option Line)
+    (before after : ListingState)
+    → AddsAfter causes inside number line before after → Leaves before after
+leaves_after causes inside number None before after h = leaves_same before after h
+leaves_after causes inside number (Some line) before after h = leaves_inside _ before after h
 
-leaves_document : (causes : List (Option Cause)) (inside : Option Inside) (number : ℕ) (before after : Telling)
+leaves_document : (causes : List (Option Cause)) (inside : Option Inside) (number : ℕ) (before after : ListingState)
     → AddsDocument causes inside number before after → Leaves before after
 leaves_document causes None number before after h = leaves_same before after h
 leaves_document causes (Some inside) number before after h =
-    leaves_behind causes inside number (slice_get before.lines number) before after h
+    leaves_after causes inside number (slice_get before.lines number) before after h
 
 grown_line : (octets : List ℕ) (element : NamedElement) (cause : Option Cause) (old new : List Line) → Grew old new
     → HasLine octets element cause old → HasLine octets element cause new
@@ -83,8 +87,8 @@ unfolding Grew
 grown_line octets element cause old new g h = record {
   before = h.before;
   line = h.line;
-  behind = h.behind ++ g.0;
-  are = g.1 ∙ (ap (λ lines. lines ++ g.0) h.are ∙ append_assoc h.before (h.line ∷ h.behind) g.0);
+  after = h.after ++ g.0;
+  are = g.1 ∙ (ap (λ lines. lines ++ g.0) h.are ∙ append_assoc h.before (h.line ∷ h.after) g.0);
   placed = h.placed;
   header = h.header;
   value = h.value;
@@ -99,23 +103,25 @@ Known elements number (Some depth) =
     × (private.private ≡ true) × (depth ≡ private.header.depth)
 
 -- an element has its line or is in a private one
-SettledOne : Page → List Line → ℕ → Type 0
-SettledOne page lines other =
-    (element : NamedElement) → slice_get page.elements other ≡ Some element
-    → HasLine page.octets element (line_cause page.elements page.causes other) lines
-    ⊎ HasPrivate page.elements other element.header.depth
+SettledOne : ListedDocument → List Line → ℕ → Type 0
+SettledOne document lines other =
+    (element : NamedElement) → slice_get document.elements other ≡ Some element
+    → HasLine document.octets element (line_cause document.elements document.causes other) lines
+    ⊎ HasPrivate document.elements other element.header.depth
 
 -- so is each of the first elements, so many
-record State (page : Page) (number : ℕ) (telling : Telling) : Type 0 where
-  known : Known page.elements number telling.hidden
-  settled : (other : ℕ) → other < number → SettledOne page telling.lines other
+record State (document : ListedDocument) (number : ℕ) (listing_state : ListingState) : Type 0 where
+  known : Known document.elements number listing_state.hidden
+  settled : (other : ℕ) → other < number → SettledOne document listing_state.lines other
 
-settled_grown : (page : Page) (old new : List Line) (other : ℕ) → Grew old new → SettledOne page old other
-    → SettledOne page new other
+settled_grown : (document : ListedDocument) (old new : List Line) (other : ℕ) → Grew old new
+    → SettledOne document old other
+    → SettledOne document new other
 unfolding SettledOne
-settled_grown page old new other g h = λ element listed.
+settled_grown document old new other g h = λ element listed.
     elim (h element listed) [
-      | inl line ↦ inl (grown_line page.octets element (line_cause page.elements page.causes other) old new g line)
+      | inl line ↦
+          inl (grown_line document.octets element (line_cause document.elements document.causes other) old new g line)
       | inr private ↦ inr private
     ]
 
@@ -139,11 +145,12 @@ private_of elements number (Some depth) element k deeper = record {
   deeper = subst (λ d. nat_lt d element.header.depth ≡ true) k.5 deeper;
 }
 
-same_element : (elements : List NamedElement) (number : ℕ) (one other : NamedElement) → slice_get elements number ≡ Some one
+same_element : (elements : List NamedElement) (number : ℕ) (one other : NamedElement)
+    → slice_get elements number ≡ Some one
     → slice_get elements number ≡ Some other → one ≡ other
 same_element elements number one other h i = cc
 
--- what is hidden behind an element that isn't
+-- what is hidden after an element that isn't
 known_own : (elements : List NamedElement) (number : ℕ) (element : NamedElement) (is : Bool) → element.private ≡ is
     → slice_get elements number ≡ Some element → Known elements (number + 1) (cond is (Some element.header.depth) None)
 unfolding Known
@@ -151,121 +158,132 @@ known_own elements number element true e listed = (number, element, omega arith,
 known_own elements number element false e listed = tt
 
 -- an element in a private one
-hidden_one : (page : Page) (number : ℕ) (element : NamedElement) (placed : Placed) (before after : Telling)
-    → slice_get page.elements number ≡ Some element
-    → AddsLine true page.octets placed element (line_cause page.elements page.causes number) before.lines after.lines
-    → after.hidden ≡ before.hidden → is_deeper before.hidden element ≡ true → State page number before
-    → State page (number + 1) after
+hidden_one : (document : ListedDocument) (number : ℕ) (element : NamedElement) (placed : Placed)
+    (before after : ListingState)
+    → slice_get document.elements number ≡ Some element
+    → AddsLine true document.octets placed element
+    (line_cause document.elements document.causes number) before.lines after.lines
+    → after.hidden ≡ before.hidden → is_deeper before.hidden element ≡ true → State document number before
+    → State document (number + 1) after
 unfolding SettledOne
-hidden_one page number element placed before after listed line hidden deeper state =
+hidden_one document number element placed before after listed line hidden deeper state =
     let grew = grew_none before.lines after.lines line in record {
-      known = subst (Known page.elements (number + 1)) (sym hidden)
-          (known_more page.elements number before.hidden state.known);
-      settled = below_more (SettledOne page after.lines) number
-          (λ other less. settled_grown page before.lines after.lines other grew (state.settled other less))
+      known = subst (Known document.elements (number + 1)) (sym hidden)
+          (known_more document.elements number before.hidden state.known);
+      settled = below_more (SettledOne document after.lines) number
+          (λ other less. settled_grown document before.lines after.lines other grew (state.settled other less))
           (λ one has.
           inr (
-          subst (λ (e : NamedElement). HasPrivate page.elements number e.header.depth)
-          (same_element page.elements number element one listed has)
-          (private_of page.elements number before.hidden element state.known deeper)
+          subst (λ (e : NamedElement). HasPrivate document.elements number e.header.depth)
+          (same_element document.elements number element one listed has)
+          (private_of document.elements number before.hidden element state.known deeper)
           ));
     }
 
 -- an element that has its line
-shown_one : (page : Page) (number : ℕ) (element : NamedElement) (placed : Placed) (before after : Telling)
-    → slice_get page.elements number ≡ Some element
-    → AddsLine false page.octets placed element (line_cause page.elements page.causes number) before.lines after.lines
-    → after.hidden ≡ cond element.private (Some element.header.depth) None → State page number before
-    → State page (number + 1) after
+shown_one : (document : ListedDocument) (number : ℕ) (element : NamedElement) (placed : Placed)
+    (before after : ListingState)
+    → slice_get document.elements number ≡ Some element
+    → AddsLine false document.octets placed element
+    (line_cause document.elements document.causes number) before.lines after.lines
+    → after.hidden ≡ cond element.private (Some element.header.depth) None → State document number before
+    → State document (number + 1) after
 unfolding SettledOne
-shown_one page number element placed before after listed line hidden state =
+shown_one document number element placed before after listed line hidden state =
     let grew = grew_some before.lines after.lines (line.0 ∷ []) line.1 in
-    let cause = line_cause page.elements page.causes number in
-    let has : HasLine page.octets element cause after.lines = record {
+    let cause = line_cause document.elements document.causes number in
+    let has : HasLine document.octets element cause after.lines = record {
       before = before.lines;
       line = line.0;
-      behind = [];
+      after = [];
       are = line.1;
       placed = placed;
       header = line.2;
       value = line.3;
       why = line.4;
     } in record {
-      known = subst (Known page.elements (number + 1)) (sym hidden)
-          (known_own page.elements number element element.private refl listed);
-      settled = below_more (SettledOne page after.lines) number
-          (λ other less. settled_grown page before.lines after.lines other grew (state.settled other less))
+      known = subst (Known document.elements (number + 1)) (sym hidden)
+          (known_own document.elements number element element.private refl listed);
+      settled = below_more (SettledOne document after.lines) number
+          (λ other less. settled_grown document before.lines after.lines other grew (state.settled other less))
           (λ one it.
           inl (
-          subst (λ (e : NamedElement). HasLine page.octets e cause after.lines)
-          (same_element page.elements number element one listed it) has
+          subst (λ (e : NamedElement). HasLine document.octets e cause after.lines)
+          (same_element document.elements number element one listed it) has
           ));
     }
 
-next_one : (page : Page) (number : ℕ) (element : NamedElement) (deeper : Bool) (before after : Telling)
-    → slice_get page.elements number ≡ Some element → is_deeper before.hidden element ≡ deeper
-    → IsNext page (line_cause page.elements page.causes number) element before after → State page number before
-    → State page (number + 1) after
-next_one page number element true before after listed e next state =
-    let placed : Placed = placed_in page element (number_around before.numbers page.around element) in
-    hidden_one page number element placed before after listed
+next_one : (document : ListedDocument) (number : ℕ) (element : NamedElement) (deeper : Bool)
+    (before after : ListingState)
+    → slice_get document.elements number ≡ Some element → is_deeper before.hidden element ≡ deeper
+    → IsNext document (line_cause document.elements document.causes number) element before after
+    → State document number before
+    → State document (number + 1) after
+next_one document number element true before after listed e next state =
+    let placed : Placed = placed_in document element (number_around before.numbers document.around element) in
+    hidden_one document number element placed before after listed
     (subst
     (λ hidden.
-    AddsLine hidden page.octets placed element (line_cause page.elements page.causes number) before.lines after.lines)
+    AddsLine hidden document.octets placed element
+    (line_cause document.elements document.causes number) before.lines after.lines)
     e next.line)
     (next.hidden ∙ ap (λ d. cond d before.hidden (cond element.private (Some element.header.depth) None)) e) e state
-next_one page number element false before after listed e next state =
-    let placed : Placed = placed_in page element (number_around before.numbers page.around element) in
-    shown_one page number element placed before after listed
+next_one document number element false before after listed e next state =
+    let placed : Placed = placed_in document element (number_around before.numbers document.around element) in
+    shown_one document number element placed before after listed
     (subst
     (λ hidden.
-    AddsLine hidden page.octets placed element (line_cause page.elements page.causes number) before.lines after.lines)
+    AddsLine hidden document.octets placed element
+    (line_cause document.elements document.causes number) before.lines after.lines)
     e next.line)
     (next.hidden ∙ ap (λ d. cond d before.hidden (cond element.private (Some element.header.depth) None)) e) state
 
-next_found : (page : Page) (number : ℕ) (found : Option NamedElement) (before after : Telling)
-    → slice_get page.elements number ≡ found
-    → AddsOne page (line_cause page.elements page.causes number) found before after → State page number before
-    → State page (number + 1) after
+next_found : (document : ListedDocument) (number : ℕ) (found : Option NamedElement) (before after : ListingState)
+    → slice_get document.elements number ≡ found
+    → AddsOne document (line_cause document.elements document.causes number) found before after
+    → State document number before
+    → State document (number + 1) after
 unfolding SettledOne
-next_found page number None before after listed h state = record {
-  known = subst (Known page.elements (number + 1)) (sym (ap (λ (t : Telling). t.hidden) h))
-      (known_more page.elements number before.hidden state.known);
-  settled = subst (λ (t : Telling). (other : ℕ) → other < number + 1 → SettledOne page t.lines other) (sym h)
-      (below_more (SettledOne page before.lines) number state.settled (λ one it. absurd (cc)));
+next_found document number None before after listed h state = record {
+  known = subst (Known document.elements (number + 1)) (sym (ap (λ (t : ListingState). t.hidden) h))
+      (known_more document.elements number before.hidden state.known);
+  settled = subst (λ (t : ListingState). (other : ℕ) → other < number + 1 → SettledOne document t.lines other) (sym h)
+      (below_more (SettledOne document before.lines) number state.settled (λ one it. absurd (cc)));
 }
-next_found page number (Some element) before after listed h state =
-    next_one page number element (is_deeper before.hidden element) before after listed refl h state
+next_found document number (Some element) before after listed h state =
+    next_one document number element (is_deeper before.hidden element) before after listed refl h state
 
-behind_document : (page : Page) (number : ℕ) (before after : Telling) → Leaves before after → State page number before
-    → State page number after
-behind_document page number before after leaves state = record {
-  known = subst (Known page.elements number) (sym leaves.hidden) state.known;
+after_document : (document : ListedDocument) (number : ℕ) (before after : ListingState) → Leaves before after
+    → State document number before
+    → State document number after
+after_document document number before after leaves state = record {
+  known = subst (Known document.elements number) (sym leaves.hidden) state.known;
   settled = λ other less.
-      settled_grown page before.lines after.lines other leaves.grew (state.settled other less);
+      settled_grown document before.lines after.lines other leaves.grew (state.settled other less);
 }
 
-whole_file : (page : Page) (insides : List Inside) (number : ℕ) (left : List Inside) (end : Telling)
-    → ListsFile page insides number left end → State page number end
+whole_file : (document : ListedDocument) (insides : List Inside) (number : ℕ) (left : List Inside) (end : ListingState)
+    → ListsFile document insides number left end → State document number end
 unfolding Known
-whole_file page insides zero left end h =
-    subst (State page 0) (sym h.1) (record { known = tt; settled = below_none (SettledOne page []) })
-whole_file page insides (suc number) left end h =
-    let before = whole_file page insides number h.0 h.1 h.3 in
-    let mid = next_found page number (slice_get page.elements number) h.1 h.2 refl h.4 before in
-    let after = behind_document page (number + 1) h.2 end (leaves_document page.causes _ _ h.2 end h.5) mid in
-    subst (λ n. State page n end) (add-one number) after
+whole_file document insides zero left end h =
+    subst (State document 0) (sym h.1) (record { known = tt; settled = below_none (SettledOne document []) })
+whole_file document insides (suc number) left end h =
+    let before = whole_file document insides number h.0 h.1 h.3 in
+    let mid = next_found document number (slice_get document.elements number) h.1 h.2 refl h.4 before in
+    let after = after_document document (number + 1) h.2 end (leaves_document document.causes _ _ h.2 end h.5) mid in
+    subst (λ n. State document n end) (add-one number) after
 
-pub none_left : (page : Page) (insides : List Inside) (lines : List Line) → IsListed page insides lines → (number : ℕ)
-    (element : NamedElement) → slice_get page.elements number ≡ Some element
-    → HasLine page.octets element (line_cause page.elements page.causes number) lines
-    ⊎ HasPrivate page.elements number element.header.depth
+pub none_left : (document : ListedDocument) (insides : List Inside) (lines : List Line)
+    → IsListed document insides lines → (number : ℕ)
+    (element : NamedElement) → slice_get document.elements number ≡ Some element
+    → HasLine document.octets element (line_cause document.elements document.causes number) lines
+    ⊎ HasPrivate document.elements number element.header.depth
 unfolding SettledOne
-none_left page insides lines is number element listed =
-    let state = whole_file page insides (length page.elements) is.left is.end is.lists in
+none_left document insides lines is number element listed =
+    let state = whole_file document insides (length document.elements) is.left is.end is.lists in
     subst
     (λ some.
-    HasLine page.octets element (line_cause page.elements page.causes number) some
-    ⊎ HasPrivate page.elements number element.header.depth)
+    HasLine document.octets element (line_cause document.elements document.causes number) some
+    ⊎ HasPrivate document.elements number element.header.depth)
     (sym is.are)
-    (state.settled number (slice_get_within page.elements number element listed) element listed)
+    (state.settled number (slice_get_within document.elements number element listed) element listed)

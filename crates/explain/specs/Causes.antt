@@ -156,11 +156,11 @@ abbrev pub is_set : NamedElement → Bool
 is_set element =
     is_set_by element.header.constructed element.header.tag (option_map (λ r. r.now) element.shape)
 
--- the octets of an element that stands whole and has a definite length
+-- the octets of an element that is whole and has a definite length
 abbrev pub encoding_of : List ℕ → NamedElement → List ℕ
 encoding_of document element = unwrap_or (between document (Some element.header.at) element.end) []
 
--- The octets of the members of an element that is so deep, by the elements behind it: of those that are one deeper, as
+-- The octets of the members of an element that is so deep, by the elements after it: of those that are one deeper, as
 -- long as they are deeper.
 abbrev pub member_encodings : List ℕ → ℕ → List NamedElement → List (List ℕ)
 member_encodings document depth [] = []
@@ -182,19 +182,19 @@ holds_hidden depth [] = false
 holds_hidden depth (element ∷ elements) =
     cond (nat_lt depth element.header.depth) (cond (is_hidden element) true (holds_hidden depth elements)) false
 
--- Nothing in an element that is so deep is hidden or has a cause, and its members don't stand in the order of SET OF
+-- Nothing in an element that is so deep is hidden or has a cause, and its members aren't in the order of SET OF
 -- (11.6).
 abbrev pub is_out_of_order : List ℕ → ℕ → List NamedElement → List (Option Cause) → Bool
 is_out_of_order document depth elements causes' =
     not (holds_hidden depth elements) && not (is_some (cause_within depth elements causes'))
     && not (ascends (member_encodings document depth elements))
 
--- the order of a SET OF is a cause, by the elements behind it and their causes
+-- the order of a SET OF is a cause, by the elements after it and their causes
 abbrev pub order_cause : List ℕ → NamedElement → List NamedElement → List (Option Cause) → Option Cause
 order_cause document element elements causes' =
     cond (is_set element && is_out_of_order document element.header.depth elements causes') (Some causes.Order) None
 
--- The cause of an element before those of the elements behind it: its own, else its order.
+-- The cause of an element before those of the elements after it: its own, else its order.
 abbrev pub with_cause : List ℕ → NamedElement → List NamedElement → List (Option Cause) → List (Option Cause)
 with_cause document element elements causes' =
     first_of_both (own_cause document element) (order_cause document element elements causes') ∷ causes'
@@ -205,7 +205,8 @@ causes_of document [] = []
 causes_of document (element ∷ elements) = with_cause document element elements (causes_of document elements)
 
 -- an element without a cause is a SET OF that is out of order
-abbrev pub is_disordered_by : List ℕ → Option NamedElement → Option (Option Cause) → List NamedElement → List (Option Cause)
+abbrev pub is_disordered_by : List ℕ → Option NamedElement → Option (Option Cause) → List NamedElement
+    → List (Option Cause)
     → Bool
 is_disordered_by document None cause elements causes' = false
 is_disordered_by document (Some element) None elements causes' = false
@@ -224,9 +225,10 @@ abbrev pub with_order : List ℕ → List NamedElement → List (Option Cause) �
 with_order document elements causes' number =
     cond (is_disordered document elements causes' number) (slice_set causes' number (Some causes.Order)) causes'
 
--- The cause that the line of an element tells: its own; of a private one without a cause the first in it, since no line
--- tells what is in it.
-abbrev pub line_cause_by : Option NamedElement → Option (Option Cause) → List NamedElement → List (Option Cause) → Option Cause
+-- The cause that the line of an element shows: its own; of a private one without a cause the first in it, since no line
+-- shows what is in it.
+abbrev pub line_cause_by : Option NamedElement → Option (Option Cause) → List NamedElement → List (Option Cause)
+    → Option Cause
 line_cause_by None cause elements causes' = None
 line_cause_by (Some element) None elements causes' = None
 line_cause_by (Some element) (Some cause) elements causes' =

@@ -1,4 +1,4 @@
--- What stands at a fault, by one of a few tags.
+-- What is at a fault, by one of a few tags.
 use Rattle.std.specs.Prelude.{Bool, List, None, Option, Some, cond, false, true, ℕ, ◌==◌}
 use Rattle.std.specs.List.{slice_get}
 use Rattle.tlv_core.specs.Identifier.{Tag}

@@ -9,6 +9,6 @@ between octets (Some begin) None = None
 between octets (Some begin) (Some end) =
     cond (nat_le begin end && nat_le end (length octets)) (Some (take (end - begin) (drop begin octets))) None
 
--- those of a primitive element that stands whole
+-- those of a primitive element that is whole
 abbrev pub contents_in : List ℕ → NamedElement → Option (List ℕ)
 contents_in octets element = cond element.header.constructed None (between octets element.begin element.end)

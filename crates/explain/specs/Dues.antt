@@ -7,7 +7,7 @@ use Rattle.asn_names.specs.declared.element.Level.TheVariants as levels
 use Rattle.pkix_shapes.specs.declared.shape.Shape.{Shape}
 use Rattle.tlv_core.specs.declared.reason.Reason.{Reason}
 use Rattle.tlv_core.specs.declared.reason.Reason.TheVariants as reasons
-use Rattle.explain.specs.declared.ways.Spot.{Spot}
+use Rattle.explain.specs.declared.fault_location.FaultLocation.{FaultLocation}
 use Rattle.reports.specs.declared.report.Due.{Due}
 use Rattle.reports.specs.declared.report.Due.TheVariants.{Fields, «Type» as OfType, Unsaid}
 
@@ -24,22 +24,22 @@ abbrev pub number_due : List NamedElement → Option ℕ → Due
 number_due elements None = Unsaid
 number_due elements (Some number) = element_due (slice_get elements number)
 
--- Where another tag stands that of the outermost type; where an element has the wrong form its own type.
-abbrev pub reason_due : List NamedElement → Spot → Reason → Option ℕ → Bor Shape → Due
-reason_due elements spot reasons.WrongTag None root = OfType root
-reason_due elements spot reasons.WrongTag (Some container) root = Unsaid
-reason_due elements spot reasons.WrongForm container root = number_due elements spot.element
-reason_due elements spot _ container root = Unsaid
+-- Where another tag is there that of the outermost type; where an element has the wrong form its own type.
+abbrev pub reason_due : List NamedElement → FaultLocation → Reason → Option ℕ → Bor Shape → Due
+reason_due elements location reasons.WrongTag None root = OfType root
+reason_due elements location reasons.WrongTag (Some container) root = Unsaid
+reason_due elements location reasons.WrongForm container root = number_due elements location.element
+reason_due elements location _ container root = Unsaid
 
--- What may stand next in the container at fault.
+-- What may come next in the container at fault.
 abbrev pub level_due : Option Level → Due → Due
 level_due None other = other
 level_due (Some (levels.Fields fields)) other = Fields fields
 level_due (Some (levels.Members shape least number)) other = OfType shape
 level_due (Some (levels.Segments number)) other = other
 
-abbrev pub due_at : List NamedElement → Spot → Reason → Bor Shape → Due
-due_at elements spot why root = level_due spot.level (reason_due elements spot why spot.container root)
+abbrev pub due_at : List NamedElement → FaultLocation → Reason → Bor Shape → Due
+due_at elements location why root = level_due location.level (reason_due elements location why location.container root)
 
 -- the type of an element is at fault
 abbrev pub is_of_type : Reason → Bool

@@ -1,4 +1,4 @@
--- The line of a fault, where no other line tells of the element there.
+-- The line of a fault, where no other line shows the element there.
 use Rattle.std.specs.Prelude.{Bool, List, None, Option, Some, [], cond, false, true, ℕ, ◌+◌, ◌++◌, ◌&&◌, ◌||◌, ◌==◌, ◌∷◌, ◌≡◌}
 use Rattle.std.specs.Option.{is_none, is_some}
 use Rattle.asn_names.specs.declared.element.Step.TheVariants.{Outside}
@@ -10,7 +10,7 @@ use Rattle.reports.specs.declared.report.Answer.TheVariants.{Der, NotDer, Refuse
 use Rattle.reports.specs.declared.report.Line.{Line}
 use Rattle.reports.specs.declared.report.Value.TheVariants.{NotShown}
 
--- no element stands at the fault
+-- no element is at the fault
 abbrev pub is_between : Reason → Bool
 is_between reasons.Missing = true
 is_between reasons.Truncated = true
@@ -29,7 +29,7 @@ line_from at number (line ∷ lines) = cond (is_at at line) (Some number) (line_
 abbrev pub line_at : List Line → ℕ → Option ℕ
 line_at lines at = line_from at 0 lines
 
--- The line tells a place, so deep, and nothing else.
+-- The line shows a place, so deep, and nothing else.
 pub record IsPlaceAlone (place depth : ℕ) (line : Line) : Type 0 where
   pub place_is : line.at ≡ place
   pub inside : line.inside ≡ None
@@ -48,7 +48,7 @@ abbrev pub AddsPlace : Bool → ℕ → ℕ → List Line → List Line → Type
 AddsPlace true place depth old new = new ≡ old
 AddsPlace false place depth old new = (line : Line) × (new ≡ old ++ (line ∷ [])) × IsPlaceAlone place depth line
 
--- Of a document that is refused at an element of which no line tells: one line more, of its place alone.
+-- Of a document that is refused at an element that no line shows: one line more, of its place alone.
 abbrev pub AddsFault : Answer → ℕ → List Line → List Line → Type 0
 AddsFault Der depth old new = new ≡ old
 AddsFault (NotDer place) depth old new = new ≡ old

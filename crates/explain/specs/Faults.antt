@@ -1,55 +1,55 @@
--- What is told of a fault: by what may be told of the document, and by the elements of its front.
+-- What is shown of a fault: by what may be shown of the document, and by the elements of its front.
 use Rattle.std.specs.Prelude.{List, None, Option, Some, cond, false, length, nat_le, true, ℕ, ◌-◌, ◌&&◌, ◌≡◌}
 use Rattle.std.specs.Borrow.{Bor}
 use Rattle.std.specs.Option.{is_some}
 use Rattle.asn_names.specs.declared.element.NamedElement.{NamedElement}
-use Rattle.asn_names.specs.declared.element.Parting.{Parting}
+use Rattle.asn_names.specs.declared.element.Mismatch.{Mismatch}
 use Rattle.asn_names.specs.declared.element.Step.{Step}
 use Rattle.pkix_shapes.specs.declared.shape.Shape.{Shape}
 use Rattle.tlv_core.specs.declared.fault.Fault.{Fault}
 use Rattle.tlv_core.specs.declared.reason.Reason.{Reason}
 use Rattle.tlv_core.specs.declared.reason.Reason.TheVariants as reasons
-use Rattle.explain.specs.Blames.{IsContainerOf, found_of, over_of}
+use Rattle.explain.specs.FaultContainers.{IsContainerOf, found_of, over_of}
 use Rattle.explain.specs.Classes.{class_of}
 use Rattle.explain.specs.Disclosures.{is_near}
 use Rattle.explain.specs.Dues.{due_at, is_of_type}
 use Rattle.explain.specs.FaultLines.{is_between, line_at}
-use Rattle.explain.specs.Spots.{spot_at}
+use Rattle.explain.specs.FaultLocations.{location_at}
 use Rattle.explain.specs.declared.class.ElementClass.{ElementClass}
-use Rattle.explain.specs.declared.told_fault.Shown.{Shown}
-use Rattle.explain.specs.declared.ways.Spot.{Spot}
+use Rattle.explain.specs.declared.diagnosis.RefusedFront.{RefusedFront}
+use Rattle.explain.specs.declared.fault_location.FaultLocation.{FaultLocation}
 use Rattle.reports.specs.declared.report.Answer.{Answer}
 use Rattle.reports.specs.declared.report.Answer.TheVariants.{Der, NotDer, Refused}
-use Rattle.reports.specs.declared.report.Blame.{Blame}
+use Rattle.reports.specs.declared.report.Diagnosis.{Diagnosis}
 use Rattle.reports.specs.declared.report.Due.{Due}
 use Rattle.reports.specs.declared.report.Due.TheVariants.{Unsaid}
 use Rattle.reports.specs.declared.report.Found.{Found}
 use Rattle.reports.specs.declared.report.Line.{Line}
-use Rattle.reports.specs.declared.report.ToldContainer.{ToldContainer}
+use Rattle.reports.specs.declared.report.FaultContainer.{FaultContainer}
 
 -- a refused document, by its front and the lines of that
 pub record Case : Type 0 where
   pub fault : Fault
   pub root : Bor Shape
-  -- the elements of the front, and where they and the type part
+  -- the elements of the front, and where they stop matching the type
   pub elements : List NamedElement
-  pub parting : Parting
+  pub mismatch : Mismatch
   -- how many octets the file has, and how many the front
   pub octets : ℕ
   pub front : ℕ
   pub class : Option ℕ
   pub lines : List Line
 
-abbrev pub case_with : Shown → Fault → Case
-case_with shown fault = record {
+abbrev pub case_with : RefusedFront → Fault → Case
+case_with refused fault = record {
   fault = fault;
-  root = shown.root;
-  elements = shown.named.now.elements.items;
-  parting = shown.named.now.parting;
-  octets = shown.octets;
-  front = length shown.front.now;
-  class = shown.class;
-  lines = shown.lines.now;
+  root = refused.root;
+  elements = refused.named.now.elements.items;
+  mismatch = refused.named.now.mismatch;
+  octets = refused.octets;
+  front = length refused.front.now;
+  class = refused.class;
+  lines = refused.lines.now;
 }
 
 -- the place of a fault in the file: one inside an OCTET STRING has none
@@ -77,19 +77,19 @@ abbrev pub first_found : Option Found → Option Found → Option Found
 first_found None other = other
 first_found (Some found) other = Some found
 
--- What stands there: by the line, else by its class. Of a fault inside an OCTET STRING nothing is told.
+-- What is there: by the line, else by its class. Of a fault inside an OCTET STRING nothing is shown.
 abbrev pub found_in_place : Case → Option ℕ → Option Found
 found_in_place case line =
     cond (is_some case.fault.inside) None (first_found (found_of case.lines line) (with_class case.fault.at case.class))
 
-abbrev pub spot_of : Case → Spot
-spot_of case = spot_at case.elements case.parting case.fault.at case.fault.why
+abbrev pub location_of : Case → FaultLocation
+location_of case = location_at case.elements case.mismatch case.fault.at case.fault.why
 
--- What may stand at the fault, where no more stands before it than the front and its type is at fault.
-abbrev pub due_in : Case → Spot → Due
-due_in case spot =
+-- What may be at the fault, where no more comes before it than the front and its type is at fault.
+abbrev pub due_in : Case → FaultLocation → Due
+due_in case location =
     cond (is_near case.fault case.front && is_of_type case.fault.why)
-    (due_at case.elements spot case.fault.why case.root) Unsaid
+    (due_at case.elements location case.fault.why case.root) Unsaid
 
 -- how many octets follow the document, where that is its fault
 abbrev pub more_by : Reason → ℕ → ℕ → Option ℕ
@@ -99,28 +99,28 @@ more_by _ at octets = None
 abbrev pub more_in : Case → Option ℕ
 more_in case = more_by case.fault.why case.fault.at case.octets
 
--- The container that the fault is about, where no more stands before it than the front.
-abbrev pub IsToldContainer : Case → Spot → Option ToldContainer → Type 0
-IsToldContainer case spot container =
+-- The container that the fault is about, where no more comes before it than the front.
+abbrev pub IsFaultContainer : Case → FaultLocation → Option FaultContainer → Type 0
+IsFaultContainer case location container =
     elim (is_near case.fault case.front) [
-      | true ↦ IsContainerOf case.elements case.fault.why spot.container spot.element container
+      | true ↦ IsContainerOf case.elements case.fault.why location.container location.element container
       | false ↦ container ≡ None
     ]
 
--- What is told of the fault that a document is refused for, to which these steps lead.
-pub record IsToldOf (case : Case) (way : List Step) (blame : Blame) : Type 0 where
-  pub file_at : blame.file_at ≡ place_in_file case.fault
-  pub way_is : blame.way.items ≡ way
-  pub line : blame.line ≡ line_in case
-  pub due : blame.due ≡ due_in case (spot_of case)
-  pub found : blame.found ≡ found_in_place case (line_in case)
-  pub container : IsToldContainer case (spot_of case) blame.container
-  pub over : blame.over ≡ over_of case.fault.why case.octets blame.container blame.found
-  pub more : blame.more ≡ more_in case
+-- What is shown of the fault that a document is refused for, to which these steps lead.
+pub record IsDiagnosis (case : Case) (path : List Step) (diagnosis : Diagnosis) : Type 0 where
+  pub file_at : diagnosis.file_at ≡ place_in_file case.fault
+  pub path_is : diagnosis.path.items ≡ path
+  pub line : diagnosis.line ≡ line_in case
+  pub due : diagnosis.due ≡ due_in case (location_of case)
+  pub found : diagnosis.found ≡ found_in_place case (line_in case)
+  pub container : IsFaultContainer case (location_of case) diagnosis.container
+  pub over : diagnosis.over ≡ over_of case.fault.why case.octets diagnosis.container diagnosis.found
+  pub more : diagnosis.more ≡ more_in case
 
 -- of a document that is refused, and of no other
-abbrev pub IsToldIf : Answer → (Fault → Case) → List Step → Option Blame → Type 0
-IsToldIf Der case way blame = blame ≡ None
-IsToldIf (NotDer place) case way blame = blame ≡ None
-IsToldIf (Refused fault) case way None = ⊥
-IsToldIf (Refused fault) case way (Some blame) = IsToldOf (case fault) way blame
+abbrev pub IsDiagnosisIf : Answer → (Fault → Case) → List Step → Option Diagnosis → Type 0
+IsDiagnosisIf Der case path diagnosis = diagnosis ≡ None
+IsDiagnosisIf (NotDer place) case path diagnosis = diagnosis ≡ None
+IsDiagnosisIf (Refused fault) case path None = ⊥
+IsDiagnosisIf (Refused fault) case path (Some diagnosis) = IsDiagnosis (case fault) path diagnosis

@@ -6,20 +6,20 @@ use Rattle.std.specs.Option.{is_some, option_map}
 use Rattle.tlv_core.specs.Identifier.{Tag}
 use Rattle.asn_names.specs.Levels.{holds_segments}
 use Rattle.asn_names.specs.declared.element.NamedElement.{NamedElement}
-use Rattle.asn_names.specs.declared.element.Parting.{Parting}
-use Rattle.asn_names.specs.declared.element.Parting.TheVariants.{Missing, Nowhere, Outermost as OutermostParts, Stopped, Unplaced}
+use Rattle.asn_names.specs.declared.element.Mismatch.{Mismatch}
+use Rattle.asn_names.specs.declared.element.Mismatch.TheVariants.{Missing, Nowhere, Outermost as OutermostMismatch, Stopped, Unplaced}
 use Rattle.asn_names.specs.declared.element.Step.{Step}
 use Rattle.asn_names.specs.declared.element.Step.TheVariants.{Field, Member, Outermost, Outside, Segment}
 use Rattle.pkix_shapes.specs.Identifiers.{usual}
 use Rattle.pkix_shapes.specs.declared.shape.Shape.{Choice', Containing', DefinedBy', Leaf, ListOf', Named', Open, Private', Refused, Sequence', SetOf', Shape}
-use Rattle.explain.specs.Blames.{announced_end}
+use Rattle.explain.specs.FaultContainers.{announced_end}
 use Rattle.explain.specs.Contents.{contents_in}
-use Rattle.explain.specs.Lines.{end_behind}
+use Rattle.explain.specs.Lines.{end_after}
 use Rattle.explain.specs.Public.{is_field, sort_of}
-use Rattle.explain.specs.Spots.{element_with}
+use Rattle.explain.specs.FaultLocations.{element_with}
 use Rattle.explain.specs.declared.front.Mark.{Mark}
 use Rattle.explain.specs.declared.front.Mark.TheVariants as marks
-use Rattle.explain.specs.declared.front.Reading.{Reading}
+use Rattle.explain.specs.declared.front.FrontState.{FrontState}
 use Rattle.explain.specs.declared.values.Sort.{Sort}
 use Rattle.explain.specs.declared.values.Sort.TheVariants.{Bits, Boolean, Characters, Identifier, Integer, Null, Octets}
 
@@ -50,8 +50,8 @@ is_in_place (Field name) = true
 is_in_place (Member number) = true
 is_in_place (Segment number) = true
 
--- elements of the type and tag hold others, and aren't strings; an open value does by its tag: SEQUENCE, SET, and any of
--- another class than the universal one
+-- elements of the type and tag hold others, and aren't strings; an open value does by its tag: SEQUENCE, SET, and any
+-- of another class than the universal one
 abbrev pub is_container_tag : Tag → Bool
 is_container_tag tag = not (tag.class == 0) || ((tag.number == 16) || (tag.number == 17))
 
@@ -86,7 +86,7 @@ mark_of_container element =
     (cond (is_field element.step (codes "subject")) marks.Subject
     (cond (is_field element.step (codes "attributes")) marks.Attributes marks.Waits)) marks.Ends
 
--- the field of this name is public in each document that has it, and told by its size alone
+-- the field of this name is public in each document that has it, and shown by its size alone
 abbrev pub is_kept : Step → Bool
 is_kept step =
     is_field step (codes "subjectPublicKey") || is_field step (codes "extnValue") || is_field step (codes "signature")
@@ -96,7 +96,7 @@ mark_of_leaf element None = marks.Ends
 mark_of_leaf element (Some contents) =
     cond (is_usual_leaf element contents) marks.Usual (cond (is_kept element.step) marks.Waits marks.Ends)
 
--- What an element is to whoever reads from the first octet on: usual; or shown where something usual stands behind it;
+-- What an element is to whoever reads from the first octet on: usual; or shown where something usual comes after it;
 -- or the end of the front, as what is private and what has no place is.
 abbrev pub mark_of : List ℕ → NamedElement → Mark
 mark_of document element =
@@ -122,21 +122,21 @@ header_end element = unwrap_or element.begin element.header.at
 
 abbrev pub shown_end_by : NamedElement → Option ℕ → ℕ
 shown_end_by element None = header_end element
-shown_end_by element (Some end) = end_behind element.header.announced end
+shown_end_by element (Some end) = end_after element.header.announced end
 
 abbrev pub shown_end : NamedElement → ℕ
 shown_end element = shown_end_by element element.end
 
--- the octets behind a length of at most five octets (X.690 8.1.3)
-abbrev pub behind_length : List ℕ → Option (List ℕ)
-behind_length [] = None
-behind_length (first ∷ octets) =
+-- the octets after a length of at most five octets (X.690 8.1.3)
+abbrev pub after_length : List ℕ → Option (List ℕ)
+after_length [] = None
+after_length (first ∷ octets) =
     cond (nat_le first 128) (Some octets) (cond (nat_le first 132) (Some (drop (first - 128) octets)) None)
 
--- the octets behind the header of a SEQUENCE
-abbrev pub behind_header : List ℕ → Option (List ℕ)
-behind_header [] = None
-behind_header (identifier ∷ octets) = cond (identifier == 48) (behind_length octets) None
+-- the octets after the header of a SEQUENCE
+abbrev pub after_header : List ℕ → Option (List ℕ)
+after_header [] = None
+after_header (identifier ∷ octets) = cond (identifier == 48) (after_length octets) None
 
 -- octets begin with an object identifier that has a usual name
 abbrev pub is_named : List ℕ → Bool
@@ -150,78 +150,78 @@ is_algorithm (Some octets) = is_named octets
 
 abbrev pub holds_algorithm : Option (List ℕ) → Bool
 holds_algorithm None = false
-holds_algorithm (Some octets) = is_algorithm (behind_header octets)
+holds_algorithm (Some octets) = is_algorithm (after_header octets)
 
 -- octets begin as a SubjectPublicKeyInfo does whose algorithm has a usual name (RFC 5280 section 4.1)
 abbrev pub begins_key : List ℕ → Bool
-begins_key octets = holds_algorithm (behind_header octets)
+begins_key octets = holds_algorithm (after_header octets)
 
 abbrev pub has_key_at : List ℕ → Option ℕ → Bool
 has_key_at document None = false
 has_key_at document (Some end) = begins_key (drop end document)
 
--- a public key stands behind a subject, of definite length
-abbrev pub has_key_behind : List ℕ → NamedElement → Bool
-has_key_behind document element = has_key_at document (announced_end element)
+-- a public key comes after a subject, of definite length
+abbrev pub has_key_after : List ℕ → NamedElement → Bool
+has_key_after document element = has_key_at document (announced_end element)
 
 -- before the first element
-abbrev pub start : Reading
+abbrev pub start : FrontState
 start = record { octets = 0; subject = None; ended = false }
 
-abbrev pub end_of_front : Reading → Reading
-end_of_front reading = record reading { ended = true }
+abbrev pub end_of_front : FrontState → FrontState
+end_of_front state = record state { ended = true }
 
 -- One element more of a subject that is shown: of a container its header is. One that is misformed is the last.
-abbrev pub after_subject : Reading → NamedElement → Reading
-after_subject reading element =
+abbrev pub after_subject : FrontState → NamedElement → FrontState
+after_subject state element =
     cond (is_in_place element.step)
-    (record reading {
+    (record state {
       octets = cond element.header.constructed (header_end element) (shown_end element);
       ended = is_misformed element;
     })
-    (end_of_front reading)
+    (end_of_front state)
 
-abbrev pub behind_subject : Reading → Reading
-behind_subject reading = record reading { subject = None }
+abbrev pub without_subject : FrontState → FrontState
+without_subject state = record state { subject = None }
 
--- One element more, in no subject. A subject is shown where a public key stands behind it.
-abbrev pub after_outside_subject : List ℕ → Reading → NamedElement → Mark → Reading
-after_outside_subject document reading element marks.Usual =
-    record (behind_subject reading) { octets = shown_end element }
-after_outside_subject document reading element marks.Waits = behind_subject reading
-after_outside_subject document reading element marks.Subject =
-    cond (has_key_behind document element)
+-- One element more, in no subject. A subject is shown where a public key comes after it.
+abbrev pub after_outside_subject : List ℕ → FrontState → NamedElement → Mark → FrontState
+after_outside_subject document state element marks.Usual =
+    record (without_subject state) { octets = shown_end element }
+after_outside_subject document state element marks.Waits = without_subject state
+after_outside_subject document state element marks.Subject =
+    cond (has_key_after document element)
     (record { octets = header_end element; subject = Some element.header.depth; ended = false })
-    (end_of_front (behind_subject reading))
-after_outside_subject document reading element marks.Attributes =
-    record (behind_subject reading) { octets = element.header.at }
-after_outside_subject document reading element marks.Ends = end_of_front (behind_subject reading)
+    (end_of_front (without_subject state))
+after_outside_subject document state element marks.Attributes =
+    record (without_subject state) { octets = element.header.at }
+after_outside_subject document state element marks.Ends = end_of_front (without_subject state)
 
 -- one element more
-abbrev pub after_element : List ℕ → Reading → NamedElement → Reading
-after_element document reading element =
-    cond reading.ended reading
-    (cond (is_deeper reading.subject element) (after_subject reading element)
-    (after_outside_subject document reading element (mark_of document element)))
+abbrev pub after_element : List ℕ → FrontState → NamedElement → FrontState
+after_element document state element =
+    cond state.ended state
+    (cond (is_deeper state.subject element) (after_subject state element)
+    (after_outside_subject document state element (mark_of document element)))
 
 -- one element after another
-abbrev pub read_from : List ℕ → Reading → List NamedElement → Reading
-read_from document reading [] = reading
-read_from document reading (element ∷ elements) = read_from document (after_element document reading element) elements
+abbrev pub read_from : List ℕ → FrontState → List NamedElement → FrontState
+read_from document state [] = state
+read_from document state (element ∷ elements) = read_from document (after_element document state element) elements
 
-abbrev pub behind_whole : ℕ → Option NamedElement → ℕ
-behind_whole octets None = octets
-behind_whole octets (Some element) =
-    elim element.end [ None ↦ octets | Some end ↦ end_behind element.header.announced end ]
+abbrev pub after_whole : ℕ → Option NamedElement → ℕ
+after_whole octets None = octets
+after_whole octets (Some element) =
+    elim element.end [ None ↦ octets | Some end ↦ end_after element.header.announced end ]
 
 -- all of a document that is whole, each element in its place, and none of which ends the front
-abbrev pub front_by : Reading → List NamedElement → Parting → ℕ
-front_by reading elements Nowhere =
-    cond reading.ended reading.octets (behind_whole reading.octets (slice_get elements 0))
-front_by reading elements OutermostParts = reading.octets
-front_by reading elements (Unplaced container level) = reading.octets
-front_by reading elements (Missing container level) = reading.octets
-front_by reading elements (Stopped container) = reading.octets
+abbrev pub front_by : FrontState → List NamedElement → Mismatch → ℕ
+front_by state elements Nowhere =
+    cond state.ended state.octets (after_whole state.octets (slice_get elements 0))
+front_by state elements OutermostMismatch = state.octets
+front_by state elements (Unplaced container level) = state.octets
+front_by state elements (Missing container level) = state.octets
+front_by state elements (Stopped container) = state.octets
 
 -- Where the front ends at the latest: with the element that is refused, or in front of what isn't one.
 abbrev pub cut_by : ℕ → Option NamedElement → ℕ
@@ -233,6 +233,6 @@ cut_at elements at = cut_by at (element_with elements at)
 
 -- How many octets are shown of a document that is refused at this place, by its elements and by where its type and they
 -- part.
-abbrev pub front_size : List ℕ → List NamedElement → Parting → ℕ → ℕ
-front_size document elements parting at =
-    min (front_by (read_from document start elements) elements parting) (cut_at elements at)
+abbrev pub front_size : List ℕ → List NamedElement → Mismatch → ℕ → ℕ
+front_size document elements mismatch at =
+    min (front_by (read_from document start elements) elements mismatch) (cut_at elements at)

@@ -1,4 +1,4 @@
--- What a document is by its first headers: the tags, and a few contents, of the elements behind the outermost header.
+-- What a document is by its first headers: the tags, and a few contents, of the elements after the outermost header.
 use Rattle.std.specs.Prelude.{Bool, List, None, Option, Some, [], cond, false, nat_lt, ℕ, ◌&&◌, ◌==◌, ◌||◌, ◌∷◌}
 use Rattle.std.specs.List.{slice_get}
 use Rattle.std.specs.Str.{bytes_eq}
@@ -6,8 +6,8 @@ use Rattle.tlv_core.specs.Identifier.{Tag}
 use Rattle.ber_outline.specs.declared.event.Event.{Event}
 use Rattle.ber_outline.specs.declared.event.Event.TheVariants.{Begin, End, Primitive}
 use Rattle.explain.specs.Contents.{between}
-use Rattle.reports.specs.declared.report.Looks.{Looks}
-use Rattle.reports.specs.declared.report.Looks.TheVariants as looks
+use Rattle.reports.specs.declared.report.Guess.{Guess}
+use Rattle.reports.specs.declared.report.Guess.TheVariants as guesses
 
 -- the numbers of universal tags (X.680 8.4)
 abbrev pub integer : ℕ
@@ -91,8 +91,8 @@ is_pfx octets events =
     begins_with octets events (3 ∷ []) && is_content_info (slice_get events 2) (slice_get events 3)
 
 -- by the first events of the outline of a document
-abbrev pub looks_by_outline : List ℕ → List Event → Looks
-looks_by_outline octets events =
-    cond (is_rsa_private_key octets events) looks.RsaPrivateKey
-    (cond (is_rsa_public_key octets events) looks.RsaPublicKey
-    (cond (is_certificate events) looks.Certificate (cond (is_pfx octets events) looks.Pkcs12 looks.Unknown)))
+abbrev pub guess_by_outline : List ℕ → List Event → Guess
+guess_by_outline octets events =
+    cond (is_rsa_private_key octets events) guesses.RsaPrivateKey
+    (cond (is_rsa_public_key octets events) guesses.RsaPublicKey
+    (cond (is_certificate events) guesses.Certificate (cond (is_pfx octets events) guesses.Pkcs12 guesses.Unknown)))

@@ -4,7 +4,7 @@ use Rattle.std.specs.Borrow.{Bor}
 use Rattle.tlv_core.specs.Limits.{Limits}
 use Rattle.asn_names.specs.Naming.{named_by}
 use Rattle.asn_names.specs.declared.element.NamedElement.{NamedElement}
-use Rattle.asn_names.specs.declared.element.Parting.{Parting}
+use Rattle.asn_names.specs.declared.element.Mismatch.{Mismatch}
 use Rattle.ber_outline.specs.Outlines.{IsOutline}
 use Rattle.ber_outline.specs.declared.event.Event.{Event}
 use Rattle.ber_outline.specs.declared.event.Stop.{Stop}
@@ -13,8 +13,8 @@ use Rattle.explain.specs.Contents.{contents_in}
 use Rattle.explain.specs.declared.inside.Inside.{Inside}
 use Rattle.explain.specs.declared.places.Piece.{Piece}
 
--- The elements of a document by their names in this type, and where the two part.
-pub record IsNamed (limits : Limits) (document : List ℕ) (root : Bor Shape) (named : List NamedElement × Parting)
+-- The elements of a document by their names in this type, and where they stop matching it.
+pub record IsNamed (limits : Limits) (document : List ℕ) (root : Bor Shape) (named : List NamedElement × Mismatch)
     : Type 0 where
   pub events : List Event
   pub stop : Option Stop
@@ -40,7 +40,7 @@ contained_by shape None = None
 contained_by None (Some end) = None
 contained_by (Some shape) (Some end) = contained_in shape.now
 
--- the type of the document that an element contains which stands whole
+-- the type of the document that an element contains which is whole
 abbrev pub contained : NamedElement → Option (Bor Shape)
 contained element = contained_by element.shape element.end
 
@@ -61,7 +61,7 @@ contents_within document [] = []
 contents_within document (element ∷ elements) =
     own_contents document element ++ deeper_contents document element.header.depth elements
 
--- where the contents octets of a primitive element stand in the document; those of another one nowhere
+-- where the contents octets of a primitive element are in the document; those of another one nowhere
 abbrev pub piece_at : Option ℕ → Option (List ℕ) → List Piece
 piece_at None contents = []
 piece_at (Some at) None = []
@@ -85,20 +85,22 @@ pieces_within document (element ∷ elements) =
 
 -- The document inside an element of a file: its octets are those of these elements, its elements have the names of the
 -- contained type.
-pub record IsDocumentIn (limits : Limits) (file : List ℕ) (elements : List NamedElement) (container : ℕ) (shape : Bor Shape)
+pub record IsDocumentIn (limits : Limits) (file : List ℕ) (elements : List NamedElement) (container : ℕ)
+    (shape : Bor Shape)
     (inside : Inside) : Type 0 where
-  pub stands_in : inside.container ≡ container
+  pub container_is : inside.container ≡ container
   pub type : inside.shape ≡ shape
   pub octets : inside.octets.items ≡ contents_within file elements
   pub pieces : inside.pieces.items ≡ pieces_within file elements
-  pub named : IsNamed limits inside.octets.items inside.shape (inside.named.elements.items, inside.named.parting)
+  pub named : IsNamed limits inside.octets.items inside.shape (inside.named.elements.items, inside.named.mismatch)
 
 abbrev pub contained_at : Option NamedElement → Option (Bor Shape)
 contained_at None = None
 contained_at (Some element) = contained element
 
 -- The document inside the element of this number is one more, where that contains one.
-abbrev pub AddsContained : Limits → List ℕ → List NamedElement → ℕ → Option (Bor Shape) → List Inside → List Inside → Type 0
+abbrev pub AddsContained : Limits → List ℕ → List NamedElement → ℕ → Option (Bor Shape) → List Inside → List Inside
+    → Type 0
 AddsContained limits file elements number None before after = after ≡ before
 AddsContained limits file elements number (Some shape) before after =
     (inside : Inside) × IsDocumentIn limits file (drop number elements) number shape inside
@@ -116,11 +118,11 @@ HasInsides limits file elements (suc number) insides =
     × AddsInside limits file elements number before insides
 
 -- the document inside the element at this place
-abbrev pub stands_at : ℕ → Option NamedElement → Bool
-stands_at at None = false
-stands_at at (Some element) = element.header.at == at
+abbrev pub is_at_place : ℕ → Option NamedElement → Bool
+is_at_place at None = false
+is_at_place at (Some element) = element.header.at == at
 
 abbrev pub inside_at : List NamedElement → List Inside → ℕ → Option Inside
 inside_at elements [] at = None
 inside_at elements (inside ∷ insides) at =
-    cond (stands_at at (slice_get elements inside.container)) (Some inside) (inside_at elements insides at)
+    cond (is_at_place at (slice_get elements inside.container)) (Some inside) (inside_at elements insides at)

@@ -1,5 +1,5 @@
 pub mod Answers
-pub mod Blames
+pub mod FaultContainers
 pub mod Causes
 pub mod Classes
 pub mod Contents
@@ -13,7 +13,7 @@ pub mod Insides
 pub mod Lines
 pub mod ListingLaws
 pub mod Listings
-pub mod Looks
+pub mod Guesses
 pub mod Notes
 pub mod Places
 pub mod Public
@@ -21,5 +21,5 @@ pub mod ReportLaws
 pub mod Reports
 pub mod Rules
 pub mod Shapes
-pub mod Spots
+pub mod FaultLocations
 pub mod Written

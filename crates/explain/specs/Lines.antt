@@ -1,11 +1,11 @@
--- The lines of a report, one for each element that is told.
+-- The lines of a report, one for each element that is shown.
 use Rattle.std.specs.Prelude.{Bool, List, None, Option, Some, [], cond, false, length, min, nat_lt, true, unwrap_or, ℕ, ◌+◌, ◌++◌, ◌-◌, ◌^◌, ◌∷◌, ◌≡◌}
 use Rattle.std.specs.Option.{option_map}
 use Rattle.asn_names.specs.declared.element.NamedElement.{NamedElement}
 use Rattle.ber_outline.specs.declared.announced.Announced.{Announced}
 use Rattle.ber_outline.specs.declared.event.ElementHeader.{ElementHeader}
 use Rattle.explain.specs.Contents.{contents_in}
-use Rattle.explain.specs.Public.{Tells}
+use Rattle.explain.specs.Public.{ShowsContents}
 use Rattle.explain.specs.declared.places.Placed.{Placed}
 use Rattle.reports.specs.declared.report.Cause.{Cause}
 use Rattle.reports.specs.declared.report.Length.{Length}
@@ -13,25 +13,25 @@ use Rattle.reports.specs.declared.report.Line.{Line}
 use Rattle.reports.specs.declared.report.Value.{Value}
 use Rattle.reports.specs.declared.report.Value.TheVariants.{Nothing, Size}
 
--- What length octets say is told where they are at most four behind their first one.
-abbrev pub told_by_length : ℕ → Option Announced → Option Length
-told_by_length at None = None
-told_by_length at (Some announced) =
+-- What length octets say is shown where they are at most four after their first one.
+abbrev pub listed_by_length : ℕ → Option Announced → Option Length
+listed_by_length at None = None
+listed_by_length at (Some announced) =
     cond (nat_lt 6 (announced.contents - at)) None
     (Some (record { header = announced.contents - at; contents = announced.length }))
 
-abbrev pub told_length : ElementHeader → Option Length
-told_length header = told_by_length header.at header.announced
+abbrev pub listed_length : ElementHeader → Option Length
+listed_length header = listed_by_length header.at header.announced
 
--- where an element ends by its length and by where its contents end: behind the two end-of-contents octets, where it is
+-- where an element ends by its length and by where its contents end: after the two end-of-contents octets, where it is
 -- indefinite (X.690 8.1.5)
 abbrev pub end_of_announced : Option ℕ → ℕ → ℕ
 end_of_announced None end = min (end + 2) (2 ^ 64 - 1)
 end_of_announced (Some length) end = end
 
-abbrev pub end_behind : Option Announced → ℕ → ℕ
-end_behind None end = end
-end_behind (Some announced) end = end_of_announced announced.length end
+abbrev pub end_after : Option Announced → ℕ → ℕ
+end_after None end = end
+end_after (Some announced) end = end_of_announced announced.length end
 
 -- the place inside `privateKey`, of what is inside it
 abbrev pub inside_of : Bool → ℕ → Option ℕ
@@ -48,7 +48,7 @@ pub record IsHeaderLine (placed : Placed) (element : NamedElement) (line : Line)
   pub type_name : line.type_name.now ≡ unwrap_or (option_map (λ r. r.now) element.type_name) []
   pub tag : line.tag ≡ element.header.tag
   pub constructed : line.constructed ≡ element.header.constructed
-  pub length : line.length ≡ told_length element.header
+  pub length : line.length ≡ listed_length element.header
   pub end : line.end ≡ placed.end
 
 -- how many octets a private element of constructed form has; of others nothing
@@ -57,17 +57,20 @@ size_between private None end = Nothing
 size_between private (Some begin) None = Nothing
 size_between private (Some begin) (Some end) = cond private (Size (end - begin)) Nothing
 
-abbrev pub IsToldOf : NamedElement → Option (List ℕ) → Value → Type 0
-IsToldOf element None value = value ≡ size_between element.private element.begin element.end
-IsToldOf element (Some contents) value = Tells element contents value
+abbrev pub IsListedValueOf : NamedElement → Option (List ℕ) → Value → Type 0
+IsListedValueOf element None value = value ≡ size_between element.private element.begin element.end
+IsListedValueOf element (Some contents) value = ShowsContents element contents value
 
 -- What the line of an element says of its contents.
-abbrev pub IsTold : List ℕ → NamedElement → Value → Type 0
-IsTold octets element value = IsToldOf element (contents_in octets element) value
+abbrev pub IsListedValue : List ℕ → NamedElement → Value → Type 0
+IsListedValue octets element value = IsListedValueOf element (contents_in octets element) value
 
 -- What an element with a cause adds to the lines before: nothing where it is hidden, else its own.
 abbrev pub AddsLine : Bool → List ℕ → Placed → NamedElement → Option Cause → List Line → List Line → Type 0
 AddsLine true octets placed element cause old new = new ≡ old
 AddsLine false octets placed element cause old new =
-    (line : Line) × (new ≡ old ++ (line ∷ [])) × IsHeaderLine placed element line × IsTold octets element line.value
+    (line : Line)
+    × (new ≡ old ++ (line ∷ []))
+    × IsHeaderLine placed element line
+    × IsListedValue octets element line.value
     × (line.cause ≡ cause)

@@ -2,9 +2,9 @@
 use Rattle.std.specs.Prelude.{List, Some, nat_lt, slice_get, true, ℕ, ◌++◌, ◌<◌, ◌∷◌, ◌≡◌, ◌⊎◌}
 use Rattle.asn_names.specs.declared.element.NamedElement.{NamedElement}
 use Rattle.explain.specs.Causes.{line_cause}
-use Rattle.explain.specs.Lines.{IsHeaderLine, IsTold}
+use Rattle.explain.specs.Lines.{IsHeaderLine, IsListedValue}
 use Rattle.explain.specs.Listings.{IsListed}
-use Rattle.explain.specs.Places.{Page}
+use Rattle.explain.specs.Places.{ListedDocument}
 use Rattle.explain.specs.declared.inside.Inside.{Inside}
 use Rattle.explain.specs.declared.places.Placed.{Placed}
 use Rattle.reports.specs.declared.report.Cause.{Cause}
@@ -15,11 +15,11 @@ use Rattle.std.specs.Prelude.{Option}
 pub record HasLine (octets : List ℕ) (element : NamedElement) (cause : Option Cause) (lines : List Line) : Type 0 where
   pub before : List Line
   pub line : Line
-  pub behind : List Line
-  pub are : lines ≡ before ++ (line ∷ behind)
+  pub after : List Line
+  pub are : lines ≡ before ++ (line ∷ after)
   pub placed : Placed
   pub header : IsHeaderLine placed element line
-  pub value : IsTold octets element line.value
+  pub value : IsListedValue octets element line.value
   pub why : line.cause ≡ cause
 
 -- An element before the one of this number is private, and not so deep.
@@ -31,10 +31,11 @@ pub record HasPrivate (elements : List NamedElement) (number depth : ℕ) : Type
   pub is : private.private ≡ true
   pub deeper : nat_lt private.header.depth depth ≡ true
 
--- Each element of a front has its line, but those in a private one, of which its line tells the size alone.
+-- Each element of a front has its line, but those in a private one, of which its line shows the size alone.
 abbrev pub NoneIsLeftOut : Type 0
 NoneIsLeftOut =
-    (page : Page) (insides : List Inside) (lines : List Line) → IsListed page insides lines → (number : ℕ)
-    (element : NamedElement) → slice_get page.elements number ≡ Some element
-    → HasLine page.octets element (line_cause page.elements page.causes number) lines
-    ⊎ HasPrivate page.elements number element.header.depth
+    (document : ListedDocument) (insides : List Inside) (lines : List Line) → IsListed document insides lines
+    → (number : ℕ)
+    (element : NamedElement) → slice_get document.elements number ≡ Some element
+    → HasLine document.octets element (line_cause document.elements document.causes number) lines
+    ⊎ HasPrivate document.elements number element.header.depth

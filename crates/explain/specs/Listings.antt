@@ -1,31 +1,31 @@
--- Which lines a document has: one walk over its elements, and behind the line of an OCTET STRING one over the elements
+-- Which lines a document has: one pass over its elements, and after the line of an OCTET STRING one over the elements
 -- of the document inside it. What is inside a private element has none.
 use Rattle.std.specs.Prelude.{Bool, List, None, Option, Some, [], cond, length, min, suc, true, unwrap_or, zero, ℕ, ◌+◌, ◌-◌, ◌^◌, ◌++◌, ◌∷◌, ◌≡◌, ◌==◌}
 use Rattle.std.specs.List.{slice_get}
 use Rattle.asn_names.specs.declared.element.NamedElement.{NamedElement}
-use Rattle.explain.specs.Blames.{saturating_sum}
+use Rattle.explain.specs.FaultContainers.{saturating_sum}
 use Rattle.explain.specs.Causes.{causes_of, line_cause}
 use Rattle.explain.specs.Fronts.{is_deeper}
 use Rattle.explain.specs.Lines.{AddsLine}
-use Rattle.explain.specs.Places.{Page, placed_in}
+use Rattle.explain.specs.Places.{ListedDocument, placed_in}
 use Rattle.explain.specs.declared.inside.Inside.{Inside}
 use Rattle.reports.specs.declared.report.Cause.{Cause}
 use Rattle.reports.specs.declared.report.Line.{Line}
 
 -- what is known between two elements of a document
-pub record Telling : Type 0 where
+pub record ListingState : Type 0 where
   -- how deep the private element is that the next ones are hidden in
   pub hidden : Option ℕ
   -- of each element before, the number of its line; of one that has none, that of the line around it
   pub numbers : List ℕ
   pub lines : List Line
 
-abbrev pub telling : Option ℕ → List ℕ → List Line → Telling
-telling hidden numbers lines = record { hidden = hidden; numbers = numbers; lines = lines }
+abbrev pub listing_state : Option ℕ → List ℕ → List Line → ListingState
+listing_state hidden numbers lines = record { hidden = hidden; numbers = numbers; lines = lines }
 
--- before the first element, behind other lines
-abbrev pub start_of : List Line → Telling
-start_of lines = telling None [] lines
+-- before the first element, after other lines
+abbrev pub start_of : List Line → ListingState
+start_of lines = listing_state None [] lines
 
 -- the number of the line around an element; of the outermost one that around its document
 abbrev pub number_around : List ℕ → ℕ → NamedElement → ℕ
@@ -35,34 +35,37 @@ number_around numbers outer element =
 abbrev pub own_number : Bool → ℕ → ℕ → ℕ
 own_number hidden line around = cond hidden around line
 
--- how deep the private element is that what stands behind an element is hidden in
-abbrev pub hidden_behind : Option ℕ → NamedElement → Option ℕ
-hidden_behind hidden element =
+-- how deep the private element is that what comes after an element is hidden in
+abbrev pub hidden_after : Option ℕ → NamedElement → Option ℕ
+hidden_after hidden element =
     cond (is_deeper hidden element) hidden (cond element.private (Some element.header.depth) None)
 
 -- One element more, with a cause or none: its line is added, unless it is hidden.
-pub record IsNext (page : Page) (cause : Option Cause) (element : NamedElement) (before after : Telling) : Type 0 where
-  pub line : AddsLine (is_deeper before.hidden element) page.octets
-      (placed_in page element (number_around before.numbers page.around element)) element cause before.lines after.lines
+pub record IsNext (document : ListedDocument) (cause : Option Cause) (element : NamedElement)
+    (before after : ListingState) : Type 0 where
+  pub line : AddsLine (is_deeper before.hidden element) document.octets
+      (placed_in document element (number_around before.numbers document.around element))
+      element cause before.lines after.lines
   pub numbers : after.numbers ≡ before.numbers
       ++ (own_number (is_deeper before.hidden element) (length before.lines)
-      (number_around before.numbers page.around element) ∷ [])
-  pub hidden : after.hidden ≡ hidden_behind before.hidden element
+      (number_around before.numbers document.around element) ∷ [])
+  pub hidden : after.hidden ≡ hidden_after before.hidden element
 
-abbrev pub AddsOne : Page → Option Cause → Option NamedElement → Telling → Telling → Type 0
-AddsOne page cause None before after = after ≡ before
-AddsOne page cause (Some element) before after = IsNext page cause element before after
+abbrev pub AddsOne : ListedDocument → Option Cause → Option NamedElement → ListingState → ListingState → Type 0
+AddsOne document cause None before after = after ≡ before
+AddsOne document cause (Some element) before after = IsNext document cause element before after
 
--- the same of the element of this number, with the cause that its line tells
-abbrev pub AddsElement : Page → ℕ → Telling → Telling → Type 0
-AddsElement page number before after =
-    AddsOne page (line_cause page.elements page.causes number) (slice_get page.elements number) before after
+-- the same of the element of this number, with the cause that its line shows
+abbrev pub AddsElement : ListedDocument → ℕ → ListingState → ListingState → Type 0
+AddsElement document number before after =
+    AddsOne document (line_cause document.elements document.causes number)
+    (slice_get document.elements number) before after
 
 -- the first elements of a document, so many, one after another
-abbrev pub Lists : Page → ℕ → Telling → Telling → Type 0
-Lists page zero start end = end ≡ start
-Lists page (suc number) start end =
-    (before : Telling) × Lists page number start before × AddsElement page number before end
+abbrev pub Lists : ListedDocument → ℕ → ListingState → ListingState → Type 0
+Lists document zero start end = end ≡ start
+Lists document (suc number) start end =
+    (before : ListingState) × Lists document number start before × AddsElement document number before end
 
 -- the place of an element in its document; 0 of none
 abbrev pub own_place : Option NamedElement → ℕ
@@ -75,8 +78,8 @@ causes_inside [] inside = []
 causes_inside (cause ∷ causes) inside = causes_of inside.octets.items inside.named.elements.items
 
 -- a document inside an element of a file that is so deep, which has the line of this number
-abbrev pub page_inside : List (Option Cause) → Inside → ℕ → ℕ → Page
-page_inside causes inside depth number = record {
+abbrev pub inside_document : List (Option Cause) → Inside → ℕ → ℕ → ListedDocument
+inside_document causes inside depth number = record {
   octets = inside.octets.items;
   elements = inside.named.elements.items;
   causes = causes_inside causes inside;
@@ -87,48 +90,51 @@ page_inside causes inside depth number = record {
 }
 
 -- the lines of the document inside
-pub record ListsInside (page : Page) (before after : Telling) : Type 0 where
-  pub end : Telling
-  pub lists : Lists page (length page.elements) (start_of before.lines) end
+pub record ListsInside (document : ListedDocument) (before after : ListingState) : Type 0 where
+  pub end : ListingState
+  pub lists : Lists document (length document.elements) (start_of before.lines) end
   pub lines : after.lines ≡ end.lines
   pub numbers : after.numbers ≡ before.numbers
   pub hidden : after.hidden ≡ before.hidden
 
-abbrev pub AddsBehind : List (Option Cause) → Inside → ℕ → Option Line → Telling → Telling → Type 0
-AddsBehind causes inside number None before after = after ≡ before
-AddsBehind causes inside number (Some line) before after =
-    ListsInside (page_inside causes inside line.depth number) before after
+abbrev pub AddsAfter : List (Option Cause) → Inside → ℕ → Option Line → ListingState → ListingState → Type 0
+AddsAfter causes inside number None before after = after ≡ before
+AddsAfter causes inside number (Some line) before after =
+    ListsInside (inside_document causes inside line.depth number) before after
 
--- Behind an element of a file with these causes, which has the line of this number, the lines of the document inside it
+-- After an element of a file with these causes, which has the line of this number, the lines of the document inside it
 -- are added.
-abbrev pub AddsDocument : List (Option Cause) → Option Inside → ℕ → Telling → Telling → Type 0
+abbrev pub AddsDocument : List (Option Cause) → Option Inside → ℕ → ListingState → ListingState → Type 0
 AddsDocument causes None number before after = after ≡ before
 AddsDocument causes (Some inside) number before after =
-    AddsBehind causes inside number (slice_get before.lines number) before after
+    AddsAfter causes inside number (slice_get before.lines number) before after
 
--- the document inside the element of this number, where it is the first of those that are left; and those behind it
+-- the document inside the element of this number, where it is the first of those that are left; and those after it
 abbrev pub first_inside : List Inside → ℕ → Option Inside
 first_inside [] number = None
 first_inside (inside ∷ insides) number = cond (inside.container == number) (Some inside) None
 
-abbrev pub behind_inside : List Inside → ℕ → List Inside
-behind_inside [] number = []
-behind_inside (inside ∷ insides) number = cond (inside.container == number) insides (inside ∷ insides)
+abbrev pub after_inside : List Inside → ℕ → List Inside
+after_inside [] number = []
+after_inside (inside ∷ insides) number = cond (inside.container == number) insides (inside ∷ insides)
 
 -- The first elements of a file, so many, each with the document inside it; of those documents these are left.
-abbrev pub ListsFile : Page → List Inside → ℕ → List Inside → Telling → Type 0
-ListsFile page insides zero left end = (left ≡ insides) × (end ≡ start_of [])
-ListsFile page insides (suc number) left end =
-    (others : List Inside) × (before : Telling) × (mid : Telling) × ListsFile page insides number others before
-    × AddsElement page number before mid
-    × AddsDocument page.causes (first_inside others number) (length before.lines) mid end
-    × (left ≡ behind_inside others number)
+abbrev pub ListsFile : ListedDocument → List Inside → ℕ → List Inside → ListingState → Type 0
+ListsFile document insides zero left end = (left ≡ insides) × (end ≡ start_of [])
+ListsFile document insides (suc number) left end =
+    (others : List Inside)
+    × (before : ListingState)
+    × (mid : ListingState)
+    × ListsFile document insides number others before
+    × AddsElement document number before mid
+    × AddsDocument document.causes (first_inside others number) (length before.lines) mid end
+    × (left ≡ after_inside others number)
 
 -- All lines of a file.
-pub record IsListed (page : Page) (insides : List Inside) (lines : List Line) : Type 0 where
+pub record IsListed (document : ListedDocument) (insides : List Inside) (lines : List Line) : Type 0 where
   pub left : List Inside
-  pub end : Telling
-  pub lists : ListsFile page insides (length page.elements) left end
+  pub end : ListingState
+  pub lists : ListsFile document insides (length document.elements) left end
   pub are : lines ≡ end.lines
 
 abbrev pub with_inside : ℕ → List Inside → ℕ

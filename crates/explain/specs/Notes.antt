@@ -74,28 +74,28 @@ is_one_of identifiers (Some identifier) = one_of identifier identifiers
 abbrev pub is_single_valued : Option (List ℕ) → Bool
 is_single_valued type = is_one_of (challenge_password ∷ extension_request ∷ []) type
 
--- how many octets a coordinate has, behind another identifier
-abbrev pub curve_behind : Option ℕ → Option (List ℕ) → Option ℕ
-curve_behind curve name = option_or (option_and_then (length_under curve_lengths) name) curve
+-- how many octets a coordinate has, after another identifier
+abbrev pub curve_after : Option ℕ → Option (List ℕ) → Option ℕ
+curve_after curve name = option_or (option_and_then (length_under curve_lengths) name) curve
 
 -- before the first line
 abbrev pub context_start : Context
 context_start = record { curve = None; public = None; is_single = false }
 
--- What the lines before say of the next one: an algorithm how many octets its public keys have; a curve behind it how
+-- What the lines before say of the next one: an algorithm how many octets its public keys have; a curve after it how
 -- many a coordinate has, which are as many as a private key has; the type of an attribute whether it has one value.
-abbrev pub context_behind : Context → Line → Context
-context_behind context line =
+abbrev pub context_after : Context → Line → Context
+context_after context line =
     cond (is_field line.step (codes "algorithm"))
     (record context { public = option_and_then public_octets (named line.value); curve = None })
     (cond (is_field line.step (codes "type")) (record context { is_single = is_single_valued (named line.value) })
-    (record context { curve = curve_behind context.curve (named line.value) }))
+    (record context { curve = curve_after context.curve (named line.value) }))
 
 abbrev pub remark_if : Bool → Remark → Option Remark
 remark_if true remark = Some remark
 remark_if false remark = None
 
--- the parameters behind an algorithm
+-- the parameters after an algorithm
 abbrev pub parameters : List Line → Option Line
 parameters [] = None
 parameters (line ∷ lines) = cond (is_field line.step (codes "parameters")) (Some line) None
@@ -118,9 +118,9 @@ abbrev pub while_deeper : ℕ → List Line → List Line
 while_deeper depth [] = []
 while_deeper depth (line ∷ lines) = cond (nat_lt depth line.depth) (line ∷ while_deeper depth lines) []
 
--- how many members an element of this depth has, by the lines behind its own
+-- how many members an element of this depth has, by the lines after its own
 abbrev pub members_of : ℕ → List Line → ℕ
-members_of depth behind = length (filter (λ line. line.depth == depth + 1) (while_deeper depth behind))
+members_of depth after = length (filter (λ line. line.depth == depth + 1) (while_deeper depth after))
 
 abbrev pub remark_on_values : ℕ → Option Remark
 remark_on_values members = remark_if (nat_lt 1 members) (SeveralValues members)
@@ -144,11 +144,11 @@ abbrev pub remark_on_key : Context → Value → Option Remark
 remark_on_key context (Bits octets unused) = remark_on_bits context.public context.curve octets unused
 remark_on_key context _ = None
 
--- What is remarked on a line, by what the lines before say and by the lines behind.
+-- What is remarked on a line, by what the lines before say and by the lines after.
 abbrev pub remark_on : Context → Line → List Line → Option Remark
-remark_on context line behind =
-    cond (is_field line.step (codes "algorithm")) (remark_on_algorithm (named line.value) (parameters behind))
-    (cond (is_field line.step (codes "values") && context.is_single) (remark_on_values (members_of line.depth behind))
+remark_on context line after =
+    cond (is_field line.step (codes "algorithm")) (remark_on_algorithm (named line.value) (parameters after))
+    (cond (is_field line.step (codes "values") && context.is_single) (remark_on_values (members_of line.depth after))
     (cond (is_public_key line.step) (remark_on_key context line.value) None))
 
 -- the line is the same field of a member as another one
@@ -181,7 +181,7 @@ is_said most line before =
     list_any (is_same_identifier line)
     (take most (filter (is_same_field line) (while_deeper (line.depth - 2) before)))
 
--- The same identifier as the same field stands in one of the last 32 members of the list before it.
+-- The same identifier as the same field is in one of the last 32 members of the list before it.
 abbrev pub is_repeated : List Line → Line → Bool
 is_repeated before line = is_said most_members line (reverse before)
 
@@ -189,7 +189,7 @@ abbrev pub is_attribute : Option Line → Bool
 is_attribute None = false
 is_attribute (Some line) = same_octets line.type_name.now (codes "RequestAttribute")
 
--- what may not stand there twice: an extension (RFC 5280 section 4.2), an attribute of a request (RFC 2986 section 4.1)
+-- what may not be there twice: an extension (RFC 5280 section 4.2), an attribute of a request (RFC 2986 section 4.1)
 abbrev pub remark_once_more : List Line → Line → Option Remark
 remark_once_more lines line =
     cond (is_field line.step (codes "extnID")) (Some ExtensionTwice)
@@ -206,12 +206,12 @@ note_on number (Some remark) = record { line = number; remark = remark } ∷ []
 -- the notes on the lines from this number on, by what those before say
 abbrev pub notes_from : List Line → Context → ℕ → List Line → List Note
 notes_from lines context number [] = []
-notes_from lines context number (line ∷ behind) =
-    note_on number (remark_on context line behind)
+notes_from lines context number (line ∷ after) =
+    note_on number (remark_on context line after)
     ++ note_on number (remark_on_repeat lines (take number lines) line)
-    ++ notes_from lines (context_behind context line) (number + 1) behind
+    ++ notes_from lines (context_after context line) (number + 1) after
 
--- at most so many notes are told
+-- at most so many notes are shown
 abbrev pub most_notes : ℕ
 most_notes = 100
 

@@ -1,4 +1,4 @@
--- What a report tells of contents: the number of the octets of what is private, of keys and signatures, and of strings
+-- What a report shows of contents: the number of the octets of what is private, of keys and signatures, and of strings
 -- that aren't a subject's; of others what they say.
 use Rattle.std.specs.Prelude.{Bool, List, None, Option, Some, [], cond, false, length, nat_le, nat_lt, not, string_bytes, true, ℕ, ◌&&◌, ◌==◌, ◌||◌, ◌∷◌, ◌<◌, ◌≡◌, codes}
 use Rattle.std.specs.Option.{option_map}
@@ -35,7 +35,7 @@ sort_of_leaf leaves.BitString = Bits
 sort_of_leaf leaves.OctetString = Octets
 sort_of_leaf leaves.Utf8String = Characters
 
--- The contents are told, in an element that isn't private.
+-- The contents are shown, in an element that isn't private.
 abbrev pub is_public : Sort → Step → Bool
 is_public Null step = true
 is_public IdentifierSort step = true
@@ -88,7 +88,7 @@ abbrev pub has_unused : List ℕ → Bool
 has_unused [] = false
 has_unused (unused ∷ octets) = nat_lt unused 8
 
--- Of contents of this sort their number alone is told: they aren't short, or aren't what they have to be.
+-- Of contents of this sort their number alone is shown: they aren't short, or aren't what they have to be.
 abbrev pub IsSizeAlone : Sort → List ℕ → Type 0
 IsSizeAlone Null contents = (length contents == 0) ≡ false
 IsSizeAlone Boolean contents = (length contents == 1) ≡ false
@@ -113,12 +113,15 @@ Says sort contents (values.Number number) = (sort ≡ Integer) × (contents ≡ 
 Says sort contents (values.Named known) =
     (sort ≡ IdentifierSort) × (usual contents ≡ Some (row_of known.now))
 Says sort contents (values.Arcs text) =
-    (sort ≡ IdentifierSort) × (usual contents ≡ None) × IsObjectIdentifier contents × (string_bytes text ≡ oid_text contents)
+    (sort ≡ IdentifierSort)
+    × (usual contents ≡ None)
+    × IsObjectIdentifier contents
+    × (string_bytes text ≡ oid_text contents)
 Says sort contents (values.Characters octets) = (sort ≡ Characters) × (octets.items ≡ contents)
 
--- What is told of the contents of an element: their number alone where it is private, or where they aren't public.
-abbrev pub Tells : NamedElement → List ℕ → Value → Type 0
-Tells element contents value =
+-- What is shown of the contents of an element: their number alone where it is private, or where they aren't public.
+abbrev pub ShowsContents : NamedElement → List ℕ → Value → Type 0
+ShowsContents element contents value =
     elim (element.private || not (is_public (sort_of element) element.step)) [
       | true ↦ value ≡ values.Size (length contents)
       | false ↦ Says (sort_of element) contents value

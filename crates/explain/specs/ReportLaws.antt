@@ -1,4 +1,4 @@
--- The law on reports: no more is told of a document than what may be.
+-- The law on reports: no more is shown of a document than what may be.
 use Rattle.std.specs.Prelude.{List, ℕ}
 use Rattle.tlv_core.specs.Limits.{Limits}
 use Rattle.pk_documents.specs.declared.kind.Kind.{Kind}
@@ -7,11 +7,11 @@ use Rattle.explain.specs.Reports.{IsReportBy, IsReportOf}
 use Rattle.explain.specs.declared.disclosed.Disclosed.{Disclosed}
 use Rattle.reports.specs.declared.report.Report.{Report}
 
--- Of two documents the same may be told: what is reported of the one may be reported of the other.
-pub record TellTheSame (limits : Limits) (of : Kind) (one other : List ℕ) : Type 0 where
-  pub same : (told : Disclosed) → IsDisclosed limits of one told → IsDisclosed limits of other told
+-- Of two documents the same may be shown: what is reported of the one may be reported of the other.
+pub record DiscloseTheSame (limits : Limits) (of : Kind) (one other : List ℕ) : Type 0 where
+  pub same : (disclosed : Disclosed) → IsDisclosed limits of one disclosed → IsDisclosed limits of other disclosed
 
-abbrev pub ReportsTellNothingPrivate : Type 0
-ReportsTellNothingPrivate =
-    (limits : Limits) (of : Kind) (one other : List ℕ) (report : Report) → TellTheSame limits of one other
+abbrev pub ReportsShowNothingPrivate : Type 0
+ReportsShowNothingPrivate =
+    (limits : Limits) (of : Kind) (one other : List ℕ) (report : Report) → DiscloseTheSame limits of one other
     → IsReportOf limits of one report → IsReportOf limits of other report

@@ -2,7 +2,7 @@
 use Rattle.std.specs.Prelude.{Bool, List, Option, [], false, length, true, ℕ, ◌∷◌}
 use Rattle.asn_names.specs.declared.element.NamedElement.{NamedElement}
 use Rattle.explain.specs.Causes.{causes_of}
-use Rattle.explain.specs.Places.{Page}
+use Rattle.explain.specs.Places.{ListedDocument}
 use Rattle.reports.specs.declared.report.Answer.{Answer}
 use Rattle.reports.specs.declared.report.Answer.TheVariants.{Der, NotDer, Refused}
 use Rattle.reports.specs.declared.report.Cause.{Cause}
@@ -13,17 +13,17 @@ is_refusal (NotDer place) = false
 is_refusal (Refused fault) = true
 
 -- why the elements of a sound document aren't in DER
-abbrev pub told_causes : Answer → List ℕ → List NamedElement → List (Option Cause)
-told_causes Der front elements = []
-told_causes (NotDer place) front elements = causes_of front elements
-told_causes (Refused fault) front elements = []
+abbrev pub causes_by : Answer → List ℕ → List NamedElement → List (Option Cause)
+causes_by Der front elements = []
+causes_by (NotDer place) front elements = causes_of front elements
+causes_by (Refused fault) front elements = []
 
 -- the front itself, by the answer to the document and the elements of the front
-abbrev pub front_page : Answer → List ℕ → List NamedElement → Page
-front_page answer front elements = record {
+abbrev pub front_document : Answer → List ℕ → List NamedElement → ListedDocument
+front_document answer front elements = record {
   octets = front;
   elements = elements;
-  causes = told_causes answer front elements;
+  causes = causes_by answer front elements;
   pieces = record { at = 0; octets = length front } ∷ [];
   is_inside = false;
   depth = 0;

@@ -4,16 +4,16 @@ use Rattle.std.specs.Borrow.{Bor}
 use Rattle.pkix_shapes.specs.Names as names
 use Rattle.pkix_shapes.specs.Names.{names_in}
 use Rattle.pkix_shapes.specs.Secrets as secrets
-use Rattle.pkix_shapes.specs.Secrets.{private_ways}
+use Rattle.pkix_shapes.specs.Secrets.{private_paths}
 use Rattle.pkix_shapes.specs.Terms.{bare, term_of}
-use Rattle.pkix_shapes.specs.Ways.{Way}
+use Rattle.pkix_shapes.specs.Paths.{Path}
 use Rattle.pkix_shapes.specs.declared.shape.Shape.{Shape}
 use Rattle.pk_documents.specs.Kinds.{type_of}
 use Rattle.pk_documents.specs.declared.kind.Kind.{Kind}
 use Rattle.pk_documents.specs.declared.kind.Kind.TheVariants.{Ec, Encrypted, Key, Package, Public, Request}
 
--- the ways to what is private in documents of the kind
-abbrev pub private_of : Kind → List Way
+-- the paths to what is private in documents of the kind
+abbrev pub private_of : Kind → List Path
 private_of Key = secrets.of_key
 private_of Ec = secrets.of_ec_key
 private_of Request = secrets.of_request
@@ -32,5 +32,5 @@ names_of Package = names.in_key
 
 pub record IsShapeOf (of : Kind) (root : Bor Shape) : Type 0 where
   pub type : term_of root.now ≡ bare (type_of of)
-  pub private : private_ways root.now ≡ private_of of
+  pub private : private_paths root.now ≡ private_of of
   pub names : names_in root.now ≡ names_of of

@@ -16,9 +16,9 @@ use Rattle.explain.specs.declared.written.Form.{Form}
 abbrev pub version : List ℕ
 version = codes "1.1.0, for logic dac8208d650f15bf"
 
--- as many places that aren't in DER are told, where nothing else is asked for
-abbrev pub places_told : ℕ
-places_told = 100
+-- As many places that aren't in DER are shown, where nothing else is asked for
+abbrev pub places_shown : ℕ
+places_shown = 100
 
 -- a report in this form, of the file of this name
 abbrev pub written_text : Form → Option (List ℕ) → Report → List ℕ

@@ -65,8 +65,8 @@ fn is_disordered(
         return false;
     };
     let depth = element.header.depth;
-    let behind = &elements[number + 1..];
-    is_set(element) && is_out_of_order(octets, depth, behind, &causes[number + 1..])
+    let rest = &elements[number + 1..];
+    is_set(element) && is_out_of_order(octets, depth, rest, &causes[number + 1..])
 }
 
 /// Whether one of the elements is hidden, as long as they are deeper.
@@ -74,14 +74,14 @@ fn holds_hidden(depth: u64, elements: &[NamedElement]) -> bool
     ensures { result ≡ holds_hidden depth elements.now }
 {
     let mut left = elements;
-    while let [element, behind @ ..] = left {
+    while let [element, rest @ ..] = left {
         if element.header.depth <= depth {
             return false;
         }
         if is_hidden(element) {
             return true;
         }
-        left = behind;
+        left = rest;
     }
     false
 }
@@ -119,9 +119,9 @@ fn own_causes(
 {
     let mut causes = Vec::with_capacity(alloc, elements.len())?;
     let mut left = elements;
-    while let [element, behind @ ..] = left {
+    while let [element, rest @ ..] = left {
         causes.push(own_cause(octets, element))?;
-        left = behind;
+        left = rest;
     }
     Ok(causes)
 }
@@ -136,7 +136,7 @@ pub(crate) fn cause_within(
 {
     let mut left = elements;
     let mut others = causes;
-    while let [element, behind @ ..] = left {
+    while let [element, rest @ ..] = left {
         let [cause, later @ ..] = others else {
             return None;
         };
@@ -146,7 +146,7 @@ pub(crate) fn cause_within(
         if cause.is_some() {
             return *cause;
         }
-        left = behind;
+        left = rest;
         others = later;
     }
     None
@@ -245,10 +245,10 @@ fn boolean_cause(step: Step, contents: &[u8]) -> Option<Cause>
 fn bits_cause(contents: &[u8]) -> Option<Cause>
     ensures { result ≡ bits_cause contents.now }
 {
-    let [unused, behind @ ..] = contents else {
+    let [unused, rest @ ..] = contents else {
         return None;
     };
-    match behind.last() {
+    match rest.last() {
         Some(last) if *last % unit_of(*unused) != 0 => Some(Cause::UnusedBits),
         _ => None,
     }
@@ -285,13 +285,13 @@ fn is_set(element: &NamedElement) -> bool
     }
 }
 
-/// Whether the members of an element that is so deep stand in order, none less than the one before it.
+/// Whether the members of an element that is so deep are in order, none less than the one before it.
 fn is_ordered(octets: &[u8], depth: u64, elements: &[NamedElement]) -> bool
     ensures { result ≡ ascends (member_encodings octets.now depth elements.now) }
 {
     let mut before: &[u8] = &[];
     let mut left = elements;
-    while let [element, behind @ ..] = left {
+    while let [element, rest @ ..] = left {
         if element.header.depth <= depth {
             return true;
         }
@@ -302,7 +302,7 @@ fn is_ordered(octets: &[u8], depth: u64, elements: &[NamedElement]) -> bool
             }
             before = member;
         }
-        left = behind;
+        left = rest;
     }
     true
 }

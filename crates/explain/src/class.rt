@@ -1,4 +1,4 @@
-//! What stands at a fault, by one of a few tags.
+//! What is at a fault, by one of a few tags.
 ghost use Rattle.std.specs.Prelude.{◌≡◌};
 ghost use Rattle.explain.specs.Classes.{class_at, class_of, with_class};
 

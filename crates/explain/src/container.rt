@@ -1,13 +1,13 @@
 //! The container that a fault is about.
 ghost use Rattle.std.specs.Prelude.{◌≡◌, IfOk, Some, slice_get};
 ghost use Rattle.std.specs.Option.{is_some};
-ghost use Rattle.explain.specs.Blames.{IsContainerAt, IsContainerOf, IsNearest, IsNumberOf, end_of};
+ghost use Rattle.explain.specs.FaultContainers.{IsContainerAt, IsContainerOf, IsNearest, IsNumberOf, end_of};
 
+use crate::fault_location::{FaultLocation, enclosed, push_path};
 use crate::inside::element_at;
 use crate::places::announced_end;
-use crate::ways::{Spot, enclosed, push_way};
 use asn_names::element::NamedElement;
-use reports::report::ToldContainer;
+use reports::report::FaultContainer;
 use std::alloc::{AllocError, Global};
 use tlv_core::reason::Reason;
 
@@ -15,22 +15,26 @@ use tlv_core::reason::Reason;
 pub(crate) fn container_of(
     alloc: Global,
     elements: &[NamedElement],
-    spot: Spot,
+    location: FaultLocation,
     why: Reason,
-) -> Result<Option<ToldContainer>, AllocError>
-    ensures { IfOk result (λ told.
-        IsContainerOf elements.now why spot.container spot.element told) }
+) -> Result<Option<FaultContainer>, AllocError>
+    ensures { IfOk result (λ found.
+        IsContainerOf elements.now why location.container location.element found) }
 {
-    match container_number(elements, spot, why) {
+    match container_number(elements, location, why) {
         Some(number) => container_at(alloc, elements, number),
         None => Ok(None),
     }
 }
 
-fn container_number(elements: &[NamedElement], spot: Spot, why: Reason) -> Option<usize>
-    ensures { IsNumberOf elements.now why spot.container spot.element result }
+fn container_number(
+    elements: &[NamedElement],
+    location: FaultLocation,
+    why: Reason,
+) -> Option<usize>
+    ensures { IsNumberOf elements.now why location.container location.element result }
 {
-    match (why, spot.container, spot.element) {
+    match (why, location.container, location.element) {
         (Reason::Missing, container, _) => container,
         (Reason::PastEnd, None, Some(number)) => definite_around(elements, number),
         _ => None,
@@ -41,16 +45,16 @@ fn container_at(
     alloc: Global,
     elements: &[NamedElement],
     number: usize,
-) -> Result<Option<ToldContainer>, AllocError>
-    ensures { IfOk result (λ told. IsContainerAt elements.now (Some number) told) }
+) -> Result<Option<FaultContainer>, AllocError>
+    ensures { IfOk result (λ found. IsContainerAt elements.now (Some number) found) }
 {
     let Some(element) = elements.get(number) else {
         return Ok(None);
     };
-    let mut way = Vec::new(alloc);
-    push_way(&mut way, elements, number)?;
-    Ok(Some(ToldContainer {
-        way,
+    let mut path = Vec::new(alloc);
+    push_path(&mut path, elements, number)?;
+    Ok(Some(FaultContainer {
+        path,
         at: element.header.at,
         end: announced_end(element),
     }))

@@ -1,22 +1,22 @@
-//! The report of a document: made of what may be told of it, so two documents of which the same may be told have one
+//! The report of a document: made of what may be shown of it, so two documents of which the same may be shown have one
 //! report.
 ghost use Rattle.std.specs.Prelude.{◌≡◌, ◌≤◌, IfOk, length};
 ghost use Rattle.explain.specs.Listings.{IsListed};
 ghost use Rattle.explain.specs.Notes.{most_notes, notes_by};
 ghost use Rattle.explain.specs.Reports.{IsReportBy, IsReportOf, announced_end};
-ghost use Rattle.explain.specs.Rules.{front_page, told_causes};
+ghost use Rattle.explain.specs.Rules.{causes_by, front_document};
 
 use crate::causes::causes_of;
+use crate::diagnosis::{RefusedFront, diagnose};
 use crate::disclosed::{Disclosed, disclose};
 use crate::fault_line::push_fault_line;
 use crate::inside::{Inside, documents_inside, named_elements};
 use crate::kinds::{shape_of, words_of};
 use crate::listing::lines_of;
 use crate::notes::notes_of;
-use crate::places::{Piece, Sheet, sum_of};
-use crate::told_fault::{Shown, told_blame};
+use crate::places::{DocumentCursor, Piece, sum_of};
 use asn_names::element::NamedElement;
-use asn_names::naming::Named;
+use asn_names::naming::NamedElements;
 use pk_documents::kind::Kind;
 use reports::report::{Answer, Cause, Line, Note, Report};
 use std::alloc::{AllocError, Global};
@@ -31,34 +31,34 @@ pub fn explain(
 ) -> Result<Report, AllocError>
     ensures { IfOk result (λ report. IsReportOf limits kind octets.now report) }
 {
-    let told = disclose(alloc, octets, kind, limits)?;
-    let report = report_of(alloc, kind, limits, told)?;
+    let disclosed = disclose(alloc, octets, kind, limits)?;
+    let report = report_of(alloc, kind, limits, disclosed)?;
     Ok(report)
 }
 
-/// The report that is made of what may be told of a document, and of nothing else.
+/// The report that is made of what may be shown of a document, and of nothing else.
 fn report_of(
     alloc: Global,
     kind: Kind,
     limits: Limits,
-    told: Disclosed<'_>,
+    disclosed: Disclosed<'_>,
 ) -> Result<Report, AllocError>
-    ensures { IfOk result (λ report. IsReportBy limits kind told.entry report) }
+    ensures { IfOk result (λ report. IsReportBy limits kind disclosed.entry report) }
 {
     let Disclosed {
         octets,
         answer,
         front,
-        way,
+        path,
         class,
-        looks,
-    } = told;
+        guess,
+    } = disclosed;
     let root = shape_of(kind);
     let named = named_elements(alloc, front, root, limits)?;
     let insides = documents_inside(alloc, front, named.elements.as_slice(), limits)?;
-    let mut lines = told_lines(alloc, front, answer, &named, insides.as_slice())?;
-    push_fault_line(&mut lines, answer, way.as_slice().len() as u64)?;
-    let shown = Shown {
+    let mut lines = front_lines(alloc, front, answer, &named, insides.as_slice())?;
+    push_fault_line(&mut lines, answer, path.as_slice().len() as u64)?;
+    let shown = RefusedFront {
         root,
         named: &named,
         octets,
@@ -66,8 +66,8 @@ fn report_of(
         class,
         lines: lines.as_slice(),
     };
-    let blame = told_blame(alloc, answer, shown, way)?;
-    let notes = told_notes(alloc, answer, lines.as_slice())?;
+    let diagnosis = diagnose(alloc, answer, shown, path)?;
+    let notes = notes_by(alloc, answer, lines.as_slice())?;
     let announced = announced_end(lines.as_slice());
     Ok(Report {
         kind: words_of(kind),
@@ -75,30 +75,30 @@ fn report_of(
         announced,
         answer,
         lines,
-        blame,
-        looks,
+        diagnosis,
+        guess,
         notes,
     })
 }
 
 /// The lines of the elements of the front.
-fn told_lines(
+fn front_lines(
     alloc: Global,
     front: &[u8],
     answer: Answer,
-    named: &Named,
+    named: &NamedElements,
     insides: &[Inside],
 ) -> Result<Vec<Line>, AllocError>
-    ensures { IfOk result (λ lines. IsListed (front_page answer front.now named.now.elements.items)
+    ensures { IfOk result (λ lines. IsListed (front_document answer front.now named.now.elements.items)
         insides.now lines.items) }
 {
     let elements = named.elements.as_slice();
-    let causes = told_causes(alloc, front, answer, elements)?;
+    let causes = causes_by(alloc, front, answer, elements)?;
     let whole = [Piece {
         at: 0,
         octets: front.len() as u64,
     }];
-    let sheet = Sheet {
+    let cursor = DocumentCursor {
         octets: front,
         elements,
         causes: causes.as_slice(),
@@ -109,18 +109,18 @@ fn told_lines(
         depth: 0,
         around: 0,
     };
-    let lines = lines_of(alloc, sheet, insides)?;
+    let lines = lines_of(alloc, cursor, insides)?;
     Ok(lines)
 }
 
 /// Why the elements of a sound document aren't in DER.
-fn told_causes(
+fn causes_by(
     alloc: Global,
     octets: &[u8],
     answer: Answer,
     elements: &[NamedElement],
 ) -> Result<Vec<Option<Cause>>, AllocError>
-    ensures { IfOk result (λ causes. causes.items ≡ told_causes answer octets.now elements.now) }
+    ensures { IfOk result (λ causes. causes.items ≡ causes_by answer octets.now elements.now) }
 {
     match answer {
         Answer::NotDer(_) => causes_of(alloc, octets, elements),
@@ -129,7 +129,7 @@ fn told_causes(
 }
 
 /// The notes, of a document that is accepted.
-fn told_notes(alloc: Global, answer: Answer, lines: &[Line]) -> Result<Vec<Note>, AllocError>
+fn notes_by(alloc: Global, answer: Answer, lines: &[Line]) -> Result<Vec<Note>, AllocError>
     ensures are { IfOk result (λ notes. notes.items ≡ notes_by answer lines.now) }
     ensures few { IfOk result (λ notes. length notes.items ≤ most_notes) }
 {
@@ -139,7 +139,7 @@ fn told_notes(alloc: Global, answer: Answer, lines: &[Line]) -> Result<Vec<Note>
     }
 }
 
-/// Where the outermost element ends by its length, where that is told: by the first line.
+/// Where the outermost element ends by its length, where that is shown: by the first line.
 fn announced_end(lines: &[Line]) -> Option<u64>
     ensures { result ≡ announced_end lines.now }
 {

@@ -1,4 +1,4 @@
-//! The line of a fault, where no other line tells of the element there.
+//! The line of a fault, where no other line shows the element there.
 ghost use Rattle.std.specs.Prelude.{◌≡◌, OnOk};
 ghost use Rattle.explain.specs.FaultLines.{AddsFault, IsPlaceAlone, is_at, is_between, line_at, line_from};
 
@@ -8,7 +8,7 @@ use reports::report::{Answer, Line, Value};
 use std::alloc::AllocError;
 use tlv_core::reason::Reason;
 
-/// Of a document that is refused at an element which no line tells of: a line of its place alone, so deep.
+/// Of a document that is refused at an element that no line shows: a line of its place alone, so deep.
 pub(crate) fn push_fault_line(
     lines: &mut Vec<Line>,
     answer: Answer,
@@ -26,7 +26,7 @@ pub(crate) fn push_fault_line(
     Ok(())
 }
 
-/// Whether no element stands at the fault.
+/// Whether no element is at the fault.
 pub(crate) fn is_between(why: Reason) -> bool
     ensures { result ≡ is_between why }
 {

@@ -1,13 +1,13 @@
 //! The front of a refused document: its first octets, as far as they say one of a few things that many documents say.
 ghost use Rattle.std.specs.Prelude.{◌≡◌, drop};
 ghost use Rattle.std.specs.Option.{option_map};
-ghost use Rattle.explain.specs.Fronts.{after_element, after_outside_subject, after_subject, begins_key, behind_header, behind_length, behind_whole, cut_at, front_by, front_size, has_key_behind, header_end, is_container, is_container_tag, is_deeper, is_in_place, is_kept, is_misformed, is_named, is_one_of, is_usual, is_usual_leaf, is_usual_mark, mark_of, mark_of_container, mark_of_leaf, shown_end, start};
+ghost use Rattle.explain.specs.Fronts.{after_element, after_header, after_length, after_outside_subject, after_subject, after_whole, begins_key, cut_at, front_by, front_size, has_key_after, header_end, is_container, is_container_tag, is_deeper, is_in_place, is_kept, is_misformed, is_named, is_one_of, is_usual, is_usual_leaf, is_usual_mark, mark_of, mark_of_container, mark_of_leaf, shown_end, start};
 
 use crate::causes::holds_segments;
-use crate::places::{announced_end, end_behind};
+use crate::fault_location::element_with;
+use crate::places::{announced_end, end_after};
 use crate::values::{Sort, contents_of, is_field, sort_of};
-use crate::ways::element_with;
-use asn_names::element::{NamedElement, Parting, Step};
+use asn_names::element::{Mismatch, NamedElement, Step};
 use pkix_shapes::identifiers::identifier_of;
 use pkix_shapes::shape::Shape;
 use tlv_core::tag::{Class, Tag};
@@ -17,19 +17,19 @@ use tlv_core::tag::{Class, Tag};
 pub(crate) enum Mark {
     /// A leaf that says one of a few things.
     Usual,
-    /// It is shown where something usual stands behind it.
+    /// It is shown where something usual comes after it.
     Waits,
     /// The subject of a request.
     Subject,
-    /// The attributes of a request: what stands before them is whole.
+    /// The attributes of a request: what comes before them is whole.
     Attributes,
-    /// Neither it nor what stands behind it is shown.
+    /// Neither it nor what comes after it is shown.
     Ends,
 }
 
 /// What is known between two elements.
 #[derive(Clone, Copy)]
-pub(crate) struct Reading {
+pub(crate) struct FrontState {
     /// So many octets are shown.
     pub(crate) octets: u64,
     /// How deep the subject is that the elements are in, where they are in one that is shown.
@@ -42,46 +42,46 @@ pub(crate) struct Reading {
 pub(crate) fn front_size(
     octets: &[u8],
     elements: &[NamedElement],
-    parting: &Parting,
+    mismatch: &Mismatch,
     at: u64,
 ) -> u64
-    ensures { result ≡ front_size octets.now elements.now parting.now at }
+    ensures { result ≡ front_size octets.now elements.now mismatch.now at }
 {
-    let mut reading = start();
+    let mut state = start();
     for i in 0..elements.len() {
-        reading = after_element(octets, reading, &elements[i]);
+        state = after_element(octets, state, &elements[i]);
     }
-    front_by(reading, elements, parting).min(cut_at(elements, at))
+    front_by(state, elements, mismatch).min(cut_at(elements, at))
 }
 
 /// Before the first element.
-fn start() -> Reading
+fn start() -> FrontState
     ensures { result ≡ start }
 {
-    Reading {
+    FrontState {
         octets: 0,
         subject: None,
         ended: false,
     }
 }
 
-/// How many octets are shown by what is known behind all elements: all of a document that is whole.
-fn front_by(reading: Reading, elements: &[NamedElement], parting: &Parting) -> u64
-    ensures { result ≡ front_by reading elements.now parting.now }
+/// How many octets are shown by what is known after all elements: all of a document that is whole.
+fn front_by(state: FrontState, elements: &[NamedElement], mismatch: &Mismatch) -> u64
+    ensures { result ≡ front_by state elements.now mismatch.now }
 {
-    match parting {
-        Parting::Nowhere if !reading.ended => behind_whole(reading.octets, elements.first()),
-        _ => reading.octets,
+    match mismatch {
+        Mismatch::Nowhere if !state.ended => after_whole(state.octets, elements.first()),
+        _ => state.octets,
     }
 }
 
 /// Where the outermost element ends.
-fn behind_whole(octets: u64, outermost: Option<&NamedElement>) -> u64
-    ensures { result ≡ behind_whole octets (option_map (λ r. r.now) outermost.entry) }
+fn after_whole(octets: u64, outermost: Option<&NamedElement>) -> u64
+    ensures { result ≡ after_whole octets (option_map (λ r. r.now) outermost.entry) }
 {
     match outermost {
         Some(element) => match element.end {
-            Some(end) => end_behind(element, end),
+            Some(end) => end_after(element, end),
             None => octets,
         },
         None => octets,
@@ -103,7 +103,7 @@ fn shown_end(element: &NamedElement) -> u64
     ensures { result ≡ shown_end element.now }
 {
     match element.end {
-        Some(end) => end_behind(element, end),
+        Some(end) => end_after(element, end),
         None => header_end(element),
     }
 }
@@ -119,27 +119,27 @@ fn header_end(element: &NamedElement) -> u64
 }
 
 /// One element more.
-fn after_element(octets: &[u8], reading: Reading, element: &NamedElement) -> Reading
-    ensures { result ≡ after_element octets.now reading element.now }
+fn after_element(octets: &[u8], state: FrontState, element: &NamedElement) -> FrontState
+    ensures { result ≡ after_element octets.now state element.now }
 {
-    if reading.ended {
-        return reading;
+    if state.ended {
+        return state;
     }
-    if is_deeper(reading.subject, element) {
-        after_subject(reading, element)
+    if is_deeper(state.subject, element) {
+        after_subject(state, element)
     } else {
-        after_outside_subject(octets, reading, element, mark_of(octets, element))
+        after_outside_subject(octets, state, element, mark_of(octets, element))
     }
 }
 
 /// One element more of a subject that is shown.
-fn after_subject(reading: Reading, element: &NamedElement) -> Reading
-    ensures { result ≡ after_subject reading element.now }
+fn after_subject(state: FrontState, element: &NamedElement) -> FrontState
+    ensures { result ≡ after_subject state element.now }
 {
     if !is_in_place(element.step) {
-        return Reading {
+        return FrontState {
             ended: true,
-            ..reading
+            ..state
         };
     }
     let octets = if element.header.constructed {
@@ -147,10 +147,10 @@ fn after_subject(reading: Reading, element: &NamedElement) -> Reading
     } else {
         shown_end(element)
     };
-    Reading {
+    FrontState {
         octets,
         ended: is_misformed(element),
-        ..reading
+        ..state
     }
 }
 
@@ -164,34 +164,34 @@ fn is_misformed(element: &NamedElement) -> bool
 /// One element more, in no subject.
 fn after_outside_subject(
     octets: &[u8],
-    reading: Reading,
+    state: FrontState,
     element: &NamedElement,
     mark: Mark,
-) -> Reading
-    ensures { result ≡ after_outside_subject octets.now reading element.now mark }
+) -> FrontState
+    ensures { result ≡ after_outside_subject octets.now state element.now mark }
 {
-    let behind = Reading {
+    let rest = FrontState {
         subject: None,
-        ..reading
+        ..state
     };
     match mark {
-        Mark::Usual => Reading {
+        Mark::Usual => FrontState {
             octets: shown_end(element),
-            ..behind
+            ..rest
         },
-        Mark::Waits => behind,
-        Mark::Subject if has_key_behind(octets, element) => Reading {
+        Mark::Waits => rest,
+        Mark::Subject if has_key_after(octets, element) => FrontState {
             octets: header_end(element),
             subject: Some(element.header.depth),
             ended: false,
         },
-        Mark::Attributes => Reading {
+        Mark::Attributes => FrontState {
             octets: element.header.at,
-            ..behind
+            ..rest
         },
-        Mark::Subject | Mark::Ends => Reading {
+        Mark::Subject | Mark::Ends => FrontState {
             ended: true,
-            ..behind
+            ..rest
         },
     }
 }
@@ -289,7 +289,7 @@ fn mark_of_leaf(element: &NamedElement, contents: Option<&[u8]>) -> Mark
     }
 }
 
-/// Whether the field of this name is public in each document that has it, and told by its size alone.
+/// Whether the field of this name is public in each document that has it, and shown by its size alone.
 fn is_kept(step: Step) -> bool
     ensures { result ≡ is_kept step }
 {
@@ -326,18 +326,18 @@ fn is_one_of(contents: &[u8], one: u8, other: u8) -> bool
     }
 }
 
-/// Whether a public key stands behind a subject, of definite length.
-fn has_key_behind(octets: &[u8], element: &NamedElement) -> bool
-    ensures { result ≡ has_key_behind octets.now element.now }
+/// Whether a public key comes after a subject, of definite length.
+fn has_key_after(octets: &[u8], element: &NamedElement) -> bool
+    ensures { result ≡ has_key_after octets.now element.now }
 {
     match announced_end(element) {
-        Some(end) => begins_key(octets_behind(octets, end)),
+        Some(end) => begins_key(octets_after(octets, end)),
         None => false,
     }
 }
 
-/// The octets behind a place.
-fn octets_behind(octets: &[u8], place: u64) -> &[u8]
+/// The octets after a place.
+fn octets_after(octets: &[u8], place: u64) -> &[u8]
     ensures { result.now ≡ drop place octets.now }
 {
     if place <= octets.len() as u64 {
@@ -351,8 +351,8 @@ fn octets_behind(octets: &[u8], place: u64) -> &[u8]
 fn begins_key(octets: &[u8]) -> bool
     ensures { result ≡ begins_key octets.now }
 {
-    match behind_header(octets) {
-        Some(inner) => match behind_header(inner) {
+    match after_header(octets) {
+        Some(inner) => match after_header(inner) {
             Some(algorithm) => is_named(algorithm),
             None => false,
         },
@@ -360,26 +360,26 @@ fn begins_key(octets: &[u8]) -> bool
     }
 }
 
-/// The octets behind the header of a SEQUENCE.
-fn behind_header(octets: &[u8]) -> Option<&[u8]>
-    ensures { option_map (λ r. r.now) result ≡ behind_header octets.now }
+/// The octets after the header of a SEQUENCE.
+fn after_header(octets: &[u8]) -> Option<&[u8]>
+    ensures { option_map (λ r. r.now) result ≡ after_header octets.now }
 {
     match octets {
-        [identifier, behind @ ..] if *identifier == SEQUENCE => behind_length(behind),
+        [identifier, rest @ ..] if *identifier == SEQUENCE => after_length(rest),
         _ => None,
     }
 }
 
-/// The octets behind a length of at most five octets (X.690 8.1.3).
-fn behind_length(octets: &[u8]) -> Option<&[u8]>
-    ensures { option_map (λ r. r.now) result ≡ behind_length octets.now }
+/// The octets after a length of at most five octets (X.690 8.1.3).
+fn after_length(octets: &[u8]) -> Option<&[u8]>
+    ensures { option_map (λ r. r.now) result ≡ after_length octets.now }
 {
     match octets {
-        [first, behind @ ..] => {
+        [first, rest @ ..] => {
             if *first <= 128 {
-                Some(behind)
+                Some(rest)
             } else if *first <= 132 {
-                Some(octets_behind(behind, u64::from(*first - 128)))
+                Some(octets_after(rest, u64::from(*first - 128)))
             } else {
                 None
             }
@@ -393,9 +393,9 @@ fn is_named(octets: &[u8]) -> bool
     ensures { result ≡ is_named octets.now }
 {
     match octets {
-        [identifier, size, behind @ ..] if *identifier == OBJECT_IDENTIFIER => {
-            let size = (*size as usize).min(behind.len());
-            identifier_of(&behind[..size]).is_some()
+        [identifier, size, rest @ ..] if *identifier == OBJECT_IDENTIFIER => {
+            let size = (*size as usize).min(rest.len());
+            identifier_of(&rest[..size]).is_some()
         }
         _ => false,
     }

@@ -1,11 +1,11 @@
 //! What a document is by its first headers.
 ghost use Rattle.std.specs.Prelude.{◌≡◌, bytes_eq};
 ghost use Rattle.std.specs.Option.{option_map};
-ghost use Rattle.explain.specs.Heads.{are_numbers, begins_with, code_of, code_of_event, has_contents, is_certificate, is_content_info, is_exponent, is_integer, is_pfx, is_rsa_private_key, is_rsa_public_key, looks_by_outline};
+ghost use Rattle.explain.specs.Heads.{are_numbers, begins_with, code_of, code_of_event, guess_by_outline, has_contents, is_certificate, is_content_info, is_exponent, is_integer, is_pfx, is_rsa_private_key, is_rsa_public_key};
 
 use crate::values::octets_between;
 use ber_outline::event::Event;
-use reports::report::Looks;
+use reports::report::Guess;
 use tlv_core::tag::{Class, Tag};
 
 /// The numbers of universal tags (X.680 8.4).
@@ -21,19 +21,19 @@ const EXPLICIT_0: u32 = 100;
 const OTHER_TAG: u32 = 101;
 
 /// What a document is by the first events of its outline.
-pub(crate) fn looks_by_outline(octets: &[u8], events: &[Event]) -> Looks
-    ensures { result ≡ looks_by_outline octets.now events.now }
+pub(crate) fn guess_by_outline(octets: &[u8], events: &[Event]) -> Guess
+    ensures { result ≡ guess_by_outline octets.now events.now }
 {
     if is_rsa_private_key(octets, events) {
-        Looks::RsaPrivateKey
+        Guess::RsaPrivateKey
     } else if is_rsa_public_key(octets, events) {
-        Looks::RsaPublicKey
+        Guess::RsaPublicKey
     } else if is_certificate(events) {
-        Looks::Certificate
+        Guess::Certificate
     } else if is_pfx(octets, events) {
-        Looks::Pkcs12
+        Guess::Pkcs12
     } else {
-        Looks::Unknown
+        Guess::Unknown
     }
 }
 

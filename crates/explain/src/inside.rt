@@ -1,12 +1,12 @@
-//! Documents that OCTET STRINGs contain, and where their octets stand in the file.
+//! Documents that OCTET STRINGs contain, and where their octets are in the file.
 ghost use Rattle.std.specs.Prelude.{◌<◌, ◌++◌, ◌≡◌, IfOk, IfSome, OnOk, length, slice_get};
 ghost use Rattle.std.specs.Option.{option_map};
-ghost use Rattle.explain.specs.Insides.{AddsInside, HasInsides, IsDocumentIn, IsNamed, contained, contents_within, deeper_contents, deeper_pieces, inside_at, own_contents, own_pieces, pieces_within, stands_at};
+ghost use Rattle.explain.specs.Insides.{AddsInside, HasInsides, IsDocumentIn, IsNamed, contained, contents_within, deeper_contents, deeper_pieces, inside_at, is_at_place, own_contents, own_pieces, pieces_within};
 
 use crate::places::Piece;
 use crate::values::contents_of;
 use asn_names::element::NamedElement;
-use asn_names::naming::{Named, name_elements};
+use asn_names::naming::{NamedElements, name_elements};
 use ber_outline::outline::outline;
 use pkix_shapes::shape::Shape;
 use std::alloc::{AllocError, Global};
@@ -19,11 +19,11 @@ pub(crate) struct Inside {
     pub(crate) container: usize,
     /// Its contents, all segments joined.
     pub(crate) octets: Vec<u8>,
-    /// Where these stand in the file, in order.
+    /// Where these are in the file, in order.
     pub(crate) pieces: Vec<Piece>,
     /// The type of the document.
     pub(crate) shape: &'static Shape,
-    pub(crate) named: Named,
+    pub(crate) named: NamedElements,
 }
 
 /// The elements of a document of this type.
@@ -32,9 +32,9 @@ pub(crate) fn named_elements(
     octets: &[u8],
     shape: &'static Shape,
     limits: Limits,
-) -> Result<Named, AllocError>
+) -> Result<NamedElements, AllocError>
     ensures { IfOk result (λ named. IsNamed limits octets.now shape.entry
-        (named.elements.items, named.parting)) }
+        (named.elements.items, named.mismatch)) }
 {
     match outline(alloc, octets, limits) {
         Ok((events, stop)) => name_elements(alloc, octets, events.as_slice(), stop, shape),
@@ -90,7 +90,7 @@ pub(crate) fn element_at(elements: &[NamedElement], number: usize) -> Option<&Na
     elements.get(number)
 }
 
-/// The type of what an element contains, where that is a document and stands whole.
+/// The type of what an element contains, where that is a document and is whole.
 fn contained(element: &NamedElement) -> Option<&'static Shape>
     ensures { result ≡ contained element.now }
 {
@@ -125,7 +125,7 @@ fn document_inside(
     })
 }
 
-/// The octets of the first of the elements, or those of all segments in it, and where they stand.
+/// The octets of the first of the elements, or those of all segments in it, and where they are.
 fn push_segments(
     file: &[u8],
     elements: &[NamedElement],
@@ -137,11 +137,11 @@ fn push_segments(
     ensures pieces { OnOk result (pieces.new.items
         ≡ pieces.old.items ++ pieces_within file.now elements.now) }
 {
-    let [element, behind @ ..] = elements else {
+    let [element, rest @ ..] = elements else {
         return Ok(());
     };
     push_contents(file, element, octets, pieces)?;
-    push_deeper(file, element.header.depth, behind, octets, pieces)
+    push_deeper(file, element.header.depth, rest, octets, pieces)
 }
 
 /// The octets of elements as long as they are deeper.
@@ -158,12 +158,12 @@ fn push_deeper(
         ≡ pieces.old.items ++ deeper_pieces file.now depth elements.now) }
 {
     let mut left = elements;
-    while let [element, behind @ ..] = left {
+    while let [element, rest @ ..] = left {
         if element.header.depth <= depth {
             return Ok(());
         }
         push_contents(file, element, octets, pieces)?;
-        left = behind;
+        left = rest;
     }
     Ok(())
 }
@@ -203,18 +203,18 @@ pub(crate) fn inside_at<'a>(
         ≡ inside_at elements.now insides.now at }
 {
     let mut left = insides;
-    while let [inside, behind @ ..] = left {
-        if stands_at(elements, inside.container, at) {
+    while let [inside, rest @ ..] = left {
+        if is_at_place(elements, inside.container, at) {
             return Some(inside);
         }
-        left = behind;
+        left = rest;
     }
     None
 }
 
-/// Whether the element of this number stands at a place.
-fn stands_at(elements: &[NamedElement], number: usize, at: u64) -> bool
-    ensures { result ≡ stands_at at (slice_get elements.now number) }
+/// Whether the element of this number is at a place.
+fn is_at_place(elements: &[NamedElement], number: usize, at: u64) -> bool
+    ensures { result ≡ is_at_place at (slice_get elements.now number) }
 {
     match element_at(elements, number) {
         Some(element) => element.header.at == at,

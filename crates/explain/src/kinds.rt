@@ -1,12 +1,12 @@
 //! The kinds of documents, by their words and their types.
 ghost use Rattle.std.specs.Prelude.{◌≡◌};
 ghost use Rattle.pk_documents.specs.KindRows.{type_name_of, word_of};
-ghost use Rattle.explain.specs.Looks.{telling_field};
+ghost use Rattle.explain.specs.Guesses.{deciding_field};
 ghost use Rattle.explain.specs.Shapes.{IsShapeOf};
 
+use pk_documents::kind::Kind;
 use pkix_shapes::documents;
 use pkix_shapes::shape::Shape;
-use pk_documents::kind::Kind;
 use reports::report::KindWords;
 
 /// The type of a kind's documents, with the names of its fields, and with what in it is private.
@@ -35,9 +35,9 @@ pub(crate) fn words_of(kind: Kind) -> KindWords
     }
 }
 
-/// The field up to which the first elements of a kind's documents tell the kind.
-pub(crate) fn telling_field(kind: Kind) -> &'static str
-    ensures { result.now ≡ telling_field kind }
+/// The field up to which the first elements of a kind's documents decides the kind.
+pub(crate) fn deciding_field(kind: Kind) -> &'static str
+    ensures { result.now ≡ deciding_field kind }
 {
     match kind {
         Kind::Key | Kind::Ec | Kind::Package => "privateKey",

@@ -1,10 +1,10 @@
-//! The laws on what a report tells, and on its lines.
+//! The laws on what a report shows, and on its lines.
 ghost use Rattle.explain.specs.ListingLaws.{NoneIsLeftOut};
-ghost use Rattle.explain.specs.ReportLaws.{ReportsTellNothingPrivate};
+ghost use Rattle.explain.specs.ReportLaws.{ReportsShowNothingPrivate};
 
-/// Two documents of which the same may be told have the same reports, whatever else they have.
-pub fn reports_tell_nothing_private()
-    ensures { ReportsTellNothingPrivate }
+/// Two documents of which the same may be shown have the same reports, whatever else they have.
+pub fn reports_show_nothing_private()
+    ensures { ReportsShowNothingPrivate }
 {}
 
 /// Each element of an accepted file has its line, but those in a private one.

@@ -4,15 +4,15 @@ ghost use Rattle.std.specs.Option.{option_map};
 ghost use Rattle.asn_names.specs.declared.element.NamedElement.{NamedElement};
 ghost use Rattle.explain.specs.Causes.{line_cause};
 ghost use Rattle.explain.specs.Fronts.{is_deeper};
-ghost use Rattle.explain.specs.Lines.{AddsLine, IsHeaderLine, IsTold, inside_of, size_between};
-ghost use Rattle.explain.specs.Listings.{AddsDocument, AddsElement, IsListed, Lists, Telling, behind_inside, causes_inside, first_inside, hidden_behind, most_lines, number_around, own_number, own_place, start_of, telling};
-ghost use Rattle.explain.specs.Places.{SkipsIn, page_of};
+ghost use Rattle.explain.specs.Lines.{AddsLine, IsHeaderLine, IsListedValue, inside_of, size_between};
+ghost use Rattle.explain.specs.Listings.{AddsDocument, AddsElement, IsListed, ListingState, Lists, after_inside, causes_inside, first_inside, hidden_after, listing_state, most_lines, number_around, own_number, own_place, start_of};
+ghost use Rattle.explain.specs.Places.{SkipsIn, listed_document};
 
 use crate::causes::{cause_within, causes_of};
 use crate::front::is_deeper;
 use crate::inside::{Inside, element_at};
-use crate::places::{Placed, Sheet, later_pieces, placed_in, told_length};
-use crate::values::{contents_of, told_value};
+use crate::places::{DocumentCursor, Placed, later_pieces, listed_length, placed_in};
+use crate::values::{contents_of, listed_value};
 use asn_names::element::NamedElement;
 use reports::report::{Cause, Line, Value};
 use std::alloc::{AllocError, Global};
@@ -32,7 +32,7 @@ fn header_line(placed: Placed, element: &NamedElement, value: Value, cause: Opti
         type_name: type_name_of(element),
         tag: element.header.tag,
         constructed: element.header.constructed,
-        length: told_length(&element.header),
+        length: listed_length(&element.header),
         end: placed.end,
         value,
         cause,
@@ -54,12 +54,12 @@ fn inside_of(is_inside: bool, at: u64) -> Option<u64>
     if is_inside { Some(at) } else { None }
 }
 
-/// What is told of the contents of an element.
+/// What is shown of the contents of an element.
 fn line_value(alloc: Global, octets: &[u8], element: &NamedElement) -> Result<Value, AllocError>
-    ensures { IfOk result (λ value. IsTold octets.now element.now value) }
+    ensures { IfOk result (λ value. IsListedValue octets.now element.now value) }
 {
     match contents_of(octets, element) {
-        Some(contents) => told_value(alloc, element, contents),
+        Some(contents) => listed_value(alloc, element, contents),
         None => Ok(size_in_private(element)),
     }
 }
@@ -80,25 +80,25 @@ fn size_in_private(element: &NamedElement) -> Value
     }
 }
 
-/// The cause that the line of the element of this number tells: that of a private one is the first in it, since no line
-/// tells what is in it.
-fn line_cause(sheet: Sheet<'_>, number: usize) -> Option<Cause>
-    ensures { result ≡ line_cause sheet.entry.elements.now sheet.entry.causes.now number }
+/// The cause that the line of the element of this number shows: that of a private one is the first in it, since no line
+/// shows what is in it.
+fn line_cause(cursor: DocumentCursor<'_>, number: usize) -> Option<Cause>
+    ensures { result ≡ line_cause cursor.entry.elements.now cursor.entry.causes.now number }
 {
     let (Some(element), Some(cause)) = (
-        element_at(sheet.elements, number),
-        sheet.causes.get(number),
+        element_at(cursor.elements, number),
+        cursor.causes.get(number),
     ) else {
         return None;
     };
     if cause.is_some() || !element.private {
         return *cause;
     }
-    let behind = number + 1;
+    let after = number + 1;
     cause_within(
         element.header.depth,
-        &sheet.elements[behind..],
-        &sheet.causes[behind..],
+        &cursor.elements[after..],
+        &cursor.causes[after..],
     )
 }
 
@@ -123,9 +123,9 @@ fn own_number(is_hidden: bool, line: u64, around: u64) -> u64
     if is_hidden { around } else { line }
 }
 
-/// How deep the private element is that what stands behind an element is hidden in.
-fn hidden_behind(hidden: Option<u64>, element: &NamedElement) -> Option<u64>
-    ensures { result ≡ hidden_behind hidden element.now }
+/// How deep the private element is that what comes after an element is hidden in.
+fn hidden_after(hidden: Option<u64>, element: &NamedElement) -> Option<u64>
+    ensures { result ≡ hidden_after hidden element.now }
 {
     if is_deeper(hidden, element) {
         hidden
@@ -136,76 +136,80 @@ fn hidden_behind(hidden: Option<u64>, element: &NamedElement) -> Option<u64>
     }
 }
 
-/// Tells the next element, where it isn't hidden in a private one, and answers how deep such a one is.
+/// Lists the next element, where it isn't hidden in a private one, and answers how deep such a one is.
 fn push_element(
     alloc: Global,
     lines: &mut Vec<Line>,
     numbers: &mut Vec<u64>,
     hidden: Option<u64>,
-    sheet: Sheet<'_>,
+    cursor: DocumentCursor<'_>,
     number: usize,
 ) -> Result<Option<u64>, AllocError>
-    ensures { IfOk result (λ behind. SkipsIn sheet.entry
-        → AddsElement (page_of sheet.entry) number
-        (telling hidden numbers.old.items lines.old.items)
-        (telling behind numbers.new.items lines.new.items)) }
+    ensures { IfOk result (λ after. SkipsIn cursor.entry
+        → AddsElement (listed_document cursor.entry) number
+        (listing_state hidden numbers.old.items lines.old.items)
+        (listing_state after numbers.new.items lines.new.items)) }
 {
-    let Some(element) = element_at(sheet.elements, number) else {
+    let Some(element) = element_at(cursor.elements, number) else {
         return Ok(hidden);
     };
-    let around = number_around(numbers.as_slice(), sheet.around, element);
+    let around = number_around(numbers.as_slice(), cursor.around, element);
     let is_hidden = is_deeper(hidden, element);
     numbers.push(own_number(is_hidden, lines.len() as u64, around))?;
-    let placed = placed_in(sheet, element, around);
-    push_line(alloc, lines, is_hidden, sheet, placed, number)?;
-    Ok(hidden_behind(hidden, element))
+    let placed = placed_in(cursor, element, around);
+    push_line(alloc, lines, is_hidden, cursor, placed, number)?;
+    Ok(hidden_after(hidden, element))
 }
 
-/// Tells the element of this number, where it isn't hidden.
+/// Lists the element of this number, where it isn't hidden.
 fn push_line(
     alloc: Global,
     lines: &mut Vec<Line>,
     is_hidden: bool,
-    sheet: Sheet<'_>,
+    cursor: DocumentCursor<'_>,
     placed: Placed,
     number: usize,
 ) -> Result<(), AllocError>
-    ensures { OnOk result ((element : NamedElement) → slice_get sheet.entry.elements.now number ≡ Some element
-        → AddsLine is_hidden sheet.entry.octets.now placed element
-        (line_cause sheet.entry.elements.now sheet.entry.causes.now number)
+    ensures { OnOk result ((element : NamedElement) → slice_get cursor.entry.elements.now number ≡ Some element
+        → AddsLine is_hidden cursor.entry.octets.now placed element
+        (line_cause cursor.entry.elements.now cursor.entry.causes.now number)
         lines.old.items lines.new.items) }
 {
-    let Some(element) = element_at(sheet.elements, number) else {
+    let Some(element) = element_at(cursor.elements, number) else {
         return Ok(());
     };
     if is_hidden {
         return Ok(());
     }
-    let cause = line_cause(sheet, number);
-    let value = line_value(alloc, sheet.octets, element)?;
+    let cause = line_cause(cursor, number);
+    let value = line_value(alloc, cursor.octets, element)?;
     lines.push(header_line(placed, element, value, cause))?;
     Ok(())
 }
 
 /// The lines of the elements inside an OCTET STRING.
-fn push_inside(alloc: Global, lines: &mut Vec<Line>, sheet: Sheet<'_>) -> Result<(), AllocError>
-    ensures { OnOk result ((end : Telling)
-        × Lists (page_of sheet.entry) (length sheet.entry.elements.now) (start_of lines.old.items) end
+fn push_inside(
+    alloc: Global,
+    lines: &mut Vec<Line>,
+    cursor: DocumentCursor<'_>,
+) -> Result<(), AllocError>
+    ensures { OnOk result ((end : ListingState)
+        × Lists (listed_document cursor.entry) (length cursor.entry.elements.now) (start_of lines.old.items) end
         × (lines.new.items ≡ end.lines)) }
 {
-    let mut numbers = Vec::with_capacity(alloc, sheet.elements.len())?;
+    let mut numbers = Vec::with_capacity(alloc, cursor.elements.len())?;
     let mut hidden = None;
-    let mut rest = sheet.pieces;
+    let mut rest = cursor.pieces;
     let mut before: u64 = 0;
-    for i in 0..sheet.elements.len() {
-        let at = place_at(sheet.elements, i);
-        let (here, octets) = later_pieces(sheet.pieces, rest, before, at);
+    for i in 0..cursor.elements.len() {
+        let at = place_at(cursor.elements, i);
+        let (here, octets) = later_pieces(cursor.pieces, rest, before, at);
         rest = here;
         before = octets;
-        let part = Sheet {
+        let part = DocumentCursor {
             rest,
             before,
-            ..sheet
+            ..cursor
         };
         let next = push_element(alloc, lines, &mut numbers, hidden, part, i)?;
         hidden = next;
@@ -223,36 +227,36 @@ fn place_at(elements: &[NamedElement], number: usize) -> u64
     }
 }
 
-/// The document inside an element of the file, where it is the first of those that are left; and those behind it.
+/// The document inside an element of the file, where it is the first of those that are left; and those after it.
 fn next_inside<'a>(insides: &'a [Inside], number: usize) -> (Option<&'a Inside>, &'a [Inside])
     ensures inside { option_map (λ r. r.now) result.0 ≡ first_inside insides.now number }
-    ensures behind { result.1.now ≡ behind_inside insides.now number }
+    ensures after { result.1.now ≡ after_inside insides.now number }
 {
     match insides {
-        [inside, behind @ ..] if inside.container == number => (Some(inside), behind),
+        [inside, after @ ..] if inside.container == number => (Some(inside), after),
         _ => (None, insides),
     }
 }
 
-/// The lines of a file's elements, and behind each OCTET STRING those of what is inside it.
+/// The lines of a file's elements, and after each OCTET STRING those of what is inside it.
 pub(crate) fn lines_of(
     alloc: Global,
-    sheet: Sheet<'_>,
+    cursor: DocumentCursor<'_>,
     insides: &[Inside],
 ) -> Result<Vec<Line>, AllocError>
-    ensures { IfOk result (λ lines. SkipsIn sheet.entry
-        → IsListed (page_of sheet.entry) insides.now lines.items) }
+    ensures { IfOk result (λ lines. SkipsIn cursor.entry
+        → IsListed (listed_document cursor.entry) insides.now lines.items) }
 {
-    let mut lines: Vec<Line> = Vec::with_capacity(alloc, most_lines(sheet.elements, insides))?;
-    let mut numbers = Vec::with_capacity(alloc, sheet.elements.len())?;
+    let mut lines: Vec<Line> = Vec::with_capacity(alloc, most_lines(cursor.elements, insides))?;
+    let mut numbers = Vec::with_capacity(alloc, cursor.elements.len())?;
     let mut hidden = None;
     let mut left = insides;
-    for i in 0..sheet.elements.len() {
+    for i in 0..cursor.elements.len() {
         let number = lines.len();
-        let next = push_element(alloc, &mut lines, &mut numbers, hidden, sheet, i)?;
-        let (inside, behind) = next_inside(left, i);
-        left = behind;
-        push_inside_of(alloc, &mut lines, sheet, inside, number)?;
+        let next = push_element(alloc, &mut lines, &mut numbers, hidden, cursor, i)?;
+        let (inside, after) = next_inside(left, i);
+        left = after;
+        push_inside_of(alloc, &mut lines, cursor, inside, number)?;
         hidden = next;
     }
     Ok(lines)
@@ -264,9 +268,9 @@ fn most_lines(elements: &[NamedElement], insides: &[Inside]) -> usize
 {
     let mut count = elements.len().saturating_add(1);
     let mut left = insides;
-    while let [inside, behind @ ..] = left {
+    while let [inside, after @ ..] = left {
         count = count.saturating_add(inside.named.elements.len());
-        left = behind;
+        left = after;
     }
     count
 }
@@ -275,13 +279,13 @@ fn most_lines(elements: &[NamedElement], insides: &[Inside]) -> usize
 fn push_inside_of(
     alloc: Global,
     lines: &mut Vec<Line>,
-    file: Sheet<'_>,
+    file: DocumentCursor<'_>,
     inside: Option<&Inside>,
     number: usize,
 ) -> Result<(), AllocError>
     ensures { OnOk result ((hidden : Option ℕ) (numbers : List ℕ)
         → AddsDocument file.entry.causes.now (option_map (λ r. r.now) inside.entry) number
-        (telling hidden numbers lines.old.items) (telling hidden numbers lines.new.items)) }
+        (listing_state hidden numbers lines.old.items) (listing_state hidden numbers lines.new.items)) }
 {
     let Some(inside) = inside else {
         return Ok(());
@@ -290,8 +294,8 @@ fn push_inside_of(
         return Ok(());
     };
     let causes = causes_inside(alloc, file.causes, inside)?;
-    let sheet = inside_sheet(inside, causes.as_slice(), depth, number as u64);
-    push_inside(alloc, lines, sheet)
+    let cursor = cursor_inside(inside, causes.as_slice(), depth, number as u64);
+    push_inside(alloc, lines, cursor)
 }
 
 /// How deep a document is inside the element of the line of this number.
@@ -324,15 +328,15 @@ fn causes_inside(
 }
 
 /// A document inside the element of the line of this number.
-fn inside_sheet<'a>(
+fn cursor_inside<'a>(
     inside: &'a Inside,
     causes: &'a [Option<Cause>],
     depth: u64,
     around: u64,
-) -> Sheet<'a>
+) -> DocumentCursor<'a>
     ensures octets { result.octets.now ≡ inside.now.octets.items }
     ensures elements { result.elements.now ≡ inside.now.named.elements.items }
-    ensures page { page_of result ≡ record {
+    ensures document { listed_document result ≡ record {
       octets = inside.now.octets.items;
       elements = inside.now.named.elements.items;
       causes = causes.now;
@@ -342,7 +346,7 @@ fn inside_sheet<'a>(
       around = around;
     } }
 {
-    Sheet {
+    DocumentCursor {
         octets: inside.octets.as_slice(),
         elements: inside.named.elements.as_slice(),
         causes,

@@ -3,7 +3,7 @@ ghost use Rattle.std.specs.Prelude.{◌≡◌, ◌≤◌, IfOk, OnOk, length, op
 ghost use Rattle.std.specs.Option.{option_map};
 ghost use Rattle.pkix_definitions.specs.Identifiers.{ec_public_key, length_under};
 ghost use Rattle.x690.specs.Lists.{same_octets};
-ghost use Rattle.explain.specs.Notes.{add_note, arcs_of, are_same, context_behind, context_start, curve_behind, is_attribute, is_curve_named, is_point, is_public_key, is_repeated, is_same_field, is_same_identifier, is_same_step, is_single_valued, members_of, ml_dsa_lengths, ml_kem_lengths, most_notes, named, nist_encapsulation, nist_signature, notes_on, parameters, public_octets, remark_if, remark_on, remark_on_algorithm, remark_on_bits, remark_on_key, remark_on_repeat, remark_on_values, remark_once_more, slh_dsa_sha2_lengths, slh_dsa_shake_lengths};
+ghost use Rattle.explain.specs.Notes.{add_note, arcs_of, are_same, context_after, context_start, curve_after, is_attribute, is_curve_named, is_point, is_public_key, is_repeated, is_same_field, is_same_identifier, is_same_step, is_single_valued, members_of, ml_dsa_lengths, ml_kem_lengths, most_notes, named, nist_encapsulation, nist_signature, notes_on, parameters, public_octets, remark_if, remark_on, remark_on_algorithm, remark_on_bits, remark_on_key, remark_on_repeat, remark_on_values, remark_once_more, slh_dsa_sha2_lengths, slh_dsa_shake_lengths};
 
 use crate::keys::{are_same_octets, curve_octets};
 use crate::values::is_field;
@@ -14,7 +14,7 @@ use std::alloc::{AllocError, Global};
 /// What the lines before say of the ones that follow.
 #[derive(Clone, Copy)]
 struct Context {
-    /// How many octets a coordinate of the curve has that was named behind the last algorithm, where it is a known one.
+    /// How many octets a coordinate of the curve has that was named after the last algorithm, where it is a known one.
     curve: Option<u64>,
     /// How many octets a public key of the last algorithm has, where it is one of a single length.
     public: Option<u64>,
@@ -36,7 +36,7 @@ pub(crate) fn notes_of(alloc: Global, lines: &[Line]) -> Result<Vec<Note>, Alloc
         let line = &lines[i];
         push_note(&mut notes, i, remark_on(context, line, &lines[i + 1..]))?;
         push_note(&mut notes, i, remark_on_repeat(lines, &lines[..i], line))?;
-        context = context_behind(context, line);
+        context = context_after(context, line);
     }
     Ok(notes)
 }
@@ -68,8 +68,8 @@ fn start() -> Context
     }
 }
 
-fn context_behind(context: Context, line: &Line) -> Context
-    ensures { result ≡ context_behind context line.now }
+fn context_after(context: Context, line: &Line) -> Context
+    ensures { result ≡ context_after context line.now }
 {
     let name = named(&line.value);
     if is_field(line.step, "algorithm") {
@@ -86,7 +86,7 @@ fn context_behind(context: Context, line: &Line) -> Context
         };
     }
     Context {
-        curve: curve_behind(context.curve, name),
+        curve: curve_after(context.curve, name),
         ..context
     }
 }
@@ -111,9 +111,9 @@ fn arcs_of(value: &Value) -> Option<&[u8]>
     }
 }
 
-/// How many octets a coordinate has, behind another identifier.
-fn curve_behind(curve: Option<u64>, name: Option<&[u8]>) -> Option<u64>
-    ensures { result ≡ curve_behind curve (option_map (λ r. r.now) name.entry) }
+/// How many octets a coordinate has, after another identifier.
+fn curve_after(curve: Option<u64>, name: Option<&[u8]>) -> Option<u64>
+    ensures { result ≡ curve_after curve (option_map (λ r. r.now) name.entry) }
 {
     let Some(name) = name else {
         return curve;
@@ -264,15 +264,15 @@ fn is_ec_public_key(algorithm: &[u8]) -> bool
     are_same_octets(algorithm, &[0x2A, 0x86, 0x48, 0xCE, 0x3D, 0x02, 0x01])
 }
 
-/// What is remarked on a line, by what the lines before say and by the lines behind.
-fn remark_on(context: Context, line: &Line, behind: &[Line]) -> Option<Remark>
-    ensures { result ≡ remark_on context line.now behind.now }
+/// What is remarked on a line, by what the lines before say and by the lines after.
+fn remark_on(context: Context, line: &Line, after: &[Line]) -> Option<Remark>
+    ensures { result ≡ remark_on context line.now after.now }
 {
     if is_field(line.step, "algorithm") {
-        return remark_on_algorithm(named(&line.value), parameters(behind));
+        return remark_on_algorithm(named(&line.value), parameters(after));
     }
     if is_field(line.step, "values") && context.is_single {
-        return remark_on_values(members_of(line.depth, behind));
+        return remark_on_values(members_of(line.depth, after));
     }
     if is_public_key(line.step) {
         return remark_on_key(context, &line.value);
@@ -287,11 +287,11 @@ fn remark_if(said: bool, remark: Remark) -> Option<Remark>
     if said { Some(remark) } else { None }
 }
 
-/// The parameters behind an algorithm.
-fn parameters(behind: &[Line]) -> Option<&Line>
-    ensures { option_map (λ r. r.now) result ≡ parameters behind.now }
+/// The parameters after an algorithm.
+fn parameters(after: &[Line]) -> Option<&Line>
+    ensures { option_map (λ r. r.now) result ≡ parameters after.now }
 {
-    match behind.first() {
+    match after.first() {
         Some(line) if is_field(line.step, "parameters") => Some(line),
         _ => None,
     }
@@ -329,13 +329,13 @@ fn remark_on_values(members: u64) -> Option<Remark>
     remark_if(members > 1, Remark::SeveralValues(members))
 }
 
-/// How many members an element of this depth has, by the lines behind its own.
-fn members_of(depth: u64, behind: &[Line]) -> u64
-    ensures { result ≡ members_of depth behind.now }
+/// How many members an element of this depth has, by the lines after its own.
+fn members_of(depth: u64, after: &[Line]) -> u64
+    ensures { result ≡ members_of depth after.now }
 {
     let mut count = 0;
-    for i in 0..behind.len() {
-        let line = &behind[i];
+    for i in 0..after.len() {
+        let line = &after[i];
         if line.depth <= depth {
             return count;
         }
@@ -406,7 +406,7 @@ fn remark_on_repeat(lines: &[Line], before: &[Line], line: &Line) -> Option<Rema
     remark_if(is_repeated(before, line), remark)
 }
 
-/// What may not stand there twice: an extension (RFC 5280 section 4.2), an attribute of a request (RFC 2986 section
+/// What may not be there twice: an extension (RFC 5280 section 4.2), an attribute of a request (RFC 2986 section
 /// 4.1).
 fn remark_once_more(lines: &[Line], line: &Line) -> Option<Remark>
     ensures { result ≡ remark_once_more lines.now line.now }
@@ -436,7 +436,7 @@ fn is_name(name: &str, word: &str) -> bool
     name == word
 }
 
-/// Whether the same identifier as the same field stands in one of the last members of the list before it.
+/// Whether the same identifier as the same field is in one of the last members of the list before it.
 fn is_repeated(before: &[Line], line: &Line) -> bool
     ensures { result ≡ is_repeated before.now line.now }
 {

@@ -1,16 +1,16 @@
 //! How many octets an element has too many.
 ghost use Rattle.std.specs.Prelude.{◌≡◌};
-ghost use Rattle.explain.specs.Blames.{limit_of, over_of, reach_of};
+ghost use Rattle.explain.specs.FaultContainers.{limit_of, over_of, reach_of};
 
-use reports::report::{Found, ToldContainer};
+use reports::report::{FaultContainer, Found};
 use tlv_core::reason::Reason;
 
-/// How many octets the contents that an element announces have too many: behind the end of the file, or of the
+/// How many octets the contents that an element announces have too many: after the end of the file, or of the
 /// container.
 pub(crate) fn over_of(
     why: Reason,
     octets: u64,
-    container: &Option<ToldContainer>,
+    container: &Option<FaultContainer>,
     found: Option<Found>,
 ) -> Option<u64>
     ensures { result ≡ over_of why octets container.now found }
@@ -26,7 +26,7 @@ pub(crate) fn over_of(
 }
 
 /// Where an element has to end.
-fn limit_of(why: Reason, octets: u64, container: &Option<ToldContainer>) -> Option<u64>
+fn limit_of(why: Reason, octets: u64, container: &Option<FaultContainer>) -> Option<u64>
     ensures { result ≡ limit_of why octets container.now }
 {
     match why {

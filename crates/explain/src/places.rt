@@ -1,14 +1,14 @@
-//! Where the elements of a document stand in the file, and where they end.
+//! Where the elements of a document are in the file, and where they end.
 ghost use Rattle.std.specs.Prelude.{true, ◌-◌, ◌≡◌, ◌≤◌};
-ghost use Rattle.explain.specs.Blames.{announced_end};
-ghost use Rattle.explain.specs.Lines.{end_behind, told_length};
-ghost use Rattle.explain.specs.Places.{Skips, SkipsIn, end_by_length, end_of, is_in_first, page_of, place_in_file, place_of, placed_in, sum_of, told_end};
+ghost use Rattle.explain.specs.FaultContainers.{announced_end};
+ghost use Rattle.explain.specs.Lines.{end_after, listed_length};
+ghost use Rattle.explain.specs.Places.{Skips, SkipsIn, end_by_length, end_of, is_in_first, listed_document, listed_end, place_in_file, place_of, placed_in, sum_of};
 
 use asn_names::element::NamedElement;
 use ber_outline::event::ElementHeader;
 use reports::report::{Cause, Length};
 
-/// Octets that stand in the file one behind another.
+/// Octets that are in the file one after another.
 #[derive(Clone, Copy)]
 pub(crate) struct Piece {
     /// The place of the first one in the file.
@@ -16,16 +16,16 @@ pub(crate) struct Piece {
     pub(crate) octets: u64,
 }
 
-/// A document whose elements are told: the file, or what one OCTET STRING contains.
+/// A document whose elements are shown: the file, or what one OCTET STRING contains.
 #[derive(Clone, Copy)]
-pub(crate) struct Sheet<'a> {
+pub(crate) struct DocumentCursor<'a> {
     pub(crate) octets: &'a [u8],
     pub(crate) elements: &'a [NamedElement],
     /// Why they aren't in DER; of a document that is or that is refused there are none.
     pub(crate) causes: &'a [Option<Cause>],
-    /// Where its octets stand in the file, in order.
+    /// Where its octets are in the file, in order.
     pub(crate) pieces: &'a [Piece],
-    /// Those behind the first `before` octets, so that a later place is found without a walk over all of them.
+    /// Those after the first `before` octets, so that a later place is found without a pass over all of them.
     pub(crate) rest: &'a [Piece],
     pub(crate) before: u64,
     pub(crate) is_inside: bool,
@@ -35,7 +35,7 @@ pub(crate) struct Sheet<'a> {
     pub(crate) around: u64,
 }
 
-/// Where an element stands: its place and its end in the file, and the line around it.
+/// Where an element is: its place and its end in the file, and the line around it.
 #[derive(Clone, Copy)]
 pub(crate) struct Placed {
     pub(crate) at: u64,
@@ -46,49 +46,49 @@ pub(crate) struct Placed {
     pub(crate) around: u64,
 }
 
-/// Where an element stands, by its document and the line around it.
-pub(crate) fn placed_in(sheet: Sheet<'_>, element: &NamedElement, around: u64) -> Placed
-    ensures { SkipsIn sheet.entry
-        → result ≡ placed_in (page_of sheet.entry) element.now around }
+/// Where an element is, by its document and the line around it.
+pub(crate) fn placed_in(cursor: DocumentCursor<'_>, element: &NamedElement, around: u64) -> Placed
+    ensures { SkipsIn cursor.entry
+        → result ≡ placed_in (listed_document cursor.entry) element.now around }
 {
     Placed {
-        at: place_in_file(sheet, element.header.at),
-        end: told_end(sheet, element),
-        is_inside: sheet.is_inside,
-        depth: sheet.depth,
+        at: place_in_file(cursor, element.header.at),
+        end: listed_end(cursor, element),
+        is_inside: cursor.is_inside,
+        depth: cursor.depth,
         around,
     }
 }
 
 /// The place in the file of an element of a document.
-fn place_in_file(sheet: Sheet<'_>, at: u64) -> u64
-    ensures { SkipsIn sheet.entry → result ≡ place_in_file sheet.entry.pieces.now at }
+fn place_in_file(cursor: DocumentCursor<'_>, at: u64) -> u64
+    ensures { SkipsIn cursor.entry → result ≡ place_in_file cursor.entry.pieces.now at }
 {
-    match place_in(sheet, at) {
+    match place_in(cursor, at) {
         Some(place) => place,
         None => at,
     }
 }
 
 /// Where an element ends in the file: by its length, else by where its contents end.
-fn told_end(sheet: Sheet<'_>, element: &NamedElement) -> Option<u64>
-    ensures { SkipsIn sheet.entry → result ≡ told_end (page_of sheet.entry) element.now }
+fn listed_end(cursor: DocumentCursor<'_>, element: &NamedElement) -> Option<u64>
+    ensures { SkipsIn cursor.entry → result ≡ listed_end (listed_document cursor.entry) element.now }
 {
-    if !sheet.is_inside {
+    if !cursor.is_inside {
         if let Some(end) = end_by_length(&element.header) {
             return Some(end);
         }
     }
     match element.end {
-        Some(end) => end_in(sheet, end_behind(element, end)),
+        Some(end) => end_in(cursor, end_after(element, end)),
         None => None,
     }
 }
 
-/// Where an element ends whose contents end there: behind its end-of-contents octets, where it has an indefinite length
+/// Where an element ends whose contents end there: after its end-of-contents octets, where it has an indefinite length
 /// (X.690 8.1.1.1, 8.1.5).
-pub(crate) fn end_behind(element: &NamedElement, end: u64) -> u64
-    ensures { result ≡ end_behind element.now.header.announced end }
+pub(crate) fn end_after(element: &NamedElement, end: u64) -> u64
+    ensures { result ≡ end_after element.now.header.announced end }
 {
     match element.header.announced {
         Some(announced) if announced.length.is_none() => end.saturating_add(2),
@@ -100,7 +100,7 @@ pub(crate) fn end_behind(element: &NamedElement, end: u64) -> u64
 pub(crate) fn end_by_length(header: &ElementHeader) -> Option<u64>
     ensures { result ≡ end_by_length header.now }
 {
-    let Some(length) = told_length(header) else {
+    let Some(length) = listed_length(header) else {
         return None;
     };
     let Some(contents) = length.contents else {
@@ -109,10 +109,10 @@ pub(crate) fn end_by_length(header: &ElementHeader) -> Option<u64>
     sum_of(header.at.saturating_add(length.header), contents)
 }
 
-/// The length of an element, where it may be told: where it has at most four octets. A damaged one may have taken
+/// The length of an element, where it may be shown: where it has at most four octets. A damaged one may have taken
 /// octets of a private element for its own, also where what comes of it is accepted.
-pub(crate) fn told_length(header: &ElementHeader) -> Option<Length>
-    ensures { result ≡ told_length header.now }
+pub(crate) fn listed_length(header: &ElementHeader) -> Option<Length>
+    ensures { result ≡ listed_length header.now }
 {
     let Some(announced) = header.announced else {
         return None;
@@ -157,17 +157,17 @@ pub(crate) fn place_of(pieces: &[Piece], number: u64) -> Option<u64>
 {
     let mut rest = pieces;
     let mut left = number;
-    while let [piece, behind @ ..] = rest {
+    while let [piece, after @ ..] = rest {
         if left < piece.octets {
             return sum_of(piece.at, left);
         }
         left -= piece.octets;
-        rest = behind;
+        rest = after;
     }
     None
 }
 
-/// The place in the file behind so many octets of the pieces.
+/// The place in the file after so many octets of the pieces.
 pub(crate) fn end_of(pieces: &[Piece], count: u64) -> Option<u64>
     ensures { result ≡ end_of pieces.now count }
 {
@@ -181,24 +181,24 @@ pub(crate) fn end_of(pieces: &[Piece], count: u64) -> Option<u64>
 }
 
 /// The place in the file of the octet of this number of a document.
-fn place_in(sheet: Sheet<'_>, number: u64) -> Option<u64>
-    ensures { SkipsIn sheet.entry → result ≡ place_of sheet.entry.pieces.now number }
+fn place_in(cursor: DocumentCursor<'_>, number: u64) -> Option<u64>
+    ensures { SkipsIn cursor.entry → result ≡ place_of cursor.entry.pieces.now number }
 {
-    if number < sheet.before {
-        place_of(sheet.pieces, number)
+    if number < cursor.before {
+        place_of(cursor.pieces, number)
     } else {
-        place_of(sheet.rest, number - sheet.before)
+        place_of(cursor.rest, number - cursor.before)
     }
 }
 
-/// The place in the file behind so many octets of a document.
-fn end_in(sheet: Sheet<'_>, count: u64) -> Option<u64>
-    ensures { SkipsIn sheet.entry → result ≡ end_of sheet.entry.pieces.now count }
+/// The place in the file after so many octets of a document.
+fn end_in(cursor: DocumentCursor<'_>, count: u64) -> Option<u64>
+    ensures { SkipsIn cursor.entry → result ≡ end_of cursor.entry.pieces.now count }
 {
     if count == 0 {
-        return place_in(sheet, 0);
+        return place_in(cursor, 0);
     }
-    match place_in(sheet, count - 1) {
+    match place_in(cursor, count - 1) {
         Some(last) => sum_of(last, 1),
         None => None,
     }
@@ -212,17 +212,17 @@ fn pieces_from(pieces: &[Piece], number: u64) -> (&[Piece], u64)
 {
     let mut rest = pieces;
     let mut before: u64 = 0;
-    while let [piece, behind @ ..] = rest {
+    while let [piece, after @ ..] = rest {
         if number - before < piece.octets {
             return (rest, before);
         }
         before += piece.octets;
-        rest = behind;
+        rest = after;
     }
     (rest, before)
 }
 
-/// The same, found from the pieces behind so many octets on.
+/// The same, found from the pieces after so many octets on.
 pub(crate) fn later_pieces<'a>(
     pieces: &'a [Piece],
     rest: &'a [Piece],

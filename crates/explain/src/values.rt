@@ -1,8 +1,8 @@
-//! What contents say, and whether a report tells it.
+//! What contents say, and whether a report shows it.
 ghost use Rattle.std.specs.Prelude.{◌≡◌, ◌==◌, IfOk, cond, length};
 ghost use Rattle.std.specs.Option.{option_map};
 ghost use Rattle.explain.specs.Contents.{between, contents_in};
-ghost use Rattle.explain.specs.Public.{Says, Tells, is_field, is_public, sort_of, sort_of_leaf, sort_of_number};
+ghost use Rattle.explain.specs.Public.{Says, ShowsContents, is_field, is_public, sort_of, sort_of_leaf, sort_of_number};
 
 use asn_names::element::{NamedElement, Step};
 use pkix_shapes::identifiers::identifier_of;
@@ -74,7 +74,7 @@ fn sort_of_number(number: u32) -> Sort
     }
 }
 
-/// Whether contents of this sort are told in an element that isn't private: all but keys, signatures and strings that
+/// Whether contents of this sort are shown in an element that isn't private: all but keys, signatures and strings that
 /// aren't a subject's.
 pub(crate) fn is_public(sort: Sort, step: Step) -> bool
     ensures { result ≡ is_public sort step }
@@ -96,14 +96,14 @@ pub(crate) fn is_field(step: Step, name: &str) -> bool
     }
 }
 
-/// What is told of the contents of a primitive element that stands whole: their number alone, where they aren't
+/// What is shown of the contents of a primitive element that is whole: their number alone, where they aren't
 /// public.
-pub(crate) fn told_value(
+pub(crate) fn listed_value(
     alloc: Global,
     element: &NamedElement,
     contents: &[u8],
 ) -> Result<Value, AllocError>
-    ensures { IfOk result (λ value. Tells element.now contents.now value) }
+    ensures { IfOk result (λ value. ShowsContents element.now contents.now value) }
 {
     let sort = sort_of(element);
     if element.private || !is_public(sort, element.step) {
@@ -164,7 +164,7 @@ fn bits_value(contents: &[u8]) -> Value
     ensures { Says Sort.Bits contents.now result }
 {
     match contents {
-        [unused, behind @ ..] if *unused < 8 => Value::Bits(behind.len() as u64, *unused),
+        [unused, rest @ ..] if *unused < 8 => Value::Bits(rest.len() as u64, *unused),
         _ => size_alone(contents),
     }
 }
@@ -187,7 +187,7 @@ fn identifier_value(alloc: Global, contents: &[u8]) -> Result<Value, AllocError>
     }
 }
 
-/// The contents octets of a primitive element that stands whole.
+/// The contents octets of a primitive element that is whole.
 pub(crate) fn contents_of<'a>(octets: &'a [u8], element: &NamedElement) -> Option<&'a [u8]>
     ensures { option_map (λ r. r.now) result ≡ contents_in octets.now element.now }
 {

@@ -24,7 +24,7 @@ pub struct Form {
     pub places: u64,
 }
 
-/// As many places that aren't in DER are told, where nothing else is asked for.
+/// As many places that aren't in DER are shown, where nothing else is asked for.
 pub const PLACES: u64 = 100;
 
 /// The report of octets that have to be one document of the kind, as it is written, and the answer of `check` in it.
@@ -67,8 +67,8 @@ pub fn explained_field(
     kind: Kind,
     limits: Limits,
 ) -> Result<(String, Answer), AllocError>
-    ensures { IfOk result (λ told. IsFieldOf limits kind octets.now
-        (string_bytes told.0) told.1) }
+    ensures { IfOk result (λ field. IsFieldOf limits kind octets.now
+        (string_bytes field.0) field.1) }
 {
     let report = explain(alloc, octets, kind, limits)?;
     let text = field_text(alloc, &report)?;

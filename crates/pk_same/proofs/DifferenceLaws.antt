@@ -1,4 +1,4 @@
--- What the walk over the lists of two documents tells differs.
+-- What is shown of the lists of two documents differs.
 use Rattle.std.proofs.Common.{Bool, List, Some, [], ap, arith, cond, false, inl, inr, length, length-append, refl, suc, sym, true, zero, ℕ, ◌&&◌, ◌+◌, ◌++◌, ◌-◌, ◌<◌, ◌==◌, ◌∙◌, ◌∷◌, ◌≡◌, ◌≢◌, ◌⊎◌, append-nil, append_assoc, nat_lt, nat_le}
 use Rattle.std.specs.List.{slice_get}
 use Rattle.std.specs.Str.{bytes_eq}
@@ -7,34 +7,34 @@ use Rattle.std.proofs.lemmas.Bool.Decides.{nat_tests}
 use Rattle.std.proofs.lemmas.Option.{slice_get-get_or}
 use Rattle.std.proofs.lemmas.Slice.Eq.{bytes_eq-Decides}
 use Rattle.reports.specs.declared.report.Line.{Line}
-use Rattle.pk_same.specs.Differences.{AreDifferences, IsAlone, SomeIsTold, WhatIsToldDiffers, is_of_field, outermost}
-use Rattle.pk_same.specs.Walks.{behind, deeper, differences, first_pass, follows, meet_field, meet_lines, meeting, octets_of, or_outermost, same_step, second_pass, told, walk}
-use Rattle.pk_same.specs.declared.walk.Difference.{Difference}
-use Rattle.pk_same.specs.declared.walk.Meeting.{Meeting}
-use Rattle.pk_same.specs.declared.walk.Meeting.TheVariants.{Differ, Ended, Equal, First, Inside, Second}
-use Rattle.pk_same.specs.declared.walk.Pass.{Pass}
-use Rattle.pk_same.specs.declared.walk.Pass.TheVariants.{One, Stay, Whole}
+use Rattle.pk_same.specs.Differences.{AreDifferences, IsAlone, SomeIsShown, WhatIsShownDiffers, is_of_field, outermost}
+use Rattle.pk_same.specs.DifferenceLists.{after_pass, deeper, differences, differences_along, differences_of, first_pass, follows, meet_field, meet_lines, meeting, octets_of, or_outermost, same_step, second_pass}
+use Rattle.pk_same.specs.declared.difference_list.Difference.{Difference}
+use Rattle.pk_same.specs.declared.difference_list.Meeting.{Meeting}
+use Rattle.pk_same.specs.declared.difference_list.Meeting.TheVariants.{Differ, Ended, Equal, First, Inside, Second}
+use Rattle.pk_same.specs.declared.difference_list.Pass.{Pass}
+use Rattle.pk_same.specs.declared.difference_list.Pass.TheVariants.{One, Stay, Whole}
 
 -- ---- lines by their numbers
 
-seat_at : (before : List Line) (line : Line) (later : List Line)
+place_at : (before : List Line) (line : Line) (later : List Line)
     → slice_get (before ++ line ∷ later) (length before) ≡ Some line
-seat_at before line later =
+place_at before line later =
     let count = length-append before (line ∷ later) in
     let within : length before < length (before ++ line ∷ later) = omega (arith, count) in
     slice_get-get_or (before ++ line ∷ later) (length before) line within
     ∙ ap Some (get_or-append_seam before line later line)
 
--- the first of the lines that are left has the number that is told
-seat : (lines before : List Line) (line : Line) (later : List Line) → lines ≡ before ++ line ∷ later
+-- the first of the lines that are left has the number that is shown
+place_of : (lines before : List Line) (line : Line) (later : List Line) → lines ≡ before ++ line ∷ later
     → slice_get lines (length lines - length (line ∷ later)) ≡ Some line
-seat lines before line later e =
+place_of lines before line later e =
     let count = length-append before (line ∷ later) in
     let whole = ap length e in
     let at : length lines - length (line ∷ later) ≡ length before = omega (arith, count, whole) in
-    ap (slice_get lines) at ∙ ap (λ z. slice_get z (length before)) e ∙ seat_at before line later
+    ap (slice_get lines) at ∙ ap (λ z. slice_get z (length before)) e ∙ place_at before line later
 
--- ---- what is left stands at the end of a list
+-- ---- what is left is at the end of a list
 
 kept_or : (b : Bool) (line : Line) (lines rest : List Line) → (before : List Line) × (lines ≡ before ++ rest)
     → (before : List Line) × (line ∷ lines ≡ before ++ cond b (line ∷ lines) rest)
@@ -46,13 +46,13 @@ deeper_ends depth [] = ([], refl)
 deeper_ends depth (line ∷ lines) =
     kept_or (nat_le line.depth depth) line lines (deeper depth lines) (deeper_ends depth lines)
 
-pub behind_ends : (pass : Pass) (lines : List Line) → (before : List Line) × (lines ≡ before ++ behind pass lines)
-behind_ends Stay [] = ([], refl)
-behind_ends One [] = ([], refl)
-behind_ends Whole [] = ([], refl)
-behind_ends Stay (line ∷ lines) = ([], refl)
-behind_ends One (line ∷ lines) = (line ∷ [], refl)
-behind_ends Whole (line ∷ lines) =
+pub after_ends : (pass : Pass) (lines : List Line) → (before : List Line) × (lines ≡ before ++ after_pass pass lines)
+after_ends Stay [] = ([], refl)
+after_ends One [] = ([], refl)
+after_ends Whole [] = ([], refl)
+after_ends Stay (line ∷ lines) = ([], refl)
+after_ends One (line ∷ lines) = (line ∷ [], refl)
+after_ends Whole (line ∷ lines) =
     let h = deeper_ends line.depth lines in (line ∷ h.0, ap (λ z. line ∷ z) h.1)
 
 -- so does what is left of that
@@ -115,7 +115,7 @@ unequal xs ys f e =
     let t : bytes_eq xs ys ≡ true = (bytes_eq-Decides xs ys).1 e in
     cc (t, f)
 
--- ---- what a meeting tells
+-- ---- what a meeting shows
 
 alone_before_end : (lines before others : List Line) (line : Line) (later : List Line) → lines ≡ before ++ line ∷ later
     → IsAlone same_step lines others (length lines - length (line ∷ later))
@@ -123,8 +123,8 @@ alone_before_end lines before others line later e =
     record {
       line = line;
       before = others;
-      behind = [];
-      listed = seat lines before line later e;
+      after = [];
+      listed = place_of lines before line later e;
       place = sym (append-nil others);
       none = refl;
     }
@@ -135,27 +135,27 @@ other_before_end others before lines other rest e =
     record {
       line = other;
       before = lines;
-      behind = [];
-      listed = seat others before other rest e;
+      after = [];
+      listed = place_of others before other rest e;
       place = sym (append-nil lines);
       none = refl;
     }
 
-meeting_told : (first second : List ℕ) (lines others before before' : List Line) (line : Line) (later : List Line)
+meeting_shown : (first second : List ℕ) (lines others before before' : List Line) (line : Line) (later : List Line)
     (other : Line) (rest : List Line) (more : List Difference) (m : Meeting) → lines ≡ before ++ line ∷ later
     → others ≡ before' ++ other ∷ rest → meet_lines first second line later other rest ≡ m
     → AreDifferences first second lines others more
     → AreDifferences first second lines others
-    (told m (length lines - length (line ∷ later)) (length others - length (other ∷ rest)) ++ more)
-meeting_told first second lines others before before' line later other rest more Ended e h is all = all
-meeting_told first second lines others before before' line later other rest more Inside e h is all = all
-meeting_told first second lines others before before' line later other rest more Equal e h is all = all
-meeting_told first second lines others before before' line later other rest more First e h is all = (
+    (differences_of m (length lines - length (line ∷ later)) (length others - length (other ∷ rest)) ++ more)
+meeting_shown first second lines others before before' line later other rest more Ended e h is all = all
+meeting_shown first second lines others before before' line later other rest more Inside e h is all = all
+meeting_shown first second lines others before before' line later other rest more Equal e h is all = all
+meeting_shown first second lines others before before' line later other rest more First e h is all = (
   record {
     line = line;
     before = before';
-    behind = other ∷ rest;
-    listed = seat lines before line later e;
+    after = other ∷ rest;
+    listed = place_of lines before line later e;
     place = h;
     none = first_alone (nat_lt other.depth line.depth) (nat_lt line.depth other.depth)
         (same_step line.step other.step) (follows line.step line.depth rest) (other.depth == line.depth) _ is
@@ -163,12 +163,12 @@ meeting_told first second lines others before before' line later other rest more
   },
   all,
 )
-meeting_told first second lines others before before' line later other rest more Second e h is all = (
+meeting_shown first second lines others before before' line later other rest more Second e h is all = (
   record {
     line = other;
     before = before;
-    behind = line ∷ later;
-    listed = seat others before' other rest h;
+    after = line ∷ later;
+    listed = place_of others before' other rest h;
     place = e;
     none = second_alone (nat_lt other.depth line.depth) (nat_lt line.depth other.depth)
         (same_step line.step other.step) (follows line.step line.depth rest) (line.depth == other.depth) _ is
@@ -176,15 +176,15 @@ meeting_told first second lines others before before' line later other rest more
   },
   all,
 )
-meeting_told first second lines others before before' line later other rest more Differ e h is all =
+meeting_shown first second lines others before before' line later other rest more Differ e h is all =
     let met = differ_met (nat_lt other.depth line.depth) (nat_lt line.depth other.depth)
     (same_step line.step other.step) (follows line.step line.depth rest)
     (meet_field first second line later other rest) is in (
       record {
         line = line;
         other = other;
-        listed = seat lines before line later e;
-        other_listed = seat others before' other rest h;
+        listed = place_of lines before line later e;
+        other_listed = place_of others before' other rest h;
         field = met.2;
         depth = level line.depth other.depth met.0 met.1;
         octets = unequal (octets_of first line) (octets_of second other) (field_differs _ _ met.3);
@@ -192,52 +192,53 @@ meeting_told first second lines others before before' line later other rest more
       all,
     )
 
-round_told : (first second : List ℕ) (lines others before before' left right : List Line) (more : List Difference)
+round_shown : (first second : List ℕ) (lines others before before' left right : List Line) (more : List Difference)
     → lines ≡ before ++ left → others ≡ before' ++ right → AreDifferences first second lines others more
     → AreDifferences first second lines others
-    (told (meeting first second left right) (length lines - length left) (length others - length right) ++ more)
-round_told first second lines others before before' [] [] more e h all = all
-round_told first second lines others before before' [] (other ∷ rest) more e h all =
+    (differences_of (meeting first second left right) (length lines - length left) (length others - length right)
+    ++ more)
+round_shown first second lines others before before' [] [] more e h all = all
+round_shown first second lines others before before' [] (other ∷ rest) more e h all =
     (other_before_end others before' lines other rest h, all)
-round_told first second lines others before before' (line ∷ later) [] more e h all =
+round_shown first second lines others before before' (line ∷ later) [] more e h all =
     (alone_before_end lines before others line later e, all)
-round_told first second lines others before before' (line ∷ later) (other ∷ rest) more e h all =
-    meeting_told first second lines others before before' line later other rest more
+round_shown first second lines others before before' (line ∷ later) (other ∷ rest) more e h all =
+    meeting_shown first second lines others before before' line later other rest more
     (meet_lines first second line later other rest) e h refl all
 
-walk_told : (rounds : ℕ) (first second : List ℕ) (lines others before before' left right : List Line)
+along_shown : (rounds : ℕ) (first second : List ℕ) (lines others before before' left right : List Line)
     → lines ≡ before ++ left → others ≡ before' ++ right
     → AreDifferences first second lines others
-    (walk rounds first second left right (length lines) (length others))
-walk_told zero first second lines others before before' left right e h = tt
-walk_told (suc rounds) first second lines others before before' left right e h =
+    (differences_along rounds first second left right (length lines) (length others))
+along_shown zero first second lines others before before' left right e h = tt
+along_shown (suc rounds) first second lines others before before' left right e h =
     let m = meeting first second left right in
-    let go = behind_ends (first_pass m) left in
-    let on = behind_ends (second_pass m) right in
-    round_told first second lines others before before' left right _ e h
-    (walk_told rounds first second lines others (before ++ go.0) (before' ++ on.0) (behind (first_pass m) left)
-    (behind (second_pass m) right) (further lines before left go.0 (behind (first_pass m) left) e go.1)
-    (further others before' right on.0 (behind (second_pass m) right) h on.1))
+    let go = after_ends (first_pass m) left in
+    let on = after_ends (second_pass m) right in
+    round_shown first second lines others before before' left right _ e h
+    (along_shown rounds first second lines others (before ++ go.0) (before' ++ on.0) (after_pass (first_pass m) left)
+    (after_pass (second_pass m) right) (further lines before left go.0 (after_pass (first_pass m) left) e go.1)
+    (further others before' right on.0 (after_pass (second_pass m) right) h on.1))
 
--- ---- what is told in the end
+-- ---- what is shown in the end
 
-or_outermost_told : (first second : List ℕ) (lines others : List Line) (all : List Difference)
+or_outermost_shown : (first second : List ℕ) (lines others : List Line) (all : List Difference)
     → AreDifferences first second lines others all
     → AreDifferences first second lines others (or_outermost all) ⊎ (or_outermost all ≡ outermost)
-or_outermost_told first second lines others [] h = inr refl
-or_outermost_told first second lines others (difference ∷ more) h = inl h
+or_outermost_shown first second lines others [] h = inr refl
+or_outermost_shown first second lines others (difference ∷ more) h = inl h
 
-pub what_is_told_differs : WhatIsToldDiffers
+pub what_is_shown_differs : WhatIsShownDiffers
 unfolding differences
-what_is_told_differs first second lines others =
-    or_outermost_told first second lines others _
-    (walk_told (length lines + length others) first second lines others [] [] lines others refl refl)
+what_is_shown_differs first second lines others =
+    or_outermost_shown first second lines others _
+    (along_shown (length lines + length others) first second lines others [] [] lines others refl refl)
 
 some_or_outermost : (all : List Difference)
     → (difference : Difference) × (more : List Difference) × (or_outermost all ≡ difference ∷ more)
 some_or_outermost [] = (record { first = Some 0; second = Some 0 }, [], refl)
 some_or_outermost (difference ∷ more) = (difference, more, refl)
 
-pub some_is_told : SomeIsTold
+pub some_is_shown : SomeIsShown
 unfolding differences
-some_is_told first second lines others = some_or_outermost _
+some_is_shown first second lines others = some_or_outermost _

@@ -1,5 +1,5 @@
 pub mod DifferenceLaws
 pub mod PrivateValues
 pub mod Samenesses
-pub mod Tells
-pub mod Walked
+pub mod FirstDifferences
+pub mod DifferenceRounds

@@ -1,33 +1,33 @@
--- The walk tells nothing that is in private values of an attribute.
+-- Nothing is shown that is in private values of an attribute.
 use Rattle.std.proofs.Common.{Bool, List, [], ap, arith, cond, false, length, length-append, not, refl, suc, sym, true, zero, ℕ, ◌&&◌, ◌++◌, ◌-◌, ◌≤◌, ◌∙◌, ◌∷◌, ◌≡◌, ◌||◌, nat_le, nat_lt, ◌+◌, ⊎_elim}
 use Rattle.std.proofs.lemmas.Bool.{cases_lt, false≢true}
 use Rattle.std.proofs.lemmas.Bool.Decides.{nat_tests}
 use Rattle.x690.specs.Layouts.{same_tag}
 use Rattle.reports.specs.declared.report.Line.{Line}
-use Rattle.pk_same.proofs.DifferenceLaws.{behind_ends, further}
-use Rattle.pk_same.specs.Differences.{AreInNone, IsInPrivateValues, PrivateValuesAreToldTogether}
-use Rattle.pk_same.specs.Walks.{are_private_values, behind, deeper, differences, first_pass, follows, has_inner, meet_field, meeting, opens, or_outermost, same_octets, same_step, second_pass, told, walk}
-use Rattle.pk_same.specs.declared.walk.Difference.{Difference}
-use Rattle.pk_same.specs.declared.walk.Meeting.{Meeting}
-use Rattle.pk_same.specs.declared.walk.Meeting.TheVariants.{Differ, Ended, Equal, First, Inside, Second}
-use Rattle.pk_same.specs.declared.walk.Pass.{Pass}
-use Rattle.pk_same.specs.declared.walk.Pass.TheVariants.{One, Stay, Whole}
+use Rattle.pk_same.proofs.DifferenceLaws.{after_ends, further}
+use Rattle.pk_same.specs.Differences.{AreInNone, IsInPrivateValues, PrivateValuesAreShownTogether}
+use Rattle.pk_same.specs.DifferenceLists.{after_pass, are_private_values, deeper, differences, differences_along, differences_of, first_pass, follows, has_inner, meet_field, meeting, opens, or_outermost, same_octets, same_step, second_pass}
+use Rattle.pk_same.specs.declared.difference_list.Difference.{Difference}
+use Rattle.pk_same.specs.declared.difference_list.Meeting.{Meeting}
+use Rattle.pk_same.specs.declared.difference_list.Meeting.TheVariants.{Differ, Ended, Equal, First, Inside, Second}
+use Rattle.pk_same.specs.declared.difference_list.Pass.{Pass}
+use Rattle.pk_same.specs.declared.difference_list.Pass.TheVariants.{One, Stay, Whole}
 
--- ---- the first of some lines, and those behind it
+-- ---- the first of some lines, and those after it
 
 abbrev first_depth : List Line → ℕ
 first_depth [] = 0
 first_depth (line ∷ lines) = line.depth
 
-abbrev behind_first : List Line → List Line
-behind_first [] = []
-behind_first (line ∷ lines) = lines
+abbrev after_first : List Line → List Line
+after_first [] = []
+after_first (line ∷ lines) = lines
 
 abbrev first_is_private : List Line → Bool
 first_is_private [] = false
 first_is_private (line ∷ lines) = are_private_values line lines
 
--- ---- how many lines stand behind those that are deeper
+-- ---- how many lines come after those that are deeper
 
 deeper_fewer : (depth : ℕ) (lines : List Line) → length (deeper depth lines) ≤ length lines
 deeper_fewer depth [] = omega arith
@@ -64,7 +64,7 @@ passes_by : (depth : ℕ) (first : Line) (lines before : List Line) (line : Line
     → length (deeper depth lines) ≤ length (deeper line.depth later))
     → length (deeper depth lines) ≤ length (deeper line.depth later)
 passes_by depth first lines [] line later e f rest =
-    let same = ap behind_first e in
+    let same = ap after_first e in
     let level : first.depth ≡ line.depth = ap first_depth e in
     let high = above first.depth depth f in
     omega (
@@ -72,7 +72,7 @@ passes_by depth first lines [] line later e f rest =
       ap (λ ls. length (deeper depth ls)) same,
       deeper_more depth line.depth later (omega (arith, level, high)),
     )
-passes_by depth first lines (it ∷ before) line later e f rest = rest before (ap behind_first e)
+passes_by depth first lines (it ∷ before) line later e f rest = rest before (ap after_first e)
 
 -- What is in an element that goes by with what is around it goes by, too.
 deeper_passes : (depth : ℕ) (lines before : List Line) (line : Line) (later : List Line)
@@ -90,14 +90,14 @@ deeper_passes depth (first ∷ lines) before line later e h =
           (λ before' e'. deeper_passes depth lines before' line later e' few)
     ] refl h
 
--- ---- where lines stand in a list
+-- ---- where lines are in a list
 
-split_behind : (before before' rest rest' : List Line) → before ++ rest ≡ before' ++ rest'
+split_after : (before before' rest rest' : List Line) → before ++ rest ≡ before' ++ rest'
     → length before ≤ length before' → (between : List Line) × (rest ≡ between ++ rest')
-split_behind [] before' rest rest' e h = (before', e)
-split_behind (it ∷ before) [] rest rest' e h = absurd (omega (arith, h))
-split_behind (it ∷ before) (it' ∷ before') rest rest' e h =
-    split_behind before before' rest rest' (ap behind_first e) (omega (arith, h))
+split_after [] before' rest rest' e h = (before', e)
+split_after (it ∷ before) [] rest rest' e h = absurd (omega (arith, h))
+split_after (it ∷ before) (it' ∷ before') rest rest' e h =
+    split_after before before' rest rest' (ap after_first e) (omega (arith, h))
 
 nothing_between : (between rest rest' : List Line) → rest ≡ between ++ rest' → length between ≡ 0 → rest ≡ rest'
 nothing_between [] rest rest' e none = e
@@ -109,7 +109,7 @@ abbrev IsFree : List Line → List Line → Type 0
 IsFree lines left = IsInPrivateValues lines (length lines - length left) → ⊥
 
 free_from_start : (lines : List Line) → IsFree lines lines
-free_from_start lines p = omega (arith, p.behind)
+free_from_start lines p = omega (arith, p.after)
 
 -- values that stood before the place are those of an earlier one
 earlier : (lines before : List Line) (line : Line) (later left : List Line) → lines ≡ before ++ line ∷ later
@@ -125,7 +125,7 @@ earlier lines before line later left e fewer free p less =
       later = p.later;
       place = p.place;
       private = p.private;
-      behind = omega (arith, whole, count, less);
+      after = omega (arith, whole, count, less);
       inside = omega (arith, whole, count, fewer, p.inside);
     }
     )
@@ -135,14 +135,14 @@ past_one : (lines before : List Line) (line : Line) (later : List Line) → line
 past_one lines before line later e public free p =
     ⊎_elim (λ less. earlier lines before line later later e (omega arith) free p (omega (arith, less)))
     (λ more.
-    let s = split_behind before p.before (line ∷ later) (p.line ∷ p.later) (sym e ∙ p.place) (omega (arith, more)) in
+    let s = split_after before p.before (line ∷ later) (p.line ∷ p.later) (sym e ∙ p.place) (omega (arith, more)) in
     let whole = ap length e in
     let count = length-append before (line ∷ later) in
     let whole' = ap length p.place in
     let count' = length-append p.before (p.line ∷ p.later) in
     let parts = ap length s.1 in
     let joined = length-append s.0 (p.line ∷ p.later) in
-    let none : length s.0 ≡ 0 = omega (arith, whole, count, whole', count', parts, joined, p.behind) in
+    let none : length s.0 ≡ 0 = omega (arith, whole, count, whole', count', parts, joined, p.after) in
     let same = nothing_between s.0 (line ∷ later) (p.line ∷ p.later) s.1 none in
     false≢true (sym public ∙ ap first_is_private same ∙ p.private))
     (cases_lt (length p.before) (length before))
@@ -151,9 +151,9 @@ whole_passes : (between : List Line) (line : Line) (later : List Line) (line' : 
     → line ∷ later ≡ between ++ line' ∷ later' → length (deeper line.depth later) ≤ length later'
     → length (deeper line.depth later) ≤ length (deeper line'.depth later')
 whole_passes [] line later line' later' e few =
-    omega (arith, ap (λ ls. length (deeper (first_depth ls) (behind_first ls))) e)
+    omega (arith, ap (λ ls. length (deeper (first_depth ls) (after_first ls))) e)
 whole_passes (it ∷ between) line later line' later' e few =
-    deeper_passes line.depth later between line' later' (ap behind_first e) few
+    deeper_passes line.depth later between line' later' (ap after_first e) few
 
 past_whole : (lines before : List Line) (line : Line) (later : List Line) → lines ≡ before ++ line ∷ later
     → IsFree lines (line ∷ later) → IsFree lines (deeper line.depth later)
@@ -163,15 +163,15 @@ past_whole lines before line later e free p =
     earlier lines before line later (deeper line.depth later) e (deeper_fewer line.depth later) free p
     (omega (arith, less)))
     (λ more.
-    let s = split_behind before p.before (line ∷ later) (p.line ∷ p.later) (sym e ∙ p.place) (omega (arith, more)) in
+    let s = split_after before p.before (line ∷ later) (p.line ∷ p.later) (sym e ∙ p.place) (omega (arith, more)) in
     let whole = ap length p.place in
     let count = length-append p.before (p.line ∷ p.later) in
-    let few : length (deeper line.depth later) ≤ length p.later = omega (arith, whole, count, p.behind) in
+    let few : length (deeper line.depth later) ≤ length p.later = omega (arith, whole, count, p.after) in
     let passed = whole_passes s.0 line later p.line p.later s.1 few in omega (arith, passed, p.inside))
     (cases_lt (length p.before) (length before))
 
 past : (pass : Pass) (lines before left : List Line) → lines ≡ before ++ left
-    → (pass ≡ One → first_is_private left ≡ false) → IsFree lines left → IsFree lines (behind pass left)
+    → (pass ≡ One → first_is_private left ≡ false) → IsFree lines left → IsFree lines (after_pass pass left)
 past Stay lines before [] e public free = free
 past One lines before [] e public free = free
 past Whole lines before [] e public free = free
@@ -231,30 +231,30 @@ one_of_second Inside e = refl
 one_of_second Equal e = absurd (cc)
 one_of_second Differ e = absurd (cc)
 
--- ---- what is told
+-- ---- what is shown
 
-told_free : (lines others left right : List Line) (m : Meeting) (more : List Difference) → IsFree lines left
+shown_free : (lines others left right : List Line) (m : Meeting) (more : List Difference) → IsFree lines left
     → IsFree others right → AreInNone lines others more
-    → AreInNone lines others (told m (length lines - length left) (length others - length right) ++ more)
-told_free lines others left right Ended more free free' all = all
-told_free lines others left right First more free free' all = (free, tt, all)
-told_free lines others left right Second more free free' all = (tt, free', all)
-told_free lines others left right Inside more free free' all = all
-told_free lines others left right Equal more free free' all = all
-told_free lines others left right Differ more free free' all = (free, free', all)
+    → AreInNone lines others (differences_of m (length lines - length left) (length others - length right) ++ more)
+shown_free lines others left right Ended more free free' all = all
+shown_free lines others left right First more free free' all = (free, tt, all)
+shown_free lines others left right Second more free free' all = (tt, free', all)
+shown_free lines others left right Inside more free free' all = all
+shown_free lines others left right Equal more free free' all = all
+shown_free lines others left right Differ more free free' all = (free, free', all)
 
-walk_free : (rounds : ℕ) (first second : List ℕ) (lines others before before' left right : List Line)
+along_free : (rounds : ℕ) (first second : List ℕ) (lines others before before' left right : List Line)
     → lines ≡ before ++ left → others ≡ before' ++ right → IsFree lines left → IsFree others right
-    → AreInNone lines others (walk rounds first second left right (length lines) (length others))
-walk_free zero first second lines others before before' left right e h free free' = tt
-walk_free (suc rounds) first second lines others before before' left right e h free free' =
+    → AreInNone lines others (differences_along rounds first second left right (length lines) (length others))
+along_free zero first second lines others before before' left right e h free free' = tt
+along_free (suc rounds) first second lines others before before' left right e h free free' =
     let m = meeting first second left right in
-    let go = behind_ends (first_pass m) left in
-    let on = behind_ends (second_pass m) right in
-    told_free lines others left right m _ free free'
-    (walk_free rounds first second lines others (before ++ go.0) (before' ++ on.0) (behind (first_pass m) left)
-    (behind (second_pass m) right) (further lines before left go.0 (behind (first_pass m) left) e go.1)
-    (further others before' right on.0 (behind (second_pass m) right) h on.1)
+    let go = after_ends (first_pass m) left in
+    let on = after_ends (second_pass m) right in
+    shown_free lines others left right m _ free free'
+    (along_free rounds first second lines others (before ++ go.0) (before' ++ on.0) (after_pass (first_pass m) left)
+    (after_pass (second_pass m) right) (further lines before left go.0 (after_pass (first_pass m) left) e go.1)
+    (further others before' right on.0 (after_pass (second_pass m) right) h on.1)
     (past (first_pass m) lines before left e
     (λ one. (inside_is_public first second left right (one_of_first m one)).0) free)
     (past (second_pass m) others before' right h
@@ -262,12 +262,12 @@ walk_free (suc rounds) first second lines others before before' left right e h f
 
 or_outermost_free : (lines others : List Line) (all : List Difference) → AreInNone lines others all
     → AreInNone lines others (or_outermost all)
-or_outermost_free lines others [] h = (λ p. omega (arith, p.behind), λ p. omega (arith, p.behind), tt)
+or_outermost_free lines others [] h = (λ p. omega (arith, p.after), λ p. omega (arith, p.after), tt)
 or_outermost_free lines others (difference ∷ more) h = h
 
-pub private_values_are_told_together : PrivateValuesAreToldTogether
+pub private_values_are_shown_together : PrivateValuesAreShownTogether
 unfolding differences
-private_values_are_told_together first second lines others =
+private_values_are_shown_together first second lines others =
     or_outermost_free lines others _
-    (walk_free (length lines + length others) first second lines others [] [] lines others refl refl
+    (along_free (length lines + length others) first second lines others [] [] lines others refl refl
     (free_from_start lines) (free_from_start others))

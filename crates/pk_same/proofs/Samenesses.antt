@@ -117,7 +117,8 @@ pub compared_result : {W E : Type 0} (text_of : W → List ℕ) (answer_of : W �
     → IfOk result (λ it. IsWritten form l kind name other_name first second (text_of it) (answer_of it))
 compared_result text_of answer_of (Ok it) form l kind name other_name first second one other program word p w a b c =
     compared_said form l kind name other_name first second one other program word (text_of it) (answer_of it) p w a b c
-compared_result text_of answer_of (Err error) form l kind name other_name first second one other program word p w a b c =
+compared_result text_of answer_of
+    (Err error) form l kind name other_name first second one other program word p w a b c =
     tt
 
 pub refused_result : {W E : Type 0} (text_of : W → List ℕ) (answer_of : W → Sameness) (result : Result W E)
@@ -128,6 +129,8 @@ pub refused_result : {W E : Type 0} (text_of : W → List ℕ) (answer_of : W �
     → IfOk result (λ it. answer_of it ≡ Refused fault other)
     → IfOk result (λ it. IsWritten form l kind name other_name first second (text_of it) (answer_of it))
 refused_result text_of answer_of (Ok it) form l kind name other_name first second program word fault other p w r e is =
-    refused_said form l kind name other_name first second program word (text_of it) fault other (answer_of it) p w r e is
-refused_result text_of answer_of (Err error) form l kind name other_name first second program word fault other p w r e is =
+    refused_said form l kind name other_name first second program word (text_of it) fault other
+    (answer_of it) p w r e is
+refused_result text_of answer_of
+    (Err error) form l kind name other_name first second program word fault other p w r e is =
     tt

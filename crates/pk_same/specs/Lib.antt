@@ -3,6 +3,6 @@ pub mod Json
 pub mod Said
 pub mod Sameness
 pub mod Texts
-pub mod Told
-pub mod Walks
+pub mod DifferenceWords
+pub mod DifferenceLists
 pub mod Written

@@ -5,7 +5,7 @@ use Rattle.asn_names.specs.declared.element.Step.{Step}
 use Rattle.asn_names.specs.declared.element.Step.TheVariants.{Field, Member}
 use Rattle.reports.specs.Lines.{unused_part}
 use Rattle.reports.specs.Paths.{path_text}
-use Rattle.reports.specs.Picks.{way_of}
+use Rattle.reports.specs.Picks.{path_to_line}
 use Rattle.reports.specs.Texts.{quoted}
 use Rattle.reports.specs.TypeWords.{tag_said}
 use Rattle.reports.specs.Words.{sized}
@@ -19,7 +19,7 @@ abbrev pub is_member : Step → Bool
 is_member (Member number) = true
 is_member step = false
 
--- what stands under an explicit tag has no name
+-- what is under an explicit tag has no name
 abbrev pub is_unnamed : Step → Bool
 is_unnamed (Field name) = length name.now == 0
 is_unnamed step = false
@@ -30,7 +30,7 @@ identifier_said (values.Named identifier) = identifier.now.name.now
 identifier_said (values.Arcs arcs) = string_bytes arcs
 identifier_said value = []
 
--- the type of what has these lines in it: the object identifier that stands first
+-- the type of what has these lines in it: the object identifier that comes first
 abbrev pub kind_said : List Line → List ℕ
 kind_said [] = []
 kind_said (first ∷ lines) = identifier_said first.value
@@ -58,7 +58,7 @@ kind_part kind = cond (length kind == 0) [] (codes " (" ++ kind ++ codes ")")
 -- list or a set that it is in.
 unfoldable pub field_said : List ℕ → List Line → ℕ → List ℕ
 field_said root lines number =
-    path_text root (way_of lines number) ++ kind_part (kind_along 200 lines number)
+    path_text root (path_to_line lines number) ++ kind_part (kind_along 200 lines number)
 
 -- how many octets of contents a header announces
 abbrev pub contents_said : Option Length → List ℕ
@@ -74,7 +74,7 @@ abbrev pub characters_said : Tag → List ℕ → List ℕ
 characters_said tag octets =
     cond (nat_lt 64 (length octets)) (sized (length octets)) (tag_said tag ++ codes " " ++ quoted octets)
 
--- What is told of the contents of an element: they themselves where they are public and short, else their number.
+-- What is shown of the contents of an element: they themselves where they are public and short, else their number.
 abbrev pub line_said : Line → Value → List ℕ
 line_said line values.Nothing = contents_said line.length
 line_said line values.NotShown = codes "not shown"
@@ -88,7 +88,7 @@ line_said line (values.Named identifier) =
 line_said line (values.Arcs arcs) = arcs_said (string_bytes arcs) line.length
 line_said line (values.Characters octets) = characters_said line.tag octets.items
 
--- an element is an explicit tag: what stands in it has no name of its own
+-- an element is an explicit tag: what is in it has no name of its own
 abbrev pub wraps : Line → List Line → Bool
 wraps line [] = false
 wraps line (next ∷ lines) = nat_lt line.depth next.depth && is_unnamed next.step

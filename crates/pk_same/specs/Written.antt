@@ -15,8 +15,8 @@ use Rattle.reports.specs.declared.report.Report.{Report}
 use Rattle.pk_same.specs.Json.{another_object, refused_object, same_object}
 use Rattle.pk_same.specs.Sameness.{IsAccepted, IsSameness}
 use Rattle.pk_same.specs.Texts.{another_text, refused_text, same_line}
-use Rattle.pk_same.specs.Told.{Words, said_of}
-use Rattle.pk_same.specs.Walks.{differences}
+use Rattle.pk_same.specs.DifferenceWords.{DifferenceWords, said_of}
+use Rattle.pk_same.specs.DifferenceLists.{differences}
 use Rattle.pk_same.specs.declared.same.Style.{Style}
 use Rattle.pk_same.specs.declared.same.Style.TheVariants.{Json, Text}
 use Rattle.pk_same.specs.declared.sameness.Sameness.{Sameness}
@@ -31,30 +31,31 @@ refused_written Text program kind name other_name fault other = refused_text nam
 refused_written Json program kind name other_name fault other =
     print (refused_object program kind name other_name fault other) ++ line_feed
 
-abbrev pub another_written : Style → List ℕ → List ℕ → List ℕ → List ℕ → List Words → ℕ → List ℕ
+abbrev pub another_written : Style → List ℕ → List ℕ → List ℕ → List ℕ → List DifferenceWords → ℕ → List ℕ
 another_written Text program kind name other_name words more = another_text name other_name words more
 another_written Json program kind name other_name words more =
     print (another_object program kind name other_name words more) ++ line_feed
 
--- what is told of the first 16 elements that differ, and how many more do, by all lines of both documents
-abbrev pub AreTheFirst : List ℕ → List ℕ → List ℕ → List Line → List Line → List Words → ℕ → Type 0
+-- what is shown of the first 16 elements that differ, and how many more do, by all lines of both documents
+abbrev pub AreTheFirst : List ℕ → List ℕ → List ℕ → List Line → List Line → List DifferenceWords → ℕ → Type 0
 AreTheFirst root encoding other lines others words more =
     (words ≡ map (said_of root lines others) (first_ones 16 (differences encoding other lines others)))
     × (more ≡ length (differences encoding other lines others) - 16)
 
 -- The words are of the elements that differ by the reports of these two DER encodings.
-pub record AreTold (limits : Limits) (kind : Kind) (encoding other : List ℕ) (words : List Words) (more : ℕ)
+pub record AreShown (limits : Limits) (kind : Kind) (encoding other : List ℕ) (words : List DifferenceWords) (more : ℕ)
     : Type 0 where
   pub report : Report
   pub other_report : Report
   pub reported : IsReportOf limits kind encoding report
   pub other_reported : IsReportOf limits kind other other_report
-  pub first : AreTheFirst report.kind.type_name.now encoding other report.lines.items other_report.lines.items words more
+  pub first : AreTheFirst report.kind.type_name.now encoding other report.lines.items other_report.lines.items words
+      more
 
 -- A text of two DER encodings that aren't equal.
-abbrev pub IsTold : Style → Limits → Kind → List ℕ → List ℕ → List ℕ → List ℕ → List ℕ → List ℕ → List ℕ → Type 0
-IsTold form limits kind program word name other_name encoding other text =
-    (words : List Words) × (more : ℕ) × AreTold limits kind encoding other words more
+abbrev pub IsShown : Style → Limits → Kind → List ℕ → List ℕ → List ℕ → List ℕ → List ℕ → List ℕ → List ℕ → Type 0
+IsShown form limits kind program word name other_name encoding other text =
+    (words : List DifferenceWords) × (more : ℕ) × AreShown limits kind encoding other words more
     × (text ≡ another_written form program word name other_name words more)
 
 -- The text and the answer for two documents by their DER encodings.
@@ -63,7 +64,7 @@ abbrev pub IsCompared : Style → Limits → Kind → List ℕ → List ℕ → 
 IsCompared form limits kind program word name other_name encoding other text Same =
     (encoding ≡ other) × (text ≡ same_written form program word name other_name)
 IsCompared form limits kind program word name other_name encoding other text Another =
-    (encoding ≡ other → ⊥) × IsTold form limits kind program word name other_name encoding other text
+    (encoding ≡ other → ⊥) × IsShown form limits kind program word name other_name encoding other text
 IsCompared form limits kind program word name other_name encoding other text (Refused fault fault') = ⊥
 
 -- The text that goes with an answer.
@@ -74,7 +75,7 @@ IsText form limits kind name other_name first second text Another =
     (encoding : List ℕ) × (other : List ℕ)
     × IsAccepted limits (type_of kind) first encoding
     × IsAccepted limits (type_of kind) second other
-    × IsTold form limits kind version (word_of kind) name other_name encoding other text
+    × IsShown form limits kind version (word_of kind) name other_name encoding other text
 IsText form limits kind name other_name first second text (Refused fault other) =
     text ≡ refused_written form version (word_of kind) name other_name fault other
 

@@ -3,10 +3,10 @@ ghost use Rattle.std.specs.Prelude.{◌≡◌, ◌++◌, IfOk, OnOk, flat_map, m
 ghost use Rattle.json.specs.Print.{print};
 ghost use Rattle.reports.specs.Texts.{line_feed};
 ghost use Rattle.pk_same.specs.Json.{another_object, called_member, difference_members, fault_members, head_members, refused_object, same_object, words_object};
-ghost use Rattle.pk_same.specs.Told.{words_of};
+ghost use Rattle.pk_same.specs.DifferenceWords.{words_of};
 
+use crate::difference_text::DifferenceText;
 use crate::text::DocumentNames;
-use crate::told::Told;
 use reports::json_report::{push_inside, push_place};
 use reports::json_text::JsonText;
 use std::alloc::{AllocError, Global};
@@ -62,20 +62,20 @@ pub(crate) fn refused_json(
 pub(crate) fn another_json(
     alloc: Global,
     heading: Heading<'_>,
-    told: &[Told],
+    shown: &[DifferenceText],
     more: u64,
 ) -> Result<String, AllocError>
     ensures { IfOk result (λ text. string_bytes text
         ≡ print (another_object heading.entry.version.now heading.entry.kind.now
         heading.entry.names.first.now heading.entry.names.second.now
-        (map words_of told.now) more) ++ line_feed) }
+        (map words_of shown.now) more) ++ line_feed) }
 {
     let mut json = JsonText::new(alloc);
     json.begin_object()?;
     push_head(&mut json, heading, 1, "another")?;
     push_called(&mut json, "first", heading.names.first, None)?;
     push_called(&mut json, "second", heading.names.second, None)?;
-    push_differences(&mut json, told, more)?;
+    push_differences(&mut json, shown, more)?;
     json.end_object()?;
     json.into_line()
 }
@@ -129,36 +129,40 @@ fn push_fault(json: &mut JsonText, fault: Option<Fault>) -> Result<(), AllocErro
 
 /// The elements that differ, and how many more do.
 #[tactic(auto, unfolding(crate::specs::Json::difference_members))]
-fn push_differences(json: &mut JsonText, told: &[Told], more: u64) -> Result<(), AllocError>
+fn push_differences(
+    json: &mut JsonText,
+    shown: &[DifferenceText],
+    more: u64,
+) -> Result<(), AllocError>
     ensures { OnOk result (json.new ≡ json.old
-        ++ difference_members (map words_of told.now) more) }
+        ++ difference_members (map words_of shown.now) more) }
 {
     json.begin_list_at("differences")?;
-    push_each(json, told)?;
+    push_each(json, shown)?;
     json.end_list()?;
     json.number("more", more)
 }
 
-fn push_each(json: &mut JsonText, told: &[Told]) -> Result<(), AllocError>
+fn push_each(json: &mut JsonText, shown: &[DifferenceText]) -> Result<(), AllocError>
     ensures { OnOk result (json.new ≡ json.old
-        ++ flat_map words_object (map words_of told.now)) }
+        ++ flat_map words_object (map words_of shown.now)) }
 {
-    let mut left = told;
-    while let [next, behind @ ..] = left {
+    let mut left = shown;
+    while let [next, rest @ ..] = left {
         push_words(json, next)?;
-        left = behind;
+        left = rest;
     }
     Ok(())
 }
 
 /// A field and its value in each document.
 #[tactic(auto, unfolding(crate::specs::Json::words_object))]
-fn push_words(json: &mut JsonText, told: &Told) -> Result<(), AllocError>
-    ensures { OnOk result (json.new ≡ json.old ++ words_object (words_of told.now)) }
+fn push_words(json: &mut JsonText, shown: &DifferenceText) -> Result<(), AllocError>
+    ensures { OnOk result (json.new ≡ json.old ++ words_object (words_of shown.now)) }
 {
     json.begin_object()?;
-    json.text("field", told.field.as_str())?;
-    json.text("first", told.first.as_str())?;
-    json.text("second", told.second.as_str())?;
+    json.text("field", shown.field.as_str())?;
+    json.text("first", shown.first.as_str())?;
+    json.text("second", shown.second.as_str())?;
     json.end_object()
 }

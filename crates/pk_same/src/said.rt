@@ -3,8 +3,8 @@ ghost use Rattle.std.specs.Prelude.{◌≡◌, ◌++◌, IfOk, OnOk, drop, strin
 ghost use Rattle.pk_same.specs.Said.{arcs_said, characters_said, contents_said, field_said, identifier_said, is_member, is_unnamed, kind_along, kind_part, kind_said, line_said, value_said, wraps};
 
 use asn_names::element::Step;
-use reports::paths::path;
-use reports::picks::{steps_before, way_to};
+use reports::paths::path_text;
+use reports::picks::{path_to_line, steps_before};
 use reports::report::{Length, Line, Value};
 use reports::text::{push_number, push_quoted};
 use reports::text_lines::push_unused;
@@ -13,10 +13,10 @@ use reports::words::push_size;
 use std::alloc::{AllocError, Global};
 use tlv_core::tag::Tag;
 
-/// As many steps are on a way at most: no document is read that has more elements around one.
+/// As many steps are on a path at most: no document is read that has more elements around one.
 const STEPS: u64 = 200;
 
-/// As many octets of a text are told at most; of a longer one their number.
+/// As many octets of a text are shown at most; of a longer one their number.
 const SHORT: usize = 64;
 
 /// The field that the line of this number is: its path, and the type of the innermost member that it is in.
@@ -29,8 +29,8 @@ pub(crate) fn field_text(
 ) -> Result<String, AllocError>
     ensures { IfOk result (λ text. string_bytes text ≡ field_said root.now lines.now number) }
 {
-    let way = way_to(alloc, lines, number)?;
-    let mut text = path(alloc, root, &way)?;
+    let path = path_to_line(alloc, lines, number)?;
+    let mut text = path_text(alloc, root, &path)?;
     push_kind(&mut text, kind_along(lines, number, STEPS))?;
     Ok(text)
 }
@@ -90,7 +90,7 @@ fn is_member(step: Step) -> bool
     matches!(step, Step::Member(_))
 }
 
-/// The type of what has these lines in it: the object identifier that stands first.
+/// The type of what has these lines in it: the object identifier that comes first.
 fn kind_said(lines: &[Line]) -> &str
     ensures { result.now ≡ kind_said lines.now }
 {
@@ -124,7 +124,7 @@ pub(crate) fn push_value(alloc: Global, text: &mut String, lines: &[Line]) -> Re
     push_line_value(alloc, text, line)
 }
 
-/// Whether an element is an explicit tag: what stands in it has no name of its own.
+/// Whether an element is an explicit tag: what is in it has no name of its own.
 fn wraps(line: &Line, later: &[Line]) -> bool
     ensures { result ≡ wraps line.now later.now }
 {
@@ -143,7 +143,7 @@ fn is_unnamed(step: Step) -> bool
     }
 }
 
-/// What is told of the contents of an element: they themselves where they are public and short, else their number.
+/// What is shown of the contents of an element: they themselves where they are public and short, else their number.
 fn push_line_value(alloc: Global, text: &mut String, line: &Line) -> Result<(), AllocError>
     ensures { OnOk result (string_bytes text.new ≡ string_bytes text.old ++ line_said line.now line.now.value) }
 {

@@ -1,17 +1,17 @@
 //! What two documents are to each other, as it is written.
 ghost use Rattle.std.specs.Prelude.{◌≡◌, IfOk, map, string_bytes};
-ghost use Rattle.pk_same.specs.Told.{words_of};
-ghost use Rattle.pk_same.specs.Written.{AreTold, IsCompared, IsWritten, another_written, refused_written, same_written};
+ghost use Rattle.pk_same.specs.DifferenceWords.{words_of};
+ghost use Rattle.pk_same.specs.Written.{AreShown, IsCompared, IsWritten, another_written, refused_written, same_written};
 
+use crate::difference_list::{Encodings, differences};
+use crate::difference_text::{DifferenceText, Sides, first_shown, left_out};
 use crate::json_object::{Heading, another_json, refused_json, same_json};
 use crate::reading::{is_any, read};
 pub use crate::sameness::Sameness;
 use crate::text::{DocumentNames, another_text, refused_text, same_line};
-use crate::told::{Sides, Told, first_told, untold};
-use crate::walk::{Encodings, differences};
-use pk_documents::kind::Kind;
 use explain::explained::explain;
 use explain::version::VERSION;
+use pk_documents::kind::Kind;
 use std::alloc::{AllocError, Global};
 use tlv_core::fault::Fault;
 use tlv_core::limits::Limits;
@@ -106,8 +106,8 @@ fn compared(
     if encodings.first == encodings.second {
         return Ok((same_written(alloc, heading, form)?, Sameness::Same));
     }
-    let (told, more) = tell(alloc, encodings, kind, limits)?;
-    let text = another_written(alloc, heading, form, &told, more)?;
+    let (shown, more) = show_differences(alloc, encodings, kind, limits)?;
+    let text = another_written(alloc, heading, form, &shown, more)?;
     Ok((text, Sameness::Another))
 }
 
@@ -126,28 +126,28 @@ fn another_written(
     alloc: Global,
     heading: Heading<'_>,
     form: Style,
-    told: &[Told],
+    shown: &[DifferenceText],
     more: u64,
 ) -> Result<String, AllocError>
     ensures { IfOk result (λ text. string_bytes text
         ≡ another_written form heading.entry.version.now heading.entry.kind.now
         heading.entry.names.first.now heading.entry.names.second.now
-        (map words_of told.now) more) }
+        (map words_of shown.now) more) }
 {
     match form {
-        Style::Text => another_text(alloc, heading.names, told, more),
-        Style::Json => another_json(alloc, heading, told, more),
+        Style::Text => another_text(alloc, heading.names, shown, more),
+        Style::Json => another_json(alloc, heading, shown, more),
     }
 }
 
-/// What is told of two documents by their DER encodings, and how many elements differ that aren't told.
-fn tell(
+/// What is shown of two documents by their DER encodings, and how many elements differ that aren't shown.
+fn show_differences(
     alloc: Global,
     encodings: Encodings<'_>,
     kind: Kind,
     limits: Limits,
-) -> Result<(Vec<Told>, u64), AllocError>
-    ensures { IfOk result (λ it. AreTold limits kind encodings.entry.first.now
+) -> Result<(Vec<DifferenceText>, u64), AllocError>
+    ensures { IfOk result (λ it. AreShown limits kind encodings.entry.first.now
         encodings.entry.second.now (map words_of it.0.items) it.1) }
 {
     let report = explain(alloc, encodings.first, kind, limits)?;
@@ -158,6 +158,6 @@ fn tell(
         first: &report.lines,
         second: &other_report.lines,
     };
-    let told = first_told(alloc, sides, &all)?;
-    Ok((told, untold(all.len())))
+    let shown = first_shown(alloc, sides, &all)?;
+    Ok((shown, left_out(all.len())))
 }

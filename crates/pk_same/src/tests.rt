@@ -177,7 +177,7 @@ static ROWS: [(Kind, &str, &str, &str); 17] = [
         \x20 a.der: subjectAltName (2.5.29.17)\n  b.der: keyUsage (2.5.29.15)\n\
         \x20 a.der: 5 octets\n  b.der: 4 octets\n  a.der: 64 octets\n  b.der: 64 octets\n",
     ),
-    // Private values of an attribute are told all at once: which of them differ in DER order tells which is the greater.
+    // Private values of an attribute are shown all at once: which of them differ in DER order says which is the larger.
     (
         Kind::Key,
         VALUES_5_9,
@@ -203,7 +203,7 @@ static ROWS: [(Kind, &str, &str, &str); 17] = [
         "another document: certificationRequestInfo.attributes[0].values (challengePassword)\n\
         \x20 a.der: 8 octets\n  b.der: 9 octets\n",
     ),
-    // So they are where the other ones are public; which of these differ is told.
+    // So they are where the other ones are public; which of these differ is shown.
     (
         Kind::Request,
         REQUEST_EXTENSIONS,
@@ -224,7 +224,7 @@ static ROWS: [(Kind, &str, &str, &str); 17] = [
         \x20 a.der: subjectAltName (2.5.29.17)\n  b.der: keyUsage (2.5.29.15)\n\
         \x20 a.der: 5 octets\n  b.der: 4 octets\n  a.der: absent\n  b.der: 14 octets\n",
     ),
-    // Of 18 names and a signature that differ 16 are told.
+    // Of 18 names and a signature that differ 16 are shown.
     (
         Kind::Request,
         REQUEST_18,

@@ -1,9 +1,9 @@
 //! What two documents are to each other, in lines.
 ghost use Rattle.std.specs.Prelude.{◌≡◌, ◌++◌, IfOk, OnOk, flat_map, map, string_bytes};
-ghost use Rattle.pk_same.specs.Texts.{another_text, difference_lines, fault_line, field_behind, fields_said, more_said, refused_text, same_line, side_line};
-ghost use Rattle.pk_same.specs.Told.{words_of};
+ghost use Rattle.pk_same.specs.Texts.{another_text, difference_lines, fault_line, field_after, fields_said, more_said, refused_text, same_line, side_line};
+ghost use Rattle.pk_same.specs.DifferenceWords.{words_of};
 
-use crate::told::Told;
+use crate::difference_text::DifferenceText;
 use reports::text::push_between;
 use reports::text_report::{push_inside, push_reason};
 use std::alloc::{AllocError, Global};
@@ -60,42 +60,42 @@ fn push_fault_line(text: &mut String, name: &str, fault: Option<Fault>) -> Resul
 pub(crate) fn another_text(
     alloc: Global,
     names: DocumentNames<'_>,
-    told: &[Told],
+    shown: &[DifferenceText],
     more: u64,
 ) -> Result<String, AllocError>
     ensures { IfOk result (λ text. string_bytes text
-        ≡ another_text names.entry.first.now names.entry.second.now (map words_of told.now) more) }
+        ≡ another_text names.entry.first.now names.entry.second.now (map words_of shown.now) more) }
 {
     let mut text = String::from_str(alloc, "another document: ")?;
-    push_fields(&mut text, told)?;
+    push_fields(&mut text, shown)?;
     push_more(&mut text, more)?;
     text.push_str("\n")?;
-    push_values(&mut text, names, told)?;
+    push_values(&mut text, names, shown)?;
     Ok(text)
 }
 
 /// The fields, a comma between each two.
-fn push_fields(text: &mut String, told: &[Told]) -> Result<(), AllocError>
+fn push_fields(text: &mut String, shown: &[DifferenceText]) -> Result<(), AllocError>
     ensures { OnOk result (string_bytes text.new ≡ string_bytes text.old
-        ++ fields_said (map words_of told.now)) }
+        ++ fields_said (map words_of shown.now)) }
 {
-    let [first, behind @ ..] = told else {
+    let [first, rest @ ..] = shown else {
         return Ok(());
     };
     text.push_str(first.field.as_str())?;
-    push_fields_behind(text, behind)
+    push_fields_after(text, rest)
 }
 
-/// Fields behind others.
-fn push_fields_behind(text: &mut String, told: &[Told]) -> Result<(), AllocError>
+/// Fields after others.
+fn push_fields_after(text: &mut String, shown: &[DifferenceText]) -> Result<(), AllocError>
     ensures { OnOk result (string_bytes text.new ≡ string_bytes text.old
-        ++ flat_map field_behind (map words_of told.now)) }
+        ++ flat_map field_after (map words_of shown.now)) }
 {
-    let mut left = told;
-    while let [next, behind @ ..] = left {
+    let mut left = shown;
+    while let [next, rest @ ..] = left {
         text.push_str(", ")?;
         text.push_str(next.field.as_str())?;
-        left = behind;
+        left = rest;
     }
     Ok(())
 }
@@ -111,16 +111,20 @@ fn push_more(text: &mut String, more: u64) -> Result<(), AllocError>
 }
 
 /// The values of each field, a line for each document.
-fn push_values(text: &mut String, names: DocumentNames<'_>, told: &[Told]) -> Result<(), AllocError>
+fn push_values(
+    text: &mut String,
+    names: DocumentNames<'_>,
+    shown: &[DifferenceText],
+) -> Result<(), AllocError>
     ensures { OnOk result (string_bytes text.new ≡ string_bytes text.old
         ++ flat_map (difference_lines names.entry.first.now names.entry.second.now)
-        (map words_of told.now)) }
+        (map words_of shown.now)) }
 {
-    let mut left = told;
-    while let [next, behind @ ..] = left {
+    let mut left = shown;
+    while let [next, rest @ ..] = left {
         push_side(text, names.first, next.first.as_str())?;
         push_side(text, names.second, next.second.as_str())?;
-        left = behind;
+        left = rest;
     }
     Ok(())
 }

@@ -31,7 +31,8 @@ pub compared_result : {W E : Type 0} (text_of : W → List ℕ) (answer_of : W �
     (λ it.
     AreCompared value_of l kind other_kind first second (text_of it) (answer_of it)
     ⊎ AreRefusedKeys value_of l kind other_kind name other_name first second (text_of it) (answer_of it))
-compared_result text_of answer_of (Ok it) value_of l kind other_kind name other_name first second document other a b e t =
+compared_result text_of answer_of
+    (Ok it) value_of l kind other_kind name other_name first second document other a b e t =
     inl (record { document = document; other = other; is = a; other_is = b; answered = e; line = t })
 compared_result text_of answer_of (Err error) value_of l kind other_kind name other_name first second document other a b
     e t = tt

@@ -38,7 +38,8 @@ number_octets (Some contents) = contents
 -- modulus and publicExponent
 abbrev pub rsa_parts : RsaPrivateKey → Parts
 rsa_parts key =
-    Rsa (number_octets (slice_get (rsa_numbers_of key.value.fields) 0)) (number_octets (slice_get (rsa_numbers_of key.value.fields) 1))
+    Rsa (number_octets (slice_get (rsa_numbers_of key.value.fields) 0))
+    (number_octets (slice_get (rsa_numbers_of key.value.fields) 1))
 
 -- by the algorithm, the curve that its parameters name, and what privateKey contains
 abbrev pub parts_by : List ℕ → List ℕ → AnyKey → Parts

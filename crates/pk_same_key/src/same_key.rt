@@ -10,12 +10,12 @@ ghost use Rattle.pkix_shapes.specs.Identifiers.{usual};
 
 use crate::parts::{KeyParts, document_parts};
 use crate::verdict::{KeySameness, is_unnamed, verdict};
-use pkix_shapes::identifiers::identifier_of;
 use pk_documents::document::{Document, Valued, read_whole_document};
 use pk_documents::kind::Kind;
 use pk_same::reading::is_any;
 use pk_same::same::TwoDocuments;
 use pk_same::text::{DocumentNames, refused_text};
+use pkix_shapes::identifiers::identifier_of;
 use std::alloc::{AllocError, Global};
 use tlv_core::fault::{Fault, ReadError};
 use tlv_core::limits::Limits;

@@ -13,14 +13,14 @@ use Rattle.clap.specs.declared.parser.matches.Found.{Found}
 use Rattle.clap.proofs.WalkLemmas.{first_value-rows, raw_values-rows}
 use Rattle.pkder.proofs.OneCommand.{MeansSame}
 use Rattle.pkder.proofs.PlainTexts.{controls_plain}
-use Rattle.pkder.specs.CommandLines.{Asks, AsksNothing, BadAction, BadAsked, BadKinds, BadOther, BadPart, BadPlaces, IsFaultOf, IsPlainLine, MeansAsked, MeansBy, MeansNothing, MeansTask, ReadsAction, ReadsPair, ReadsPlaces, TellsPlaces, TellsOwn, TellsWhy, advice_for_command, advised_line, are_of_same, asks_reasons, bad_value_line, both_kinds, command_advised, command_name, controls_line, has_control, is_same, kinds_given, kinds_of, missing_line, no_kind_line, option_advised, other_taken, part_name, program, taken_kind, value_of}
+use Rattle.pkder.specs.CommandLines.{Invokes, InvokesNothing, BadAction, BadInvocation, BadKinds, BadOther, BadPart, BadPlaces, IsFaultOf, IsPlainLine, MeansInvocation, MeansBy, MeansNothing, MeansTask, ReadsAction, ReadsPair, ReadsPlaces, ShowsPlaces, ShowsOwn, ShowsWhy, advice_for_command, advised_line, are_of_same, asks_reasons, bad_value_line, both_kinds, command_advised, command_name, controls_line, has_control, is_same, kinds_given, kinds_of, missing_line, no_kind_line, option_advised, other_taken, part_name, program, taken_kind, value_of}
 use Rattle.pk_documents.specs.declared.kind.Kind.{Kind}
 use Rattle.pk_documents.specs.declared.request_part.Part.{Part}
 use Rattle.pkder.specs.declared.refusal.BadValue.{BadValue}
 use Rattle.pkder.specs.declared.line.LineFault.{LineFault}
 use Rattle.pkder.specs.declared.line.LineFault.TheVariants as faults
-use Rattle.pkder.specs.declared.line.Asked.{Asked}
-use Rattle.pkder.specs.declared.line.Asked.TheVariants.{Both, Each}
+use Rattle.pkder.specs.declared.line.Invocation.{Invocation}
+use Rattle.pkder.specs.declared.line.Invocation.TheVariants.{Both, Each}
 use Rattle.pkder.specs.declared.pair.Pair.{Pair}
 use Rattle.commands.specs.declared.task.Action.{Action}
 use Rattle.commands.specs.declared.task.Action.TheVariants.{Check, Explain, Normalise, Show, Signed}
@@ -33,24 +33,25 @@ none_among kind [] h e = h
 none_among kind (k ∷ ks) h e = cc
 
 -- a line that clap takes
-pub asked : (app : App) (words : List Text) (m : ArgMatches) (r : Result Asked LineFault)
+pub invocation : (app : App) (words : List Text) (m : ArgMatches) (r : Result Invocation LineFault)
     → asks_reasons words ≡ false → MeansSame words app → HasMatchesOf app words m
     → (is_simple_and_free app ≡ true → FailsBy (fault_of app words) (Ok m))
     → MatchResult r (MeansBy (subcommand_rows_of m)) (MeansNothing (subcommand_rows_of m))
-    → MatchResult r (Asks words) (AsksNothing words)
-asked app words m r plain same matches kinds means =
+    → MatchResult r (Invokes words) (InvokesNothing words)
+invocation app words m r plain same matches kinds means =
     let none : fault_of program words ≡ [] = sym same.2 ∙ kinds same.1 in
     let met : subcommand_rows_of m ≡ subcommand_of program words = (matches same.0).1 ∙ same.3 in
     go r none met means
   where
-    go : (r : Result Asked LineFault) → fault_of program words ≡ [] → subcommand_rows_of m ≡ subcommand_of program words
+    go : (r : Result Invocation LineFault) → fault_of program words ≡ []
+        → subcommand_rows_of m ≡ subcommand_of program words
         → MatchResult r (MeansBy (subcommand_rows_of m)) (MeansNothing (subcommand_rows_of m))
-        → MatchResult r (Asks words) (AsksNothing words)
-    go (Ok asked) none met h = (plain, none, subst (λ z. MeansBy z asked) met h)
+        → MatchResult r (Invokes words) (InvokesNothing words)
+    go (Ok invocation) none met h = (plain, none, subst (λ z. MeansBy z invocation) met h)
     go (Err (faults.Line text)) none met h = (
       plain,
-      λ asked a. h.0 asked (subst (λ z. MeansBy z asked) (sym met) a.2),
-      inr (none, subst (λ z. TellsWhy z (string_bytes text)) met h.1),
+      λ invocation a. h.0 invocation (subst (λ z. MeansBy z invocation) (sym met) a.2),
+      inr (none, subst (λ z. ShowsWhy z (string_bytes text)) met h.1),
     )
     go (Err (faults.Help text)) none met h = absurd h
     go (Err faults.Memory) none met h = tt
@@ -64,12 +65,12 @@ among kind app words same kinds other =
       | inr h ↦ subst (IsAmong kind) same.2 h
     ]
 
--- ---- what is told of a line that clap refuses
+-- ---- what is shown of a line that clap refuses
 
-plain_refusal : (kind : ErrorKind) (words : List Text) (line : Text) → TellsOwn kind words line
+plain_refusal : (kind : ErrorKind) (words : List Text) (line : Text) → ShowsOwn kind words line
     → list_any has_control words ≡ true → IsPlainLine line
-plain_refusal kind words line tells has =
-    let is : line ≡ controls_line words = go (list_any has_control words) _ has tells in
+plain_refusal kind words line shows has =
+    let is : line ≡ controls_line words = go (list_any has_control words) _ has shows in
     subst IsPlainLine (sym is) (controls_plain words)
   where
     go : (c : Bool) (other : Option Text) → c ≡ true
@@ -78,9 +79,9 @@ plain_refusal kind words line tells has =
     go false other e h = absurd cc
 
 -- words of which some have control characters
-pub tells_controls : (kind : ErrorKind) (words : List Text) (line : Text) → list_any has_control words ≡ true
-    → line ≡ controls_line words → TellsOwn kind words line
-tells_controls kind words line has is = go (list_any has_control words) _ has
+pub shows_controls : (kind : ErrorKind) (words : List Text) (line : Text) → list_any has_control words ≡ true
+    → line ≡ controls_line words → ShowsOwn kind words line
+shows_controls kind words line has is = go (list_any has_control words) _ has
   where
     go : (c : Bool) (other : Option Text) → c ≡ true
         → IfSome (cond c (Some (controls_line words)) other) (λ due. line ≡ due)
@@ -88,11 +89,11 @@ tells_controls kind words line has is = go (list_any has_control words) _ has
     go false other e = absurd cc
 
 -- words of which none has
-pub tells_other : (kind : ErrorKind) (words : List Text) (line : Text) (due : Option Text)
+pub shows_other : (kind : ErrorKind) (words : List Text) (line : Text) (due : Option Text)
     → list_any has_control words ≡ false
     → option_or (command_advised words) (option_or (option_advised words) (missing_line kind words)) ≡ due
-    → IfSome due (λ d. line ≡ d) → TellsOwn kind words line
-tells_other kind words line due none is tells = go (list_any has_control words) _ none
+    → IfSome due (λ d. line ≡ d) → ShowsOwn kind words line
+shows_other kind words line due none is shows = go (list_any has_control words) _ none
   where
     go : (c : Bool) (own : Option Text) → c ≡ false
         → IfSome
@@ -100,7 +101,7 @@ tells_other kind words line due none is tells = go (list_any has_control words) 
         (option_or (command_advised words) (option_or (option_advised words) (missing_line kind words))))
         (λ d. line ≡ d)
     go true own e = absurd cc
-    go false own e = subst (λ o. IfSome o (λ d. line ≡ d)) (sym is) tells
+    go false own e = subst (λ o. IfSome o (λ d. line ≡ d)) (sym is) shows
 
 -- what is advised of the second word
 pub second_advised : (words : List (String Global)) (word : String Global) → slice_get words 1 ≡ Some word
@@ -112,28 +113,28 @@ second_advised (x ∷ y ∷ ws) word e =
     ap (λ w. option_map (advised_line (string_bytes w)) (advice_for_command (string_bytes w))) (same_Some y word e)
 
 -- one in the place of whose command something else is typed
-pub tells_command : (kind : ErrorKind) (words : List Text) (line : Text) → list_any has_control words ≡ false
-    → Some line ≡ command_advised words → TellsOwn kind words line
-tells_command kind words line none is =
-    tells_other kind words line (Some line) none
+pub shows_command : (kind : ErrorKind) (words : List Text) (line : Text) → list_any has_control words ≡ false
+    → Some line ≡ command_advised words → ShowsOwn kind words line
+shows_command kind words line none is =
+    shows_other kind words line (Some line) none
     (ap (λ o. option_or o (option_or (option_advised words) (missing_line kind words))) (sym is)) refl
 
 -- one of whose words is an option of another program
-pub tells_option : (kind : ErrorKind) (words : List Text) (line : Text) → list_any has_control words ≡ false
-    → None ≡ command_advised words → Some line ≡ option_advised words → TellsOwn kind words line
-tells_option kind words line none neither is =
-    tells_other kind words line (Some line) none
+pub shows_option : (kind : ErrorKind) (words : List Text) (line : Text) → list_any has_control words ≡ false
+    → None ≡ command_advised words → Some line ≡ option_advised words → ShowsOwn kind words line
+shows_option kind words line none neither is =
+    shows_other kind words line (Some line) none
     (ap (λ o. option_or o (option_or (option_advised words) (missing_line kind words))) (sym neither)
     ∙ ap (λ o. option_or o (missing_line kind words)) (sym is)) refl
 
 -- any other one
-pub tells_missing : (kind : ErrorKind) (words : List Text) (line : Text) → list_any has_control words ≡ false
+pub shows_missing : (kind : ErrorKind) (words : List Text) (line : Text) → list_any has_control words ≡ false
     → None ≡ command_advised words → None ≡ option_advised words → IfSome (missing_line kind words) (λ d. line ≡ d)
-    → TellsOwn kind words line
-tells_missing kind words line none first others tells =
-    tells_other kind words line (missing_line kind words) none
+    → ShowsOwn kind words line
+shows_missing kind words line none first others shows =
+    shows_other kind words line (missing_line kind words) none
     (ap (λ o. option_or o (option_or (option_advised words) (missing_line kind words))) (sym first)
-    ∙ ap (λ o. option_or o (missing_line kind words)) (sym others)) tells
+    ∙ ap (λ o. option_or o (missing_line kind words)) (sym others)) shows
 
 -- what is missing, where the command isn't `same`
 pub missing_due : (words : List Text) (line : Text) → (are_of_same words ≡ false → line ≡ no_kind_line)
@@ -168,16 +169,17 @@ missing_other errors.OutOfMemory words P other = tt
 
 -- a line that clap refuses
 pub refused : (kind : ErrorKind) (app : App) (words : List Text) (f : LineFault)
-    → asks_reasons words ≡ false → MeansSame words app → (is_simple_and_free app ≡ true → (kind ≡ errors.OutOfMemory) ⊎ IsAmong kind (fault_of app words))
-    → IsFaultOf kind words f → AsksNothing words f
+    → asks_reasons words ≡ false → MeansSame words app
+    → (is_simple_and_free app ≡ true → (kind ≡ errors.OutOfMemory) ⊎ IsAmong kind (fault_of app words))
+    → IsFaultOf kind words f → InvokesNothing words f
 refused kind app words (faults.Line text) plain same kinds other =
     let h = among kind app words same kinds other.0.0 in (
       plain,
-      λ asked a. none_among kind (fault_of program words) h a.1,
+      λ invocation a. none_among kind (fault_of program words) h a.1,
       inl (kind, h, other.0, other.1, plain_refusal kind words (string_bytes text) other.1),
     )
-refused kind app words (faults.Help text) plain same kinds asked =
-    elim asked [
+refused kind app words (faults.Help text) plain same kinds invocation =
+    elim invocation [
       | inl h ↦
           inr (inl (subst (λ k. IsAmong k (fault_of program words)) h (among kind app words same kinds (λ m. cc))))
       | inr h ↦
@@ -209,13 +211,16 @@ pub texts_of_option : (o : Option (Bor (List (Bor Text)))) (f : Found) (id : Tex
     → unwrap_or (option_map (λ s. map (λ v. v.now) s.now) o) [] ≡ unwrap_or (all_of id (rows_of f)) []
 texts_of_option o f id is = ap (λ z. unwrap_or z []) (is ∙ raw_values-rows f id)
 
--- its options have a value that they can't have, and the line tells which
-pub told_why : (sub : Option (Text × List Row)) (name : Text) (rows : List Row) (bad : BadValue) (line : Text)
-    → sub ≡ Some (name, rows) → ((asked : Asked) → MeansAsked name rows asked → ⊥) → BadAsked name rows bad
+-- its options have a value that they can't have, and the line says which
+pub shown_why : (sub : Option (Text × List Row)) (name : Text) (rows : List Row) (bad : BadValue) (line : Text)
+    → sub ≡ Some (name, rows) → ((invocation : Invocation) → MeansInvocation name rows invocation → ⊥)
+    → BadInvocation name rows bad
     → line ≡ bad_value_line bad
-    → ((asked : Asked) → MeansBy sub asked → ⊥) × TellsWhy sub line
-told_why sub name rows bad line met none why is =
-    (λ asked m. none asked (subst (λ z. MeansBy z asked) met m), subst (λ z. TellsWhy z line) (sym met) (bad, why, is))
+    → ((invocation : Invocation) → MeansBy sub invocation → ⊥) × ShowsWhy sub line
+shown_why sub name rows bad line met none why is = (
+  λ invocation m. none invocation (subst (λ z. MeansBy z invocation) met m),
+  subst (λ z. ShowsWhy z line) (sym met) (bad, why, is),
+)
 
 -- ---- what a command does
 
@@ -226,10 +231,10 @@ no_part : (rows : List Row) (bad : BadValue) (part : Part) → BadPart rows bad
     → value_of (codes "part") rows ≡ part_name part → ⊥
 no_part rows bad part b r = b.1 part r
 
--- a command that tells places, and one of this name
-tells_none : (name other : Text) → TellsPlaces name → name ≡ other → (codes "check" ≡ other → ⊥)
+-- a command that says places, and one of this name
+shows_none : (name other : Text) → ShowsPlaces name → name ≡ other → (codes "check" ≡ other → ⊥)
     → (codes "explain" ≡ other → ⊥) → ⊥
-tells_none name other t e check explain = elim t [ inl h ↦ check (sym h ∙ e) | inr h ↦ explain (sym h ∙ e) ]
+shows_none name other t e check explain = elim t [ inl h ↦ check (sym h ∙ e) | inr h ↦ explain (sym h ∙ e) ]
 
 bad_action : (name : Text) (rows : List Row) (bad : BadValue) (action : Action) → BadAction name rows bad
     → name ≡ command_name action → ReadsAction action rows → ⊥
@@ -239,11 +244,11 @@ bad_action name rows bad (Check json quiet places) (inl h) e r = cc
 bad_action name rows bad (Explain form) (inl h) e r = cc
 bad_action name rows bad Normalise (inl h) e r = cc
 bad_action name rows bad (Signed part) (inl h) e r = no_part rows bad part h.1 r
-bad_action name rows bad (Show json) (inr (inl h)) e r = tells_none name _ h.0 e (λ z. cc) (λ z. cc)
+bad_action name rows bad (Show json) (inr (inl h)) e r = shows_none name _ h.0 e (λ z. cc) (λ z. cc)
 bad_action name rows bad (Check json quiet places) (inr (inl h)) e r = no_places rows bad places h.1 r.2
 bad_action name rows bad (Explain form) (inr (inl h)) e r = no_places rows bad form.places h.1 r.2
-bad_action name rows bad Normalise (inr (inl h)) e r = tells_none name _ h.0 e (λ z. cc) (λ z. cc)
-bad_action name rows bad (Signed part) (inr (inl h)) e r = tells_none name _ h.0 e (λ z. cc) (λ z. cc)
+bad_action name rows bad Normalise (inr (inl h)) e r = shows_none name _ h.0 e (λ z. cc) (λ z. cc)
+bad_action name rows bad (Signed part) (inr (inl h)) e r = shows_none name _ h.0 e (λ z. cc) (λ z. cc)
 
 -- a command whose action can't be read has no task
 pub no_action : (name : Text) (rows : List Row) (bad : BadValue) (task : Task) → BadAction name rows bad
@@ -300,6 +305,6 @@ not_same name (Signed part) same is = let f : false ≡ true = sym (ap is_same i
 
 -- it asks for nothing where no pair is read
 pub no_pair : (name : Text) (rows : List Row) → is_same name ≡ true → ((pair : Pair) → ReadsPair rows pair → ⊥)
-    → (asked : Asked) → MeansAsked name rows asked → ⊥
+    → (invocation : Invocation) → MeansInvocation name rows invocation → ⊥
 no_pair name rows same none (Each order) h = not_same name order.task.action same h.0.0
 no_pair name rows same none (Both pair) h = none pair h.1

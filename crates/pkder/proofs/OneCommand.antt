@@ -16,11 +16,11 @@ use Rattle.clap.specs.Walk.{Walk, finished, nothing_held, settled, walk, walk_fr
 use Rattle.clap.specs.Words.{App, Kinds, Shape, Text, fault_of, is_simple, is_simple_and_free, subcommand_of, with_subcommand}
 use Rattle.pkder.specs.CommandLines.{check_shape, command_named, explain_shape, normalise_shape, program, program_for, program_with, same_shape, show_shape, signed_shape, top}
 
--- the words behind a command's name are left to it
+-- the words after a command's name are left to it
 abbrev left_to : Text → List Text → Walk
 left_to name words = record (walk_from nothing_held) { stopped = Some (name, words) }
 
--- what is wrong with a line, by where its walk ended and what was wrong on the way
+-- what is wrong with a line, by where reading it ended and what was wrong before
 abbrev fault_at : App → Walk → Kinds → Kinds
 fault_at a end fault =
     or_else fault
@@ -51,7 +51,8 @@ module _ (a : App) (name : Text) (met : IsMet a name) (words : List Text) where
   fault_is : built_fault a nothing_held (name ∷ words) ≡ fault_at a (left_to name words) []
   fault_is = ap₂ (fault_at a) walk_is no_fault
 
-  entered_is : entered a (walk a.top.rules (names_of a) nothing_held (name ∷ words)).stopped ≡ entered a (Some (name, words))
+  entered_is : entered a (walk a.top.rules (names_of a) nothing_held (name ∷ words)).stopped
+      ≡ entered a (Some (name, words))
   entered_is = ap (λ w. entered a w.stopped) walk_is
 
 -- the line means the same to it as to the program with all commands
@@ -117,7 +118,7 @@ means_same (first ∷ word ∷ words) = named first word words
 
 -- ---- which program is built
 
--- of a line without a word behind the program's name
+-- of a line without a word after the program's name
 pub program_of_none : (words : List (String Global)) → length words < 2
     → program ≡ program_for (map (λ w. string_bytes w) words)
 program_of_none [] few = refl

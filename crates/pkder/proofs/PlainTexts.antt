@@ -1,4 +1,4 @@
--- What is told of words with control characters is printable ASCII.
+-- What is shown of words with control characters is printable ASCII.
 use Rattle.std.proofs.Common.{Global, String, ◌≡◌, ◌++◌, Bool, List, [], ◌∷◌, append_assoc, cond, false, map, refl, sym, true, ℕ}
 use Rattle.std.proofs.lemmas.List.Elements.{All-append, All-cons, All-nil}
 use Rattle.std.specs.Char.Escape.{escape_default}
@@ -29,10 +29,10 @@ pub plain_by : (text : Text) → are_plain text ≡ true → IsPrintable text
 plain_by [] e = All-nil Printable
 plain_by (x ∷ xs) e = plain_before x xs (nat_lt x 32) (nat_lt x 127) refl refl (plain_by xs) e
 
--- ---- what is told of words with control characters
+-- ---- what is shown of words with control characters
 
-abbrev pub told : List (String Global) → Text
-told words = flat_map quoted_word (filter has_control (map (λ word. string_bytes word) words))
+abbrev pub known : List (String Global) → Text
+known words = flat_map quoted_word (filter has_control (map (λ word. string_bytes word) words))
 
 each_plain : {X : Type 0} (f : X → Text) → ((x : X) → IsPrintable (f x)) → (xs : List X) → IsPrintable (flat_map f xs)
 each_plain f plain [] = All-nil Printable
@@ -52,5 +52,6 @@ controls_plain words =
     let others = flat_map quoted_word (filter has_control words) in (
       head ++ others,
       sym (append_assoc head others line_feed),
-      All-append Printable head others (plain_by head refl) (each_plain quoted_word quoted_plain (filter has_control words)),
+      All-append Printable head others (plain_by head refl)
+          (each_plain quoted_word quoted_plain (filter has_control words)),
     )

@@ -26,8 +26,8 @@ use Rattle.commands.specs.declared.task.Action.TheVariants.{Check, Explain, Norm
 use Rattle.pkder.specs.declared.refusal.BadValue.{BadValue}
 use Rattle.pkder.specs.declared.line.LineFault.{LineFault}
 use Rattle.pkder.specs.declared.line.LineFault.TheVariants as faults
-use Rattle.pkder.specs.declared.line.Asked.{Asked}
-use Rattle.pkder.specs.declared.line.Asked.TheVariants.{Both, Each}
+use Rattle.pkder.specs.declared.line.Invocation.{Invocation}
+use Rattle.pkder.specs.declared.line.Invocation.TheVariants.{Both, Each}
 use Rattle.pkder.specs.declared.line.Order.{Order}
 use Rattle.pkder.specs.declared.pair.Pair.{Pair}
 use Rattle.commands.specs.declared.comparison.Comparison.{Comparison}
@@ -42,7 +42,7 @@ abbrev pub kind_rule : Rule
 kind_rule =
     record (new_rule (codes "kind")) { long = Some (codes "kind"); short = Some 107; value_names = 1; required = true }
 
--- the kind that `signed` may be told
+-- the kind that `signed` may have
 abbrev pub request_rule : Rule
 request_rule = record kind_rule { required = false; defaults = word_of kinds.Request ∷ [] }
 
@@ -130,7 +130,8 @@ abbrev pub normalise_shape : Shape
 normalise_shape = (with_name (on_kind (codes "normalise"))).top
 
 abbrev pub signed_shape : Shape
-signed_shape = (with_name (with_limit_rules (with_rule (with_rule (new_app (codes "signed")) part_rule) request_rule))).top
+signed_shape =
+    (with_name (with_limit_rules (with_rule (with_rule (new_app (codes "signed")) part_rule) request_rule))).top
 
 abbrev pub top : App
 top = on_top (λ s. record s { has_version = true; subcommand_required = true }) (new_app (codes "pkder"))
@@ -151,7 +152,7 @@ abbrev pub program_with : Option Shape → App
 program_with None = program
 program_with (Some command) = with_subcommand top command
 
--- the program as far as a line needs it: with the command alone that the word behind the program's name names
+-- the program as far as a line needs it: with the command alone that the word after the program's name names
 abbrev pub program_for : List Text → App
 program_for (name ∷ word ∷ words) = program_with (command_named word)
 program_for words = program
@@ -171,7 +172,7 @@ part_name parts.Algorithm = codes "algorithm"
 part_name parts.Key = codes "key"
 part_name parts.Signature = codes "signature"
 
--- decimal digits, perhaps behind a plus sign, that say the number
+-- decimal digits, perhaps after a plus sign, that say the number
 abbrev pub IsNumber : Text → ℕ → Type 0
 IsNumber text n = IsNumeral 10 (without_leading_plus text) × (digits_value 10 (without_leading_plus text) ≡ n)
 
@@ -183,7 +184,7 @@ value_of id rows = unwrap_or (first_of id rows) []
 abbrev pub is_given : Text → List Row → Bool
 is_given id rows = bytes_eq (value_of id rows) (codes "true")
 
--- how many places that aren't in DER are told
+-- how many places that aren't in DER are shown
 abbrev pub ReadsPlaces : List Row → ℕ → Type 0
 ReadsPlaces rows places = IsNumber (value_of (codes "places") rows) places × (1 ≤ places) × (places ≤ 2147483647)
 
@@ -313,16 +314,16 @@ is_same name = bytes_eq name (codes "same")
 
 -- ---- what a command asks for
 
-abbrev pub MeansAsked : Text → List Row → Asked → Type 0
-MeansAsked name rows (Each order) = Means name rows order
-MeansAsked name rows (Both pair) = (is_same name ≡ true) × ReadsPair rows pair
+abbrev pub MeansInvocation : Text → List Row → Invocation → Type 0
+MeansInvocation name rows (Each order) = Means name rows order
+MeansInvocation name rows (Both pair) = (is_same name ≡ true) × ReadsPair rows pair
 
 -- So does the subcommand that was met.
-abbrev pub MeansBy : Option (Text × List Row) → Asked → Type 0
-MeansBy None asked = ⊥
-MeansBy (Some met) asked = MeansAsked met.0 met.1 asked
+abbrev pub MeansBy : Option (Text × List Row) → Invocation → Type 0
+MeansBy None invocation = ⊥
+MeansBy (Some met) invocation = MeansInvocation met.0 met.1 invocation
 
--- ---- control characters, which are told as escapes
+-- ---- control characters, which are shown as escapes
 
 abbrev pub has_control : Text → Bool
 has_control word = list_any is_control (chars word)
@@ -335,12 +336,12 @@ IsPlainLine text = (line : Text) × (text ≡ line ++ line_feed) × IsPrintable 
 abbrev pub quoted_word : Text → Text
 quoted_word word = codes " " ++ quoted word
 
--- what is told of words of which some have control characters: those that do
+-- what is shown of words of which some have control characters: those that do
 abbrev pub controls_line : List Text → Text
 controls_line words =
     codes "error: a word has control characters:" ++ (flat_map quoted_word (filter has_control words) ++ line_feed)
 
--- a value as it is told
+-- a value as it is shown
 abbrev pub shown : Text → Text
 shown value = if has_control value then escaped value else value
 
@@ -389,7 +390,8 @@ command_advised _ = None
 -- of the first word that is an option of another program
 abbrev pub option_advised : List Text → Option Text
 option_advised [] = None
-option_advised (word ∷ words) = option_or (option_map (advised_line word) (advice_for_option word)) (option_advised words)
+option_advised (word ∷ words) =
+    option_or (option_map (advised_line word) (advice_for_option word)) (option_advised words)
 
 abbrev pub no_kind_line : Text
 no_kind_line =
@@ -405,16 +407,16 @@ abbrev pub missing_line : ErrorKind → List Text → Option Text
 missing_line errors.MissingRequiredArgument words = if are_of_same words then None else Some no_kind_line
 missing_line _ words = None
 
--- what is told of words that clap refuses by an error of this kind, where it isn't clap's own text
+-- what is shown of words that clap refuses by an error of this kind, where it isn't clap's own text
 abbrev pub refusal_line : ErrorKind → List Text → Option Text
 refusal_line kind words =
     if list_any has_control words then Some (controls_line words)
     else option_or (command_advised words) (option_or (option_advised words) (missing_line kind words))
 
-abbrev pub TellsOwn : ErrorKind → List Text → Text → Type 0
-TellsOwn kind words line = IfSome (refusal_line kind words) (λ due. line ≡ due)
+abbrev pub ShowsOwn : ErrorKind → List Text → Text → Type 0
+ShowsOwn kind words line = IfSome (refusal_line kind words) (λ due. line ≡ due)
 
--- ---- what is told of a value that its option doesn't have
+-- ---- what is shown of a value that its option doesn't have
 
 abbrev pub Names : BadValue → Text → Text → Text → Type 0
 Names bad option value wanted = (bad.option.now ≡ option) × (bad.value.now ≡ value) × (bad.wanted.now ≡ wanted)
@@ -437,7 +439,7 @@ BadOctets rows bad =
     × IsNoNumber (value_of (codes "octets") rows) 2147483647
     × (bad.advice.now ≡ [])
 
--- Of two bad limits the depth is told.
+-- Of two bad limits the depth is shown.
 abbrev pub BadLimit : List Row → BadValue → Type 0
 BadLimit rows bad = BadDepth rows bad ⊎ (IsDepth (value_of (codes "depth") rows) × BadOctets rows bad)
 
@@ -472,14 +474,14 @@ BadPlaces rows bad =
     × IsNoNumber (value_of (codes "places") rows) 2147483647
     × (bad.advice.now ≡ [])
 
--- these commands tell places
-abbrev pub TellsPlaces : Text → Type 0
-TellsPlaces name = (name ≡ codes "check") ⊎ (name ≡ codes "explain")
+-- these commands say places
+abbrev pub ShowsPlaces : Text → Type 0
+ShowsPlaces name = (name ≡ codes "check") ⊎ (name ≡ codes "explain")
 
 -- what is wrong with the command of this name, with the part that `signed` is to write, or with the number of places
 abbrev pub BadAction : Text → List Row → BadValue → Type 0
 BadAction name rows bad =
-    ((name ≡ codes "signed") × BadPart rows bad) ⊎ (TellsPlaces name × BadPlaces rows bad) ⊎ BadCommand name bad
+    ((name ≡ codes "signed") × BadPart rows bad) ⊎ (ShowsPlaces name × BadPlaces rows bad) ⊎ BadCommand name bad
 
 -- a kind that the action doesn't take
 abbrev pub BadKindOf : Action → List Row → BadValue → Type 0
@@ -489,8 +491,8 @@ BadKindOf _ rows bad = BadKind rows bad
 abbrev pub DoesAction : Text → List Row → Action → Type 0
 DoesAction name rows action = (name ≡ command_name action) × ReadsAction action rows
 
--- Why the command of this name has no task with these values of its options: a limit that is bad is told before others,
--- and the kind behind them.
+-- Why the command of this name has no task with these values of its options: a limit that is bad is shown before
+-- others, and the kind after them.
 abbrev pub BadTask : Text → List Row → BadValue → Type 0
 BadTask name rows bad =
     BadLimit rows bad
@@ -540,7 +542,7 @@ BadQuestion rows bad =
     × (question_of rows ≡ None)
     × (bad.advice.now ≡ [])
 
--- Why two documents aren't compared: a limit is told first, then the question, and then the kinds.
+-- Why two documents aren't compared: a limit is shown first, then the question, and then the kinds.
 abbrev pub BadComparison : List Row → BadValue → Type 0
 BadComparison rows bad =
     BadLimit rows bad
@@ -561,8 +563,8 @@ BadPair rows bad =
     ⊎ (((comparison : Comparison) × ReadsComparison rows comparison) × BadBoth rows bad)
 
 -- why that command asks for nothing that can be done
-abbrev pub BadAsked : Text → List Row → BadValue → Type 0
-BadAsked name rows bad =
+abbrev pub BadInvocation : Text → List Row → BadValue → Type 0
+BadInvocation name rows bad =
     ((is_same name ≡ false) × BadOrder name rows bad) ⊎ ((is_same name ≡ true) × BadPair rows bad)
 
 abbrev pub bad_value_line : BadValue → Text
@@ -572,15 +574,16 @@ bad_value_line bad =
     ++ (codes " is wanted" ++ line_feed ++ line_feed) ++ tip bad.advice.now ++ more
 
 -- why the subcommand that was met means no task
-abbrev pub TellsWhy : Option (Text × List Row) → Text → Type 0
-TellsWhy None line = line ≡ codes "error: a command is wanted" ++ line_feed
-TellsWhy (Some met) line = (bad : BadValue) × BadAsked met.0 met.1 bad × (line ≡ bad_value_line bad)
+abbrev pub ShowsWhy : Option (Text × List Row) → Text → Type 0
+ShowsWhy None line = line ≡ codes "error: a command is wanted" ++ line_feed
+ShowsWhy (Some met) line = (bad : BadValue) × BadInvocation met.0 met.1 bad × (line ≡ bad_value_line bad)
 
 -- ---- what a line asks for
 
--- No task is meant, and the text tells why; or memory ran out.
+-- No task is meant, and the text says why; or memory ran out.
 abbrev pub MeansNothing : Option (Text × List Row) → LineFault → Type 0
-MeansNothing met (faults.Line text) = ((asked : Asked) → MeansBy met asked → ⊥) × TellsWhy met (string_bytes text)
+MeansNothing met (faults.Line text) =
+    ((invocation : Invocation) → MeansBy met invocation → ⊥) × ShowsWhy met (string_bytes text)
 MeansNothing met (faults.Help text) = ⊥
 MeansNothing met faults.Memory = Unit {0}
 
@@ -590,40 +593,40 @@ asks_reasons (name ∷ help ∷ topic ∷ []) = bytes_eq help (codes "help") && 
 asks_reasons _ = false
 
 -- The words ask for it: clap takes them, and the subcommand that they name means it.
-abbrev pub Asks : List Text → Asked → Type 0
-Asks words asked =
-    (asks_reasons words ≡ false) × (fault_of program words ≡ []) × MeansBy (subcommand_of program words) asked
+abbrev pub Invokes : List Text → Invocation → Type 0
+Invokes words invocation =
+    (asks_reasons words ≡ false) × (fault_of program words ≡ []) × MeansBy (subcommand_of program words) invocation
 
 -- an error of clap's that is neither help nor the version nor refused memory
 abbrev pub IsRefusal : ErrorKind → Type 0
 IsRefusal kind = (kind ≡ errors.OutOfMemory → ⊥) × (kind ≡ errors.DisplayHelp → ⊥) × (kind ≡ errors.DisplayVersion → ⊥)
 
--- Clap refuses the words, and the line tells it, without a control character of theirs.
-abbrev pub TellsRefusal : List Text → Text → Type 0
-TellsRefusal words line =
+-- Clap refuses the words, and the line says it, without a control character of theirs.
+abbrev pub ShowsRefusal : List Text → Text → Type 0
+ShowsRefusal words line =
     (kind : ErrorKind) × IsAmong kind (fault_of program words) × IsRefusal kind
-    × TellsOwn kind words line
+    × ShowsOwn kind words line
     × (list_any has_control words ≡ true → IsPlainLine line)
 
 -- Why words are refused: clap refuses them; or it takes them, and a value isn't one of its option.
-abbrev pub TellsFault : List Text → Text → Type 0
-TellsFault words line =
-    TellsRefusal words line ⊎ ((fault_of program words ≡ []) × TellsWhy (subcommand_of program words) line)
+abbrev pub ShowsFault : List Text → Text → Type 0
+ShowsFault words line =
+    ShowsRefusal words line ⊎ ((fault_of program words ≡ []) × ShowsWhy (subcommand_of program words) line)
 
 -- Why words ask for nothing that can be done: they ask for no task and are refused, or they ask
 -- for help or the version.
-abbrev pub AsksNothing : List Text → LineFault → Type 0
-AsksNothing words (faults.Line text) =
+abbrev pub InvokesNothing : List Text → LineFault → Type 0
+InvokesNothing words (faults.Line text) =
     (asks_reasons words ≡ false)
-    × ((asked : Asked) → Asks words asked → ⊥)
-    × TellsFault words (string_bytes text)
-AsksNothing words (faults.Help text) =
+    × ((invocation : Invocation) → Invokes words invocation → ⊥)
+    × ShowsFault words (string_bytes text)
+InvokesNothing words (faults.Help text) =
     (asks_reasons words ≡ true)
     ⊎ (IsAmong errors.DisplayHelp (fault_of program words) ⊎ IsAmong errors.DisplayVersion (fault_of program words))
-AsksNothing words faults.Memory = Unit {0}
+InvokesNothing words faults.Memory = Unit {0}
 
 -- what is answered by the kind of clap's error
 abbrev pub IsFaultOf : ErrorKind → List Text → LineFault → Type 0
-IsFaultOf kind words (faults.Line text) = IsRefusal kind × TellsOwn kind words (string_bytes text)
+IsFaultOf kind words (faults.Line text) = IsRefusal kind × ShowsOwn kind words (string_bytes text)
 IsFaultOf kind words (faults.Help text) = (kind ≡ errors.DisplayHelp) ⊎ (kind ≡ errors.DisplayVersion)
 IsFaultOf kind words faults.Memory = kind ≡ errors.OutOfMemory

@@ -3,7 +3,7 @@ use Rattle.std.specs.Prelude.{◌*◌, ◌+◌, Bool, None, cond, string_bytes, 
 use Rattle.commands.specs.MadeFiles.{Made}
 use Rattle.pkder.specs.declared.new_file.FileBeside.{FileBeside}
 
--- what is in a file of the system isn't told
+-- what is in a file of the system isn't known
 abbrev pub made_of : FileBeside → Made
 made_of file = record { name = string_bytes file.name; is_private = file.private; stage = file.stage; octets = None }
 

@@ -4,7 +4,7 @@ use Rattle.std.specs.Option.{option_map}
 use Rattle.x690.specs.Values.{Value}
 use Rattle.pk_documents.specs.declared.document.Document.{Document}
 use Rattle.commands.specs.Conversions.{Converts}
-use Rattle.commands.specs.Endings.{IsWhole, Tells}
+use Rattle.commands.specs.Endings.{IsWhole, SaysText}
 use Rattle.commands.specs.Judgements.{JudgesAll, Sources}
 use Rattle.commands.specs.MadeFiles.{Made}
 use Rattle.commands.specs.Outcomes.{line_of, status_of}
@@ -16,9 +16,9 @@ use Rattle.commands.specs.declared.outcome.Outcome.{Outcome}
 use Rattle.commands.specs.declared.outcome.Outcome.TheVariants as outcomes
 use Rattle.commands.specs.declared.task.Action.{Action}
 use Rattle.commands.specs.declared.task.Action.TheVariants.{Check, Explain, Normalise, Show, Signed}
-use Rattle.pkder.specs.CommandLines.{Asks, AsksNothing}
-use Rattle.pkder.specs.declared.line.Asked.{Asked}
-use Rattle.pkder.specs.declared.line.Asked.TheVariants.{Both, Each}
+use Rattle.pkder.specs.CommandLines.{Invokes, InvokesNothing}
+use Rattle.pkder.specs.declared.line.Invocation.{Invocation}
+use Rattle.pkder.specs.declared.line.Invocation.TheVariants.{Both, Each}
 use Rattle.pkder.specs.declared.line.LineFault.{LineFault}
 use Rattle.pkder.specs.declared.line.LineFault.TheVariants.{Help, Line, Memory}
 use Rattle.pkder.specs.declared.line.Order.{Order}
@@ -33,7 +33,8 @@ is_binary (Signed part) = true
 
 abbrev pub binary_text : List ℕ
 binary_text =
-    codes "error: what is written is binary, and standard output is a terminal\n\n  tip: --to NEW-FILE; with --to - it is written all the same\n\nFor more information, try '--help'.\n"
+    codes
+    "error: what is written is binary, and standard output is a terminal\n\n  tip: --to NEW-FILE; with --to - it is written all the same\n\nFor more information, try '--help'.\n"
 
 abbrev pub first_name : List (List ℕ) → Option (List ℕ)
 first_name [] = None
@@ -48,25 +49,25 @@ Follows {Input} {Opened} {File} value_of sources made_of refuses is_terminal ord
 Follows {Input} {Opened} {File} value_of sources made_of refuses is_terminal order true true old new status =
     EndsAlone old new status binary_text 4
 Follows {Input} {Opened} {File} value_of sources made_of refuses is_terminal order true false old new status =
-    Converts value_of sources.told sources.unopened made_of refuses order.task
+    Converts value_of sources.known sources.unopened made_of refuses order.task
     (file_named (first_name (map (λ name. name.now) order.names.items)))
     (file_named (option_map (λ name. name.now) order.to)) old.input old new status
 
 -- What a line asks for is done.
 abbrev pub Does : {Input Opened File : Type 0} → (Document → Value) → Sources Input Opened → (File → Made)
-    → (List ℕ → Unmade → Type 0) → Bool → Asked → Seen → Seen → ℕ → Type 0
+    → (List ℕ → Unmade → Type 0) → Bool → Invocation → Seen → Seen → ℕ → Type 0
 Does {Input} {Opened} {File} value_of sources made_of refuses is_terminal (Each order) old new status =
     Follows value_of sources made_of refuses is_terminal order (is_binary order.task.action)
     (is_none order.to && is_terminal) old new status
 Does {Input} {Opened} {File} value_of sources made_of refuses is_terminal (Both pair) old new status =
-    ComparesNamed value_of sources.told sources.unopened pair.comparison pair.first.now pair.second.now old new status
+    ComparesNamed value_of sources.known sources.unopened pair.comparison pair.first.now pair.second.now old new status
 
 -- It is said why nothing is done, or the text of help is written.
 abbrev pub SaysFault : LineFault → Seen → Seen → ℕ → Type 0
 SaysFault (Line text) old new status = EndsAlone old new status (string_bytes text) 4
 SaysFault (Help text) old new status =
     (outcome : Outcome)
-    × Tells (string_bytes text) old.output new.output outcome
+    × SaysText (string_bytes text) old.output new.output outcome
     × (IsWhole outcome → new.flushed ≡ true)
     × FailedBy outcome false new.output_failed
     × Ends old new status (line_of outcome) (status_of outcome)
@@ -76,5 +77,6 @@ SaysFault Memory old new status = EndsAlone old new status (line_of outcomes.Mem
 abbrev pub Responds : {Input Opened File : Type 0} → (Document → Value) → Sources Input Opened → (File → Made)
     → (List ℕ → Unmade → Type 0) → Bool → List (List ℕ) → Seen → Seen → ℕ → Type 0
 Responds {Input} {Opened} {File} value_of sources made_of refuses is_terminal words old new status =
-    ((asked : Asked) × Asks words asked × Does value_of sources made_of refuses is_terminal asked old new status)
-    ⊎ ((fault : LineFault) × AsksNothing words fault × SaysFault fault old new status)
+    ((invocation : Invocation) × Invokes words invocation
+    × Does value_of sources made_of refuses is_terminal invocation old new status)
+    ⊎ ((fault : LineFault) × InvokesNothing words fault × SaysFault fault old new status)

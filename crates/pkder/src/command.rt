@@ -9,7 +9,7 @@ use clap::{Arg, ArgAction, Command};
 use explain::version::VERSION;
 use std::alloc::{AllocError, Global};
 
-/// The program as far as a line needs it: with the command alone that the word behind the program's name names, else
+/// The program as far as a line needs it: with the command alone that the word after the program's name names, else
 /// with all of them.
 pub fn command_for<'a>(alloc: Global, words: &[String]) -> Result<Command<'a>, AllocError>
     ensures { IfOk result (λ command. app_of command

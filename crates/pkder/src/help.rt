@@ -1,4 +1,4 @@
-//! What help says behind the options.
+//! What help says after the options.
 
 pub const PROGRAM: &str = "\
 Kinds, by the line that their PEM files begin with:

@@ -2,7 +2,7 @@
 ghost use Rattle.std.specs.Prelude.{◌≡◌, ◌≤◌, ℕ, IfErr, IfOk, MatchOption, MatchResult, Some, codes, map, string_bytes};
 ghost use Rattle.clap.specs.Words.{found_of, kind_of, rows_of, subcommand_rows_of};
 ghost use Rattle.pk_documents.specs.KindRows.{kind_named};
-ghost use Rattle.pkder.specs.CommandLines.{Asks, AsksNothing, BadAction, BadAsked, BadOrder, BadKind, BadKindOf, BadLimit, BadPart, BadPlaces, BadRequest, BadTask, DoesAction, IsFaultOf, IsNumber, Means, MeansAsked, MeansBy, MeansNothing, MeansTask, ReadsForm, ReadsKind, ReadsLimits, ReadsPlaces, asks_reasons, has_second_dash as has_dash_again, is_given, names_of, part_name, value_of};
+ghost use Rattle.pkder.specs.CommandLines.{Invokes, InvokesNothing, BadAction, BadInvocation, BadOrder, BadKind, BadKindOf, BadLimit, BadPart, BadPlaces, BadRequest, BadTask, DoesAction, IsFaultOf, IsNumber, Means, MeansInvocation, MeansBy, MeansNothing, MeansTask, ReadsForm, ReadsKind, ReadsLimits, ReadsPlaces, asks_reasons, has_second_dash as has_dash_again, is_given, names_of, part_name, value_of};
 ghost use Rattle.pkder.specs.declared.line.LineFault.TheVariants.{Memory};
 ghost use Rattle.pk_documents.specs.declared.kind.Kind.TheVariants as kinds;
 
@@ -13,15 +13,15 @@ use crate::refusal::{BadValue, advice_for_kind, refusal_text};
 use clap::error::ErrorKind;
 use clap::{ArgMatches, Error};
 use commands::task::{Action, Task};
+use explain::written::Form;
 use pk_documents::kind::{Kind, WORDS};
 use pk_documents::request_part::Part;
-use explain::written::Form;
 use std::alloc::{AllocError, Global};
 use tlv_core::limits::Limits;
 
 /// What a line asks for.
 #[derive(Debug, Drop)]
-pub enum Asked<'a> {
+pub enum Invocation<'a> {
     /// Something to do with each document.
     Each(Order<'a>),
     /// Two documents to compare.
@@ -61,9 +61,9 @@ impl From<AllocError> for LineFault {
 }
 
 /// What the line means, the program's name being the first word.
-pub fn asked_of<'a>(alloc: Global, words: &'a [String]) -> Result<Asked<'a>, LineFault>
-    ensures { MatchResult result (Asks (map string_bytes words.entry.now))
-        (AsksNothing (map string_bytes words.entry.now)) }
+pub fn invocation_of<'a>(alloc: Global, words: &'a [String]) -> Result<Invocation<'a>, LineFault>
+    ensures { MatchResult result (Invokes (map string_bytes words.entry.now))
+        (InvokesNothing (map string_bytes words.entry.now)) }
 {
     if are_for_reasons(words) {
         return Err(LineFault::Help(REASONS.to_string(alloc)?));
@@ -75,7 +75,7 @@ pub fn asked_of<'a>(alloc: Global, words: &'a [String]) -> Result<Asked<'a>, Lin
     }
 }
 
-/// Whether the words are `help reasons`, behind the program's name.
+/// Whether the words are `help reasons`, after the program's name.
 fn are_for_reasons(words: &[String]) -> bool
     ensures { result ≡ asks_reasons (map string_bytes words.now) }
 {
@@ -99,7 +99,7 @@ fn fault_of(alloc: Global, words: &[String], error: &Error) -> Result<LineFault,
 }
 
 /// What a line that clap takes asks for.
-fn matched<'a>(alloc: Global, matches: &ArgMatches<'a>) -> Result<Asked<'a>, LineFault>
+fn matched<'a>(alloc: Global, matches: &ArgMatches<'a>) -> Result<Invocation<'a>, LineFault>
     ensures { MatchResult result (MeansBy (subcommand_rows_of matches.now))
         (MeansNothing (subcommand_rows_of matches.now)) }
 {
@@ -107,31 +107,31 @@ fn matched<'a>(alloc: Global, matches: &ArgMatches<'a>) -> Result<Asked<'a>, Lin
         return Err(LineFault::Line("error: a command is wanted\n".to_string(alloc)?));
     };
     let names = read_names(alloc, options)?;
-    match read_asked(name, options, names) {
-        Ok(asked) => Ok(asked),
+    match read_invocation(name, options, names) {
+        Ok(invocation) => Ok(invocation),
         Err(bad) => Err(LineFault::Line(bad.text(alloc)?)),
     }
 }
 
 /// What a command asks for, by the values of its options, of which these are names of files.
-fn read_asked<'a>(
+fn read_invocation<'a>(
     name: &'a str,
     options: &ArgMatches<'a>,
     names: Vec<&'a str>,
-) -> Result<Asked<'a>, BadValue<'a>>
+) -> Result<Invocation<'a>, BadValue<'a>>
     requires { map (λ name. name.now) names.items ≡ names_of (rows_of (found_of options.now)) }
-    ensures means { MatchResult result (MeansAsked name.entry.now (rows_of (found_of options.now)))
-        (λ _. (asked : _) → MeansAsked name.entry.now (rows_of (found_of options.now)) asked → ⊥) }
-    ensures refused { IfErr result (BadAsked name.entry.now (rows_of (found_of options.now))) }
+    ensures means { MatchResult result (MeansInvocation name.entry.now (rows_of (found_of options.now)))
+        (λ _. (invocation : _) → MeansInvocation name.entry.now (rows_of (found_of options.now)) invocation → ⊥) }
+    ensures refused { IfErr result (BadInvocation name.entry.now (rows_of (found_of options.now))) }
 {
     if name == "same" {
         return match read_pair(options) {
-            Ok(pair) => Ok(Asked::Both(pair)),
+            Ok(pair) => Ok(Invocation::Both(pair)),
             Err(bad) => Err(bad),
         };
     }
     match read_order(name, options, names) {
-        Ok(order) => Ok(Asked::Each(order)),
+        Ok(order) => Ok(Invocation::Each(order)),
         Err(bad) => Err(bad),
     }
 }
@@ -346,7 +346,7 @@ fn read_form<'a>(options: &ArgMatches<'a>) -> Result<Form, BadValue<'a>>
     })
 }
 
-/// How many places that aren't in DER are told.
+/// How many places that aren't in DER are shown.
 fn read_places<'a>(options: &ArgMatches<'a>) -> Result<u64, BadValue<'a>>
     ensures { MatchResult result (ReadsPlaces (rows_of (found_of options.now)))
         (BadPlaces (rows_of (found_of options.now))) }

@@ -15,12 +15,12 @@ mod refusal;
 mod respond;
 mod terminal;
 
-use new_file::FilesBeside;
 use commands::closing::{complain, finish};
 use commands::file_system::FileSystem;
 use commands::flush::ToFlush;
 use commands::outcome::Outcome;
 use commands::standard::Standard;
+use new_file::FilesBeside;
 use respond::{System, respond};
 use std::io::{BufReader, ErrorKind};
 use std::process::ExitCode;

@@ -165,7 +165,7 @@ fn followed(rt: &HostRuntime, name: &str) -> io::Result<PathBuf> {
     Ok(place)
 }
 
-/// What stands at a path, or `None` where nothing does; what isn't a regular file isn't replaced.
+/// What is at a path, or `None` where nothing does; what isn't a regular file isn't replaced.
 fn regular(rt: &HostRuntime, path: &str) -> Result<Option<Metadata>, Unmade> {
     match fs::symlink_metadata(rt, path) {
         Ok(found) if found.is_file() => Ok(Some(found)),

@@ -119,7 +119,7 @@ fn kinds_among<'a>(key: bool, given: &[&'a str]) -> Result<(Kind, Kind), BadValu
     }
 }
 
-/// The second kind that is given, where more ones stand behind it.
+/// The second kind that is given, where more ones come after it.
 fn other_kind<'a>(key: bool, text: &'a str, others: &[&'a str]) -> Result<Kind, BadValue<'a>>
     ensures { MatchResult result
         (λ kind. other_taken key text.entry.now (map (λ text. text.now) others.now) ≡ Some kind)

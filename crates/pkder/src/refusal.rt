@@ -1,8 +1,8 @@
-//! What is told of a line that is refused.
+//! What is shown of a line that is refused.
 ghost use Rattle.std.specs.Prelude.{◌≡◌, ◌++◌, IfOk, OnOk, false, map, option_map, string_bytes};
 ghost use Rattle.std.specs.List.{list_any};
 ghost use Rattle.clap.specs.Words.{kind_of};
-ghost use Rattle.pkder.specs.CommandLines.{TellsOwn, advice_for_command as command_advice, advice_for_kind as kind_advice, advice_for_option as option_advice, advised_line, are_of_same, bad_value_line, command_advised, controls_line, has_control, no_kind_line, option_advised, shown, tip};
+ghost use Rattle.pkder.specs.CommandLines.{ShowsOwn, advice_for_command as command_advice, advice_for_kind as kind_advice, advice_for_option as option_advice, advised_line, are_of_same, bad_value_line, command_advised, controls_line, has_control, no_kind_line, option_advised, shown, tip};
 
 use clap::Error;
 use clap::error::ErrorKind;
@@ -41,7 +41,7 @@ impl BadValue<'_> {
 /// Why clap refuses the words: where one has control characters, which ones have; where one belongs to another
 /// program, what to type in its place; else clap's own text.
 pub fn refusal_text(alloc: Global, words: &[String], error: &Error) -> Result<String, AllocError>
-    ensures { IfOk result (λ text. TellsOwn (kind_of error.now) (map string_bytes words.now)
+    ensures { IfOk result (λ text. ShowsOwn (kind_of error.now) (map string_bytes words.now)
         (string_bytes text)) }
 {
     if have_controls(words) {

@@ -5,7 +5,7 @@ ghost use Rattle.commands.specs.Judgements.{sources_of};
 ghost use Rattle.commands.specs.Standards.{IsReadable, seen};
 ghost use Rattle.pkder.specs.Responses.{Does, Follows, Responds, SaysFault, first_name, is_binary};
 
-use crate::line::{Asked, LineFault, Order, asked_of};
+use crate::line::{Invocation, LineFault, Order, invocation_of};
 use commands::closing::{complain, finish};
 use commands::comparison::PairNames;
 use commands::convert::{Places, convert};
@@ -16,7 +16,7 @@ use commands::opener::Opener;
 use commands::outcome::Outcome;
 use commands::pair::compare_named;
 use commands::standard::Standard;
-use commands::streams::tell;
+use commands::streams::say;
 use commands::task::Action;
 use pk_documents::document::{Document, Valued};
 use std::alloc::Global;
@@ -50,37 +50,37 @@ pub fn respond<R: Source + Drop, W: Flush, E: Target, O: Opener, M: NewFiles>(
     requires readable { IsReadable R.has_failed standard.old.input }
     requires writable { W.has_failed standard.old.output ≡ false }
     ensures { Responds ⟦<Document as Valued>⟧.value (sources_of R.has_failed R.remaining O.Document.has_failed
-        O.Document.remaining (O.told system.now.opener) (O.refuses system.now.opener)) M.File.made (M.refuses system.now.files)
+        O.Document.remaining (O.known system.now.opener) (O.refuses system.now.opener)) M.File.made (M.refuses system.now.files)
         system.now.is_terminal (map string_bytes words.entry.now)
         (seen R.remaining W.contents W.has_failed W.is_flushed E.contents E.has_failed standard.old)
         (seen R.remaining W.contents W.has_failed W.is_flushed E.contents E.has_failed standard.new)
         result }
 {
-    match asked_of(alloc, words) {
-        Ok(asked) => perform(alloc, &asked, standard, system),
-        Err(fault) => tell_fault(&fault, standard),
+    match invocation_of(alloc, words) {
+        Ok(invocation) => perform(alloc, &invocation, standard, system),
+        Err(fault) => show_fault(&fault, standard),
     }
 }
 
 /// Does what a line asks for.
 fn perform<R: Source + Drop, W: Flush, E: Target, O: Opener, M: NewFiles>(
     alloc: Global,
-    asked: &Asked<'_>,
+    invocation: &Invocation<'_>,
     standard: &mut Standard<R, W, E>,
     system: &System<O, M>,
 ) -> u8
     requires readable { IsReadable R.has_failed standard.old.input }
     requires writable { W.has_failed standard.old.output ≡ false }
     ensures { Does ⟦<Document as Valued>⟧.value (sources_of R.has_failed R.remaining O.Document.has_failed
-        O.Document.remaining (O.told system.now.opener) (O.refuses system.now.opener)) M.File.made (M.refuses system.now.files)
-        system.now.is_terminal asked.now
+        O.Document.remaining (O.known system.now.opener) (O.refuses system.now.opener)) M.File.made (M.refuses system.now.files)
+        system.now.is_terminal invocation.now
         (seen R.remaining W.contents W.has_failed W.is_flushed E.contents E.has_failed standard.old)
         (seen R.remaining W.contents W.has_failed W.is_flushed E.contents E.has_failed standard.new)
         result }
 {
-    match asked {
-        Asked::Each(order) => follow(alloc, order, standard, system),
-        Asked::Both(pair) => {
+    match invocation {
+        Invocation::Each(order) => follow(alloc, order, standard, system),
+        Invocation::Both(pair) => {
             let names = PairNames {
                 first: pair.first,
                 second: pair.second,
@@ -100,7 +100,7 @@ fn follow<R: Source + Drop, W: Flush, E: Target, O: Opener, M: NewFiles>(
     requires readable { IsReadable R.has_failed standard.old.input }
     requires writable { W.has_failed standard.old.output ≡ false }
     ensures { Follows ⟦<Document as Valued>⟧.value (sources_of R.has_failed R.remaining O.Document.has_failed
-        O.Document.remaining (O.told system.now.opener) (O.refuses system.now.opener)) M.File.made (M.refuses system.now.files)
+        O.Document.remaining (O.known system.now.opener) (O.refuses system.now.opener)) M.File.made (M.refuses system.now.files)
         system.now.is_terminal order.now
         (is_binary order.now.task.action) (is_none order.now.to && system.now.is_terminal)
         (seen R.remaining W.contents W.has_failed W.is_flushed E.contents E.has_failed standard.old)
@@ -147,7 +147,7 @@ fn is_binary(action: Action) -> bool
 }
 
 /// Writes why nothing is done, or the text of help, and answers the exit status.
-fn tell_fault<R: Source + Drop, W: Flush, E: Target>(
+fn show_fault<R: Source + Drop, W: Flush, E: Target>(
     fault: &LineFault,
     standard: &mut Standard<R, W, E>,
 ) -> u8
@@ -160,7 +160,7 @@ fn tell_fault<R: Source + Drop, W: Flush, E: Target>(
     match fault {
         LineFault::Line(text) => complain(text.as_str(), &mut standard.errors),
         LineFault::Help(text) => {
-            let outcome = tell(text.as_str(), &mut standard.output);
+            let outcome = say(text.as_str(), &mut standard.output);
             finish(&outcome, &mut standard.errors)
         }
         LineFault::Memory => finish(&Outcome::Memory, &mut standard.errors),

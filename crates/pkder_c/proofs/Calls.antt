@@ -1,4 +1,4 @@
--- What is said of kinds and limits, said of their numbers; and what is put and told of it.
+-- What is said of kinds and limits, said of their numbers; and what is put and shown of it.
 use Rattle.std.proofs.Common.{◌≡◌, Bool, Err, IfErr, IfOk, List, Ok, Option, Result, inl, inr, subst, sym, ℕ}
 use Rattle.tlv_core.specs.Limits.{IsLimits, Limits}
 use Rattle.x690.specs.Values.{Value}
@@ -102,24 +102,25 @@ pub wrote : {V : Type 0} (r : Result V Refusal) (items : V → List ℕ) (Due : 
     → IfOk r (λ v. Due (items v)) → IfErr r Refused
     → IfOk r (λ v. Put (items v) taken old new outcome)
     → IfErr r (λ refusal. (outcome ≡ refused_outcome refusal) × (new ≡ old)) → Wrote Due Refused taken old new outcome
-wrote (Ok v) items Due Refused taken old new outcome due holds put told = inl (items v, due, put)
-wrote (Err refusal) items Due Refused taken old new outcome due holds put told = inr (refusal, holds, told.0, told.1)
+wrote (Ok v) items Due Refused taken old new outcome due holds put answered = inl (items v, due, put)
+wrote (Err refusal) items Due Refused taken old new outcome due holds put answered =
+    inr (refusal, holds, answered.0, answered.1)
 
 pub checked : (r : Result (Option ℕ) Refusal) (Found : Option ℕ → Type 0) (Refused : Refusal → Type 0) (taken : ℕ)
     (outcome : PkderOutcome)
     → IfOk r Found → IfErr r Refused
     → IfOk r (λ place. outcome ≡ checked_outcome taken place) → IfErr r (λ refusal. outcome ≡ refused_outcome refusal)
     → Checked Found Refused taken outcome
-checked (Ok place) Found Refused taken outcome found holds is told = inl (place, found, is)
-checked (Err refusal) Found Refused taken outcome found holds is told = inr (refusal, holds, told)
+checked (Ok place) Found Refused taken outcome found holds is answered = inl (place, found, is)
+checked (Err refusal) Found Refused taken outcome found holds is answered = inr (refusal, holds, answered)
 
 pub compared : (r : Result Bool PairRefusal) (Found : Bool → Type 0) (Refused : PairRefusal → Type 0)
     (outcome : PkderOutcome)
     → IfOk r Found → IfErr r Refused
     → IfOk r (λ same. outcome ≡ compared_outcome same) → IfErr r (λ refusal. outcome ≡ uncompared_outcome refusal)
     → Compared Found Refused outcome
-compared (Ok same) Found Refused outcome found holds is told = inl (same, found, is)
-compared (Err refusal) Found Refused outcome found holds is told = inr (refusal, holds, told)
+compared (Ok same) Found Refused outcome found holds is answered = inl (same, found, is)
+compared (Err refusal) Found Refused outcome found holds is answered = inr (refusal, holds, answered)
 
 pub report_for : {V : Type 0} (r : Result V Refusal) (items : V → List ℕ) (answer : V → Answer) (form number : ℕ)
     (wanted : Form) (kind : Kind) (made limits : Limits) (given : List ℕ)
@@ -160,7 +161,7 @@ pub reported : {V : Type 0} (r : Result V Refusal) (items : V → List ℕ) (ans
     → IfOk r (λ v. PutReport (items v) (answer v) taken old new outcome)
     → IfErr r (λ refusal. (outcome ≡ refused_outcome refusal) × (new ≡ old))
     → Reported Due Refused taken old new outcome
-reported (Ok v) items answer Due Refused taken old new outcome due holds put told =
+reported (Ok v) items answer Due Refused taken old new outcome due holds put answered =
     inl (items v, answer v, due, put)
-reported (Err refusal) items answer Due Refused taken old new outcome due holds put told =
-    inr (refusal, holds, told.0, told.1)
+reported (Err refusal) items answer Due Refused taken old new outcome due holds put answered =
+    inr (refusal, holds, answered.0, answered.1)

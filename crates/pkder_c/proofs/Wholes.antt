@@ -1,4 +1,4 @@
--- Octets that are one document, all of them: what is said where the source ends behind it.
+-- Octets that are one document, all of them: what is said where the source ends after it.
 use Rattle.std.proofs.Common.{◌≡◌, ◌↔◌, ◌∙◌, ◌⊎◌, ◌++◌, ◌*◌, ◌≤◌, Bool, Err, IfErr, IfOk, IsTrue, List, Ok, Option, Result, Some, [], ℕ, ap, append-nil, append_assoc, arith, inl, inr, length, subst, sym}
 use Rattle.std.proofs.lemmas.List.{length-append}
 use Rattle.tlv_core.specs.Limits.{IsLimits, Limits}
@@ -113,13 +113,13 @@ same_made l T first second text other same is n m =
     let took = n.1.took in
     let texts : IsTrue same ↔ (der n.0 ≡ der m.0) =
     (λ h. sym n.1.writes ∙ is.0 h ∙ m.1.writes, λ e. is.1 (n.1.writes ∙ e ∙ sym m.1.writes)) in
-    let told = m.1.same l n.0 took.octets took.spells in
+    let answered = m.1.same l n.0 took.octets took.spells in
     record {
       value = n.0;
       other = m.0;
       took = took;
       took_other = m.1.took;
-      values = (λ h. told.0 (texts.0 h), λ s. texts.1 (told.1 s));
+      values = (λ h. answered.0 (texts.0 h), λ s. texts.1 (answered.1 s));
       texts = texts;
     }
 

@@ -41,7 +41,7 @@ abbrev pub IsPlace : ℕ → Limits → List ℕ → Option ℕ → Type 0
 IsPlace number limits given place =
     ForKind number limits (λ allowed kind. WholeChecked allowed (type_of kind) given place)
 
--- The octets are two documents, and this tells whether they are the same.
+-- The octets are two documents, and this says whether they are the same.
 abbrev pub IsSame : ℕ → Limits → List ℕ → List ℕ → Bool → Type 0
 IsSame number limits first second same =
     ForKind number limits (λ allowed kind. WholeSame allowed (type_of kind) first second same)
@@ -104,7 +104,7 @@ FieldRefused number limits (refusals.Fault found) = ⊥
 FieldRefused number limits refusals.Memory = ForKind number limits (λ allowed kind. Unit {0})
 
 -- The text stands where the room `old` began, and the rest of the room is as it was; or there is too little room, which
--- is told, and all of it is as it was.
+-- is shown, and all of it is as it was.
 pub record Put (text : List ℕ) (taken : ℕ) (old new : List ℕ) (outcome : PkderOutcome) : Type 0 where
   pub fits : length text ≤ length old
       → (outcome ≡ accepted_outcome taken (length text)) × (new ≡ text ++ drop (length text) old)
@@ -117,26 +117,26 @@ pub record PutReport (text : List ℕ) (answer : Answer) (taken : ℕ) (old new 
         → (outcome ≡ reported_outcome taken answer (length text)) × (new ≡ text ++ drop (length text) old)
     pub short : length old < length text → (outcome ≡ unreported_outcome taken answer (length text)) × (new ≡ old)
 
--- A text that is due was put; or the octets are refused, for a reason that holds and is told,
+-- A text that is due was put; or the octets are refused, for a reason that holds and is shown,
 -- and the room is as it was.
 abbrev pub Wrote : (List ℕ → Type 0) → (Refusal → Type 0) → ℕ → List ℕ → List ℕ → PkderOutcome → Type 0
 Wrote Due Refused taken old new outcome =
     ((text : List ℕ) × Due text × Put text taken old new outcome)
     ⊎ ((refusal : Refusal) × Refused refusal × (outcome ≡ refused_outcome refusal) × (new ≡ old))
 
--- A report was put; or the call is refused, for a reason that holds and is told, and the room is as it was.
+-- A report was put; or the call is refused, for a reason that holds and is shown, and the room is as it was.
 abbrev pub Reported : (List ℕ → Answer → Type 0) → (Refusal → Type 0) → ℕ → List ℕ → List ℕ → PkderOutcome → Type 0
 Reported Due Refused taken old new outcome =
     ((text : List ℕ) × (answer : Answer) × Due text answer × PutReport text answer taken old new outcome)
     ⊎ ((refusal : Refusal) × Refused refusal × (outcome ≡ refused_outcome refusal) × (new ≡ old))
 
--- What was found is told; or the octets are refused, for a reason that holds and is told.
+-- What was found is shown; or the octets are refused, for a reason that holds and is shown.
 abbrev pub Checked : (Option ℕ → Type 0) → (Refusal → Type 0) → ℕ → PkderOutcome → Type 0
 Checked Found Refused taken outcome =
     ((place : Option ℕ) × Found place × (outcome ≡ checked_outcome taken place))
     ⊎ ((refusal : Refusal) × Refused refusal × (outcome ≡ refused_outcome refusal))
 
--- Whether two documents are the same is told; or why that isn't known, for a reason that holds.
+-- Whether two documents are the same is shown; or why that isn't known, for a reason that holds.
 abbrev pub Compared : (Bool → Type 0) → (PairRefusal → Type 0) → PkderOutcome → Type 0
 Compared Found Refused outcome =
     ((same : Bool) × Found same × (outcome ≡ compared_outcome same))

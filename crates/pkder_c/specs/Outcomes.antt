@@ -46,7 +46,7 @@ refused_outcome Memory =
 refused_outcome Call =
     record { status = 4; reason = 0; inside_reason = 0; which = 0; at = 0; inside_at = 0; taken = 0; size = 0 }
 
--- what `check` tells of octets with this answer
+-- what `check` says of octets with this answer
 abbrev pub answered_outcome : ℕ → Answer → PkderOutcome
 answered_outcome taken answers.Der = checked_outcome taken None
 answered_outcome taken (answers.NotDer place) = checked_outcome taken (Some place)

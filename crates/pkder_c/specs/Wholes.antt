@@ -57,7 +57,7 @@ WholePart limits part given text =
 abbrev pub IsWhole : Limits → TypeTerm → List ℕ → Type 0
 IsWhole limits type given = (value : Value) × Took limits type value (Some given) (Some []) (length given)
 
--- Each of the two spells one value, and this tells whether these are the same, which is whether their DER texts are
+-- Each of the two spells one value, and this says whether these are the same, which is whether their DER texts are
 -- equal.
 pub record WholeSame (limits : Limits) (type : TypeTerm) (first second : List ℕ) (same : Bool) : Type 0 where
   pub value : Value
@@ -72,7 +72,7 @@ abbrev pub FirstFault : Limits → TypeTerm → Fault → List ℕ → Type 0
 FirstFault limits type found given =
     (answer limits type given ≡ Refused found) × InsideMatches found × Unspelled limits type given
 
--- Octets follow the first ones, which spell a value: a fault behind these.
+-- Octets follow the first ones, which spell a value: a fault after these.
 pub record FollowsValue (limits : Limits) (type : TypeTerm) (found : Fault) (given : List ℕ) : Type 0 where
   pub value : Value
   pub octets : List ℕ

@@ -45,7 +45,7 @@ pub fn report(made: Result<(Vec<u8>, Answer), Refusal>, src: &[u8], dst: &mut [u
 }
 
 /// What was found of the document in `src`.
-pub fn tell(found: Result<Option<u64>, Refusal>, src: &[u8]) -> PkderOutcome
+pub fn place_outcome(found: Result<Option<u64>, Refusal>, src: &[u8]) -> PkderOutcome
     ensures checked { IfOk found (λ place. result ≡ checked_outcome (length src.now) place) }
     ensures refused { IfErr found (λ refusal. result ≡ refused_outcome refusal) }
 {
@@ -56,7 +56,7 @@ pub fn tell(found: Result<Option<u64>, Refusal>, src: &[u8]) -> PkderOutcome
 }
 
 /// What was found of two documents.
-pub fn tell_pair(found: Result<bool, PairRefusal>) -> PkderOutcome
+pub fn pair_outcome(found: Result<bool, PairRefusal>) -> PkderOutcome
     ensures compared { IfOk found (λ same. result ≡ compared_outcome same) }
     ensures refused { IfErr found (λ refusal. result ≡ uncompared_outcome refusal) }
 {

@@ -2,7 +2,7 @@
 //! `interface/pkder.h` declares these functions and says what a caller owes.
 //!
 //! Proved of every call whose pointers are good: what `pk_documents` and `pk_show` promise, of a document that has to
-//! be all of the octets given, told by a status and numbers. No call asks for anything of its numbers.
+//! be all of the octets given, shown by a status and numbers. No call asks for anything of its numbers.
 //!
 //! `numbers` has what numbers mean, `whole` reads the octets given, `by_number` does both, `delivery` puts what comes
 //! of it into the caller's room, `outcome` has what C sees.
@@ -19,7 +19,7 @@ mod refusal;
 mod whole;
 
 use crate::by_number::{field_of, lines_of, part_of, place_of, report_of, same_of, text_of};
-use crate::delivery::{deliver, report, tell, tell_pair};
+use crate::delivery::{deliver, pair_outcome, place_outcome, report};
 use crate::numbers::reason_of;
 use crate::outcome::PkderOutcome;
 use pk_documents::document::{Document, Valued};
@@ -64,7 +64,7 @@ pub extern "C" fn pkder_check(
         (KindRefused kind (record { depth = depth; octets = octets }) src.now)
         (length src.now) result }
 {
-    tell(place_of(alloc, kind, depth, octets, src), src)
+    place_outcome(place_of(alloc, kind, depth, octets, src), src)
 }
 
 /// Whether the two documents are the same, which is whether their DER texts are equal.
@@ -80,7 +80,7 @@ pub extern "C" fn pkder_same(
     ensures { Compared (IsSame kind (record { depth = depth; octets = octets }) first.now second.now)
         (PairRefused kind (record { depth = depth; octets = octets }) first.now second.now) result }
 {
-    tell_pair(same_of(alloc, kind, depth, octets, first, second))
+    pair_outcome(same_of(alloc, kind, depth, octets, first, second))
 }
 
 /// Writes a part of a certification request where `dst` begins, if it fits there.
@@ -154,7 +154,7 @@ pub extern "C" fn pkder_field(
     report(field_of(alloc, kind, depth, octets, src), src, dst)
 }
 
-/// Writes the name of the reason, and an octet 0 behind it, where `dst` has room for both. Answers the octets of the
+/// Writes the name of the reason, and an octet 0 after it, where `dst` has room for both. Answers the octets of the
 /// name; 0 if no reason has the number.
 #[unsafe(no_mangle)]
 pub extern "C" fn pkder_reason_name(reason: u32, dst: &mut [u8]) -> usize

@@ -5,9 +5,9 @@ ghost use Rattle.tlv_core.specs.Reasons.{number_of};
 ghost use Rattle.pk_documents.specs.KindRows.{IsKindNumber, number_of as kind_number};
 ghost use Rattle.pkder_c.specs.Numbers.{IsFormNumber, IsFormOf, IsPartNumber, IsReasonNumber, part_number};
 
+use explain::written::{Form, PLACES};
 use pk_documents::kind::Kind;
 use pk_documents::request_part::Part;
-use explain::written::{Form, PLACES};
 use tlv_core::limits::Limits;
 use tlv_core::reason::Reason;
 

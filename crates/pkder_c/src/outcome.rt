@@ -145,7 +145,7 @@ pub fn unreported(taken: u64, answer: Answer, size: u64) -> PkderOutcome
     }
 }
 
-/// What `check` tells of it.
+/// What `check` says of it.
 fn answered(taken: u64, answer: Answer) -> PkderOutcome
     ensures { result ≡ answered_outcome taken answer }
 {

@@ -66,8 +66,8 @@ module _ (limits : Limits) (enclosing : Enclosing) (place : ℕ) (octets : List 
   missing (types.Default own contents type fields) earlier ends none =
       inr (inl (ends, missing fields earlier ends none))
 
-  module _ (tag : Tag) (constructed : Bool) (behind : ℕ) (rest : List ℕ)
-      (stands : Stands limits enclosing place octets tag constructed behind rest) where
+  module _ (tag : Tag) (constructed : Bool) (following : ℕ) (rest : List ℕ)
+      (stands : Stands limits enclosing place octets tag constructed following rest) where
     -- a field that isn't there is passed over
     passed : (type : TypeTerm) (fields : types.Fields) (due : Due) (b : Bool) → fits_tag type tag ≡ b
         → by_fit b (IsField type fields) (due_in fields tag) ≡ due → (IsField type fields ≡ due → ⊥)
@@ -97,35 +97,35 @@ module _ (limits : Limits) (enclosing : Enclosing) (place : ℕ) (octets : List 
         inr (inr (inl (
           tag,
           constructed,
-          behind,
+          following,
           rest,
           stands,
           inl (required_wrong type due fields (fits_tag type tag) refl is, refl),
         )))
     wrong (types.Optional type fields) due earlier is =
         let p = passed type fields (IsWrong due) (fits_tag type tag) refl is (λ e. cc) in
-        inr (inr (inl (tag, constructed, behind, rest, stands, inl (p.0, wrong fields due earlier p.1))))
+        inr (inr (inl (tag, constructed, following, rest, stands, inl (p.0, wrong fields due earlier p.1))))
     wrong (types.Default own contents type fields) due earlier is =
         let p = passed type fields (IsWrong due) (fits_tag type tag) refl is (λ e. cc) in
-        inr (inr (inl (tag, constructed, behind, rest, stands, inl (p.0, wrong fields due earlier p.1))))
+        inr (inr (inl (tag, constructed, following, rest, stands, inl (p.0, wrong fields due earlier p.1))))
 
     extra : (fields : types.Fields) (earlier : List Value) → due_in fields tag ≡ IsExtra
         → StopsFields limits fields earlier enclosing place octets (fault place Extra)
     unfolding StopsFields by_fit
-    extra types.EndOfFields earlier is = inr (tag, constructed, behind, rest, stands, refl)
+    extra types.EndOfFields earlier is = inr (tag, constructed, following, rest, stands, refl)
     extra (types.Required type fields) earlier is = absurd (required_extra type fields (fits_tag type tag) is)
     extra (types.Optional type fields) earlier is =
         let p = passed type fields IsExtra (fits_tag type tag) refl is (λ e. cc) in
-        inr (inr (inl (tag, constructed, behind, rest, stands, inl (p.0, extra fields earlier p.1))))
+        inr (inr (inl (tag, constructed, following, rest, stands, inl (p.0, extra fields earlier p.1))))
     extra (types.Default own contents type fields) earlier is =
         let p = passed type fields IsExtra (fits_tag type tag) refl is (λ e. cc) in
-        inr (inr (inl (tag, constructed, behind, rest, stands, inl (p.0, extra fields earlier p.1))))
+        inr (inr (inl (tag, constructed, following, rest, stands, inl (p.0, extra fields earlier p.1))))
 
     module _ (found : Fault) (earlier : List Value) where
       abbrev Here : TypeTerm → Type 0
-      Here type = StopsBehind limits type earlier enclosing place tag constructed behind rest found
+      Here type = StopsBehind limits type earlier enclosing place tag constructed following rest found
 
-      -- the field that an element belongs to: the first one, or one behind it
+      -- the field that an element belongs to: the first one, or one after it
       required_field : (type due : TypeTerm) (fields after : types.Fields) (b : Bool) → fits_tag type tag ≡ b
           → by_fit b (IsField type fields) (IsWrong type) ≡ IsField due after → Here due
           → (fits_tag type tag ≡ true) × Here type
@@ -149,28 +149,28 @@ module _ (limits : Limits) (enclosing : Enclosing) (place : ℕ) (octets : List 
       inside types.EndOfFields after due is here = absurd cc
       inside (types.Required type fields) after due is here =
           let p = required_field type due fields after (fits_tag type tag) refl is here in
-          inr (inr (inl (tag, constructed, behind, rest, stands, inr p)))
+          inr (inr (inl (tag, constructed, following, rest, stands, inr p)))
       inside (types.Optional type fields) after due is here =
           elim (optional_field type due fields after (fits_tag type tag) refl is here) [
-            | inl p ↦ inr (inr (inl (tag, constructed, behind, rest, stands, inr p)))
+            | inl p ↦ inr (inr (inl (tag, constructed, following, rest, stands, inr p)))
             | inr p ↦
-                inr (inr (inl (tag, constructed, behind, rest, stands, inl (p.0, inside fields after due p.1 here))))
+                inr (inr (inl (tag, constructed, following, rest, stands, inl (p.0, inside fields after due p.1 here))))
           ]
       inside (types.Default own contents type fields) after due is here =
           elim (optional_field type due fields after (fits_tag type tag) refl is here) [
-            | inl p ↦ inr (inr (inl (tag, constructed, behind, rest, stands, inr p)))
+            | inl p ↦ inr (inr (inl (tag, constructed, following, rest, stands, inr p)))
             | inr p ↦
-                inr (inr (inl (tag, constructed, behind, rest, stands, inl (p.0, inside fields after due p.1 here))))
+                inr (inr (inl (tag, constructed, following, rest, stands, inl (p.0, inside fields after due p.1 here))))
           ]
 
-    -- the field that an element belongs to, and the fields behind it
+    -- the field that an element belongs to, and the fields after it
     module _ (value : Value) (taken : ℕ) (left : List ℕ) (found : Fault) (earlier later : List Value) where
       abbrev Taken : TypeTerm → types.Fields → Type 0
       Taken type fields =
           Takes limits type earlier enclosing place octets value taken left
           × StopsFields limits fields later enclosing (place + taken) left found
 
-      -- the fields behind it stop, their earlier values being these
+      -- the fields after it stop, their earlier values being these
       stops_as : (fields : types.Fields) → later ≡ earlier
           → StopsFields limits fields later enclosing (place + taken) left found
           → StopsFields limits fields earlier enclosing (place + taken) left found
@@ -181,7 +181,7 @@ module _ (limits : Limits) (enclosing : Enclosing) (place : ℕ) (octets : List 
           → StopsFields limits fields (earlier ++ (value ∷ [])) enclosing (place + taken) left found
       stops_with fields e h = subst (λ w. StopsFields limits fields w enclosing (place + taken) left found) e h
 
-      -- it is the first one, or it is behind that
+      -- it is the first one, or it is after that
       first_taken : (type due : TypeTerm) (fields after : types.Fields) (other : Due) (b : Bool) → b ≡ true
           → by_fit b (IsField type fields) other ≡ IsField due after → Taken due after → Taken type fields
       unfolding by_fit
@@ -218,7 +218,7 @@ module _ (limits : Limits) (enclosing : Enclosing) (place : ℕ) (octets : List 
         | inr a ↦
             let p = first_passed (IsField type fields) (due_in fields tag) (IsField due after) (fits_tag type tag) a.0
             is in
-            inr (inr (inl (tag, constructed, behind, rest, stands, inl (a.0, goes_on fields after due a.1 p here))))
+            inr (inr (inl (tag, constructed, following, rest, stands, inl (a.0, goes_on fields after due a.1 p here))))
       ]
       goes_on (types.Default own contents type fields) after due follows is here = elim follows [
         | inl a ↦
@@ -236,23 +236,24 @@ module _ (limits : Limits) (enclosing : Enclosing) (place : ℕ) (octets : List 
         | inr a ↦
             let p = first_passed (IsField type fields) (due_in fields tag) (IsField due after) (fits_tag type tag) a.0
             is in
-            inr (inr (inl (tag, constructed, behind, rest, stands, inl (a.0, goes_on fields after due a.1 p here))))
+            inr (inr (inl (tag, constructed, following, rest, stands, inl (a.0, goes_on fields after due a.1 p here))))
       ]
 
 pub due_laws : DueLaws
 due_laws = record {
   bare_tags = bare_tags;
   bare_dues = bare_dues;
-  wrong = λ limits enclosing place octets tag constructed behind rest fields type earlier among.
-      wrong limits enclosing place octets tag constructed behind rest among.stands fields type earlier among.is;
-  extra = λ limits enclosing place octets tag constructed behind rest fields earlier among.
-      extra limits enclosing place octets tag constructed behind rest among.stands fields earlier among.is;
+  wrong = λ limits enclosing place octets tag constructed following rest fields type earlier among.
+      wrong limits enclosing place octets tag constructed following rest among.stands fields type earlier among.is;
+  extra = λ limits enclosing place octets tag constructed following rest fields earlier among.
+      extra limits enclosing place octets tag constructed following rest among.stands fields earlier among.is;
   missing = missing;
-  inside = λ limits enclosing place octets tag constructed behind rest fields after type earlier found among here.
-      inside limits enclosing place octets tag constructed behind rest among.stands found earlier fields after type
+  inside = λ limits enclosing place octets tag constructed following rest fields after type earlier found among here.
+      inside limits enclosing place octets tag constructed following rest among.stands found earlier fields after type
       among.is here;
-  behind = λ limits enclosing place octets tag constructed behind rest fields after type earlier later value taken left
+  after =
+      λ limits enclosing place octets tag constructed following rest fields after type earlier later value taken left
       found among takes follows stops.
-      goes_on limits enclosing place octets tag constructed behind rest among.stands value taken left found earlier
+      goes_on limits enclosing place octets tag constructed following rest among.stands value taken left found earlier
       later fields after type follows among.is (takes, stops);
 }

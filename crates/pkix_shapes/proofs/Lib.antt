@@ -1,4 +1,4 @@
-pub mod Blaming
+pub mod FaultPaths
 pub mod Following
-pub mod OneWay
+pub mod OnePath
 pub mod Places

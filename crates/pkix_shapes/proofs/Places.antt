@@ -1,4 +1,4 @@
--- A fault of an element stands where the element begins, or behind that.
+-- A fault of an element stands where the element begins, or after that.
 use Rattle.std.proofs.Common.{◌≡◌, ◌≤◌, ◌+◌, Bool, List, Option, [], arith, length, subst, suc, sym, true, zero, ℕ, inl, inr, ap}
 use Rattle.tlv_core.specs.Identifier.{Tag}
 use Rattle.tlv_core.specs.Limits.{Limits}
@@ -12,7 +12,7 @@ use Rattle.x690.specs.Points.{DefiniteLength, Enclosing, IndefiniteLength, Lengt
 use Rattle.x690.specs.Stops.{StopsBehind, StopsFields, MembersStop}
 use Rattle.x690.specs.TypeTerms.{ChoiceType, ContainingType, Default, DefinedByType, EndOfFields, Fields, LeafType, OpenType, Optional, RefusedType, Required, RuledType, SequenceOfType, SequenceType, SetOfType, TypeTerm}
 use Rattle.x690.specs.Values.{Value}
-use Rattle.pkix_shapes.specs.PlaceLaws.{FaultsStandInside}
+use Rattle.pkix_shapes.specs.PlaceLaws.{FaultsAreInside}
 
 -- a fault at a place
 at_place : (low place : ℕ) (why : Reason) (found : Fault) → low ≤ place → found ≡ fault place why → low ≤ found.at
@@ -84,15 +84,15 @@ in_tag limits enclosing low place octets found h x = elim x.1 [
   ]
 ]
 
--- what holds behind elements holds behind where they begin
-behind : {State : Type 0} (Stand : State → ℕ → List ℕ → State → ℕ → List ℕ → Type 0)
+-- what holds after elements holds after where they begin
+after : {State : Type 0} (Stand : State → ℕ → List ℕ → State → ℕ → List ℕ → Type 0)
     (Then : State → ℕ → List ℕ → Type 0) (low : ℕ) (Goal : Type 0)
     → ((s : State) (p : ℕ) (o : List ℕ) → low ≤ p → Then s p o → Goal)
     → (n : ℕ) (s : State) (p : ℕ) (o : List ℕ) → low ≤ p → After Stand Then n s p o → Goal
 unfolding After
-behind Stand Then low Goal goal zero s p o h x = goal s p o h x
-behind Stand Then low Goal goal (suc n) s p o h x =
-    let g : low ≤ p + x.1 = omega arith in behind Stand Then low Goal goal n x.0 (p + x.1) x.2 g x.4
+after Stand Then low Goal goal zero s p o h x = goal s p o h x
+after Stand Then low Goal goal (suc n) s p o h x =
+    let g : low ≤ p + x.1 = omega arith in after Stand Then low Goal goal n x.0 (p + x.1) x.2 g x.4
 
 form_far : (limits : Limits) (end : Option ℕ) (here : ℕ) (octets : List ℕ) (form : LengthForm) (start : ℕ)
     (rest : List ℕ) → FormStands limits end here octets form start rest → here ≤ start
@@ -105,14 +105,15 @@ opens_far : (limits : Limits) (enclosing : Enclosing) (constructed : Bool) (here
 opens_far limits enclosing constructed here octets inside start rest x =
     form_far limits enclosing.nearest_end here octets x.1 start rest x.2
 
--- what stands at a place stops in its identifier, or behind it
-here_stops : (limits : Limits) (enclosing : Enclosing) (Behind : ℕ → Tag → Bool → ℕ → List ℕ → Fault → Type 0)
+-- what is at a place stops in its identifier, or after it
+here_stops : (limits : Limits) (enclosing : Enclosing) (AfterIdentifier : ℕ → Tag → Bool → ℕ → List ℕ → Fault → Type 0)
     (low place : ℕ) (octets : List ℕ) (found : Fault)
     → low ≤ place
-    → ((tag : Tag) (form : Bool) (start : ℕ) (rest : List ℕ) → low ≤ start → Behind place tag form start rest found
+    → ((tag : Tag) (form : Bool) (start : ℕ) (rest : List ℕ) → low ≤ start
+    → AfterIdentifier place tag form start rest found
     → low ≤ found.at)
-    → StopsHere limits enclosing Behind place octets found → low ≤ found.at
-here_stops limits enclosing Behind low place octets found h goal x = elim x [
+    → StopsHere limits enclosing AfterIdentifier place octets found → low ≤ found.at
+here_stops limits enclosing AfterIdentifier low place octets found h goal x = elim x [
   | inl y ↦ in_tag limits enclosing low place octets found h y
   | inr y ↦
       let e = y.4.behind_is in
@@ -147,7 +148,7 @@ segments Segment limits number enclosing before low place here octets found h g 
   | inr y ↦
       let e = opens_far limits enclosing true here octets y.0 y.1 y.2 y.3 in
       let k : low ≤ y.1 = omega arith in
-      behind (SegmentStands limits y.0 number) _ low (low ≤ found.at)
+      after (SegmentStands limits y.0 number) _ low (low ≤ found.at)
       (λ s p o l z. here_stops limits y.0 (Segment y.0 s) low p o found l
       (λ tag form start rest m w. goal y.0 s p tag form start rest l m w) z) y.4.0 before y.1 y.2 k y.4.1
 ]
@@ -210,7 +211,7 @@ open_value (suc deep) limits enclosing low place tag constructed here octets fou
         | inr v ↦
             let e = opens_far limits enclosing constructed here octets v.0 v.1 v.2 v.3 in
             let k : low ≤ v.1 = omega arith in
-            behind (MemberStands limits OpenType v.0) _ low (low ≤ found.at)
+            after (MemberStands limits OpenType v.0) _ low (low ≤ found.at)
             (λ s p o l u. here_stops limits v.0 (OpenStops deep limits v.0) low p o found l
             (λ tag' form start rest m t.
             open_value deep limits v.0 low p tag' form start rest found l m t) u) v.4.0 tt v.1 v.2 k v.4.1
@@ -234,44 +235,44 @@ members limits type least enclosing low place constructed here octets Member too
       let k : low ≤ y.1 = omega arith in
       elim y.4 [
         | inl z ↦
-            behind (MemberStands limits type y.0) _ low (low ≤ found.at)
+            after (MemberStands limits type y.0) _ low (low ≤ found.at)
             (λ s p o l w. here_stops limits y.0 (Member y.0) low p o found l
             (λ tag form start rest m v. goal y.0 p tag form start rest l m v) w) z.0 tt y.1 y.2 k z.1
         | inr z ↦
-            behind (MemberStands limits type y.0) _ low (low ≤ found.at) (λ s p o l w. few p l w.1) z.0 tt y.1 y.2 k z.2
+            after (MemberStands limits type y.0) _ low (low ≤ found.at) (λ s p o l w. few p l w.1) z.0 tt y.1 y.2 k z.2
       ]
 ]
 
 mutual
   unfolding StopsBehind StopsFields
 
-  stands_inside : (limits : Limits) (type : TypeTerm) (earlier : List Value) (enclosing : Enclosing) (low place : ℕ)
+  lies_inside : (limits : Limits) (type : TypeTerm) (earlier : List Value) (enclosing : Enclosing) (low place : ℕ)
       (tag : Tag) (constructed : Bool) (here : ℕ) (octets : List ℕ) (found : Fault)
       → low ≤ place → low ≤ here
       → StopsBehind limits type earlier enclosing place tag constructed here octets found → low ≤ found.at
-  stands_inside limits (LeafType own kind) e c low p t f k o found h g x = elim x [
+  lies_inside limits (LeafType own kind) e c low p t f k o found h g x = elim x [
     | inl y ↦ at_place low p _ found h y.1
     | inr y ↦ leaf limits c kind low p t f k o found h g y.1
   ]
-  stands_inside limits OpenType e c low p t f k o found h g x =
+  lies_inside limits OpenType e c low p t f k o found h g x =
       open_value limits.depth limits c low p t f k o found h g x
-  stands_inside limits (SequenceOfType own least type) e c low p t f k o found h g x = elim x [
+  lies_inside limits (SequenceOfType own least type) e c low p t f k o found h g x = elim x [
     | inl y ↦ at_place low p _ found h y.1
     | inr y ↦
         members limits type least c low p f k o (λ inside. StopsBehind limits type [] inside) (λ end. fault end Missing)
         found h g
-        (λ inside p' t' f' start rest l m v. stands_inside limits type [] inside low p' t' f' start rest found l m v)
+        (λ inside p' t' f' start rest l m v. lies_inside limits type [] inside low p' t' f' start rest found l m v)
         (λ end l w. at_place low end _ found l w) y.1
   ]
-  stands_inside limits (SetOfType own least type) e c low p t f k o found h g x = elim x [
+  lies_inside limits (SetOfType own least type) e c low p t f k o found h g x = elim x [
     | inl y ↦ at_place low p _ found h y.1
     | inr y ↦
         members limits type least c low p f k o (λ inside. StopsBehind limits type [] inside) (λ end. fault p EmptySet)
         found h g
-        (λ inside p' t' f' start rest l m v. stands_inside limits type [] inside low p' t' f' start rest found l m v)
+        (λ inside p' t' f' start rest l m v. lies_inside limits type [] inside low p' t' f' start rest found l m v)
         (λ end l w. at_place low p _ found h w) y.1
   ]
-  stands_inside limits (SequenceType own fields) e c low p t f k o found h g x = elim x [
+  lies_inside limits (SequenceType own fields) e c low p t f k o found h g x = elim x [
     | inl y ↦ at_place low p _ found h y.1
     | inr y ↦ elim y.1 [
       | inl z ↦ in_form limits c low p f k o found h g z
@@ -281,7 +282,7 @@ mutual
           fields_inside limits fields [] z.0 low z.1 z.2 found l z.4
     ]
   ]
-  stands_inside limits (ContainingType own rule type) e c low p t f k o found h g x = elim x [
+  lies_inside limits (ContainingType own rule type) e c low p t f k o found h g x = elim x [
     | inl y ↦ at_place low p _ found h y.1
     | inr y ↦ elim y.1 [
       | inl z ↦ leaf limits c OctetString low p t f k o found h g z
@@ -294,21 +295,21 @@ mutual
       ]
     ]
   ]
-  stands_inside limits (RuledType rule type) e c low p t f k o found h g x = elim x [
-    | inl y ↦ stands_inside limits type e c low p t f k o found h g y
+  lies_inside limits (RuledType rule type) e c low p t f k o found h g x = elim x [
+    | inl y ↦ lies_inside limits type e c low p t f k o found h g y
     | inr y ↦ at_place low p _ found h y.8
   ]
-  stands_inside limits (RefusedType own why) e c low p t f k o found h g x = elim x [
+  lies_inside limits (RefusedType own why) e c low p t f k o found h g x = elim x [
     | inl y ↦ at_place low p _ found h y.1
     | inr y ↦ at_place low p _ found h y.1
   ]
-  stands_inside limits (DefinedByType path identifiers first second) e c low p t f k o found h g x = elim x [
-    | inl y ↦ stands_inside limits first e c low p t f k o found h g y.1
-    | inr y ↦ stands_inside limits second e c low p t f k o found h g y.1
+  lies_inside limits (DefinedByType path identifiers first second) e c low p t f k o found h g x = elim x [
+    | inl y ↦ lies_inside limits first e c low p t f k o found h g y.1
+    | inr y ↦ lies_inside limits second e c low p t f k o found h g y.1
   ]
-  stands_inside limits (ChoiceType first second) e c low p t f k o found h g x = elim x [
-    | inl y ↦ stands_inside limits first e c low p t f k o found h g y.1
-    | inr y ↦ stands_inside limits second e c low p t f k o found h g y.1
+  lies_inside limits (ChoiceType first second) e c low p t f k o found h g x = elim x [
+    | inl y ↦ lies_inside limits first e c low p t f k o found h g y.1
+    | inr y ↦ lies_inside limits second e c low p t f k o found h g y.1
   ]
 
   fields_inside : (limits : Limits) (fields : Fields) (earlier : List Value) (enclosing : Enclosing) (low place : ℕ)
@@ -328,7 +329,7 @@ mutual
           | inr v ↦
               let q = w.4.behind_is in
               let l : low ≤ w.2 = omega arith in
-              stands_inside limits type e c low p w.0 w.1 w.2 w.3 found h l v.1
+              lies_inside limits type e c low p w.0 w.1 w.2 w.3 found h l v.1
         ]
         | inr w ↦
             let l : low ≤ p + w.1 = omega arith in
@@ -346,7 +347,7 @@ mutual
           | inr v ↦
               let q = w.4.behind_is in
               let l : low ≤ w.2 = omega arith in
-              stands_inside limits type e c low p w.0 w.1 w.2 w.3 found h l v.1
+              lies_inside limits type e c low p w.0 w.1 w.2 w.3 found h l v.1
         ]
         | inr w ↦
             let l : low ≤ p + w.1 = omega arith in
@@ -364,7 +365,7 @@ mutual
           | inr v ↦
               let q = w.4.behind_is in
               let l : low ≤ w.2 = omega arith in
-              stands_inside limits type e c low p w.0 w.1 w.2 w.3 found h l v.1
+              lies_inside limits type e c low p w.0 w.1 w.2 w.3 found h l v.1
         ]
         | inr w ↦
             let l : low ≤ p + w.1 = omega arith in
@@ -376,7 +377,7 @@ mutual
     ]
   ]
 
-pub faults_stand_inside : FaultsStandInside
-faults_stand_inside limits type earlier enclosing place tag constructed here octets found far x =
+pub faults_are_inside : FaultsAreInside
+faults_are_inside limits type earlier enclosing place tag constructed here octets found far x =
     let same : place ≤ place = omega arith in
-    stands_inside limits type earlier enclosing place place tag constructed here octets found same far x
+    lies_inside limits type earlier enclosing place place tag constructed here octets found same far x

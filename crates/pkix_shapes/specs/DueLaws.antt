@@ -34,10 +34,10 @@ Follows (types.Default own contents type fields) tag value earlier later =
     ⊎ ((Same value (Leaf own contents) → ⊥) × (later ≡ earlier ++ (value ∷ []))))
     (Follows fields tag value earlier later)
 
--- An element stands here, among these fields.
+-- An element is here, among these fields.
 pub record Among (limits : Limits) (enclosing : Enclosing) (place : ℕ) (octets : List ℕ) (tag : Tag)
-    (constructed : Bool) (behind : ℕ) (rest : List ℕ) (fields : types.Fields) (due : Due) : Type 0 where
-  pub stands : Stands limits enclosing place octets tag constructed behind rest
+    (constructed : Bool) (following : ℕ) (rest : List ℕ) (fields : types.Fields) (due : Due) : Type 0 where
+  pub stands : Stands limits enclosing place octets tag constructed following rest
   pub is : due_in fields tag ≡ due
 
 -- All steps from the fields of a container to an element among them.
@@ -47,31 +47,31 @@ pub record DueLaws : Type 0 where
   pub bare_dues : (fields : types.Fields) (tag : Tag) → due_in (bare_fields fields) tag ≡ bare_due (due_in fields tag)
   -- an element that is none of a field that is due is WrongTag there
   pub wrong : (limits : Limits) (enclosing : Enclosing) (place : ℕ) (octets : List ℕ) (tag : Tag) (constructed : Bool)
-      (behind : ℕ) (rest : List ℕ) (fields : types.Fields) (type : TypeTerm) (earlier : List Value)
-      → Among limits enclosing place octets tag constructed behind rest fields (IsWrong type)
+      (following : ℕ) (rest : List ℕ) (fields : types.Fields) (type : TypeTerm) (earlier : List Value)
+      → Among limits enclosing place octets tag constructed following rest fields (IsWrong type)
       → StopsFields limits fields earlier enclosing place octets (fault place WrongTag)
-  -- an element behind the last field is Extra there
+  -- an element after the last field is Extra there
   pub extra : (limits : Limits) (enclosing : Enclosing) (place : ℕ) (octets : List ℕ) (tag : Tag) (constructed : Bool)
-      (behind : ℕ) (rest : List ℕ) (fields : types.Fields) (earlier : List Value)
-      → Among limits enclosing place octets tag constructed behind rest fields IsExtra
+      (following : ℕ) (rest : List ℕ) (fields : types.Fields) (earlier : List Value)
+      → Among limits enclosing place octets tag constructed following rest fields IsExtra
       → StopsFields limits fields earlier enclosing place octets (fault place Extra)
-  -- where a field that has to stand is left, the end of the container is Missing there
+  -- where a field that has to be there is left, the end of the container is Missing there
   pub missing : (limits : Limits) (enclosing : Enclosing) (place : ℕ) (octets : List ℕ) (fields : types.Fields)
       (earlier : List Value)
       → EndsHere limits enclosing place octets → may_end fields ≡ false
       → StopsFields limits fields earlier enclosing place octets (fault place Missing)
   -- a fault in the element of a field is the fault of the fields
   pub inside : (limits : Limits) (enclosing : Enclosing) (place : ℕ) (octets : List ℕ) (tag : Tag) (constructed : Bool)
-      (behind : ℕ) (rest : List ℕ) (fields after : types.Fields) (type : TypeTerm) (earlier : List Value)
+      (following : ℕ) (rest : List ℕ) (fields after : types.Fields) (type : TypeTerm) (earlier : List Value)
       (found : Fault)
-      → Among limits enclosing place octets tag constructed behind rest fields (IsField type after)
-      → StopsBehind limits type earlier enclosing place tag constructed behind rest found
+      → Among limits enclosing place octets tag constructed following rest fields (IsField type after)
+      → StopsBehind limits type earlier enclosing place tag constructed following rest found
       → StopsFields limits fields earlier enclosing place octets found
-  -- where the element of a field is taken, a fault of the fields behind it is the fault of the fields
-  pub behind : (limits : Limits) (enclosing : Enclosing) (place : ℕ) (octets : List ℕ) (tag : Tag) (constructed : Bool)
-      (behind : ℕ) (rest : List ℕ) (fields after : types.Fields) (type : TypeTerm) (earlier later : List Value)
+  -- where the element of a field is taken, a fault of the fields after it is the fault of the fields
+  pub after : (limits : Limits) (enclosing : Enclosing) (place : ℕ) (octets : List ℕ) (tag : Tag) (constructed : Bool)
+      (following : ℕ) (rest : List ℕ) (fields after : types.Fields) (type : TypeTerm) (earlier later : List Value)
       (value : Value) (taken : ℕ) (left : List ℕ) (found : Fault)
-      → Among limits enclosing place octets tag constructed behind rest fields (IsField type after)
+      → Among limits enclosing place octets tag constructed following rest fields (IsField type after)
       → Takes limits type earlier enclosing place octets value taken left
       → Follows fields tag value earlier later
       → StopsFields limits after later enclosing (place + taken) left found

@@ -35,8 +35,8 @@ others_rows = map (λ row. (row.0.now, row.1.now, row.2.now, row.3.now)) OTHERS_
 -- the first row with these contents
 abbrev pub row_with : List Row → List ℕ → Option Row
 row_with [] contents = None
-row_with (row ∷ behind) contents =
-    elim (same_octets row.3 contents) [ true ↦ Some row | false ↦ row_with behind contents ]
+row_with (row ∷ after) contents =
+    elim (same_octets row.3 contents) [ true ↦ Some row | false ↦ row_with after contents ]
 
 abbrev pub or_row : Option Row → Option Row → Option Row
 or_row (Some row) other = Some row

@@ -1,4 +1,4 @@
-pub mod Blames
+pub mod FaultPaths
 pub mod DueLaws
 pub mod Dues
 pub mod Identifiers
@@ -6,5 +6,5 @@ pub mod Names
 pub mod PlaceLaws
 pub mod Secrets
 pub mod Terms
-pub mod WayLaws
-pub mod Ways
+pub mod PathLaws
+pub mod Paths

@@ -47,14 +47,15 @@ in_other_prime = codes "prime" ∷ codes "exponent" ∷ codes "coefficient" ∷ 
 -- of RSAPrivateKey (RFC 8017 A.1.2)
 abbrev pub in_rsa_key : List (List ℕ)
 in_rsa_key =
-    codes "version" ∷ codes "modulus" ∷ codes "publicExponent" ∷ codes "privateExponent" ∷ codes "prime1" ∷ codes "prime2"
+    codes "version" ∷ codes "modulus" ∷ codes "publicExponent" ∷ codes "privateExponent" ∷ codes "prime1"
+    ∷ codes "prime2"
     ∷ codes "exponent1" ∷ codes "exponent2" ∷ codes "coefficient" ∷ codes "otherPrimeInfos" ∷ in_other_prime
 
 -- of Attribute (RFC 5958 section 2)
 abbrev pub in_attribute : List (List ℕ)
 in_attribute = codes "type" ∷ codes "values" ∷ []
 
--- of OneAsymmetricKey (RFC 5958 section 2); behind privateKey those of what it contains
+-- of OneAsymmetricKey (RFC 5958 section 2); after privateKey those of what it contains
 abbrev pub in_key : List (List ℕ)
 in_key =
     codes "version" ∷ codes "privateKeyAlgorithm" ∷ in_algorithm ++ codes "privateKey" ∷ in_ec_key ++ in_rsa_key
@@ -64,7 +65,7 @@ in_key =
 abbrev pub in_extension : List (List ℕ)
 in_extension = codes "extnID" ∷ codes "critical" ∷ codes "extnValue" ∷ []
 
--- of CertificationRequest (RFC 2986 section 4); behind subject those of AttributeTypeAndValue (RFC 5280 section 4.1.2.4)
+-- of CertificationRequest (RFC 2986 section 4); after subject those of AttributeTypeAndValue (RFC 5280 section 4.1.2.4)
 abbrev pub in_request : List (List ℕ)
 in_request =
     codes "certificationRequestInfo" ∷ codes "version" ∷ codes "subject" ∷ codes "type" ∷ codes "value"

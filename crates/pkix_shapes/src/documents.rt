@@ -3,7 +3,7 @@ ghost use Rattle.std.specs.Prelude.{[], ◌≡◌};
 ghost use Rattle.pkix_shapes.specs.Names as names;
 ghost use Rattle.pkix_shapes.specs.Names.{names_in};
 ghost use Rattle.pkix_shapes.specs.Secrets as secrets;
-ghost use Rattle.pkix_shapes.specs.Secrets.{private_ways};
+ghost use Rattle.pkix_shapes.specs.Secrets.{private_paths};
 ghost use Rattle.pkix_shapes.specs.Terms.{bare, term_of};
 ghost use Rattle.pkix_definitions.specs.DocumentTypes as types;
 
@@ -29,7 +29,7 @@ static PACKAGE: Shape = ASYMMETRIC_KEY_PACKAGE;
 /// OneAsymmetricKey (RFC 5958 section 2).
 pub fn key() -> &'static Shape
     ensures type_term { term_of result.now ≡ bare types.OneAsymmetricKey }
-    ensures private { private_ways result.now ≡ secrets.of_key }
+    ensures private { private_paths result.now ≡ secrets.of_key }
     ensures names { names_in result.now ≡ names.in_key }
 {
     &KEY
@@ -38,7 +38,7 @@ pub fn key() -> &'static Shape
 /// ECPrivateKey (RFC 5915 section 3).
 pub fn ec_key() -> &'static Shape
     ensures type_term { term_of result.now ≡ bare types.ECPrivateKey }
-    ensures private { private_ways result.now ≡ secrets.of_ec_key }
+    ensures private { private_paths result.now ≡ secrets.of_ec_key }
     ensures names { names_in result.now ≡ names.in_ec_key }
 {
     &EC_KEY
@@ -47,7 +47,7 @@ pub fn ec_key() -> &'static Shape
 /// CertificationRequest (RFC 2986 section 4.2).
 pub fn request() -> &'static Shape
     ensures type_term { term_of result.now ≡ bare types.CertificationRequest }
-    ensures private { private_ways result.now ≡ secrets.of_request }
+    ensures private { private_paths result.now ≡ secrets.of_request }
     ensures names { names_in result.now ≡ names.in_request }
 {
     &REQUEST
@@ -56,7 +56,7 @@ pub fn request() -> &'static Shape
 /// SubjectPublicKeyInfo (RFC 5280 section 4.1.2.7).
 pub fn public_key() -> &'static Shape
     ensures type_term { term_of result.now ≡ bare types.SubjectPublicKeyInfo }
-    ensures private { private_ways result.now ≡ [] }
+    ensures private { private_paths result.now ≡ [] }
     ensures names { names_in result.now ≡ names.in_public_key }
 {
     &PUBLIC_KEY
@@ -65,7 +65,7 @@ pub fn public_key() -> &'static Shape
 /// EncryptedPrivateKeyInfo (RFC 5958 section 3).
 pub fn encrypted_key() -> &'static Shape
     ensures type_term { term_of result.now ≡ bare types.EncryptedPrivateKeyInfo }
-    ensures private { private_ways result.now ≡ secrets.of_encrypted_key }
+    ensures private { private_paths result.now ≡ secrets.of_encrypted_key }
     ensures names { names_in result.now ≡ names.in_encrypted_key }
 {
     &ENCRYPTED_KEY
@@ -74,7 +74,7 @@ pub fn encrypted_key() -> &'static Shape
 /// AsymmetricKeyPackage (RFC 5958 section 2).
 pub fn package() -> &'static Shape
     ensures type_term { term_of result.now ≡ bare types.AsymmetricKeyPackage }
-    ensures private { private_ways result.now ≡ secrets.of_package }
+    ensures private { private_paths result.now ≡ secrets.of_package }
     ensures names { names_in result.now ≡ names.in_key }
 {
     &PACKAGE

@@ -1,6 +1,6 @@
 //! Which field an element belongs to.
 ghost use Rattle.std.specs.Prelude.{◌≡◌};
-ghost use Rattle.pkix_shapes.specs.Dues.{due_in, name_due_in, name_of, standing_in, standing_of};
+ghost use Rattle.pkix_shapes.specs.Dues.{due_in, match_in, match_of, name_due_in, name_of};
 ghost use Rattle.pkix_shapes.specs.Terms.{fields_of};
 
 use crate::shape::{Fields, Shape};
@@ -8,8 +8,8 @@ use tlv_core::tag::Tag;
 
 /// What an element of a tag is among the fields of a SEQUENCE that are left.
 #[derive(Clone, Copy)]
-pub enum Standing {
-    /// It belongs to the field of this name and type; these are behind it.
+pub enum FieldMatch {
+    /// It belongs to the field of this name and type; these are after it.
     Field(&'static str, &'static Shape, &'static Fields),
     /// It belongs to none: the field of this name and type is due.
     Wrong(&'static str, &'static Shape),
@@ -18,25 +18,25 @@ pub enum Standing {
 }
 
 /// What an element of the tag is, where these fields are left.
-pub fn stands_as(fields: &'static Fields, tag: Tag) -> Standing
-    ensures due { standing_of result ≡ due_in (fields_of fields.now) tag }
+pub fn match_field(fields: &'static Fields, tag: Tag) -> FieldMatch
+    ensures due { match_of result ≡ due_in (fields_of fields.now) tag }
     ensures named { name_of result ≡ name_due_in fields.now tag }
-    ensures whole { result ≡ standing_in fields.now tag }
+    ensures whole { result ≡ match_in fields.now tag }
 {
     match fields {
-        Fields::End => Standing::Extra,
-        Fields::Required(name, shape, behind) => {
+        Fields::End => FieldMatch::Extra,
+        Fields::Required(name, shape, after) => {
             if shape.fits(tag) {
-                Standing::Field(name, shape, behind)
+                FieldMatch::Field(name, shape, after)
             } else {
-                Standing::Wrong(name, shape)
+                FieldMatch::Wrong(name, shape)
             }
         }
-        Fields::Optional(name, shape, behind) => {
+        Fields::Optional(name, shape, after) => {
             if shape.fits(tag) {
-                Standing::Field(name, shape, behind)
+                FieldMatch::Field(name, shape, after)
             } else {
-                stands_as(behind, tag)
+                match_field(after, tag)
             }
         }
     }

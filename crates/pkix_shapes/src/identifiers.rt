@@ -1,4 +1,4 @@
-//! The usual names of object identifiers, the same for all that tells one.
+//! The usual names of object identifiers, the same for all that says one.
 ghost use Rattle.std.specs.Prelude.{map, ◌≡◌};
 ghost use Rattle.std.specs.Option.{option_map};
 ghost use Rattle.pkix_shapes.specs.Identifiers.{curves_rows, encryption_rows, hash_based_rows, keys_rows, names_rows, others_rows, signatures_rows, or_row, row_of, row_with, usual};
@@ -49,11 +49,11 @@ fn first_of(among: &'static [Identifier], contents: &[u8]) -> Option<&'static Id
 {
     match among {
         [] => None,
-        [first, behind @ ..] => {
+        [first, rest @ ..] => {
             if first.contents == contents {
                 Some(first)
             } else {
-                first_of(behind, contents)
+                first_of(rest, contents)
             }
         }
     }

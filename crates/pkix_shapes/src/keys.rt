@@ -22,10 +22,10 @@ const CURVES: &[&[u8]] = &[
 /// The contents of an INTEGER that is 0.
 const VERSION_0: &[u8] = &[0];
 
-/// Where the version of a key stands in it.
+/// Where the version of a key is in it.
 const VERSION: &[u32] = &[0];
 
-/// Where the identifier of its algorithm stands in a OneAsymmetricKey.
+/// Where the identifier of its algorithm is in a OneAsymmetricKey.
 const ALGORITHM: &[u32] = &[1, 0];
 
 pub const EC_PRIVATE_KEY: Shape = Shape::Named(

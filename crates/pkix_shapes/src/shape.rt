@@ -59,11 +59,11 @@ pub enum Shape {
     /// The first type where the leaf at the path among the earlier fields of the container is one of these octets, else
     /// the second. A path is the number of a field, from 0, and of one in it.
     DefinedBy(&'static [u32], &'static [&'static [u8]], &'static Shape, &'static Shape),
-    /// The first type where its values may begin with the tag that stands there, else the second (X.690 8.13).
+    /// The first type where its values may begin with the tag that is there, else the second (X.690 8.13).
     Choice(&'static Shape, &'static Shape),
     /// A type by its name in ASN.1.
     Named(&'static str, &'static Shape),
-    /// A type whose contents are private: of them the number of octets alone may be told.
+    /// A type whose contents are private: of them the number of octets alone may be shown.
     Private(&'static Shape),
 }
 
@@ -72,7 +72,7 @@ pub enum Shape {
 #[derive(Clone, Copy)]
 pub enum Fields {
     End,
-    /// A field that has to stand.
+    /// A field that has to be there.
     Required(&'static str, &'static Shape, &'static Fields),
     /// One that may be absent, as OPTIONAL or by its DEFAULT.
     Optional(&'static str, &'static Shape, &'static Fields),
@@ -81,11 +81,11 @@ pub enum Fields {
 /// The fields of a SEQUENCE in their order, a line each: `"name": TYPE,`, or `optional "name": TYPE,`.
 macro_rules! fields {
     () => { Fields::End };
-    (optional $name:literal: $shape:expr, $($behind:tt)*) => {
-        Fields::Optional($name, &$shape, &fields!($($behind)*))
+    (optional $name:literal: $shape:expr, $($after:tt)*) => {
+        Fields::Optional($name, &$shape, &fields!($($after)*))
     };
-    ($name:literal: $shape:expr, $($behind:tt)*) => {
-        Fields::Required($name, &$shape, &fields!($($behind)*))
+    ($name:literal: $shape:expr, $($after:tt)*) => {
+        Fields::Required($name, &$shape, &fields!($($after)*))
     };
 }
 

@@ -1,4 +1,4 @@
--- What is put behind a text, or behind tokens, call by call.
+-- What is put after a text, or after tokens, call by call.
 use Rattle.std.proofs.Common.{◌≡◌, ℕ, Err, List, Ok, OnOk, Result, ◌++◌, ◌∙◌, ap, append_assoc, cond, is_ok, subst}
 
 -- the same in other words
@@ -6,7 +6,7 @@ pub in_words : {A T E : Type 0} (result : Result T E) (new old said words : List
     → said ≡ words → OnOk result (new ≡ old ++ words)
 in_words result new old said words h e = subst (λ s. OnOk result (new ≡ old ++ s)) e h
 
--- what went out before, and what goes behind it
+-- what went out before, and what goes after it
 pub past : {A T E : Type 0} (result : Result T E) (new mid old first said : List A) → mid ≡ old ++ first
     → OnOk result (new ≡ mid ++ said) → OnOk result (new ≡ old ++ (first ++ said))
 past result new mid old first said m h =

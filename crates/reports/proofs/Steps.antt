@@ -1,4 +1,4 @@
--- One step of each walk over the lines of a listing, over the octets of a number and over the steps of a way.
+-- One step of each pass over the lines of a listing, over the octets of a number and over the steps of a path.
 use Rattle.std.proofs.Common.{◌≡◌, ℕ, Bool, ◌+◌, ◌-◌, ◌/◌, ◌%◌, ◌<◌, List, None, Some, [], ◌∷◌, ◌++◌, zero, suc, true, false, ap, sym, refl, ◌∙◌, arith, cond, drop, get_or, length, length-append, nat_lt, reverse, take, take_all}
 use Rattle.std.specs.List.{slice_get}
 use Rattle.std.proofs.lemmas.List.{drop_more, reverse-append, take-append-le}

@@ -12,7 +12,7 @@ pub record Words : Type 0 where
 abbrev pub words_of : Advice → Words
 words_of it = record { means = it.means.now; likely = it.likely.now; act = it.act.now }
 
--- the words of the manual's table; P is the place that is told with the reason
+-- the words of the manual's table; P is the place that is shown with the reason
 abbrev pub advice_of : Reason → Words
 advice_of Truncated =
     record {

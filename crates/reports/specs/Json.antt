@@ -1,11 +1,11 @@
--- A report as tokens of JSON: one object, whose members stand in this order, and are absent where they say nothing.
+-- A report as tokens of JSON: one object, whose members are in this order, and are absent where they say nothing.
 use Rattle.std.specs.Prelude.{Bool, List, None, Option, Some, [], codes, cond, flat_map, length, nat_lt, ℕ, ◌++◌, ◌-◌, ◌==◌}
 use Rattle.json.specs.Token.{Token}
 use Rattle.tlv_core.specs.Reasons.{name_of}
 use Rattle.tlv_core.specs.declared.reason.Reason.{Reason}
 use Rattle.reports.specs.declared.report.Answer.{Answer}
 use Rattle.reports.specs.declared.report.Answer.TheVariants.{Der, NotDer, Refused}
-use Rattle.reports.specs.declared.report.Blame.{Blame}
+use Rattle.reports.specs.declared.report.Diagnosis.{Diagnosis}
 use Rattle.reports.specs.declared.report.Line.{Line}
 use Rattle.reports.specs.declared.report.Note.{Note}
 use Rattle.reports.specs.declared.report.Report.{Report}
@@ -13,7 +13,7 @@ use Rattle.reports.specs.Field.{field_said}
 use Rattle.reports.specs.Hints.{do_said, likely_said}
 use Rattle.reports.specs.JsonLists.{line_object, not_der_members, note_object}
 use Rattle.reports.specs.JsonMembers.{list_member, number_member, object, object_member, optional, said_member, text_member}
-use Rattle.reports.specs.JsonWords.{looks_word}
+use Rattle.reports.specs.JsonWords.{guess_word}
 use Rattle.reports.specs.Words.{due_said, found_said}
 
 -- a place and a reason
@@ -43,14 +43,14 @@ head_members report version file =
     ++ number_member (codes "octets") report.octets ++ answer_members report.answer
 
 -- the place of the fault in the file, where it has one
-abbrev pub file_place : Option Blame → Option ℕ
+abbrev pub file_place : Option Diagnosis → Option ℕ
 file_place None = None
-file_place (Some blame) = blame.file_at
+file_place (Some diagnosis) = diagnosis.file_at
 
 -- that place, and the path of the field that the report is about
 unfoldable pub about_members : Report → List Token
 about_members report =
-    optional (number_member (codes "file_at")) (file_place report.blame)
+    optional (number_member (codes "file_at")) (file_place report.diagnosis)
     ++ said_member (codes "field") (field_said report)
 
 -- how many there are more of the latter, where there are more
@@ -62,20 +62,20 @@ unfoldable pub missing_members : ℕ → Option ℕ → List Token
 missing_members octets None = []
 missing_members octets (Some announced) = optional (number_member (codes "missing")) (more_than octets announced)
 
--- how many octets follow: as is told, or behind where the outermost element ends
+-- how many octets follow: as is shown, or after where the outermost element ends
 abbrev pub follow_by : Option ℕ → Option ℕ → ℕ → Option ℕ
 follow_by (Some more) announced octets = Some more
 follow_by None (Some announced) octets = more_than announced octets
 follow_by None None octets = None
 
 unfoldable pub more_members : ℕ → Option ℕ → Option ℕ → List Token
-more_members octets announced told = optional (number_member (codes "more")) (follow_by told announced octets)
+more_members octets announced known = optional (number_member (codes "more")) (follow_by known announced octets)
 
 -- what is said in numbers of a document that is refused
-unfoldable pub number_members : Report → Blame → List Token
-number_members report blame =
-    missing_members report.octets report.announced ++ optional (number_member (codes "over")) blame.over
-    ++ more_members report.octets report.announced blame.more
+unfoldable pub number_members : Report → Diagnosis → List Token
+number_members report diagnosis =
+    missing_members report.octets report.announced ++ optional (number_member (codes "over")) diagnosis.over
+    ++ more_members report.octets report.announced diagnosis.more
 
 -- what is due and what was found, in words
 unfoldable pub due_members : Report → List Token
@@ -103,14 +103,14 @@ notes_member report notes =
 unfoldable pub check_object : Report → List ℕ → Option (List ℕ) → ℕ → List Token
 check_object report version file places =
     object (head_members report version file ++ about_members report
-    ++ optional (number_members report) report.blame ++ said_member (codes "looks_like") (looks_word report.looks)
+    ++ optional (number_members report) report.diagnosis ++ said_member (codes "looks_like") (guess_word report.guess)
     ++ places_members places report.answer report)
 
 -- What explain says: the same, and what there is to say in words, the elements and the notes.
 unfoldable pub report_object : Report → List ℕ → Option (List ℕ) → Bool → ℕ → List Token
 report_object report version file all places =
     object (head_members report version file ++ about_members report
-    ++ due_members report ++ optional (number_members report) report.blame
-    ++ said_member (codes "looks_like") (looks_word report.looks) ++ advice_members report
+    ++ due_members report ++ optional (number_members report) report.diagnosis
+    ++ said_member (codes "looks_like") (guess_word report.guess) ++ advice_members report
     ++ places_members places report.answer report ++ lines_member all report.lines.items
     ++ notes_member report report.notes.items)

@@ -17,15 +17,15 @@ use Rattle.reports.specs.declared.report.Remark.TheVariants as remarks
 use Rattle.reports.specs.declared.report.Report.{Report}
 use Rattle.reports.specs.declared.report.Value.{Value}
 use Rattle.reports.specs.declared.report.Value.TheVariants as values
-use Rattle.reports.specs.Picks.{is_place_alone, way_of}
+use Rattle.reports.specs.Picks.{is_place_alone, path_to_line}
 use Rattle.reports.specs.JsonMembers.{boolean_member, list_member, number_member, object, object_member, optional, said_member, text_member}
 use Rattle.reports.specs.JsonWords.{cause_word, class_word, remark_word}
-use Rattle.reports.specs.Paths.{with_root, with_step, with_way}
+use Rattle.reports.specs.Paths.{with_root, with_step, with_steps}
 
 -- the path of an element, by the number of the line of the one around it, and by the step from there
 unfoldable pub path_of : Report → ℕ → Step → List ℕ
 path_of report around step =
-    with_root report.kind.type_name.now (with_step (with_way [] (way_of report.lines.items around)) step)
+    with_root report.kind.type_name.now (with_step (with_steps [] (path_to_line report.lines.items around)) step)
 
 -- an element by its path and its place
 unfoldable pub field_members : Report → ℕ → Step → ℕ → List Token
@@ -51,7 +51,7 @@ characters_member octets =
     cond (is_utf8 octets) (text_member (codes "characters") octets)
     (text_member (codes "hexadecimal") (encode_lower octets))
 
--- what is told of contents
+-- what is shown of contents
 unfoldable pub value_members : Value → List Token
 value_members values.Nothing = []
 value_members values.NotShown = boolean_member (codes "shown") false
@@ -66,23 +66,23 @@ value_members (values.Named id) =
 value_members (values.Arcs arcs) = text_member (codes "identifier") (string_bytes arcs)
 value_members (values.Characters octets) = characters_member octets.items
 
--- nothing is told
-abbrev pub is_untold : Value → Bool
-is_untold values.Nothing = true
-is_untold values.NotShown = false
-is_untold (values.Size octets) = false
-is_untold (values.Bits octets unused) = false
-is_untold values.Null = false
-is_untold (values.Boolean value) = false
-is_untold (values.Number number) = false
-is_untold (values.Named id) = false
-is_untold (values.Arcs arcs) = false
-is_untold (values.Characters octets) = false
+-- nothing is shown
+abbrev pub is_nothing : Value → Bool
+is_nothing values.Nothing = true
+is_nothing values.NotShown = false
+is_nothing (values.Size octets) = false
+is_nothing (values.Bits octets unused) = false
+is_nothing values.Null = false
+is_nothing (values.Boolean value) = false
+is_nothing (values.Number number) = false
+is_nothing (values.Named id) = false
+is_nothing (values.Arcs arcs) = false
+is_nothing (values.Characters octets) = false
 
 unfoldable pub value_member : Value → List Token
-value_member value = cond (is_untold value) [] (object_member (codes "value") (value_members value))
+value_member value = cond (is_nothing value) [] (object_member (codes "value") (value_members value))
 
--- the tag of an element and whether it is constructed, where more than its place is told
+-- the tag of an element and whether it is constructed, where more than its place is shown
 unfoldable pub form_members : Line → List Token
 form_members line =
     cond (is_place_alone line.step line.value) []

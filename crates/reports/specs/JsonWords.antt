@@ -4,8 +4,8 @@ use Rattle.tlv_core.specs.declared.tag.Class.{Class}
 use Rattle.tlv_core.specs.declared.tag.Class.TheVariants.{Application, Context, Private, Universal}
 use Rattle.reports.specs.declared.report.Cause.{Cause}
 use Rattle.reports.specs.declared.report.Cause.TheVariants as causes
-use Rattle.reports.specs.declared.report.Looks.{Looks}
-use Rattle.reports.specs.declared.report.Looks.TheVariants as looks
+use Rattle.reports.specs.declared.report.Guess.{Guess}
+use Rattle.reports.specs.declared.report.Guess.TheVariants as guesses
 use Rattle.reports.specs.declared.report.Remark.{Remark}
 use Rattle.reports.specs.declared.report.Remark.TheVariants as remarks
 
@@ -27,17 +27,17 @@ cause_word causes.Default = codes "default"
 cause_word causes.Order = codes "order"
 
 -- what the file may be instead; a document of another kind by the word of that
-abbrev pub looks_word : Looks → List ℕ
-looks_word looks.Unknown = []
-looks_word looks.Empty = codes "empty"
-looks_word (looks.Pem label) = codes "pem"
-looks_word (looks.Kind kind) = kind.word.now
-looks_word looks.RsaPrivateKey = codes "rsa_private_key"
-looks_word looks.RsaPublicKey = codes "rsa_public_key"
-looks_word looks.Certificate = codes "certificate"
-looks_word looks.Pkcs12 = codes "pkcs12"
-looks_word looks.Hexadecimal = codes "hexadecimal"
-looks_word looks.Base64 = codes "base64"
+abbrev pub guess_word : Guess → List ℕ
+guess_word guesses.Unknown = []
+guess_word guesses.Empty = codes "empty"
+guess_word (guesses.Pem label) = codes "pem"
+guess_word (guesses.Kind kind) = kind.word.now
+guess_word guesses.RsaPrivateKey = codes "rsa_private_key"
+guess_word guesses.RsaPublicKey = codes "rsa_public_key"
+guess_word guesses.Certificate = codes "certificate"
+guess_word guesses.Pkcs12 = codes "pkcs12"
+guess_word guesses.Hexadecimal = codes "hexadecimal"
+guess_word guesses.Base64 = codes "base64"
 
 -- what is remarked
 abbrev pub remark_word : Remark → List ℕ

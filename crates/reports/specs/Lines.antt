@@ -31,8 +31,8 @@ abbrev pub number_in : ℕ → ℕ → List ℕ
 number_in zero number = []
 number_in (suc count) number = number_in count (number / 256) ++ (number % 256) ∷ []
 
--- So many length octets, which announce this: one is the length itself (X.690 8.1.3.4), else the first one tells how
--- many there are behind it (8.1.3.5); 80 is the indefinite form (8.1.3.6).
+-- So many length octets, which announce this: one is the length itself (X.690 8.1.3.4), else the first one shows how
+-- many there are after it (8.1.3.5); 80 is the indefinite form (8.1.3.6).
 unfoldable pub length_octets : ℕ → Option ℕ → List ℕ
 length_octets count None = 128 ∷ []
 length_octets count (Some contents) =
@@ -48,7 +48,7 @@ abbrev pub header_of : Tag → Bool → Option Length → List ℕ
 header_of tag constructed None = []
 header_of tag constructed (Some announced) = octets_text (header_octets tag constructed announced)
 
--- the octets of a header in hexadecimal digits; empty where they aren't told
+-- the octets of a header in hexadecimal digits; empty where they aren't shown
 abbrev pub header_text : Line → List ℕ
 header_text line = header_of line.tag line.constructed line.length
 
@@ -93,33 +93,33 @@ sized_part line octets = codes ": " ++ tag_said line.tag ++ codes " " ++ sized o
 unfoldable pub unused_part : ℕ → List ℕ
 unused_part unused = cond (unused == 0) [] (codes ", unused bits: " ++ decimal unused)
 
--- what is told of contents
-abbrev pub told : Line → Value → List ℕ
-told line values.Nothing = unread line
-told line values.NotShown = codes ", not shown"
-told line (values.Size octets) = sized_part line octets
-told line (values.Bits octets unused) = sized_part line octets ++ unused_part unused
-told line values.Null = codes ": NULL"
-told line (values.Boolean value) = cond value (codes ": TRUE") (codes ": FALSE")
-told line (values.Number number) = codes ": " ++ decimal number
-told line (values.Named identifier) =
+-- what is shown of contents
+abbrev pub shown : Line → Value → List ℕ
+shown line values.Nothing = unread line
+shown line values.NotShown = codes ", not shown"
+shown line (values.Size octets) = sized_part line octets
+shown line (values.Bits octets unused) = sized_part line octets ++ unused_part unused
+shown line values.Null = codes ": NULL"
+shown line (values.Boolean value) = cond value (codes ": TRUE") (codes ": FALSE")
+shown line (values.Number number) = codes ": " ++ decimal number
+shown line (values.Named identifier) =
     codes ": " ++ identifier.now.name.now ++ codes " (" ++ identifier.now.arcs.now ++ codes ")"
-told line (values.Arcs arcs) = codes ": " ++ string_bytes arcs
-told line (values.Characters octets) = codes ": " ++ tag_said line.tag ++ codes " " ++ quoted octets.items
+shown line (values.Arcs arcs) = codes ": " ++ string_bytes arcs
+shown line (values.Characters octets) = codes ": " ++ tag_said line.tag ++ codes " " ++ quoted octets.items
 
 unfoldable pub value_part : Line → List ℕ
-value_part line = told line line.value
+value_part line = shown line line.value
 
 -- of a constructed element: its length and its end
 unfoldable pub extent_part : Line → List ℕ
 extent_part line = cond line.constructed (contents_part line.length ++ end_part line.end) []
 
--- an element: its name, its extent, and what is told of its contents
-unfoldable pub element_told : Line → List ℕ
-element_told line = name_said line ++ extent_part line ++ value_part line
+-- an element: its name, its extent, and what is shown of its contents
+unfoldable pub element_shown : Line → List ℕ
+element_shown line = name_said line ++ extent_part line ++ value_part line
 
 unfoldable pub element_said : Line → List ℕ
-element_said line = cond (is_place_alone line.step line.value) (codes "(not shown)") (element_told line)
+element_said line = cond (is_place_alone line.step line.value) (codes "(not shown)") (element_shown line)
 
 -- below a line with a header of so many columns: why it isn't in DER
 abbrev pub cause_line : Layout → ℕ → Option Cause → List ℕ
@@ -135,17 +135,17 @@ unfoldable pub below : Layout → ℕ → Line → ℕ → List ℕ
 below layout number line size =
     cond (is_line layout.fault number) (carets layout.place size ++ line_feed) (cause_line layout size line.cause)
 
--- blanks behind a text up to a column, and two more
+-- blanks after a text up to a column, and two more
 unfoldable pub padding : ℕ → List ℕ → List ℕ
-padding columns behind = blanks (columns - length behind) ++ codes "  "
+padding columns after = blanks (columns - length after) ++ codes "  "
 
--- what stands before an element: its place, its header, and two blanks for each element around it
+-- what comes before an element: its place, its header, and two blanks for each element around it
 unfoldable pub line_start : Layout → Line → List ℕ → List ℕ
 line_start layout line header =
     place_column layout.place line.at ++ header ++ padding layout.header header ++ blanks line.depth
     ++ blanks line.depth
 
--- The line of this number, and what stands below it.
+-- The line of this number, and what is below it.
 unfoldable pub line_lines : Layout → ℕ → Line → List ℕ
 line_lines layout number line =
     line_start layout line (header_text line) ++ element_said line ++ line_feed

@@ -1,4 +1,4 @@
--- The listing: which lines of the elements are told.
+-- The listing: which lines of the elements are shown.
 use Rattle.std.specs.Prelude.{Bool, List, None, Option, Some, [], codes, cond, decimal, length, max, min, nat_le, not, slice_get, true, false, ℕ, ◌*◌, ◌+◌, ◌++◌, ◌-◌, ◌==◌, ◌||◌, ◌∷◌}
 use Rattle.reports.specs.Picks.{causes, numbers_from, start_of}
 use Rattle.reports.specs.Lines.{blanks, line_lines}
@@ -6,7 +6,7 @@ use Rattle.reports.specs.Texts.{line_feed}
 use Rattle.reports.specs.declared.picks.Pick.TheVariants.{Causes, Fault}
 use Rattle.reports.specs.declared.report.Answer.{Answer}
 use Rattle.reports.specs.declared.report.Answer.TheVariants.{Der, NotDer, Refused}
-use Rattle.reports.specs.declared.report.Blame.{Blame}
+use Rattle.reports.specs.declared.report.Diagnosis.{Diagnosis}
 use Rattle.reports.specs.declared.report.Length.{Length}
 use Rattle.reports.specs.declared.report.Line.{Line}
 use Rattle.reports.specs.declared.report.Report.{Report}
@@ -33,13 +33,13 @@ abbrev pub header_columns : ℕ → List Line → ℕ
 header_columns widest [] = widest
 header_columns widest (line ∷ lines) = header_columns (max widest (header_width line)) lines
 
-abbrev pub fault_line : Option Blame → Option ℕ
+abbrev pub fault_line : Option Diagnosis → Option ℕ
 fault_line None = None
-fault_line (Some blame) = blame.line
+fault_line (Some diagnosis) = diagnosis.line
 
 unfoldable pub layout_of : Report → List Line → Layout
 layout_of report lines =
-    record { place = place_columns lines; header = header_columns 0 lines; fault = fault_line report.blame }
+    record { place = place_columns lines; header = header_columns 0 lines; fault = fault_line report.diagnosis }
 
 -- lines from the one of this number on
 abbrev pub all_lines : Layout → ℕ → List Line → List ℕ
@@ -61,13 +61,13 @@ line_of layout number (Some line) = line_lines layout number line
 abbrev pub line_at : Layout → List Line → ℕ → List ℕ
 line_at layout lines number = line_of layout number (slice_get lines number)
 
--- The lines of these numbers behind the last one, and how many are left out between.
+-- The lines of these numbers after the last one, and how many are left out between.
 abbrev pub listed : Layout → Bool → List Line → ℕ → List ℕ → List ℕ
 listed layout gaps lines last [] = gap layout gaps last (length lines)
 listed layout gaps lines last (number ∷ numbers) =
     gap layout gaps last number ++ line_at layout lines number ++ listed layout gaps lines number numbers
 
--- how many places that aren't in DER aren't told
+-- how many places that aren't in DER aren't shown
 unfoldable pub others_said : ℕ → List ℕ
 others_said others =
     cond (others == 0) []
@@ -91,7 +91,7 @@ some_listing layout lines =
     (listed layout true lines 0
     (numbers_from (Fault (fault_or_last layout.fault (length lines))) (start_of lines 0) 0 lines))
 
--- the lines of a document that is judged so, where not all are told
+-- the lines of a document that is judged so, where not all are shown
 abbrev pub answer_listing : Answer → ℕ → Layout → List Line → List ℕ
 answer_listing (NotDer at) places layout lines = causes_listing places layout lines
 answer_listing Der places layout lines = some_listing layout lines

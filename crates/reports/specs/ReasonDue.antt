@@ -15,7 +15,7 @@ version_due kind =
 abbrev pub inside_version : List ℕ
 inside_version = codes "version 1 of an ECPrivateKey, 0 or 1 of an RSAPrivateKey"
 
--- What X.690 asks for (8.1.2.5, 8.1.3, 8.3, 8.2, 8.8, 8.6.2, 8.19), and pkder's limits; of a version what is told of
+-- What X.690 asks for (8.1.2.5, 8.1.3, 8.3, 8.2, 8.8, 8.6.2, 8.19), and pkder's limits; of a version what is shown of
 -- that; nothing where it is a matter of type or of another element.
 abbrev pub words_due : Reason → List ℕ → List ℕ
 words_due TooLong version = codes "no more octets than --octets allows"

@@ -4,12 +4,12 @@ use Rattle.tlv_core.specs.Reasons.{name_of}
 use Rattle.tlv_core.specs.declared.reason.Reason.{Reason}
 use Rattle.reports.specs.Field.{field_said}
 use Rattle.reports.specs.Hints.{do_said, likely_said, remark_said}
-use Rattle.reports.specs.Picks.{way_of}
+use Rattle.reports.specs.Picks.{path_to_line}
 use Rattle.reports.specs.Listings.{listing}
 use Rattle.reports.specs.Paths.{path_text}
 use Rattle.reports.specs.Texts.{line_feed}
 use Rattle.reports.specs.Words.{due_said, found_said, sized}
-use Rattle.reports.specs.Wraps.{told_line}
+use Rattle.reports.specs.Wraps.{labelled_line}
 use Rattle.reports.specs.declared.report.Answer.{Answer}
 use Rattle.reports.specs.declared.report.Answer.TheVariants.{Der, NotDer, Refused}
 use Rattle.reports.specs.declared.report.Note.{Note}
@@ -35,23 +35,24 @@ answer_line (NotDer at) = codes "not DER at " ++ decimal at ++ line_feed
 answer_line (Refused fault) =
     codes "fault at " ++ place_said fault.at fault.why ++ inside_said fault.inside ++ line_feed
 
--- The field, what is due there, what stands there, the usual cause, and what to do.
-unfoldable pub told_lines : Report → List ℕ
-told_lines report =
-    line_feed ++ told_line (codes "field   ") (field_said report) ++ told_line (codes "due     ") (due_said report)
-    ++ told_line (codes "found   ") (found_said report) ++ told_line (codes "likely  ") (likely_said report)
-    ++ told_line (codes "do      ") (do_said report)
+-- The field, what is due there, what is there, the usual cause, and what to do.
+unfoldable pub refused_lines : Report → List ℕ
+refused_lines report =
+    line_feed ++ labelled_line (codes "field   ") (field_said report)
+    ++ labelled_line (codes "due     ") (due_said report)
+    ++ labelled_line (codes "found   ") (found_said report) ++ labelled_line (codes "likely  ") (likely_said report)
+    ++ labelled_line (codes "do      ") (do_said report)
 
-abbrev pub told_of : Answer → Report → List ℕ
-told_of Der report = []
-told_of (NotDer at) report = told_lines report
-told_of (Refused fault) report = told_lines report
+abbrev pub answer_lines : Answer → Report → List ℕ
+answer_lines Der report = []
+answer_lines (NotDer at) report = refused_lines report
+answer_lines (Refused fault) report = refused_lines report
 
 -- the path to what a remark is about, and the remark
 unfoldable pub note_line : Report → Note → List ℕ
 note_line report note =
-    told_line (codes "note    ")
-    (path_text report.kind.type_name.now (way_of report.lines.items note.line) ++ codes ": "
+    labelled_line (codes "note    ")
+    (path_text report.kind.type_name.now (path_to_line report.lines.items note.line) ++ codes ": "
     ++ remark_said note.remark)
 
 unfoldable pub note_lines : Report → List Note → List ℕ
@@ -60,5 +61,5 @@ note_lines report notes = cond (length notes == 0) [] (line_feed ++ flat_map (no
 -- The text of a report, with all lines of the listing or some: of those that aren't in DER so many.
 abbrev pub report_lines : Report → Bool → ℕ → List ℕ
 report_lines report all places =
-    head_line report ++ answer_line report.answer ++ listing report all places ++ told_of report.answer report
+    head_line report ++ answer_line report.answer ++ listing report all places ++ answer_lines report.answer report
     ++ note_lines report report.notes.items

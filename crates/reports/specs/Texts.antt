@@ -9,13 +9,13 @@ line_feed = 10 ∷ []
 abbrev pub octet_text : ℕ → List ℕ
 octet_text octet = encode_lower (octet ∷ [])
 
-abbrev pub octet_behind : ℕ → List ℕ
-octet_behind octet = codes " " ++ octet_text octet
+abbrev pub octet_after : ℕ → List ℕ
+octet_after octet = codes " " ++ octet_text octet
 
 -- octets in hexadecimal digits, a blank between each two
 abbrev pub octets_text : List ℕ → List ℕ
 octets_text [] = []
-octets_text (octet ∷ octets) = octet_text octet ++ flat_map octet_behind octets
+octets_text (octet ∷ octets) = octet_text octet ++ flat_map octet_after octets
 
 -- An octet of a character string: printable ASCII as it is, a backslash (92) before a quote (39) and before another
 -- backslash, and all else by its hexadecimal digits.

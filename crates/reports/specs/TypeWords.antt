@@ -29,7 +29,7 @@ universal_name number =
     (cond (number == 28) (codes "UniversalString")
     (cond (number == 30) (codes "BMPString") []))))))))))))))))))
 
--- a number behind a bracket and what stands in it
+-- a number after a bracket and what is in it
 abbrev pub bracketed : List ℕ → ℕ → List ℕ
 bracketed before number = before ++ decimal number ++ codes "]"
 
@@ -70,7 +70,7 @@ shape_said (Private' p shape) = shape_said shape
 abbrev pub field_said : List ℕ → Shape → List ℕ
 field_said name shape = cond (length name == 0) (shape_said shape) (name ++ codes " (" ++ shape_said shape ++ codes ")")
 
--- the fields one of which may stand first
+-- the fields one of which may come first
 abbrev pub fields_said : Fields → List ℕ
 fields_said End = codes "nothing more"
 fields_said (Required' name p shape q fields) = field_said name.now shape

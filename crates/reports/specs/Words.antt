@@ -5,8 +5,8 @@ use Rattle.tlv_core.specs.declared.reason.Reason.{Reason}
 use Rattle.tlv_core.specs.declared.reason.Reason.TheVariants as reasons
 use Rattle.reports.specs.declared.report.Answer.{Answer}
 use Rattle.reports.specs.declared.report.Answer.TheVariants.{Der, NotDer, Refused}
-use Rattle.reports.specs.declared.report.Blame.{Blame}
-use Rattle.reports.specs.declared.report.ToldContainer.{ToldContainer}
+use Rattle.reports.specs.declared.report.Diagnosis.{Diagnosis}
+use Rattle.reports.specs.declared.report.FaultContainer.{FaultContainer}
 use Rattle.reports.specs.declared.report.Due.{Due}
 use Rattle.reports.specs.declared.report.Due.TheVariants.{Fields, «Type», Unsaid}
 use Rattle.reports.specs.declared.report.Found.{Found}
@@ -25,7 +25,7 @@ abbrev pub joined : List ℕ → List ℕ → List ℕ
 joined first second =
     cond (length first == 0) second (cond (length second == 0) first (first ++ codes "; " ++ second))
 
--- the types that may stand there
+-- the types that may be there
 abbrev pub due_type_said : Due → List ℕ
 due_type_said Unsaid = []
 due_type_said (Fields fields) = fields_said fields.now
@@ -35,18 +35,18 @@ due_type_said («Type» shape) = shape_said shape.now
 abbrev pub due_by : List ℕ → Due → List ℕ
 due_by words due = cond (length words == 0) (due_type_said due) words
 
-unfoldable pub due_of : List ℕ → Fault → Blame → List ℕ
-due_of kind fault blame = due_by (reason_due kind fault) blame.due
+unfoldable pub due_of : List ℕ → Fault → Diagnosis → List ℕ
+due_of kind fault diagnosis = due_by (reason_due kind fault) diagnosis.due
 
 -- the same of a document that is judged so
-abbrev pub due_judged : List ℕ → Answer → Option Blame → List ℕ
-due_judged kind (Refused fault) (Some blame) = due_of kind fault blame
+abbrev pub due_judged : List ℕ → Answer → Option Diagnosis → List ℕ
+due_judged kind (Refused fault) (Some diagnosis) = due_of kind fault diagnosis
 due_judged kind (Refused fault) None = []
-due_judged kind Der blame = []
-due_judged kind (NotDer at) blame = []
+due_judged kind Der diagnosis = []
+due_judged kind (NotDer at) diagnosis = []
 
 abbrev pub due_said : Report → List ℕ
-due_said report = due_judged report.kind.word.now report.answer report.blame
+due_said report = due_judged report.kind.word.now report.answer report.diagnosis
 
 -- what length octets say
 abbrev pub contents_said : Option ℕ → List ℕ
@@ -62,8 +62,8 @@ unfoldable pub header_said : Found → List ℕ
 header_said found = tag_said found.tag ++ length_said found.length
 
 -- a container by its path and its place
-unfoldable pub placed : List ℕ → ToldContainer → List ℕ
-placed root container = path_text root container.way.items ++ codes " at " ++ decimal container.at
+unfoldable pub placed : List ℕ → FaultContainer → List ℕ
+placed root container = path_text root container.path.items ++ codes " at " ++ decimal container.at
 
 -- the place where an element would end that passes this one by so many octets
 unfoldable pub would_end : ℕ → ℕ → List ℕ
@@ -75,69 +75,69 @@ ends_before end over =
     codes ", which it is in, ends at " ++ decimal end ++ codes ": " ++ sized over ++ codes " too many"
 
 -- the container that ends at this place, and whose end an element passes by so many octets
-abbrev pub passed_at : List ℕ → ToldContainer → ℕ → Option ℕ → List ℕ
+abbrev pub passed_at : List ℕ → FaultContainer → ℕ → Option ℕ → List ℕ
 passed_at root container over None = []
 passed_at root container over (Some end) =
     would_end end over ++ placed root container ++ ends_before end over
 
-unfoldable pub passed_said : List ℕ → ToldContainer → ℕ → List ℕ
+unfoldable pub passed_said : List ℕ → FaultContainer → ℕ → List ℕ
 passed_said root container over = passed_at root container over container.end
 
 -- of an element that has so many contents octets too many, in this container, or in none that ends
-abbrev pub over_said : List ℕ → Option ℕ → Option ToldContainer → List ℕ
+abbrev pub over_said : List ℕ → Option ℕ → Option FaultContainer → List ℕ
 over_said root None container = []
 over_said root (Some over) (Some container) = passed_said root container over
 over_said root (Some over) None = codes ": " ++ sized over ++ codes " missing"
 
-unfoldable pub element_said : List ℕ → Blame → List ℕ
-element_said root blame = over_said root blame.over blame.container
+unfoldable pub element_said : List ℕ → Diagnosis → List ℕ
+element_said root diagnosis = over_said root diagnosis.over diagnosis.container
 
 -- the container in which something is missing
 abbrev pub end_said : Option ℕ → List ℕ
 end_said None = []
 end_said (Some end) = codes " at " ++ decimal end
 
-abbrev pub ended : List ℕ → Option ToldContainer → List ℕ
+abbrev pub ended : List ℕ → Option FaultContainer → List ℕ
 ended root None = []
 ended root (Some container) = placed root container ++ codes " ends" ++ end_said container.end
 
-unfoldable pub container_said : List ℕ → Blame → List ℕ
-container_said root blame = ended root blame.container
+unfoldable pub container_said : List ℕ → Diagnosis → List ℕ
+container_said root diagnosis = ended root diagnosis.container
 
--- the element that stands there; else the container that ends there
-abbrev pub found_by : List ℕ → Blame → Option Found → List ℕ
-found_by root blame (Some found) = header_said found ++ element_said root blame
-found_by root blame None = container_said root blame
+-- the element that is there; else the container that ends there
+abbrev pub found_by : List ℕ → Diagnosis → Option Found → List ℕ
+found_by root diagnosis (Some found) = header_said found ++ element_said root diagnosis
+found_by root diagnosis None = container_said root diagnosis
 
-unfoldable pub found_of : List ℕ → Blame → List ℕ
-found_of root blame = found_by root blame blame.found
+unfoldable pub found_of : List ℕ → Diagnosis → List ℕ
+found_of root diagnosis = found_by root diagnosis diagnosis.found
 
-abbrev pub found_in : List ℕ → Option Blame → List ℕ
+abbrev pub found_in : List ℕ → Option Diagnosis → List ℕ
 found_in root None = []
-found_in root (Some blame) = found_of root blame
+found_in root (Some diagnosis) = found_of root diagnosis
 
-abbrev pub blamed_said : Report → List ℕ
-blamed_said report = found_in report.kind.type_name.now report.blame
+abbrev pub diagnosis_said : Report → List ℕ
+diagnosis_said report = found_in report.kind.type_name.now report.diagnosis
 
 abbrev pub more_words : Bool → List ℕ
 more_words is_inside =
     cond is_inside (codes " more inside privateKey, behind the key") (codes " more behind the document")
 
--- so many octets behind what is inside privateKey, or behind a document whose length doesn't say where it ends
+-- so many octets after what is inside privateKey, or after a document whose length doesn't say where it ends
 unfoldable pub more_of : Bool → Bool → ℕ → List ℕ
 more_of is_inside is_announced more = cond (not is_inside && is_announced) [] (sized more ++ more_words is_inside)
 
-abbrev pub more_blamed : Bool → Bool → Option ℕ → List ℕ
-more_blamed is_inside is_announced None = []
-more_blamed is_inside is_announced (Some more) = more_of is_inside is_announced more
+abbrev pub more_diagnosed : Bool → Bool → Option ℕ → List ℕ
+more_diagnosed is_inside is_announced None = []
+more_diagnosed is_inside is_announced (Some more) = more_of is_inside is_announced more
 
-abbrev pub more_in : Bool → Bool → Option Blame → List ℕ
+abbrev pub more_in : Bool → Bool → Option Diagnosis → List ℕ
 more_in is_inside is_announced None = []
-more_in is_inside is_announced (Some blame) = more_blamed is_inside is_announced blame.more
+more_in is_inside is_announced (Some diagnosis) = more_diagnosed is_inside is_announced diagnosis.more
 
 -- the same of a document that is judged so
 abbrev pub more_by : Report → Answer → List ℕ
-more_by report (Refused fault) = more_in (is_some fault.inside) (is_some report.announced) report.blame
+more_by report (Refused fault) = more_in (is_some fault.inside) (is_some report.announced) report.diagnosis
 more_by report Der = []
 more_by report (NotDer at) = []
 
@@ -146,13 +146,13 @@ more_said report = more_by report report.answer
 
 -- Whether the outermost length says something of a document that is refused so: not where it is no document at all,
 -- nor where it wasn't read to its end.
-abbrev pub tells_size_by : Reason → ℕ → Bool
-tells_size_by reasons.TooLong at = false
-tells_size_by reasons.WrongTag at = not (at == 0)
-tells_size_by why at = true
+abbrev pub says_size_by : Reason → ℕ → Bool
+says_size_by reasons.TooLong at = false
+says_size_by reasons.WrongTag at = not (at == 0)
+says_size_by why at = true
 
-abbrev pub tells_size : Fault → Bool
-tells_size fault = tells_size_by fault.why fault.at
+abbrev pub says_size : Fault → Bool
+says_size fault = says_size_by fault.why fault.at
 
 -- how many octets there are, and how many there have to be
 unfoldable pub off_by : ℕ → ℕ → List ℕ
@@ -168,7 +168,7 @@ size_of octets announced =
 
 -- the same of a document that is judged so
 abbrev pub size_by : ℕ → Answer → Option ℕ → List ℕ
-size_by octets (Refused fault) (Some announced) = cond (tells_size fault) (size_of octets announced) []
+size_by octets (Refused fault) (Some announced) = cond (says_size fault) (size_of octets announced) []
 size_by octets (Refused fault) None = []
 size_by octets Der announced = []
 size_by octets (NotDer at) announced = []
@@ -177,4 +177,4 @@ abbrev pub size_said : Report → List ℕ
 size_said report = size_by report.octets report.answer report.announced
 
 abbrev pub found_said : Report → List ℕ
-found_said report = joined (joined (blamed_said report) (more_said report)) (size_said report)
+found_said report = joined (joined (diagnosis_said report) (more_said report)) (size_said report)

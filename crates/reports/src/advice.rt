@@ -4,7 +4,7 @@ ghost use Rattle.reports.specs.Advice.{advice_of, words_of};
 
 use tlv_core::reason::Reason;
 
-/// Words on a reason. P is the place that is told with it.
+/// Words on a reason. P is the place that is shown with it.
 #[derive(Clone, Copy)]
 pub struct Advice {
     pub means: &'static str,

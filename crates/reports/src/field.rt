@@ -2,8 +2,8 @@
 ghost use Rattle.std.specs.Prelude.{◌≡◌, IfOk, string_bytes};
 ghost use Rattle.reports.specs.Field.{field_said, marked_path, refused_path};
 
-use crate::paths::path;
-use crate::picks::{first_cause, way_to};
+use crate::paths::path_text;
+use crate::picks::{first_cause, path_to_line};
 use crate::report::{Answer, Line, Report};
 use std::alloc::{AllocError, Global};
 
@@ -22,17 +22,17 @@ pub fn field_text(alloc: Global, report: &Report) -> Result<String, AllocError>
 fn marked_path(alloc: Global, root: &str, lines: &[Line]) -> Result<String, AllocError>
     ensures { IfOk result (λ text. string_bytes text ≡ marked_path root.now lines.now) }
 {
-    let way = way_to(alloc, lines, first_cause(lines))?;
-    path(alloc, root, &way)
+    let path = path_to_line(alloc, lines, first_cause(lines))?;
+    path_text(alloc, root, &path)
 }
 
 /// The path of the field that is refused.
 fn refused_path(alloc: Global, report: &Report) -> Result<String, AllocError>
     ensures { IfOk result (λ text. string_bytes text
-        ≡ refused_path report.now.kind.type_name.now report.now.blame) }
+        ≡ refused_path report.now.kind.type_name.now report.now.diagnosis) }
 {
-    match &report.blame {
-        Some(blame) => path(alloc, report.kind.type_name, &blame.way),
+    match &report.diagnosis {
+        Some(diagnosis) => path_text(alloc, report.kind.type_name, &diagnosis.path),
         None => {
             let mut text = String::new(alloc);
             text.push_str(report.kind.type_name)?;

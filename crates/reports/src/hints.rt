@@ -1,9 +1,9 @@
 //! What is likely, and what to do: by what the file looks like, else by the reason.
 ghost use Rattle.std.specs.Prelude.{◌≡◌, ◌++◌, IfOk, OnOk, string_bytes};
-ghost use Rattle.reports.specs.Hints.{cause_said, do_said, is_lines, likely_said, line_said, looks_act, looks_name, looks_said, looks_words, reason_act, reason_likely, remark_said, signed_words, sound_said};
+ghost use Rattle.reports.specs.Hints.{cause_said, do_said, guess_act, guess_name, guess_said, guess_words, is_lines, likely_said, line_said, reason_act, reason_likely, remark_said, signed_words, sound_said};
 
 use crate::placed_advice::{push_fault_act, push_fault_likely};
-use crate::report::{Answer, Cause, Looks, Remark, Report};
+use crate::report::{Answer, Cause, Guess, Remark, Report};
 use crate::text::push_number;
 use crate::words::push_size;
 use std::alloc::{AllocError, Global};
@@ -25,8 +25,8 @@ fn push_likely(text: &mut String, report: &Report, fault: Fault) -> Result<(), A
     ensures { OnOk result (string_bytes text.new ≡ string_bytes text.old
         ++ reason_likely report.now fault) }
 {
-    match report.looks {
-        Looks::Unknown => {
+    match report.guess {
+        Guess::Unknown => {
             let line = line_words(report.octets, report.announced);
             if line.is_empty() {
                 push_fault_likely(text, fault)
@@ -34,11 +34,11 @@ fn push_likely(text: &mut String, report: &Report, fault: Fault) -> Result<(), A
                 text.push_str(line)
             }
         }
-        looks => push_looks(text, looks),
+        guess => push_guess(text, guess),
     }
 }
 
-/// Whether a line of a PEM text, of 64 letters or of 76, may be missing or stand twice.
+/// Whether a line of a PEM text, of 64 letters or of 76, may be missing, or there twice.
 #[tactic(auto, unfolding(crate::specs::Hints::line_said))]
 fn line_words(octets: u64, announced: Option<u64>) -> &'static str
     ensures { result.now ≡ line_said octets announced }
@@ -63,41 +63,41 @@ fn is_lines(octets: u64) -> bool
 }
 
 /// What the file looks like.
-#[tactic(auto, unfolding(crate::specs::Hints::looks_said))]
-fn push_looks(text: &mut String, looks: Looks) -> Result<(), AllocError>
-    ensures { OnOk result (string_bytes text.new ≡ string_bytes text.old ++ looks_said looks) }
+#[tactic(auto, unfolding(crate::specs::Hints::guess_said))]
+fn push_guess(text: &mut String, guess: Guess) -> Result<(), AllocError>
+    ensures { OnOk result (string_bytes text.new ≡ string_bytes text.old ++ guess_said guess) }
 {
-    text.push_str(looks_words(looks))?;
-    text.push_str(looks_name(looks))
+    text.push_str(guess_words(guess))?;
+    text.push_str(guess_name(guess))
 }
 
 /// What the file looks like, but for the label or the kind.
-#[tactic(auto, unfolding(crate::specs::Hints::looks_words))]
-fn looks_words(looks: Looks) -> &'static str
-    ensures { result.now ≡ looks_words looks }
+#[tactic(auto, unfolding(crate::specs::Hints::guess_words))]
+fn guess_words(guess: Guess) -> &'static str
+    ensures { result.now ≡ guess_words guess }
 {
-    match looks {
-        Looks::Unknown => "",
-        Looks::Empty => "the file is empty",
-        Looks::Pem(_) => "this is PEM, labelled ",
-        Looks::Kind(_) => "this is a document of kind ",
-        Looks::RsaPrivateKey => "this is an RSAPrivateKey (PKCS #1)",
-        Looks::RsaPublicKey => "this is an RSAPublicKey (PKCS #1)",
-        Looks::Certificate => "this is a certificate",
-        Looks::Pkcs12 => "this is a PKCS #12 file",
-        Looks::Hexadecimal => "this is hexadecimal",
-        Looks::Base64 => "this is base64",
+    match guess {
+        Guess::Unknown => "",
+        Guess::Empty => "the file is empty",
+        Guess::Pem(_) => "this is PEM, labelled ",
+        Guess::Kind(_) => "this is a document of kind ",
+        Guess::RsaPrivateKey => "this is an RSAPrivateKey (PKCS #1)",
+        Guess::RsaPublicKey => "this is an RSAPublicKey (PKCS #1)",
+        Guess::Certificate => "this is a certificate",
+        Guess::Pkcs12 => "this is a PKCS #12 file",
+        Guess::Hexadecimal => "this is hexadecimal",
+        Guess::Base64 => "this is base64",
     }
 }
 
 /// The label of PEM, or the word of a kind.
-#[tactic(auto, unfolding(crate::specs::Hints::looks_name))]
-fn looks_name(looks: Looks) -> &'static str
-    ensures { result.now ≡ looks_name looks }
+#[tactic(auto, unfolding(crate::specs::Hints::guess_name))]
+fn guess_name(guess: Guess) -> &'static str
+    ensures { result.now ≡ guess_name guess }
 {
-    match looks {
-        Looks::Pem(label) => label,
-        Looks::Kind(kind) => kind.word,
+    match guess {
+        Guess::Pem(label) => label,
+        Guess::Kind(kind) => kind.word,
         _ => "",
     }
 }
@@ -110,7 +110,7 @@ pub(crate) fn do_text(alloc: Global, report: &Report) -> Result<String, AllocErr
     match report.answer {
         Answer::Der => {}
         Answer::NotDer(_) => push_sound(&mut text, report.kind.word)?,
-        Answer::Refused(fault) => push_act(&mut text, report.looks, fault)?,
+        Answer::Refused(fault) => push_act(&mut text, report.guess, fault)?,
     }
     Ok(text)
 }
@@ -139,45 +139,45 @@ fn signed_words(kind: &str) -> &'static str
 }
 
 #[tactic(auto, unfolding(crate::specs::Hints::reason_act))]
-fn push_act(text: &mut String, looks: Looks, fault: Fault) -> Result<(), AllocError>
+fn push_act(text: &mut String, guess: Guess, fault: Fault) -> Result<(), AllocError>
     ensures { OnOk result (string_bytes text.new ≡ string_bytes text.old
-        ++ reason_act looks fault) }
+        ++ reason_act guess fault) }
 {
-    match looks {
-        Looks::Unknown => push_fault_act(text, fault),
-        looks => push_looks_act(text, looks),
+    match guess {
+        Guess::Unknown => push_fault_act(text, fault),
+        guess => push_guess_act(text, guess),
     }
 }
 
 /// What to do with a file that looks so.
-#[tactic(auto, unfolding(crate::specs::Hints::looks_act))]
-fn push_looks_act(text: &mut String, looks: Looks) -> Result<(), AllocError>
-    ensures { OnOk result (string_bytes text.new ≡ string_bytes text.old ++ looks_act looks) }
+#[tactic(auto, unfolding(crate::specs::Hints::guess_act))]
+fn push_guess_act(text: &mut String, guess: Guess) -> Result<(), AllocError>
+    ensures { OnOk result (string_bytes text.new ≡ string_bytes text.old ++ guess_act guess) }
 {
-    match looks {
-        Looks::Unknown => Ok(()),
-        Looks::Empty => text.push_str("fetch it again"),
-        Looks::Pem(_) => text.push_str(
+    match guess {
+        Guess::Unknown => Ok(()),
+        Guess::Empty => text.push_str("fetch it again"),
+        Guess::Pem(_) => text.push_str(
             "decode its base64, as the manual says under Getting the octets",
         ),
-        Looks::Kind(kind) => {
+        Guess::Kind(kind) => {
             text.push_str("read it with --kind ")?;
             text.push_str(kind.word)
         }
-        Looks::RsaPrivateKey => text.push_str(
+        Guess::RsaPrivateKey => text.push_str(
             "openssl pkcs8 -topk8 -nocrypt -inform DER -in FILE -outform DER makes it PKCS #8",
         ),
-        Looks::RsaPublicKey => text.push_str(
+        Guess::RsaPublicKey => text.push_str(
             "openssl rsa -RSAPublicKey_in -inform DER -in FILE -pubout -outform DER makes it kind public",
         ),
-        Looks::Certificate => text.push_str(
+        Guess::Certificate => text.push_str(
             "openssl x509 -inform DER -in FILE -pubkey -noout writes its public key",
         ),
-        Looks::Pkcs12 => text.push_str(
+        Guess::Pkcs12 => text.push_str(
             "openssl pkcs12 -nodes -nocerts -in FILE writes its private key",
         ),
-        Looks::Hexadecimal => text.push_str("xxd -r -p FILE writes its octets"),
-        Looks::Base64 => text.push_str("base64 -d FILE writes its octets"),
+        Guess::Hexadecimal => text.push_str("xxd -r -p FILE writes its octets"),
+        Guess::Base64 => text.push_str("base64 -d FILE writes its octets"),
     }
 }
 
@@ -197,7 +197,7 @@ pub(crate) fn cause_words(cause: Cause) -> &'static str
     }
 }
 
-/// What other standards say to what stands there.
+/// What other standards say to what is there.
 pub(crate) fn note_text(alloc: Global, remark: Remark) -> Result<String, AllocError>
     ensures { IfOk result (λ text. string_bytes text ≡ remark_said remark) }
 {

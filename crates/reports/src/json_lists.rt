@@ -1,7 +1,7 @@
 //! The elements of a report, and what is said of some, as JSON.
 ghost use Rattle.std.specs.Prelude.{[], ◌≡◌, ◌++◌, IfOk, OnOk, codes, flat_map, length, string_bytes};
 ghost use Rattle.std.specs.Option.{option_map};
-ghost use Rattle.reports.specs.JsonLists.{characters_member, field_members, field_of_line, first_ones, form_members, is_untold, length_members, line_members, line_object, marked_in, marked_object, not_der_members, note_members, note_object, path_of, remark_members, some_members, tag_member, tag_members, value_member, value_members};
+ghost use Rattle.reports.specs.JsonLists.{characters_member, field_members, field_of_line, first_ones, form_members, is_nothing, length_members, line_members, line_object, marked_in, marked_object, not_der_members, note_members, note_object, path_of, remark_members, some_members, tag_member, tag_members, value_member, value_members};
 ghost use Rattle.reports.specs.JsonMembers.{list_member, number_member, optional};
 ghost use Rattle.reports.specs.JsonWords.{class_word};
 ghost use Rattle.reports.specs.Paths.{with_step};
@@ -10,7 +10,7 @@ ghost use Rattle.tlv_core.specs.Classes.{class_of};
 use crate::json_text::JsonText;
 use crate::json_words::{word_of_cause, word_of_class, word_of_remark};
 use crate::paths::{push_path, push_root, push_step};
-use crate::picks::{is_place_alone, line_of, way_to};
+use crate::picks::{is_place_alone, line_of, path_to_line};
 use crate::report::{Cause, Length, Line, Note, Remark, Report, Value};
 use asn_names::element::Step;
 use std::alloc::{AllocError, Global};
@@ -31,7 +31,7 @@ fn find_marked(alloc: Global, lines: &[Line]) -> Result<Vec<Marked>, AllocError>
 {
     let mut marked = Vec::new(alloc);
     let mut rest = lines;
-    while let [line, behind @ ..] = rest {
+    while let [line, after @ ..] = rest {
         if let Some(cause) = line.cause {
             marked.push(Marked {
                 at: line.at,
@@ -40,7 +40,7 @@ fn find_marked(alloc: Global, lines: &[Line]) -> Result<Vec<Marked>, AllocError>
                 cause,
             })?;
         }
-        rest = behind;
+        rest = after;
     }
     Ok(marked)
 }
@@ -50,15 +50,15 @@ fn find_marked(alloc: Global, lines: &[Line]) -> Result<Vec<Marked>, AllocError>
 fn path_to(alloc: Global, report: &Report, around: u64, step: Step) -> Result<String, AllocError>
     ensures { IfOk result (λ text. string_bytes text ≡ path_of report.now around step) }
 {
-    let way = way_to(alloc, &report.lines, around)?;
+    let path = path_to_line(alloc, &report.lines, around)?;
     let mut text = String::new(alloc);
-    push_path(&mut text, &way)?;
+    push_path(&mut text, &path)?;
     push_step(&mut text, step)?;
     push_root(&mut text, report.kind.type_name)?;
     Ok(text)
 }
 
-/// The members that tell an element by its path and its place.
+/// The members that show an element by its path and its place.
 #[tactic(auto, unfolding(crate::specs::JsonLists::field_members))]
 fn push_field(
     alloc: Global,
@@ -99,9 +99,9 @@ fn push_all_marked(
     ensures { OnOk result (json.new ≡ json.old ++ flat_map (marked_object report.now) marked.now) }
 {
     let mut rest = marked;
-    while let [first, behind @ ..] = rest {
+    while let [first, after @ ..] = rest {
         push_marked(alloc, json, report, first)?;
-        rest = behind;
+        rest = after;
     }
     Ok(())
 }
@@ -186,7 +186,7 @@ fn push_remark(json: &mut JsonText, remark: Remark) -> Result<(), AllocError>
     }
 }
 
-/// The members that tell an element that is listed, where it is.
+/// The members that show an element that is listed, where it is.
 fn push_field_of_line(
     alloc: Global,
     json: &mut JsonText,
@@ -238,9 +238,9 @@ pub(crate) fn push_notes(
     ensures { OnOk result (json.new ≡ json.old ++ flat_map (note_object report.now) notes.now) }
 {
     let mut rest = notes;
-    while let [note, behind @ ..] = rest {
+    while let [note, after @ ..] = rest {
         push_note(alloc, json, report, note)?;
-        rest = behind;
+        rest = after;
     }
     Ok(())
 }
@@ -301,7 +301,7 @@ fn push_characters(alloc: Global, json: &mut JsonText, octets: &[u8]) -> Result<
 }
 
 fn is_nothing(value: &Value) -> bool
-    ensures { result ≡ is_untold value.now }
+    ensures { result ≡ is_nothing value.now }
 {
     match value {
         Value::Nothing => true,
@@ -358,7 +358,7 @@ fn push_value(alloc: Global, json: &mut JsonText, value: &Value) -> Result<(), A
     json.end_object()
 }
 
-/// The name by which an element stands in the one around it.
+/// The name by which an element is in the one around it.
 fn name_of(alloc: Global, step: Step) -> Result<String, AllocError>
     ensures { IfOk result (λ text. string_bytes text ≡ with_step [] step) }
 {
@@ -367,7 +367,7 @@ fn name_of(alloc: Global, step: Step) -> Result<String, AllocError>
     Ok(name)
 }
 
-/// The tag of an element and whether it is constructed, where more than its place is told.
+/// The tag of an element and whether it is constructed, where more than its place is shown.
 #[tactic(auto, unfolding(crate::specs::JsonLists::form_members))]
 fn push_form(json: &mut JsonText, line: &Line) -> Result<(), AllocError>
     ensures { OnOk result (json.new ≡ json.old ++ form_members line.now) }
@@ -410,9 +410,9 @@ pub(crate) fn push_lines(
     ensures { OnOk result (json.new ≡ json.old ++ flat_map line_object lines.now) }
 {
     let mut rest = lines;
-    while let [line, behind @ ..] = rest {
+    while let [line, after @ ..] = rest {
         push_line(alloc, json, line)?;
-        rest = behind;
+        rest = after;
     }
     Ok(())
 }

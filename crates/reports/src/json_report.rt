@@ -10,8 +10,8 @@ use crate::field::field_text;
 use crate::hints::{do_text, likely_text};
 use crate::json_lists::{push_lines, push_not_der, push_notes};
 use crate::json_text::JsonText;
-use crate::json_words::word_of_looks;
-use crate::report::{Answer, Blame, Line, Note, Report};
+use crate::json_words::word_of_guess;
+use crate::report::{Answer, Diagnosis, Line, Note, Report};
 use crate::words::{due_text, found_text};
 use std::alloc::{AllocError, Global};
 use tlv_core::reason::Reason;
@@ -34,8 +34,8 @@ pub fn check_json(
     json.begin_object()?;
     push_head(&mut json, report, version, file)?;
     push_field(alloc, &mut json, report)?;
-    push_numbers(&mut json, report, report.blame.as_ref())?;
-    json.said("looks_like", word_of_looks(report.looks))?;
+    push_numbers(&mut json, report, report.diagnosis.as_ref())?;
+    json.said("looks_like", word_of_guess(report.guess))?;
     push_places(alloc, &mut json, places, report)?;
     json.end_object()?;
     json.into_line()
@@ -61,8 +61,8 @@ pub fn report_json(
     push_head(&mut json, report, version, file)?;
     push_field(alloc, &mut json, report)?;
     push_due(alloc, &mut json, report)?;
-    push_numbers(&mut json, report, report.blame.as_ref())?;
-    json.said("looks_like", word_of_looks(report.looks))?;
+    push_numbers(&mut json, report, report.diagnosis.as_ref())?;
+    json.said("looks_like", word_of_guess(report.guess))?;
     push_advice(alloc, &mut json, report)?;
     push_places(alloc, &mut json, places, report)?;
     push_all(alloc, &mut json, all, &report.lines)?;
@@ -160,10 +160,10 @@ fn push_field(alloc: Global, json: &mut JsonText, report: &Report) -> Result<(),
 
 /// The place of the fault in the file.
 fn file_place(report: &Report) -> Option<u64>
-    ensures { result ≡ file_place report.now.blame }
+    ensures { result ≡ file_place report.now.diagnosis }
 {
-    match &report.blame {
-        Some(blame) => blame.file_at,
+    match &report.diagnosis {
+        Some(diagnosis) => diagnosis.file_at,
         None => None,
     }
 }
@@ -185,11 +185,11 @@ fn push_missing(json: &mut JsonText, octets: u64, announced: Option<u64>) -> Res
     }
 }
 
-/// How many octets follow: as is told, or behind where the outermost element ends.
-fn how_many_follow(octets: u64, announced: Option<u64>, told: Option<u64>) -> Option<u64>
-    ensures { result ≡ follow_by told announced octets }
+/// How many octets follow: as is shown, or after where the outermost element ends.
+fn how_many_follow(octets: u64, announced: Option<u64>, known: Option<u64>) -> Option<u64>
+    ensures { result ≡ follow_by known announced octets }
 {
-    match (told, announced) {
+    match (known, announced) {
         (Some(more), _) => Some(more),
         (None, Some(announced)) => how_many_more(announced, octets),
         (None, None) => None,
@@ -201,11 +201,11 @@ fn push_more(
     json: &mut JsonText,
     octets: u64,
     announced: Option<u64>,
-    told: Option<u64>,
+    known: Option<u64>,
 ) -> Result<(), AllocError>
-    ensures { OnOk result (json.new ≡ json.old ++ more_members octets announced told) }
+    ensures { OnOk result (json.new ≡ json.old ++ more_members octets announced known) }
 {
-    json.optional_number("more", how_many_follow(octets, announced, told))
+    json.optional_number("more", how_many_follow(octets, announced, known))
 }
 
 /// What is said in numbers of a document that is refused.
@@ -213,17 +213,17 @@ fn push_more(
 fn push_numbers(
     json: &mut JsonText,
     report: &Report,
-    blame: Option<&Blame>,
+    diagnosis: Option<&Diagnosis>,
 ) -> Result<(), AllocError>
     ensures { OnOk result (json.new ≡ json.old
-        ++ optional (number_members report.now) (option_map (λ r. r.now) blame.entry)) }
+        ++ optional (number_members report.now) (option_map (λ r. r.now) diagnosis.entry)) }
 {
-    match blame {
+    match diagnosis {
         None => Ok(()),
-        Some(blame) => {
+        Some(diagnosis) => {
             push_missing(json, report.octets, report.announced)?;
-            json.optional_number("over", blame.over)?;
-            push_more(json, report.octets, report.announced, blame.more)
+            json.optional_number("over", diagnosis.over)?;
+            push_more(json, report.octets, report.announced, diagnosis.more)
         }
     }
 }

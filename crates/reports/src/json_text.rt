@@ -9,7 +9,7 @@ use json::Writer;
 use std::alloc::{AllocError, Global};
 use std::marker::Model;
 
-/// A text of JSON that is being written. A contract sees the tokens that stand there.
+/// A text of JSON that is being written. A contract sees the tokens that are there.
 #[derive(Drop)]
 pub struct JsonText {
     writer: Writer,

@@ -1,8 +1,8 @@
 //! Words of JSON that stay as they are, whatever the words of the text become.
 ghost use Rattle.std.specs.Prelude.{◌≡◌};
-ghost use Rattle.reports.specs.JsonWords.{cause_word, class_word, looks_word, remark_word};
+ghost use Rattle.reports.specs.JsonWords.{cause_word, class_word, guess_word, remark_word};
 
-use crate::report::{Cause, Looks, Remark};
+use crate::report::{Cause, Guess, Remark};
 use tlv_core::tag::Class;
 
 pub(crate) fn word_of_class(class: Class) -> &'static str
@@ -31,20 +31,20 @@ pub(crate) fn word_of_cause(cause: Cause) -> &'static str
 }
 
 /// Empty where nothing is known.
-pub(crate) fn word_of_looks(looks: Looks) -> &'static str
-    ensures { result.now ≡ looks_word looks }
+pub(crate) fn word_of_guess(guess: Guess) -> &'static str
+    ensures { result.now ≡ guess_word guess }
 {
-    match looks {
-        Looks::Unknown => "",
-        Looks::Empty => "empty",
-        Looks::Pem(_) => "pem",
-        Looks::Kind(kind) => kind.word,
-        Looks::RsaPrivateKey => "rsa_private_key",
-        Looks::RsaPublicKey => "rsa_public_key",
-        Looks::Certificate => "certificate",
-        Looks::Pkcs12 => "pkcs12",
-        Looks::Hexadecimal => "hexadecimal",
-        Looks::Base64 => "base64",
+    match guess {
+        Guess::Unknown => "",
+        Guess::Empty => "empty",
+        Guess::Pem(_) => "pem",
+        Guess::Kind(kind) => kind.word,
+        Guess::RsaPrivateKey => "rsa_private_key",
+        Guess::RsaPublicKey => "rsa_public_key",
+        Guess::Certificate => "certificate",
+        Guess::Pkcs12 => "pkcs12",
+        Guess::Hexadecimal => "hexadecimal",
+        Guess::Base64 => "base64",
     }
 }
 

@@ -34,7 +34,7 @@ pub mod words;
 
 use crate::report::Report;
 use crate::text_listing::push_listing;
-use crate::text_report::{push_answer, push_head, push_notes, push_told_lines};
+use crate::text_report::{push_answer, push_answer_lines, push_head, push_notes};
 use std::alloc::{AllocError, Global};
 
 /// The report in lines, each ended by a line feed: with all lines of the listing, or with those that matter; of a
@@ -51,7 +51,7 @@ pub fn report_text(
     push_head(&mut text, report)?;
     push_answer(&mut text, report.answer)?;
     push_listing(alloc, &mut text, report, all, places)?;
-    push_told_lines(alloc, &mut text, report)?;
+    push_answer_lines(alloc, &mut text, report)?;
     push_notes(alloc, &mut text, report, &report.notes)?;
     Ok(text)
 }

@@ -1,22 +1,22 @@
 //! The path of a field.
 ghost use Rattle.std.specs.Prelude.{◌≡◌, IfOk, OnOk, string_bytes};
-ghost use Rattle.reports.specs.Paths.{path_text, with_name, with_root, with_step, with_way};
+ghost use Rattle.reports.specs.Paths.{path_text, with_name, with_root, with_step, with_steps};
 
 use crate::text::push_between;
 use asn_names::element::Step;
 use std::alloc::{AllocError, Global};
 
-/// The path of the field that a way from the outermost element leads to; of that element itself the name of its type.
-pub fn path(alloc: Global, root: &str, way: &[Step]) -> Result<String, AllocError>
-    ensures { IfOk result (λ text. string_bytes text ≡ path_text root.now way.now) }
+/// The path of the field that a path from the outermost element leads to; of that element itself the name of its type.
+pub fn path_text(alloc: Global, root: &str, path: &[Step]) -> Result<String, AllocError>
+    ensures { IfOk result (λ text. string_bytes text ≡ path_text root.now path.now) }
 {
     let mut text = String::new(alloc);
-    push_path(&mut text, way)?;
+    push_path(&mut text, path)?;
     push_root(&mut text, root)?;
     Ok(text)
 }
 
-/// The name of the outermost element's type, where no path stands.
+/// The name of the outermost element's type, where there is no path.
 pub(crate) fn push_root(text: &mut String, root: &str) -> Result<(), AllocError>
     ensures { OnOk result (string_bytes text.new ≡ with_root root.now (string_bytes text.old)) }
 {
@@ -27,19 +27,19 @@ pub(crate) fn push_root(text: &mut String, root: &str) -> Result<(), AllocError>
     }
 }
 
-/// A way behind the path to where it begins.
-pub(crate) fn push_path(text: &mut String, way: &[Step]) -> Result<(), AllocError>
-    ensures { OnOk result (string_bytes text.new ≡ with_way (string_bytes text.old) way.now) }
+/// A path after the path to where it begins.
+pub(crate) fn push_path(text: &mut String, path: &[Step]) -> Result<(), AllocError>
+    ensures { OnOk result (string_bytes text.new ≡ with_steps (string_bytes text.old) path.now) }
 {
-    let mut rest = way;
-    while let [step, behind @ ..] = rest {
+    let mut rest = path;
+    while let [step, after @ ..] = rest {
         push_step(text, *step)?;
-        rest = behind;
+        rest = after;
     }
     Ok(())
 }
 
-/// A step behind the path to where it begins.
+/// A step after the path to where it begins.
 #[tactic(auto, unfolding(crate::specs::Paths::with_step))]
 pub(crate) fn push_step(text: &mut String, step: Step) -> Result<(), AllocError>
     ensures { OnOk result (string_bytes text.new ≡ with_step (string_bytes text.old) step) }

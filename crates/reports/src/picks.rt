@@ -1,7 +1,7 @@
-//! Which lines of a listing are picked, the way to a line, and of which line the place alone is told.
+//! Which lines of a listing are picked, the path to a line, and of which line the place alone is shown.
 ghost use Rattle.std.specs.Prelude.{◌≡◌, ◌++◌, IfOk, OnOk, cond, nat_lt, reverse, slice_get};
 ghost use Rattle.std.specs.Option.{option_map};
-ghost use Rattle.reports.specs.Picks.{causes, first_cause, is_beside, is_not_shown, is_place_alone, judge_line, numbers_from, start_of, ends_way, steps_to, way_of};
+ghost use Rattle.reports.specs.Picks.{causes, first_cause, is_beside, is_not_shown, is_place_alone, judge_line, numbers_from, start_of, ends_path, steps_to, path_to_line};
 
 use crate::report::{Line, Value};
 use asn_names::element::Step;
@@ -16,10 +16,10 @@ pub(crate) enum Pick {
     Fault(u64),
 }
 
-/// What is known of the lines behind one.
+/// What is known of the lines after one.
 #[derive(Clone, Copy)]
 pub(crate) struct PickState {
-    /// The number of the next line that something behind it is in.
+    /// The number of the next line that something after it is in.
     pub around: u64,
     /// How many lines that aren't in DER are still passed over.
     pub skip: u64,
@@ -60,26 +60,26 @@ pub(crate) fn picked(
     Ok(numbers)
 }
 
-/// Whether the line of this number is picked, by what is known of those behind it.
+/// Whether the line of this number is picked, by what is known of those after it.
 fn judge_line(pick: Pick, state: PickState, number: u64, line: &Line) -> Picking
     ensures { result ≡ judge_line pick state number line.now }
 {
-    let on_way = state.around == number || ends_way(pick, state.skip, number, line);
+    let on_path = state.around == number || ends_path(pick, state.skip, number, line);
     let skip = if line.cause.is_some() {
         state.skip.saturating_sub(1)
     } else {
         state.skip
     };
-    let around = if on_way { line.around } else { state.around };
+    let around = if on_path { line.around } else { state.around };
     Picking {
         state: PickState { around, skip },
-        picked: on_way || is_beside(pick, number),
+        picked: on_path || is_beside(pick, number),
     }
 }
 
-/// Whether the way to a line that is at fault or not in DER ends at this one.
-fn ends_way(pick: Pick, skip: u64, number: u64, line: &Line) -> bool
-    ensures { result ≡ ends_way pick skip number line.now }
+/// Whether the path to a line that is at fault or not in DER ends at this one.
+fn ends_path(pick: Pick, skip: u64, number: u64, line: &Line) -> bool
+    ensures { result ≡ ends_path pick skip number line.now }
 {
     match pick {
         Pick::Causes => line.cause.is_some() && skip == 0,
@@ -103,44 +103,49 @@ pub(crate) fn causes(lines: &[Line]) -> u64
 {
     let mut count = 0;
     let mut left = lines;
-    while let [line, behind @ ..] = left {
+    while let [line, rest @ ..] = left {
         if line.cause.is_some() {
             count += 1;
         }
-        left = behind;
+        left = rest;
     }
     count
 }
 
-/// How many lines stand before the first that isn't in DER; all where there is none.
+/// How many lines come before the first that isn't in DER; all where there is none.
 pub(crate) fn first_cause(lines: &[Line]) -> u64
     ensures { result ≡ first_cause lines.now }
 {
     let mut count = 0;
     let mut left = lines;
-    while let [line, behind @ ..] = left {
+    while let [line, rest @ ..] = left {
         if line.cause.is_some() {
             return count;
         }
         count += 1;
-        left = behind;
+        left = rest;
     }
     count
 }
 
-/// The way from the outermost element to the line of this number.
-#[tactic(auto, unfolding(crate::specs::Picks::way_of))]
-pub fn way_to(alloc: Global, lines: &[Line], number: u64) -> Result<Vec<Step>, AllocError>
-    ensures { IfOk result (λ way. way.items ≡ way_of lines.now number) }
+/// The path from the outermost element to the line of this number.
+#[tactic(auto, unfolding(crate::specs::Picks::path_to_line))]
+pub fn path_to_line(alloc: Global, lines: &[Line], number: u64) -> Result<Vec<Step>, AllocError>
+    ensures { IfOk result (λ path. path.items ≡ path_to_line lines.now number) }
 {
-    let mut way = Vec::new(alloc);
-    push_steps(&mut way, lines, number, 200)?;
-    Ok(way)
+    let mut path = Vec::new(alloc);
+    push_steps(&mut path, lines, number, 200)?;
+    Ok(path)
 }
 
-/// The last steps of the way to the line of this number, so many at most.
-fn push_steps(way: &mut Vec<Step>, lines: &[Line], number: u64, most: u64) -> Result<(), AllocError>
-    ensures { OnOk result (way.new.items ≡ way.old.items ++ steps_to most lines.now number) }
+/// The last steps of the path to the line of this number, so many at most.
+fn push_steps(
+    path: &mut Vec<Step>,
+    lines: &[Line],
+    number: u64,
+    most: u64,
+) -> Result<(), AllocError>
+    ensures { OnOk result (path.new.items ≡ path.old.items ++ steps_to most lines.now number) }
 {
     if most == 0 {
         return Ok(());
@@ -149,12 +154,12 @@ fn push_steps(way: &mut Vec<Step>, lines: &[Line], number: u64, most: u64) -> Re
         return Ok(());
     };
     let before = steps_before(line.around, number, most - 1);
-    push_steps(way, lines, line.around, before)?;
-    way.push(line.step)?;
+    push_steps(path, lines, line.around, before)?;
+    path.push(line.step)?;
     Ok(())
 }
 
-/// How many steps may stand before that to a line; none where what is around it doesn't stand before it.
+/// How many steps may be before that to a line; none where what is around it isn't before it.
 pub fn steps_before(around: u64, number: u64, most: u64) -> u64
     ensures { result ≡ cond (nat_lt around number) most 0 }
 {
@@ -168,7 +173,7 @@ pub(crate) fn line_of(lines: &[Line], number: u64) -> Option<&Line>
     lines.get(number as usize)
 }
 
-/// Whether the place of an element is all that is told of it.
+/// Whether the place of an element is all that is shown of it.
 pub(crate) fn is_place_alone(line: &Line) -> bool
     ensures { result ≡ is_place_alone line.now.step line.now.value }
 {

@@ -31,7 +31,7 @@ fn version_due(kind: &str) -> &'static str
     "version 0 or 1"
 }
 
-/// What X.690 asks for, and pkder's limits; of a version what is told of that.
+/// What X.690 asks for, and pkder's limits; of a version what is shown of that.
 fn words_due(why: Reason, version: &'static str) -> &'static str
     ensures { result.now ≡ words_due why version.now }
 {

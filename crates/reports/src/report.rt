@@ -1,4 +1,4 @@
-//! What a report says of a document. Its texts are made of this and of nothing else, so what isn't here no text tells.
+//! What a report says of a document. Its texts are made of this and of nothing else, so what isn't here no text shows.
 //! A place is a number of octets from the start of the file, but where it is said to be inside `privateKey`.
 use asn_names::element::Step;
 use pkix_shapes::identifiers::Identifier;
@@ -33,7 +33,7 @@ pub struct Length {
     pub contents: Option<u64>,
 }
 
-/// What is told of contents.
+/// What is shown of contents.
 #[derive(Drop)]
 pub enum Value {
     /// Of a container, and of what was not read whole: nothing.
@@ -42,7 +42,7 @@ pub enum Value {
     NotShown,
     /// Their number alone.
     Size(u64),
-    /// Of a BIT STRING: the number of octets behind the first, and of unused bits.
+    /// Of a BIT STRING: the number of octets after the first, and of unused bits.
     Bits(u64, u8),
     Null,
     Boolean(bool),
@@ -75,7 +75,7 @@ pub enum Cause {
     Order,
 }
 
-/// A line of the listing: an element. Of one that is `Outside` and `NotShown` its place alone is told.
+/// A line of the listing: an element. Of one that is `Outside` and `NotShown` its place alone is shown.
 #[derive(Drop)]
 pub struct Line {
     pub at: u64,
@@ -89,9 +89,9 @@ pub struct Line {
     pub type_name: &'static str,
     pub tag: Tag,
     pub constructed: bool,
-    /// `None` where it isn't told.
+    /// `None` where it isn't shown.
     pub length: Option<Length>,
-    /// The place where it ends. `None` where it doesn't, and where that isn't told.
+    /// The place where it ends. `None` where it doesn't, and where that isn't shown.
     pub end: Option<u64>,
     pub value: Value,
     /// The first cause why it isn't in DER.
@@ -109,48 +109,48 @@ pub enum Due {
     Type(&'static Shape),
 }
 
-/// An element that is told of by its header.
+/// An element that is shown of by its header.
 #[derive(Clone, Copy)]
 pub struct Found {
     pub at: u64,
     pub tag: Tag,
     pub constructed: bool,
-    /// `None` where it isn't told.
+    /// `None` where it isn't shown.
     pub length: Option<Length>,
 }
 
-/// A container that a fault is about, by its way from the outermost element.
+/// A container that a fault is about, by its path from the outermost element.
 #[derive(Drop)]
-pub struct ToldContainer {
-    pub way: Vec<Step>,
+pub struct FaultContainer {
+    pub path: Vec<Step>,
     pub at: u64,
     /// The place where it ends, of definite length.
     pub end: Option<u64>,
 }
 
-/// What is told of a fault.
+/// What is shown of a fault.
 #[derive(Drop)]
-pub struct Blame {
+pub struct Diagnosis {
     /// The place of the fault in the file, also of what is inside `privateKey`. `None` where it has none there.
     pub file_at: Option<u64>,
-    /// The way from the outermost element to the field that is refused, or in which something is missing.
-    pub way: Vec<Step>,
+    /// The path from the outermost element to the field that is refused, or in which something is missing.
+    pub path: Vec<Step>,
     /// The number of the line that the fault is at, where it is listed.
     pub line: Option<u64>,
     pub due: Due,
-    /// What stands there, where it may be told.
+    /// What is there, where it may be shown.
     pub found: Option<Found>,
     /// Of PastEnd: the container whose end the element passes. Of Missing: the one that has ended.
-    pub container: Option<ToldContainer>,
+    pub container: Option<FaultContainer>,
     /// Of Truncated and PastEnd: how many octets the element's announced contents have too many.
     pub over: Option<u64>,
-    /// Of Trailing: how many octets follow, where that is told.
+    /// Of Trailing: how many octets follow, where that is shown.
     pub more: Option<u64>,
 }
 
-/// What the file may be instead, by one more look.
+/// What the file may be instead: a guess.
 #[derive(Clone, Copy)]
-pub enum Looks {
+pub enum Guess {
     Unknown,
     Empty,
     /// PEM with this label; the kind that it is of, where there is one.
@@ -178,9 +178,9 @@ pub enum Remark {
     PointBits,
     /// id-ecPublicKey without a named curve (RFC 5480 section 2.1.1).
     NoNamedCurve,
-    /// An extension that stands there before (RFC 5280 section 4.2).
+    /// An extension that is there before (RFC 5280 section 4.2).
     ExtensionTwice,
-    /// An attribute that stands there before (RFC 2986 section 4.1).
+    /// An attribute that is there before (RFC 2986 section 4.1).
     AttributeTwice,
     /// An attribute of a single value that has so many (RFC 2985 section 5.4).
     SeveralValues(u64),
@@ -208,8 +208,8 @@ pub struct Report {
     pub answer: Answer,
     pub lines: Vec<Line>,
     /// Of a document that is refused.
-    pub blame: Option<Blame>,
-    pub looks: Looks,
+    pub diagnosis: Option<Diagnosis>,
+    pub guess: Guess,
     /// Of a document that is accepted.
     pub notes: Vec<Note>,
 }

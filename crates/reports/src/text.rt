@@ -1,6 +1,6 @@
 //! Numbers, blanks, octets and characters in text.
 ghost use Rattle.std.specs.Prelude.{◌≡◌, ◌+◌, ◌++◌, ◌<◌, OnOk, decimal, flat_map, replicate, string_bytes};
-ghost use Rattle.reports.specs.Texts.{escaped, octet_behind, octet_text, octets_text, quoted};
+ghost use Rattle.reports.specs.Texts.{escaped, octet_after, octet_text, octets_text, quoted};
 
 use itoa::Buffer;
 use std::alloc::{AllocError, Global};
@@ -18,14 +18,14 @@ pub fn push_between(
     text: &mut String,
     before: &str,
     number: u64,
-    behind: &str,
+    rest: &str,
 ) -> Result<(), AllocError>
     ensures { OnOk result (string_bytes text.new ≡ string_bytes text.old
-        ++ (before.now ++ decimal number ++ behind.now)) }
+        ++ (before.now ++ decimal number ++ rest.now)) }
 {
     text.push_str(before)?;
     push_number(text, number)?;
-    text.push_str(behind)
+    text.push_str(rest)
 }
 
 /// The sum of two numbers in decimal digits.
@@ -61,23 +61,23 @@ pub(crate) fn push_octets(alloc: Global, text: &mut String, octets: &[u8]) -> Re
     ensures { OnOk result (string_bytes text.new ≡ string_bytes text.old
         ++ octets_text octets.now) }
 {
-    let [first, behind @ ..] = octets else {
+    let [first, rest @ ..] = octets else {
         return Ok(());
     };
     push_octet(alloc, text, *first)?;
-    push_octets_behind(alloc, text, behind)
+    push_octets_after(alloc, text, rest)
 }
 
-/// Octets behind others.
-fn push_octets_behind(alloc: Global, text: &mut String, octets: &[u8]) -> Result<(), AllocError>
+/// Octets after others.
+fn push_octets_after(alloc: Global, text: &mut String, octets: &[u8]) -> Result<(), AllocError>
     ensures { OnOk result (string_bytes text.new ≡ string_bytes text.old
-        ++ flat_map octet_behind octets.now) }
+        ++ flat_map octet_after octets.now) }
 {
     let mut left = octets;
-    while let [octet, behind @ ..] = left {
+    while let [octet, rest @ ..] = left {
         text.push_str(" ")?;
         push_octet(alloc, text, *octet)?;
-        left = behind;
+        left = rest;
     }
     Ok(())
 }
@@ -98,9 +98,9 @@ fn push_characters(alloc: Global, text: &mut String, octets: &[u8]) -> Result<()
         ++ flat_map escaped octets.now) }
 {
     let mut left = octets;
-    while let [octet, behind @ ..] = left {
+    while let [octet, rest @ ..] = left {
         push_escaped(alloc, text, *octet)?;
-        left = behind;
+        left = rest;
     }
     Ok(())
 }

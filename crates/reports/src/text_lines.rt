@@ -1,7 +1,7 @@
 //! A line of the listing: an element.
 ghost use Rattle.std.specs.Prelude.{◌≡◌, ◌-◌, ◌<◌, ◌++◌, IfOk, OnOk, decimal, length, string_bytes, take};
 ghost use Rattle.tlv_core.specs.Identifier.{identifier};
-ghost use Rattle.reports.specs.Lines.{below, carets, contents_part, element_said, element_told, end_part, extent_part, header_octets, header_text, length_octets, line_lines, line_start, name_said, number_in, padding, place_column, sized_part, type_said, unread, unused_part, value_part};
+ghost use Rattle.reports.specs.Lines.{below, carets, contents_part, element_said, element_shown, end_part, extent_part, header_octets, header_text, length_octets, line_lines, line_start, name_said, number_in, padding, place_column, sized_part, type_said, unread, unused_part, value_part};
 
 use crate::hints::cause_words;
 use crate::picks::is_place_alone;
@@ -23,7 +23,7 @@ pub(crate) struct Layout {
     pub fault: Option<u64>,
 }
 
-/// The line of this number, and what stands below it.
+/// The line of this number, and what is below it.
 #[tactic(auto, unfolding(crate::specs::Lines::line_lines))]
 pub(crate) fn push_line(
     alloc: Global,
@@ -43,7 +43,7 @@ pub(crate) fn push_line(
     push_below(text, layout, number, line, header.len() as u64)
 }
 
-/// What stands before an element: its place, its header, and two blanks for each element around it.
+/// What comes before an element: its place, its header, and two blanks for each element around it.
 #[tactic(auto, unfolding(crate::specs::Lines::line_start))]
 fn push_start(
     text: &mut String,
@@ -61,13 +61,13 @@ fn push_start(
     push_marks(text, ' ', line.depth)
 }
 
-/// Blanks behind a text up to a column, and two more.
+/// Blanks after a text up to a column, and two more.
 #[tactic(auto, unfolding(crate::specs::Lines::padding))]
-fn push_padding(text: &mut String, columns: u64, behind: &str) -> Result<(), AllocError>
+fn push_padding(text: &mut String, columns: u64, after: &str) -> Result<(), AllocError>
     ensures { OnOk result (string_bytes text.new ≡ string_bytes text.old
-        ++ padding columns behind.now) }
+        ++ padding columns after.now) }
 {
-    push_marks(text, ' ', columns.saturating_sub(behind.len() as u64))?;
+    push_marks(text, ' ', columns.saturating_sub(after.len() as u64))?;
     text.push_str("  ")
 }
 
@@ -90,7 +90,7 @@ pub(crate) fn digits(number: u64) -> u64
     buffer.format(number).len() as u64
 }
 
-/// What stands below a line: that it is at fault, or why it isn't in DER.
+/// What is below a line: that it is at fault, or why it isn't in DER.
 #[tactic(auto, unfolding(crate::specs::Lines::below))]
 fn push_below(
     text: &mut String,
@@ -125,7 +125,7 @@ fn push_carets(text: &mut String, place: u64, size: u64) -> Result<(), AllocErro
     push_marks(text, '^', size.max(2))
 }
 
-/// The octets of a header in hexadecimal digits; empty where they aren't told.
+/// The octets of a header in hexadecimal digits; empty where they aren't shown.
 fn header_text(alloc: Global, line: &Line) -> Result<String, AllocError>
     ensures { IfOk result (λ text. string_bytes text ≡ header_text line.now) }
 {
@@ -201,7 +201,7 @@ fn push_big_endian(octets: &mut Vec<u8>, count: u64, number: u64) -> Result<(), 
     Ok(())
 }
 
-/// An element, where more than its place is told.
+/// An element, where more than its place is shown.
 #[tactic(auto, unfolding(crate::specs::Lines::element_said))]
 fn push_element(alloc: Global, text: &mut String, line: &Line) -> Result<(), AllocError>
     ensures { OnOk result (string_bytes text.new ≡ string_bytes text.old
@@ -210,15 +210,15 @@ fn push_element(alloc: Global, text: &mut String, line: &Line) -> Result<(), All
     if is_place_alone(line) {
         text.push_str("(not shown)")
     } else {
-        push_told_element(alloc, text, line)
+        push_shown_element(alloc, text, line)
     }
 }
 
-/// An element: its name, and what is told of it.
-#[tactic(auto, unfolding(crate::specs::Lines::element_told))]
-fn push_told_element(alloc: Global, text: &mut String, line: &Line) -> Result<(), AllocError>
+/// An element: its name, and what is shown of it.
+#[tactic(auto, unfolding(crate::specs::Lines::element_shown))]
+fn push_shown_element(alloc: Global, text: &mut String, line: &Line) -> Result<(), AllocError>
     ensures { OnOk result (string_bytes text.new ≡ string_bytes text.old
-        ++ element_told line.now) }
+        ++ element_shown line.now) }
 {
     push_name(text, line)?;
     push_extent(text, line)?;
@@ -300,7 +300,7 @@ fn push_end(text: &mut String, end: Option<u64>) -> Result<(), AllocError>
     }
 }
 
-/// What is told of contents.
+/// What is shown of contents.
 #[tactic(auto, unfolding(crate::specs::Lines::value_part))]
 fn push_value(alloc: Global, text: &mut String, line: &Line) -> Result<(), AllocError>
     ensures { OnOk result (string_bytes text.new ≡ string_bytes text.old

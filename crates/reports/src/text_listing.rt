@@ -1,4 +1,4 @@
-//! The listing: which lines of the elements are told.
+//! The listing: which lines of the elements are shown.
 ghost use Rattle.std.specs.Prelude.{◌≡◌, ◌++◌, OnOk, reverse, string_bytes};
 ghost use Rattle.reports.specs.Listings.{all_lines, causes_listing, gap, header_columns, header_width, layout_of, line_at, listed, listing, others_said, place_columns, some_listing};
 
@@ -8,10 +8,10 @@ use crate::text::{push_marks, push_number};
 use crate::text_lines::{Layout, digits, push_line};
 use std::alloc::{AllocError, Global};
 
-/// How many lines a listing has that is told whole.
+/// How many lines a listing has that is shown whole.
 const SHORT: usize = 16;
 
-/// The listing of a report, with up to so many places that aren't in DER where not all lines are told.
+/// The listing of a report, with up to so many places that aren't in DER where not all lines are shown.
 pub(crate) fn push_listing(
     alloc: Global,
     text: &mut String,
@@ -42,8 +42,8 @@ pub(crate) fn push_listing(
 fn layout_of(report: &Report, lines: &[Line]) -> Layout
     ensures { result ≡ layout_of report.now lines.now }
 {
-    let fault = match &report.blame {
-        Some(blame) => blame.line,
+    let fault = match &report.diagnosis {
+        Some(diagnosis) => diagnosis.line,
         None => None,
     };
     Layout {
@@ -69,9 +69,9 @@ fn header_columns(lines: &[Line]) -> u64
 {
     let mut widest = 0;
     let mut left = lines;
-    while let [line, behind @ ..] = left {
+    while let [line, rest @ ..] = left {
         widest = widest.max(header_width(line));
-        left = behind;
+        left = rest;
     }
     widest
 }
@@ -122,7 +122,7 @@ fn push_causes(
 }
 
 /// The first lines, those that the fault is in, and the last ones up to it; all, where they are few. Where no line is
-/// at fault it is the last one that is told so.
+/// at fault it is the last one that is shown so.
 #[tactic(auto, unfolding(crate::specs::Listings::some_listing))]
 fn push_some(
     alloc: Global,
@@ -144,7 +144,7 @@ fn push_some(
     push_listed(alloc, text, layout, lines, numbers, true)
 }
 
-/// The lines of these numbers, of which the first one stands last, and how many lines are left out between them.
+/// The lines of these numbers, of which the first one comes last, and how many lines are left out between them.
 fn push_listed(
     alloc: Global,
     text: &mut String,
@@ -206,7 +206,7 @@ fn push_gap(
     text.push_str(" left out; --all has them)\n")
 }
 
-/// How many places that aren't in DER aren't told.
+/// How many places that aren't in DER aren't shown.
 #[tactic(auto, unfolding(crate::specs::Listings::others_said))]
 fn push_others(text: &mut String, others: u64) -> Result<(), AllocError>
     ensures { OnOk result (string_bytes text.new ≡ string_bytes text.old ++ others_said others) }

@@ -1,14 +1,14 @@
 //! The parts of a report around its listing.
 ghost use Rattle.std.specs.Prelude.{◌≡◌, ◌++◌, OnOk, flat_map, string_bytes};
-ghost use Rattle.reports.specs.Reports.{answer_line, head_line, inside_said, note_line, note_lines, place_said, told_lines, told_of};
+ghost use Rattle.reports.specs.Reports.{answer_line, answer_lines, head_line, inside_said, note_line, note_lines, place_said, refused_lines};
 
 use crate::field::field_text;
 use crate::hints::{do_text, likely_text, note_text};
-use crate::paths::path;
-use crate::picks::way_to;
+use crate::paths::path_text;
+use crate::picks::path_to_line;
 use crate::report::{Answer, Note, Report};
 use crate::text::push_number;
-use crate::text_wrap::push_told;
+use crate::text_wrap::push_labelled;
 use crate::words::{due_text, found_text, push_size};
 use std::alloc::{AllocError, Global};
 use tlv_core::reason::Reason;
@@ -69,13 +69,13 @@ pub fn push_reason(text: &mut String, at: u64, why: Reason) -> Result<(), AllocE
 }
 
 /// What is said of a document that is refused, or isn't in DER.
-pub(crate) fn push_told_lines(
+pub(crate) fn push_answer_lines(
     alloc: Global,
     text: &mut String,
     report: &Report,
 ) -> Result<(), AllocError>
     ensures { OnOk result (string_bytes text.new ≡ string_bytes text.old
-        ++ told_of report.now.answer report.now) }
+        ++ answer_lines report.now.answer report.now) }
 {
     match report.answer {
         Answer::Der => Ok(()),
@@ -83,10 +83,10 @@ pub(crate) fn push_told_lines(
     }
 }
 
-#[tactic(auto, unfolding(crate::specs::Reports::told_lines))]
+#[tactic(auto, unfolding(crate::specs::Reports::refused_lines))]
 fn push_said(alloc: Global, text: &mut String, report: &Report) -> Result<(), AllocError>
     ensures { OnOk result (string_bytes text.new ≡ string_bytes text.old
-        ++ told_lines report.now) }
+        ++ refused_lines report.now) }
 {
     let field = field_text(alloc, report)?;
     let due = due_text(alloc, report)?;
@@ -94,14 +94,14 @@ fn push_said(alloc: Global, text: &mut String, report: &Report) -> Result<(), Al
     let likely = likely_text(alloc, report)?;
     let act = do_text(alloc, report)?;
     text.push_str("\n")?;
-    push_told(text, "field   ", field.as_str())?;
-    push_told(text, "due     ", due.as_str())?;
-    push_told(text, "found   ", found.as_str())?;
-    push_told(text, "likely  ", likely.as_str())?;
-    push_told(text, "do      ", act.as_str())
+    push_labelled(text, "field   ", field.as_str())?;
+    push_labelled(text, "due     ", due.as_str())?;
+    push_labelled(text, "found   ", found.as_str())?;
+    push_labelled(text, "likely  ", likely.as_str())?;
+    push_labelled(text, "do      ", act.as_str())
 }
 
-/// The notes, behind an empty line where there are some.
+/// The notes, after an empty line where there are some.
 #[tactic(auto, unfolding(crate::specs::Reports::note_lines))]
 pub(crate) fn push_notes(
     alloc: Global,
@@ -129,9 +129,9 @@ fn push_each_note(
         ++ flat_map (note_line report.now) notes.now) }
 {
     let mut left = notes;
-    while let [note, behind @ ..] = left {
+    while let [note, rest @ ..] = left {
         push_note(alloc, text, report, *note)?;
-        left = behind;
+        left = rest;
     }
     Ok(())
 }
@@ -147,10 +147,10 @@ fn push_note(
     ensures { OnOk result (string_bytes text.new ≡ string_bytes text.old
         ++ note_line report.now note) }
 {
-    let way = way_to(alloc, &report.lines, note.line)?;
-    let mut said = path(alloc, report.kind.type_name, &way)?;
+    let path = path_to_line(alloc, &report.lines, note.line)?;
+    let mut said = path_text(alloc, report.kind.type_name, &path)?;
     said.push_str(": ")?;
     let remark = note_text(alloc, note.remark)?;
     said.push_str(remark.as_str())?;
-    push_told(text, "note    ", said.as_str())
+    push_labelled(text, "note    ", said.as_str())
 }

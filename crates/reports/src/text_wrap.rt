@@ -1,17 +1,17 @@
-//! Labelled words, wrapped at 100 columns behind an indent of 8.
+//! Labelled words, wrapped at 100 columns after an indent of 8.
 ghost use Rattle.std.specs.Prelude.{◌≡◌, ◌++◌, OnOk, string_bytes};
-ghost use Rattle.reports.specs.Wraps.{ascii, told_line, word_length, wrapped};
+ghost use Rattle.reports.specs.Wraps.{ascii, labelled_line, word_length, wrapped};
 
 use std::alloc::AllocError;
 
 /// How many columns the words have.
 const COLUMNS: usize = 92;
 
-/// A label of 8 columns, and the words behind it; nothing where there are none.
-#[tactic(auto, unfolding(crate::specs::Wraps::told_line))]
-pub(crate) fn push_told(text: &mut String, label: &str, words: &str) -> Result<(), AllocError>
+/// A label of 8 columns, and the words after it; nothing where there are none.
+#[tactic(auto, unfolding(crate::specs::Wraps::labelled_line))]
+pub(crate) fn push_labelled(text: &mut String, label: &str, words: &str) -> Result<(), AllocError>
     ensures { OnOk result (string_bytes text.new ≡ string_bytes text.old
-        ++ told_line label.now words.now) }
+        ++ labelled_line label.now words.now) }
 {
     if words.is_empty() {
         return Ok(());
@@ -28,31 +28,31 @@ fn push_wrapped(text: &mut String, words: &[u8]) -> Result<(), AllocError>
 {
     let mut room = COLUMNS;
     let mut left = words;
-    while let [octet, behind @ ..] = left {
-        if *octet == b' ' && room <= word_length(behind) {
+    while let [octet, rest @ ..] = left {
+        if *octet == b' ' && room <= word_length(rest) {
             text.push_str("\n        ")?;
             room = COLUMNS;
         } else {
             push_ascii(text, *octet)?;
             room = room.saturating_sub(1);
         }
-        left = behind;
+        left = rest;
     }
     Ok(())
 }
 
-/// How many octets stand before the first blank.
+/// How many octets come before the first blank.
 fn word_length(octets: &[u8]) -> usize
     ensures { result ≡ word_length octets.now }
 {
     let mut length = 0;
     let mut left = octets;
-    while let [octet, behind @ ..] = left {
+    while let [octet, rest @ ..] = left {
         if *octet == b' ' {
             return length;
         }
         length += 1;
-        left = behind;
+        left = rest;
     }
     length
 }

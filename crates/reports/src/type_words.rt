@@ -122,7 +122,7 @@ fn push_field(text: &mut String, name: &str, shape: &Shape) -> Result<(), AllocE
     text.push_str(")")
 }
 
-/// The fields one of which may stand first.
+/// The fields one of which may come first.
 pub(crate) fn push_fields(text: &mut String, fields: &Fields) -> Result<(), AllocError>
     ensures { OnOk result (string_bytes text.new ≡ string_bytes text.old
         ++ fields_said fields.now) }
@@ -130,10 +130,10 @@ pub(crate) fn push_fields(text: &mut String, fields: &Fields) -> Result<(), Allo
     match fields {
         Fields::End => text.push_str("nothing more"),
         Fields::Required(name, shape, _) => push_field(text, name, shape),
-        Fields::Optional(name, shape, behind) => {
+        Fields::Optional(name, shape, after) => {
             push_field(text, name, shape)?;
             text.push_str(" or ")?;
-            push_fields(text, behind)
+            push_fields(text, after)
         }
     }
 }

@@ -1,11 +1,11 @@
 //! What is said of a document that is refused, of what isn't in DER, and of what other standards forbid. Where nothing
 //! is said a text is empty.
 ghost use Rattle.std.specs.Prelude.{◌≡◌, ◌++◌, IfOk, OnOk, string_bytes};
-ghost use Rattle.reports.specs.Words.{blamed_said, container_said, due_of, due_said, due_type_said, element_said, ends_before, found_of, found_said, header_said, joined, length_said, more_of, more_said, more_words, off_by, passed_said, placed, size_of, size_said, sized, tells_size, would_end};
+ghost use Rattle.reports.specs.Words.{container_said, diagnosis_said, due_of, due_said, due_type_said, element_said, ends_before, found_of, found_said, header_said, joined, length_said, more_of, more_said, more_words, off_by, passed_said, placed, says_size, size_of, size_said, sized, would_end};
 
-use crate::paths::path;
+use crate::paths::path_text;
 use crate::reason_due::reason_due;
-use crate::report::{Answer, Blame, Due, Found, Length, Report, ToldContainer};
+use crate::report::{Answer, Diagnosis, Due, FaultContainer, Found, Length, Report};
 use crate::text::{push_number, push_sum};
 use crate::type_words::{push_fields, push_shape, push_tag};
 use std::alloc::{AllocError, Global};
@@ -42,28 +42,33 @@ pub(crate) fn due_text(alloc: Global, report: &Report) -> Result<String, AllocEr
 {
     let mut text = String::new(alloc);
     if let Answer::Refused(fault) = report.answer
-        && let Some(blame) = &report.blame
+        && let Some(diagnosis) = &report.diagnosis
     {
-        push_due(&mut text, report.kind.word, fault, blame)?;
+        push_due(&mut text, report.kind.word, fault, diagnosis)?;
     }
     Ok(text)
 }
 
 /// What the reason alone asks for; else a type.
 #[tactic(auto, unfolding(crate::specs::Words::due_of))]
-fn push_due(text: &mut String, kind: &str, fault: Fault, blame: &Blame) -> Result<(), AllocError>
+fn push_due(
+    text: &mut String,
+    kind: &str,
+    fault: Fault,
+    diagnosis: &Diagnosis,
+) -> Result<(), AllocError>
     ensures { OnOk result (string_bytes text.new ≡ string_bytes text.old
-        ++ due_of kind.now fault blame.now) }
+        ++ due_of kind.now fault diagnosis.now) }
 {
     let words = reason_due(kind, fault);
     if words.is_empty() {
-        push_due_type(text, blame.due)
+        push_due_type(text, diagnosis.due)
     } else {
         text.push_str(words)
     }
 }
 
-/// The types that may stand there.
+/// The types that may be there.
 fn push_due_type(text: &mut String, due: Due) -> Result<(), AllocError>
     ensures { OnOk result (string_bytes text.new ≡ string_bytes text.old ++ due_type_said due) }
 {
@@ -74,40 +79,45 @@ fn push_due_type(text: &mut String, due: Due) -> Result<(), AllocError>
     }
 }
 
-/// What stands there, and whether the file is as long as it says.
+/// What is there, and whether the file is as long as it says.
 pub(crate) fn found_text(alloc: Global, report: &Report) -> Result<String, AllocError>
     ensures { IfOk result (λ text. string_bytes text ≡ found_said report.now) }
 {
-    let element = blamed_text(alloc, report)?;
+    let element = diagnosis_text(alloc, report)?;
     let more = more_text(alloc, report)?;
     let size = size_text(alloc, report)?;
-    let told = join(element, more)?;
-    join(told, size)
+    let first_two = join(element, more)?;
+    join(first_two, size)
 }
 
-/// What stands there.
-fn blamed_text(alloc: Global, report: &Report) -> Result<String, AllocError>
-    ensures { IfOk result (λ text. string_bytes text ≡ blamed_said report.now) }
+/// What is there.
+fn diagnosis_text(alloc: Global, report: &Report) -> Result<String, AllocError>
+    ensures { IfOk result (λ text. string_bytes text ≡ diagnosis_said report.now) }
 {
     let mut text = String::new(alloc);
-    if let Some(blame) = &report.blame {
-        push_found(alloc, &mut text, report.kind.type_name, blame)?;
+    if let Some(diagnosis) = &report.diagnosis {
+        push_found(alloc, &mut text, report.kind.type_name, diagnosis)?;
     }
     Ok(text)
 }
 
-/// The element that stands there; else the container that ends there.
+/// The element that is there; else the container that ends there.
 #[tactic(auto, unfolding(crate::specs::Words::found_of))]
-fn push_found(alloc: Global, text: &mut String, root: &str, blame: &Blame) -> Result<(), AllocError>
+fn push_found(
+    alloc: Global,
+    text: &mut String,
+    root: &str,
+    diagnosis: &Diagnosis,
+) -> Result<(), AllocError>
     ensures { OnOk result (string_bytes text.new ≡ string_bytes text.old
-        ++ found_of root.now blame.now) }
+        ++ found_of root.now diagnosis.now) }
 {
-    match blame.found {
+    match diagnosis.found {
         Some(found) => {
             push_header(text, found)?;
-            push_element(alloc, text, root, blame)
+            push_element(alloc, text, root, diagnosis)
         }
-        None => push_container(alloc, text, root, blame),
+        None => push_container(alloc, text, root, diagnosis),
     }
 }
 
@@ -142,15 +152,15 @@ fn push_element(
     alloc: Global,
     text: &mut String,
     root: &str,
-    blame: &Blame,
+    diagnosis: &Diagnosis,
 ) -> Result<(), AllocError>
     ensures { OnOk result (string_bytes text.new ≡ string_bytes text.old
-        ++ element_said root.now blame.now) }
+        ++ element_said root.now diagnosis.now) }
 {
-    let Some(over) = blame.over else {
+    let Some(over) = diagnosis.over else {
         return Ok(());
     };
-    match &blame.container {
+    match &diagnosis.container {
         Some(container) => push_passed(alloc, text, root, container, over),
         None => {
             text.push_str(": ")?;
@@ -166,7 +176,7 @@ fn push_passed(
     alloc: Global,
     text: &mut String,
     root: &str,
-    container: &ToldContainer,
+    container: &FaultContainer,
     over: u64,
 ) -> Result<(), AllocError>
     ensures { OnOk result (string_bytes text.new ≡ string_bytes text.old
@@ -176,7 +186,7 @@ fn push_passed(
         return Ok(());
     };
     push_would_end(text, end, over)?;
-    push_way(alloc, text, root, container)?;
+    push_container_path(alloc, text, root, container)?;
     push_ends(text, end, over)
 }
 
@@ -206,17 +216,17 @@ fn push_ends(text: &mut String, end: u64, over: u64) -> Result<(), AllocError>
 
 /// A container by its path and its place.
 #[tactic(auto, unfolding(crate::specs::Words::placed))]
-fn push_way(
+fn push_container_path(
     alloc: Global,
     text: &mut String,
     root: &str,
-    container: &ToldContainer,
+    container: &FaultContainer,
 ) -> Result<(), AllocError>
     ensures { OnOk result (string_bytes text.new ≡ string_bytes text.old
         ++ placed root.now container.now) }
 {
-    let path = path(alloc, root, &container.way)?;
-    text.push_str(path.as_str())?;
+    let path_text = path_text(alloc, root, &container.path)?;
+    text.push_str(path_text.as_str())?;
     text.push_str(" at ")?;
     push_number(text, container.at)
 }
@@ -227,15 +237,15 @@ fn push_container(
     alloc: Global,
     text: &mut String,
     root: &str,
-    blame: &Blame,
+    diagnosis: &Diagnosis,
 ) -> Result<(), AllocError>
     ensures { OnOk result (string_bytes text.new ≡ string_bytes text.old
-        ++ container_said root.now blame.now) }
+        ++ container_said root.now diagnosis.now) }
 {
-    let Some(container) = &blame.container else {
+    let Some(container) = &diagnosis.container else {
         return Ok(());
     };
-    push_way(alloc, text, root, container)?;
+    push_container_path(alloc, text, root, container)?;
     text.push_str(" ends")?;
     let Some(end) = container.end else {
         return Ok(());
@@ -250,8 +260,8 @@ fn more_text(alloc: Global, report: &Report) -> Result<String, AllocError>
 {
     let mut text = String::new(alloc);
     if let Answer::Refused(fault) = report.answer
-        && let Some(blame) = &report.blame
-        && let Some(more) = blame.more
+        && let Some(diagnosis) = &report.diagnosis
+        && let Some(more) = diagnosis.more
     {
         push_more(
             &mut text,
@@ -263,7 +273,7 @@ fn more_text(alloc: Global, report: &Report) -> Result<String, AllocError>
     Ok(text)
 }
 
-/// So many octets behind what is inside `privateKey`, or behind a document whose length doesn't say where it ends.
+/// So many octets after what is inside `privateKey`, or after a document whose length doesn't say where it ends.
 #[tactic(auto, unfolding(crate::specs::Words::more_of))]
 fn push_more(
     text: &mut String,
@@ -299,7 +309,7 @@ fn size_text(alloc: Global, report: &Report) -> Result<String, AllocError>
     let mut text = String::new(alloc);
     if let Answer::Refused(fault) = report.answer
         && let Some(announced) = report.announced
-        && tells_size(fault)
+        && says_size(fault)
     {
         push_sizes(&mut text, report.octets, announced)?;
     }
@@ -307,8 +317,8 @@ fn size_text(alloc: Global, report: &Report) -> Result<String, AllocError>
 }
 
 /// Whether the outermost length says something of a document that is refused so.
-fn tells_size(fault: Fault) -> bool
-    ensures { result ≡ tells_size fault }
+fn says_size(fault: Fault) -> bool
+    ensures { result ≡ says_size fault }
 {
     match fault.why {
         Reason::TooLong => false,

@@ -9,4 +9,5 @@ returns c =
     let src = c.args.src.now in
     checked c.place_of.result (IsPlace c.args.kind limits src)
     (KindRefused c.args.kind limits src)
-    _ _ c.place_of.ensures.place c.place_of.ensures.refused c.tell.ensures.checked c.tell.ensures.refused
+    _ _ c.place_of.ensures.place c.place_of.ensures.refused c.place_outcome.ensures.checked
+    c.place_outcome.ensures.refused

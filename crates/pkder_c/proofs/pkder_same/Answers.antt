@@ -10,4 +10,4 @@ returns c =
     let second = c.args.second.now in
     compared c.same_of.result (IsSame c.args.kind limits first second)
     (PairRefused c.args.kind limits first second)
-    _ c.same_of.ensures.same c.same_of.ensures.refused c.tell_pair.ensures.compared c.tell_pair.ensures.refused
+    _ c.same_of.ensures.same c.same_of.ensures.refused c.pair_outcome.ensures.compared c.pair_outcome.ensures.refused

@@ -4,13 +4,13 @@ use Rattle.ber_outline.specs.Announced.{announced}
 use Rattle.ber_outline.proofs.Numbers.{header_longer}
 use Rattle.ber_outline.proofs.next.header_at.Goals as goal
 
-pub overflow_sub-behind : goal.overflow_sub-behind
-overflow_sub-behind c =
+pub overflow_sub-after : goal.overflow_sub-after
+overflow_sub-after c =
     let size = c.header_size.ensures c.args.constructed ∙ header_longer c.args.tag c.args.constructed in
     omega (arith, size)
 
-pub overflow_add-behind : goal.overflow_add-behind
-overflow_add-behind c =
+pub overflow_add-after : goal.overflow_add-after
+overflow_add-after c =
     let size = c.header_size.ensures c.args.constructed ∙ header_longer c.args.tag c.args.constructed in
     omega (arith, size, c.requires)
 
@@ -22,7 +22,7 @@ announced_length-requires c =
 pub returns : goal.returns
 returns c =
     let size = c.header_size.ensures c.args.constructed ∙ header_longer c.args.tag c.args.constructed in
-    let behind : c.args.at + (c.header_size.result - 1)
+    let after : c.args.at + (c.header_size.result - 1)
     ≡ c.args.at + length (identifier c.args.tag c.args.constructed) = omega (arith, size) in
     ap (λ a. record {
       at = c.args.at;
@@ -30,4 +30,4 @@ returns c =
       constructed = c.args.constructed;
       depth = c.args.depth;
       announced = a;
-    }) (c.announced_length.ensures ∙ ap (λ k. announced k (drop k c.args.document.now)) behind)
+    }) (c.announced_length.ensures ∙ ap (λ k. announced k (drop k c.args.document.now)) after)

@@ -3,7 +3,7 @@ use Rattle.tlv_core.specs.Identifier.{identifier}
 use Rattle.ber_pull.specs.Standing.{after_next}
 use Rattle.ber_outline.specs.Steps.{Leads, StopsAt}
 use Rattle.ber_outline.specs.declared.event.Event.TheVariants.{Begin, End, Primitive}
-use Rattle.ber_outline.proofs.Steps.{begin_leads, behind_within, element_said, end_leads, end_said, enter_errs, header_is, next_errs, place_is, primitive_errs, primitive_leads, still_some}
+use Rattle.ber_outline.proofs.Steps.{after_within, begin_leads, element_said, end_leads, end_said, enter_errs, header_is, next_errs, place_is, primitive_errs, primitive_leads, still_some}
 use Rattle.ber_outline.proofs.next.next_event.Goals as goal
 
 pub leave-requires : goal.leave-requires
@@ -49,7 +49,7 @@ header_at-header-requires c =
     let at = place_is s c.at-at.result none c.at-at.ensures.value in
     let mid = c.in-Ok-Some.ensures.stands none ∙ ap (λ z. after_next m.state.taken z s) c.in-Ok-Some.field-0-is in
     subst (λ p. p + length (identifier t.0 t.1) ≤ length c.args.document.now) (sym at)
-    (behind_within c.args.document.now s c.args.pull.now.src.now.now r t.0 t.1 m.state m.src.now.now
+    (after_within c.args.document.now s c.args.pull.now.src.now.now r t.0 t.1 m.state m.src.now.now
     (element_said s t.0 t.1 c.in-Ok-Some.field-0 _ _ _ none c.in-Ok-Some.field-0-is
     (c.in-Ok-Some.ensures.reads r.reading.fine)) mid (c.in-Ok-Some.ensures.advances none (search rules)))
 

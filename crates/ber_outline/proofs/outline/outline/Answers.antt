@@ -1,7 +1,7 @@
 use Rattle.std.proofs.Common.{◌≡◌, ◌∙◌, None, ap, length, subst, sym}
 use Rattle.ber_outline.specs.Outlines.{IsOutline}
-use Rattle.ber_outline.specs.Steps.{StopsAt, open_behind}
-use Rattle.ber_outline.proofs.Walks.{Went, went_all, went_more, went_stops}
+use Rattle.ber_outline.specs.Steps.{StopsAt, open_after}
+use Rattle.ber_outline.proofs.Progress.{Went, went_all, went_more, went_stops}
 use Rattle.ber_outline.proofs.outline.outline.Goals as goal
 
 pub returns-in-Err-Fault-default : goal.returns-in-Err-Fault-default
@@ -16,9 +16,9 @@ returns-in-Err-Fault-default c =
 pub returns-then-depth-eq0 : goal.returns-then-depth-eq0
 returns-then-depth-eq0 c =
     let leads = c.in-Ok.ensures in
-    let depth : length c.next_event.new.pull.state.containers ≡ c.depth_behind-depth.result =
+    let depth : length c.next_event.new.pull.state.containers ≡ c.depth_after-depth.result =
     leads.depth
-    ∙ (ap (open_behind c.in-Ok.event) (sym c.loop-event.invariant.depth) ∙ sym c.depth_behind-depth.ensures) in
+    ∙ (ap (open_after c.in-Ok.event) (sym c.loop-event.invariant.depth) ∙ sym c.depth_after-depth.ensures) in
     subst (λ events. IsOutline c.args.limits c.args.document.now events None) (sym c.in-Ok-push.ensures.items)
     (went_all c.args.limits c.args.document.now c.loop-event.events.items c.loop-event.pull.state
     c.loop-event.pull.src.now.now c.loop-event.invariant.went c.in-Ok.event c.next_event.new.pull.state
@@ -27,9 +27,9 @@ returns-then-depth-eq0 c =
 pub loop-event-preserved : goal.loop-event-preserved
 loop-event-preserved c =
     let leads = c.in-Ok.ensures in
-    let depth : length c.next_event.new.pull.state.containers ≡ c.depth_behind-depth.result =
+    let depth : length c.next_event.new.pull.state.containers ≡ c.depth_after-depth.result =
     leads.depth
-    ∙ (ap (open_behind c.in-Ok.event) (sym c.loop-event.invariant.depth) ∙ sym c.depth_behind-depth.ensures) in
+    ∙ (ap (open_after c.in-Ok.event) (sym c.loop-event.invariant.depth) ∙ sym c.depth_after-depth.ensures) in
     record {
       went = subst (λ events. Went c.args.limits c.args.document.now events c.next_event.new.pull.state
           c.next_event.new.pull.src.now.now) (sym c.in-Ok-push.ensures.items)

@@ -1,5 +1,5 @@
 use Rattle.std.proofs.Common.{◌≡◌, ◌*◌, ◌+◌, ◌-◌, length}
-use Rattle.ber_outline.proofs.Walks.{Went}
+use Rattle.ber_outline.proofs.Progress.{Went}
 use Rattle.ber_outline.proofs.outline.outline.Given as goal
 
 abbrev pub invariant-loop-event : goal.invariant-loop-event

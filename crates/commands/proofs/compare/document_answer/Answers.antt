@@ -11,7 +11,8 @@ returns c = (
   c.in_ok-text.ensures,
   subst
       (λ due. IsNote due valued c.args.limits c.args.kind c.args.names.first.now
-      c.args.names.second.now c.args.documents.first.now c.args.documents.second.now (string_bytes c.in_ok-note.note)) c.has_note-is_due.ensures
+      c.args.names.second.now c.args.documents.first.now c.args.documents.second.now (string_bytes c.in_ok-note.note))
+      c.has_note-is_due.ensures
       c.in_ok-note.ensures,
   c.sameness_status.ensures,
   c.in_ok-push_str.ensures.bytes ∙ ap (λ z. string_bytes c.in_ok-text.text ++ z) c.as_str.ensures.value,

@@ -16,7 +16,7 @@ loop-init g c =
       went = (
         [],
         refl,
-        begins valued (g.O.Opener.told c.args.opener.now) (g.O.Opener.refuses c.args.opener.now)
+        begins valued (g.O.Opener.known c.args.opener.now) (g.O.Opener.refuses c.args.opener.now)
             (IsLeft g.O.Document.Source.has_failed g.O.Document.Source.remaining) c.args.task.now
             list contents (no_names list) (Appends-nil contents),
       );
@@ -26,26 +26,26 @@ loop-init g c =
 pub next_file-requires : goal.next_file-requires
 next_file-requires g c = record { writable = c.loop.invariant.live }
 
-pub returns-in-Err-clause-told : goal.returns-in-Err-clause-told
-returns-in-Err-clause-told g c =
+pub returns-in-Err-clause-known : goal.returns-in-Err-clause-known
+returns-in-Err-clause-known g c =
     let went = c.loop.invariant.went in
-    c.in-Err.ensures.told went.0 (g.N.Names.left c.args.names.now) (g.W.Target.contents c.args.dst.now) went.2
+    c.in-Err.ensures.known went.0 (g.N.Names.left c.args.names.now) (g.W.Target.contents c.args.dst.now) went.2
 
 pub loop-preserved : goal.loop-preserved
 loop-preserved g c =
     let went = c.loop.invariant.went in
     let further =
-    c.in-Ok.ensures.told went.0 (g.N.Names.left c.args.names.now) (g.W.Target.contents c.args.dst.now) went.2 in
+    c.in-Ok.ensures.known went.0 (g.N.Names.left c.args.names.now) (g.W.Target.contents c.args.dst.now) went.2 in
     record {
       went = (further.0, omega (arith, further.1, went.1), further.2);
       live = c.in-Ok.ensures.failed;
     }
 
-pub returns-clause-told : goal.returns-clause-told
-returns-clause-told g c =
+pub returns-clause-known : goal.returns-clause-known
+returns-clause-known g c =
     let went = c.loop.invariant.went in
     let stops = HasStopped g.N.Names.left g.N.Names.stops c.loop.names in
-    no_name valued (g.O.Opener.told c.args.opener.now) (g.O.Opener.refuses c.args.opener.now)
+    no_name valued (g.O.Opener.known c.args.opener.now) (g.O.Opener.refuses c.args.opener.now)
     (IsLeft g.O.Document.Source.has_failed g.O.Document.Source.remaining) c.args.task.now
     (g.N.Names.left c.args.names.now) (g.N.Names.left c.loop.names) stops
     (g.W.Target.contents c.args.dst.now) (g.W.Target.contents c.loop.dst)

@@ -8,10 +8,11 @@ use Rattle.commands.proofs.judge.judge_all.Goals as goal
 
 pub returns-in_err-worst : goal.returns-in_err-worst
 returns-in_err-worst g c =
-    let see = seen g.R.Source.remaining g.W.Target.contents g.W.Target.has_failed g.W.Flush.is_flushed g.E.Target.contents
+    let see =
+    seen g.R.Source.remaining g.W.Target.contents g.W.Target.has_failed g.W.Flush.is_flushed g.E.Target.contents
     g.E.Target.has_failed in
     let Step = Judges valued (sources_of g.R.Source.has_failed g.R.Source.remaining g.O.Document.Source.has_failed
-    g.O.Document.Source.remaining (g.O.Opener.told c.args.opener.now) (g.O.Opener.refuses c.args.opener.now))
+    g.O.Document.Source.remaining (g.O.Opener.known c.args.opener.now) (g.O.Opener.refuses c.args.opener.now))
     c.args.task.now in
     let names = map (λ it. it.now) c.args.names.now in
     let listed = option_map (λ it. it.now) c.args.list in
@@ -23,10 +24,11 @@ returns-in_err-worst g c =
 
 pub returns-in_err-last : goal.returns-in_err-last
 returns-in_err-last g c =
-    let see = seen g.R.Source.remaining g.W.Target.contents g.W.Target.has_failed g.W.Flush.is_flushed g.E.Target.contents
+    let see =
+    seen g.R.Source.remaining g.W.Target.contents g.W.Target.has_failed g.W.Flush.is_flushed g.E.Target.contents
     g.E.Target.has_failed in
     let Step = Judges valued (sources_of g.R.Source.has_failed g.R.Source.remaining g.O.Document.Source.has_failed
-    g.O.Document.Source.remaining (g.O.Opener.told c.args.opener.now) (g.O.Opener.refuses c.args.opener.now))
+    g.O.Document.Source.remaining (g.O.Opener.known c.args.opener.now) (g.O.Opener.refuses c.args.opener.now))
     c.args.task.now in
     let names = map (λ it. it.now) c.args.names.now in
     let listed = option_map (λ it. it.now) c.args.list in
@@ -41,10 +43,11 @@ returns-in_err-last g c =
 
 pub returns : goal.returns
 returns g c =
-    let see = seen g.R.Source.remaining g.W.Target.contents g.W.Target.has_failed g.W.Flush.is_flushed g.E.Target.contents
+    let see =
+    seen g.R.Source.remaining g.W.Target.contents g.W.Target.has_failed g.W.Flush.is_flushed g.E.Target.contents
     g.E.Target.has_failed in
     let Step = Judges valued (sources_of g.R.Source.has_failed g.R.Source.remaining g.O.Document.Source.has_failed
-    g.O.Document.Source.remaining (g.O.Opener.told c.args.opener.now) (g.O.Opener.refuses c.args.opener.now))
+    g.O.Document.Source.remaining (g.O.Opener.known c.args.opener.now) (g.O.Opener.refuses c.args.opener.now))
     c.args.task.now in
     let names = map (λ it. it.now) c.args.names.now in
     let listed = option_map (λ it. it.now) c.args.list in

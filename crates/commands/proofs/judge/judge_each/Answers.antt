@@ -7,10 +7,11 @@ use Rattle.commands.proofs.judge.judge_each.Goals as goal
 
 pub loop-name-preserved : goal.loop-name-preserved
 loop-name-preserved g c =
-    let see = seen g.R.Source.remaining g.W.Target.contents g.W.Target.has_failed g.W.Flush.is_flushed g.E.Target.contents
+    let see =
+    seen g.R.Source.remaining g.W.Target.contents g.W.Target.has_failed g.W.Flush.is_flushed g.E.Target.contents
     g.E.Target.has_failed in
     let Step = Judges valued (sources_of g.R.Source.has_failed g.R.Source.remaining g.O.Document.Source.has_failed
-    g.O.Document.Source.remaining (g.O.Opener.told c.args.opener.now) (g.O.Opener.refuses c.args.opener.now))
+    g.O.Document.Source.remaining (g.O.Opener.known c.args.opener.now) (g.O.Opener.refuses c.args.opener.now))
     c.args.task.now in
     let names = c.args.names.now in
     let index = c.loop-name.name-index in
@@ -32,10 +33,11 @@ loop-name-preserved g c =
 
 pub returns-in_err-judge_one-clause-goes : goal.returns-in_err-judge_one-clause-goes
 returns-in_err-judge_one-clause-goes g c =
-    let see = seen g.R.Source.remaining g.W.Target.contents g.W.Target.has_failed g.W.Flush.is_flushed g.E.Target.contents
+    let see =
+    seen g.R.Source.remaining g.W.Target.contents g.W.Target.has_failed g.W.Flush.is_flushed g.E.Target.contents
     g.E.Target.has_failed in
     let Step = Judges valued (sources_of g.R.Source.has_failed g.R.Source.remaining g.O.Document.Source.has_failed
-    g.O.Document.Source.remaining (g.O.Opener.told c.args.opener.now) (g.O.Opener.refuses c.args.opener.now))
+    g.O.Document.Source.remaining (g.O.Opener.known c.args.opener.now) (g.O.Opener.refuses c.args.opener.now))
     c.args.task.now in
     let names = c.args.names.now in
     let index = c.loop-name.name-index in
@@ -50,10 +52,11 @@ returns-in_err-judge_one-clause-goes g c =
 
 pub returns-clause-goes : goal.returns-clause-goes
 returns-clause-goes g c =
-    let see = seen g.R.Source.remaining g.W.Target.contents g.W.Target.has_failed g.W.Flush.is_flushed g.E.Target.contents
+    let see =
+    seen g.R.Source.remaining g.W.Target.contents g.W.Target.has_failed g.W.Flush.is_flushed g.E.Target.contents
     g.E.Target.has_failed in
     let Step = Judges valued (sources_of g.R.Source.has_failed g.R.Source.remaining g.O.Document.Source.has_failed
-    g.O.Document.Source.remaining (g.O.Opener.told c.args.opener.now) (g.O.Opener.refuses c.args.opener.now))
+    g.O.Document.Source.remaining (g.O.Opener.known c.args.opener.now) (g.O.Opener.refuses c.args.opener.now))
     c.args.task.now in
     goes_all Step (λ it. it.now) c.args.names.now c.loop-name.name-index (see c.args.standard.now)
     (see c.loop-name.standard) c.loop-name.worst c.loop-name.invariant.through c.loop-name-test.false

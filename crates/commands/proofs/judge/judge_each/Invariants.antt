@@ -4,7 +4,7 @@ use Rattle.commands.specs.Judgements.{GoesThrough, Judges, StopsAt, part_of}
 use Rattle.commands.specs.Standards.{IsReadable, Seen, seen}
 use Rattle.commands.proofs.judge.judge_each.Given as goal
 
--- What comes of the names that are left, behind what came of those before them, comes of all names.
+-- What comes of the names that are left, after what came of those before them, comes of all names.
 abbrev pub invariant-loop-name : goal.invariant-loop-name
 invariant-loop-name g l =
     let Step = Judges valued (record {
@@ -12,7 +12,7 @@ invariant-loop-name g l =
       input_remaining = g.R.Source.remaining;
       failed = g.O.Document.Source.has_failed;
       remaining = g.O.Document.Source.remaining;
-      told = g.O.Opener.told l.opener;
+      known = g.O.Opener.known l.opener;
       unopened = g.O.Opener.refuses l.opener;
     }) l.task in
     let see = seen g.R.Source.remaining g.W.Target.contents g.W.Target.has_failed g.W.Flush.is_flushed

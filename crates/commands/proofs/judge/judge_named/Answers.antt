@@ -9,10 +9,11 @@ use Rattle.commands.proofs.judge.judge_named.Goals as goal
 
 pub returns-clause-judges : goal.returns-clause-judges
 returns-clause-judges g c =
-    let see = seen g.R.Source.remaining g.W.Target.contents g.W.Target.has_failed g.W.Flush.is_flushed g.E.Target.contents
+    let see =
+    seen g.R.Source.remaining g.W.Target.contents g.W.Target.has_failed g.W.Flush.is_flushed g.E.Target.contents
     g.E.Target.has_failed in
     let sources = sources_of g.R.Source.has_failed g.R.Source.remaining g.O.Document.Source.has_failed
-    g.O.Document.Source.remaining (g.O.Opener.told c.args.opener.now) (g.O.Opener.refuses c.args.opener.now) in
+    g.O.Document.Source.remaining (g.O.Opener.known c.args.opener.now) (g.O.Opener.refuses c.args.opener.now) in
     let judged = c.judge_listed in
     named_by_words valued sources c.args.task.now (see c.args.standard.now) (see judged.new.standard) judged.result
     (map (λ name. name.now) c.args.names.now) (name_of_line c.in-Ok.no_list) c.new-2.result judged.new.names

@@ -1,5 +1,5 @@
 use Rattle.std.proofs.Common.{◌≡◌, ◌∙◌, IfOk, string_bytes, subst}
-use Rattle.commands.proofs.ToldNames.{file_of_octets, file_of_text}
+use Rattle.commands.proofs.ShownNames.{file_of_octets, file_of_text}
 use Rattle.commands.proofs.name.file_name.Goals as goal
 
 pub returns-in-Ok : goal.returns-in-Ok

@@ -18,14 +18,14 @@ loop-shown-init c =
 pub loop-shown-preserved : goal.loop-shown-preserved
 loop-shown-preserved c =
     let before = escape_rest c.loop-shown.shown-iterator in
-    let behind = escape_rest c.next.new.self in
+    let after = escape_rest c.next.new.self in
     let held = c.loop-shown.invariant in
     let steps = c.in-Some.ensures.steps in
-    let first = plain_first before behind c.in-Some.shown steps.1.0 held.plain in
+    let first = plain_first before after c.in-Some.shown steps.1.0 held.plain in
     record {
       appended =
-          goes_on (string_bytes c.loop-shown.text) (string_bytes c.push.new.self) before behind c.in-Some.shown first
+          goes_on (string_bytes c.loop-shown.text) (string_bytes c.push.new.self) before after c.in-Some.shown first
           steps.1.0 c.in_ok-push.ensures.bytes ∙ held.appended;
-      plain = plain_others before behind c.in-Some.shown steps.1.0 held.plain;
+      plain = plain_others before after c.in-Some.shown steps.1.0 held.plain;
       within = subst (λ n. n ≤ 10) (sym steps.0) held.within;
     }

@@ -2,13 +2,13 @@ use Rattle.std.proofs.Common.{◌∙◌, ap, inl, inr, refl, subst, sym}
 use Rattle.std.specs.Option.{option_map}
 use Rattle.pk_documents.proofs.DocumentValues.{valued}
 use Rattle.commands.specs.Lines.{name_of_line}
-use Rattle.commands.specs.Names.{told_name}
+use Rattle.commands.specs.Names.{shown_name}
 use Rattle.commands.specs.Openings.{why_of}
 use Rattle.commands.specs.Outcomes.{words_of}
 use Rattle.commands.specs.Standards.{seen}
 use Rattle.commands.specs.declared.files.Came.TheVariants.{Ran, Unopened}
 use Rattle.commands.specs.declared.outcome.Outcome.TheVariants.{ReadFailed}
-use Rattle.commands.proofs.Pairs.{behind_name, named_from_file, named_from_input, none_is_opened, none_is_taken}
+use Rattle.commands.proofs.Pairs.{after_name, named_from_file, named_from_input, none_is_opened, none_is_taken}
 use Rattle.commands.proofs.pair.compare_named.Goals as goal
 
 pub returns-in-Some : goal.returns-in-Some
@@ -17,7 +17,7 @@ returns-in-Some g c =
     let see = seen remaining g.W.Target.contents g.W.Target.has_failed g.W.Flush.is_flushed g.E.Target.contents
     g.E.Target.has_failed in
     let some = ap (option_map remaining) (sym c.take.ensures.value ∙ c.in-Some.is) in
-    named_from_input valued (g.O.Opener.told c.args.opener.now) (g.O.Opener.refuses c.args.opener.now)
+    named_from_input valued (g.O.Opener.known c.args.opener.now) (g.O.Opener.refuses c.args.opener.now)
     c.args.comparison.now c.args.names.first.now c.args.names.second.now (remaining c.in-Some.src)
     (option_map remaining c.take.new.self) (see c.args.standard.now) (see c.compare_with.new.standard)
     c.compare_with.result c.compare_with.ensures (sym c.is_dash.ensures ∙ c.if-is_dash.true) some
@@ -29,9 +29,10 @@ returns-in-None g c =
     let name = c.args.names.first.now in
     let input = option_map g.R.Source.remaining c.args.standard.now.input in
     let none = ap (option_map g.R.Source.remaining) (sym c.take.ensures.value ∙ c.in-None.is) in
-    let line = behind_name (name_of_line c.in-Ok.first) name (words_of (ReadFailed 0))
+    let line = after_name (name_of_line c.in-Ok.first) name (words_of (ReadFailed 0))
     (g.E.Target.contents c.args.standard.now.errors) (g.E.Target.contents c.finish_taken.new.dst)
-    (g.E.Target.has_failed c.finish_taken.new.dst) (c.in-Ok.ensures ∙ ap told_name c.as_bytes.ensures.value) c.finish_taken.ensures.line in
+    (g.E.Target.has_failed c.finish_taken.new.dst)
+    (c.in-Ok.ensures ∙ ap shown_name c.as_bytes.ensures.value) c.finish_taken.ensures.line in
     inr (inl (
       Ran (ReadFailed 0),
       none_is_taken refuses name input (sym c.is_dash.ensures ∙ c.if-is_dash.true) none,
@@ -41,15 +42,15 @@ returns-in-None g c =
 pub returns-in-Ok-open : goal.returns-in-Ok-open
 returns-in-Ok-open g c =
     let remaining = g.R.Source.remaining in
-    let told = g.O.Opener.told c.args.opener.now in
+    let known = g.O.Opener.known c.args.opener.now in
     let see = seen remaining g.W.Target.contents g.W.Target.has_failed g.W.Flush.is_flushed g.E.Target.contents
     g.E.Target.has_failed in
-    named_from_file valued told (g.O.Opener.refuses c.args.opener.now) c.args.comparison.now c.args.names.first.now
+    named_from_file valued known (g.O.Opener.refuses c.args.opener.now) c.args.comparison.now c.args.names.first.now
     c.args.names.second.now (g.O.Document.Source.remaining c.in-Ok-open.src)
     (option_map remaining c.args.standard.now.input) (see c.args.standard.now)
     (see c.compare_with-in-Ok-open.new.standard) c.compare_with-in-Ok-open.result c.compare_with-in-Ok-open.ensures
     (sym c.is_dash.ensures ∙ c.if-is_dash.false)
-    (c.in-Ok-open.ensures.opened ∙ ap told c.as_bytes-3.ensures.value) refl
+    (c.in-Ok-open.ensures.opened ∙ ap known c.as_bytes-3.ensures.value) refl
 
 pub returns-in-Err : goal.returns-in-Err
 returns-in-Err g c =
@@ -58,9 +59,10 @@ returns-in-Err g c =
     let input = option_map g.R.Source.remaining c.args.standard.now.input in
     let why = c.in-Err.why in
     let refused = subst (λ it. refuses it why) c.as_bytes-3.ensures.value c.in-Err.ensures.refused in
-    let line = behind_name (name_of_line c.in-Ok.first) name (why_of why)
+    let line = after_name (name_of_line c.in-Ok.first) name (why_of why)
     (g.E.Target.contents c.args.standard.now.errors) (g.E.Target.contents c.finish_named.new.dst)
-    (g.E.Target.has_failed c.finish_named.new.dst) (c.in-Ok.ensures ∙ ap told_name c.as_bytes.ensures.value) c.finish_named.ensures.line in
+    (g.E.Target.has_failed c.finish_named.new.dst)
+    (c.in-Ok.ensures ∙ ap shown_name c.as_bytes.ensures.value) c.finish_named.ensures.line in
     inr (inl (
       Unopened why,
       none_is_opened refuses name input why (sym c.is_dash.ensures ∙ c.if-is_dash.false) refused,

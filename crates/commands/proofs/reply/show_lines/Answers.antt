@@ -9,8 +9,15 @@ use Rattle.commands.proofs.reply.show_lines.Goals as goal
 
 pub returns-clause-replied : goal.returns-clause-replied
 returns-clause-replied g c =
-    let reads = c.in_ok-document.ensures in
-    (c.in_ok-document.document, c.in_ok-document._taken, reads.kind, reads.reads, reads.ends, refl, c.in_ok-text.ensures)
+    let reads = c.in_ok-document.ensures in (
+      c.in_ok-document.document,
+      c.in_ok-document._taken,
+      reads.kind,
+      reads.reads,
+      reads.ends,
+      refl,
+      c.in_ok-text.ensures,
+    )
 
 pub returns-in_err-text-clause-replied : goal.returns-in_err-text-clause-replied
 returns-in_err-text-clause-replied g c =

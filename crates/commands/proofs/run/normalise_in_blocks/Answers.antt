@@ -33,8 +33,10 @@ returns-in-Ok-clause-replied g c =
     (subst (λ o. RepliedTo l T c.written.result before after o out) (sym c.requires.before)
     (normalised_replies l T n.0 before after (append_known (g.W.Target.contents c.args.dst.now) []) came
     g.K.Start.before out
-    (has_failed_under c.close-count.new.self) c.close-count.result c.written.result c.written.ensures c.in-Ok.ensures.ends
-    (c.close-count.ensures.out (der n.0) (n.1.written_are, begun, c.in-Ok.ensures.failed.1)) c.in-Ok._taken c.in-Ok.count
+    (has_failed_under c.close-count.new.self)
+    c.close-count.result c.written.result c.written.ensures c.in-Ok.ensures.ends
+    (c.close-count.ensures.out (der n.0) (n.1.written_are, begun, c.in-Ok.ensures.failed.1))
+    c.in-Ok._taken c.in-Ok.count
     n.1))
 
 pub returns-in-Ok-clause-unwritten : goal.returns-in-Ok-clause-unwritten
@@ -52,7 +54,8 @@ returns-in-Ok-clause-failed g c =
     at_last (λ w. FailedBy c.written.result (g.R.Source.has_failed c.normalise_whole_document.new.src)
     (g.W.Target.has_failed w)) (target_of c.close-count.new.self) _ c.into_target.ensures.now
     (written_fails (der n.0) g.K.Start.before out c.close-count.result c.written.result outcomes.Done
-    (g.R.Source.has_failed c.normalise_whole_document.new.src) (has_failed_under c.close-count.new.self) c.written.ensures
+    (g.R.Source.has_failed c.normalise_whole_document.new.src)
+    (has_failed_under c.close-count.new.self) c.written.ensures
     tt
     (c.close-count.ensures.out (der n.0) (n.1.written_are, begun, c.in-Ok.ensures.failed.1)) c.in-Ok.ensures.failed.0)
 
@@ -131,7 +134,8 @@ returns-in-Err-Read-clause-replied g c =
 
 pub returns-in-Err-Read-clause-unwritten : goal.returns-in-Err-Read-clause-unwritten
 returns-in-Err-Read-clause-unwritten g c = λ silent.
-    at_last (λ w. w ≡ c.args.dst.now) (target_of c.normalise_whole_document.new.dst) _ c.into_target-in-Err-Read.ensures.now
+    at_last (λ w. w ≡ c.args.dst.now)
+    (target_of c.normalise_whole_document.new.dst) _ c.into_target-in-Err-Read.ensures.now
     (ap target_of (c.in-Err-Read.ensures.unwritten (subst IsRead (sym c.in-Err-Read.field-0-is) tt)))
 
 pub returns-in-Err-Read-clause-failed : goal.returns-in-Err-Read-clause-failed

@@ -22,9 +22,11 @@ returns-in-Show-true-clause-replied g c =
     let new = c.write_reply.new.dst in
     let contents = g.W.Target.contents in
     let is : actions.Show true ≡ c.args.task.now.action = cc (arm.is, arm.json-is) in
-    subst (λ action. RepliedBy valued action file kind l c.write_reply.result before after (contents old) (contents new)) is
+    subst
+    (λ action. RepliedBy valued action file kind l c.write_reply.result before after (contents old) (contents new)) is
     (reply_replies old new contents (g.W.Target.has_failed new) c.write_reply.result
-    (λ error. StopsShowing l kind error before after) (DueOfOctets l (DueOfShownReport file l kind) before after) c.show_report.result
+    (λ error. StopsShowing l kind error before after)
+    (DueOfOctets l (DueOfShownReport file l kind) before after) c.show_report.result
     c.show_report.ensures.replied c.write_reply.ensures.wrote)
 
 pub returns-in-Show-false-clause-replied : goal.returns-in-Show-false-clause-replied
@@ -39,7 +41,9 @@ returns-in-Show-false-clause-replied g c =
     let new = c.write_reply-in-Show-false.new.dst in
     let contents = g.W.Target.contents in
     let is : actions.Show false ≡ c.args.task.now.action = cc (arm.is, arm.json-is) in
-    subst (λ action. RepliedBy valued action file kind l c.write_reply-in-Show-false.result before after (contents old) (contents new)) is
+    subst (λ action.
+    RepliedBy valued action file kind l c.write_reply-in-Show-false.result before after (contents old) (contents new))
+    is
     (reply_replies old new contents (g.W.Target.has_failed new) c.write_reply-in-Show-false.result
     (λ error. Unreadable l (type_of kind) error before after) (DueOfShow valued l kind before after) c.show_lines.result
     c.show_lines.ensures.replied c.write_reply-in-Show-false.ensures.wrote)
@@ -56,7 +60,9 @@ returns-in-Check-true-default-default-clause-replied g c =
     let new = c.write_reply-in-Check-true-default-default.new.dst in
     let contents = g.W.Target.contents in
     let is : actions.Check true arm.quiet arm.places ≡ c.args.task.now.action = cc (arm.is, arm.json-is) in
-    subst (λ action. RepliedBy valued action file kind l c.write_reply-in-Check-true-default-default.result before after (contents old) (contents new)) is
+    subst (λ action.
+    RepliedBy valued action file kind l c.write_reply-in-Check-true-default-default.result before after (contents old)
+    (contents new)) is
     (reply_replies old new contents (g.W.Target.has_failed new) c.write_reply-in-Check-true-default-default.result
     (λ error. StopsTaking (l.octets + 1) error before after)
     (DueOfOctets l (DueOfReport (check_text arm.quiet arm.places file) l kind) before after) c.check_report-reply.result
@@ -74,9 +80,12 @@ returns-in-Check-false-default-default-clause-replied g c =
     let new = c.write_reply-in-Check-false-default-default.new.dst in
     let contents = g.W.Target.contents in
     let is : actions.Check false arm.quiet arm.places ≡ c.args.task.now.action = cc (arm.is, arm.json-is) in
-    subst (λ action. RepliedBy valued action file kind l c.write_reply-in-Check-false-default-default.result before after (contents old) (contents new)) is
+    subst (λ action.
+    RepliedBy valued action file kind l c.write_reply-in-Check-false-default-default.result before after (contents old)
+    (contents new)) is
     (reply_replies old new contents (g.W.Target.has_failed new) c.write_reply-in-Check-false-default-default.result
-    (λ error. Unreadable l (type_of kind) error before after) (DueOfCheck arm.quiet l (type_of kind) before after) c.check_line.result
+    (λ error. Unreadable l (type_of kind) error before after)
+    (DueOfCheck arm.quiet l (type_of kind) before after) c.check_line.result
     c.check_line.ensures.replied c.write_reply-in-Check-false-default-default.ensures.wrote)
 
 pub returns-in-Explain-clause-replied : goal.returns-in-Explain-clause-replied
@@ -91,7 +100,8 @@ returns-in-Explain-clause-replied g c =
     let new = c.write_reply-in-Explain.new.dst in
     let contents = g.W.Target.contents in
     let is : actions.Explain arm.form ≡ c.args.task.now.action = sym arm.is in
-    subst (λ action. RepliedBy valued action file kind l c.write_reply-in-Explain.result before after (contents old) (contents new)) is
+    subst (λ action.
+    RepliedBy valued action file kind l c.write_reply-in-Explain.result before after (contents old) (contents new)) is
     (reply_replies old new contents (g.W.Target.has_failed new) c.write_reply-in-Explain.result
     (λ error. StopsTaking (l.octets + 1) error before after)
     (DueOfOctets l (DueOfReport (written_text arm.form file) l kind) before after) c.explain_report.result

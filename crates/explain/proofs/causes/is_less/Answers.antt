@@ -1,5 +1,5 @@
 use Rattle.std.proofs.Common.{arith, ◌∙◌}
-use Rattle.explain.proofs.Ordered.{less_at_end, less_behind, less_here}
+use Rattle.explain.proofs.Ordered.{less_after, less_at_end, less_here}
 use Rattle.explain.proofs.causes.is_less.Goals as goal
 
 pub returns-then-one-other : goal.returns-then-one-other
@@ -10,7 +10,7 @@ returns-then-one-other c =
 
 pub loop-i-preserved : goal.loop-i-preserved
 loop-i-preserved c =
-    less_behind c.args.first.now c.args.second.now c.loop-i.i c.octet_at-one.result (omega arith) c.octet_at-one.ensures
+    less_after c.args.first.now c.args.second.now c.loop-i.i c.octet_at-one.result (omega arith) c.octet_at-one.ensures
     c.if-one-other.false
     ∙ c.loop-i.invariant
 

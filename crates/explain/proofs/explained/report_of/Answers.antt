@@ -1,16 +1,16 @@
 use Rattle.std.proofs.Common.{ap, length, refl, subst, ◌∙◌}
 use Rattle.explain.specs.FaultLines.{AddsFault}
-use Rattle.explain.specs.Faults.{IsToldIf}
+use Rattle.explain.specs.Faults.{IsDiagnosisIf}
 use Rattle.explain.specs.Insides.{HasInsides}
 use Rattle.explain.specs.Listings.{IsListed}
 use Rattle.explain.specs.Notes.{notes_by}
 use Rattle.explain.specs.Reports.{announced_end, case_by}
-use Rattle.explain.specs.Rules.{front_page}
+use Rattle.explain.specs.Rules.{front_document}
 use Rattle.explain.proofs.explained.report_of.Goals as goal
 
 pub returns : goal.returns
 returns c =
-    let front = c.args.told.front.now in
+    let front = c.args.disclosed.front.now in
     let lines = c.in_ok-lines.lines.items in
     let insides = c.in_ok-insides.insides.items in
     let elements = c.in_ok-named.named.elements.items in
@@ -24,25 +24,25 @@ returns c =
         root = c.shape_of-root.result;
         is_shape = c.shape_of-root.ensures;
         elements = elements;
-        parting = c.in_ok-named.named.parting;
+        mismatch = c.in_ok-named.named.mismatch;
         is_named = c.in_ok-named.ensures;
         insides = insides;
         has_insides = subst (λ some. HasInsides c.args.limits front some (length some) insides)
             c.as_slice.ensures.value c.in_ok-insides.ensures;
-        listed = subst (λ some. IsListed (front_page c.args.told.answer front elements) some lines)
+        listed = subst (λ some. IsListed (front_document c.args.disclosed.answer front elements) some lines)
             c.as_slice-2.ensures.value c.in_ok-lines.ensures;
       };
-      lines = subst (λ depth. AddsFault c.args.told.answer depth lines c.push_fault_line.new.lines.items)
+      lines = subst (λ depth. AddsFault c.args.disclosed.answer depth lines c.push_fault_line.new.lines.items)
           (ap length c.as_slice-3.ensures.value)
           c.in_ok-push_fault_line.ensures;
-      blame = subst
+      diagnosis = subst
           (λ some.
-          IsToldIf c.args.told.answer
-          (case_by c.args.told c.shape_of-root.result elements c.in_ok-named.named.parting some)
-          c.args.told.way.items c.in_ok-blame.blame)
-          c.as_slice-4.ensures.value c.in_ok-blame.ensures;
+          IsDiagnosisIf c.args.disclosed.answer
+          (case_by c.args.disclosed c.shape_of-root.result elements c.in_ok-named.named.mismatch some)
+          c.args.disclosed.path.items c.in_ok-diagnosis.diagnosis)
+          c.as_slice-4.ensures.value c.in_ok-diagnosis.ensures;
       announced = c.announced_end-announced.ensures ∙ ap announced_end c.as_slice-6.ensures.value;
-      looks = refl;
-      notes = c.in_ok-notes.ensures.are ∙ ap (notes_by c.args.told.answer) c.as_slice-5.ensures.value;
+      guess = refl;
+      notes = c.in_ok-notes.ensures.are ∙ ap (notes_by c.args.disclosed.answer) c.as_slice-5.ensures.value;
       few = c.in_ok-notes.ensures.few;
     }

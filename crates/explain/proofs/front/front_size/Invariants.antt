@@ -3,4 +3,4 @@ use Rattle.explain.specs.Fronts.{read_from, start}
 use Rattle.explain.proofs.front.front_size.Given as goal
 
 abbrev pub invariant-loop-i : goal.invariant-loop-i
-invariant-loop-i l = read_from l.octets l.reading (drop l.i l.elements) ≡ read_from l.octets start l.elements
+invariant-loop-i l = read_from l.octets l.state (drop l.i l.elements) ≡ read_from l.octets start l.elements

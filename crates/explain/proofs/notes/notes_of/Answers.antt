@@ -9,10 +9,10 @@ loop-i-preserved c = record {
       (few_more _ c.loop-i.i c.remark_on_repeat.result
       (few_more _ c.loop-i.i c.remark_on.result c.loop-i.invariant.few));
   are = one_line c.args.lines.now c.loop-i.i c.index-lines-i.result c.loop-i.context
-      c.context_behind-context.result c.remark_on.result c.remark_on_repeat.result c.loop-i.notes.items
+      c.context_after-context.result c.remark_on.result c.remark_on_repeat.result c.loop-i.notes.items
       c.push_note.new.notes.items _ _ c.loop-i-test.true c.index-lines-i.is
       (rw (take_rest c.args.lines.now (c.loop-i.i + 1)) at c.remark_on.ensures) c.remark_on_repeat.ensures
-      c.context_behind-context.ensures c.in_ok-push_note.ensures c.in_ok-push_note-2.ensures c.loop-i.invariant.are;
+      c.context_after-context.ensures c.in_ok-push_note.ensures c.in_ok-push_note-2.ensures c.loop-i.invariant.are;
 }
 
 pub returns-clause-are : goal.returns-clause-are

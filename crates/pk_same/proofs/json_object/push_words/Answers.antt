@@ -9,10 +9,10 @@ pub returns : goal.returns
 unfolding words_object
 returns c =
     let old = c.args.json.now in
-    let told = c.args.told.now in
-    let field = text_member (codes "field") (string_bytes told.field) in
-    let first = text_member (codes "first") (string_bytes told.first) in
-    let second = text_member (codes "second") (string_bytes told.second) in
+    let shown = c.args.shown.now in
+    let field = text_member (codes "field") (string_bytes shown.field) in
+    let first = text_member (codes "first") (string_bytes shown.first) in
+    let second = text_member (codes "second") (string_bytes shown.second) in
     let begin = begin_object ∷ [] in
     let two = further c.text.new.self c.begin_object.new.self old begin field c.in_ok-begin_object.ensures
     (c.in_ok-text.ensures

@@ -21,9 +21,12 @@ returns-in-Some c =
     let within : 1 < length words = omega (arith, c.in-len2-up.len_at_least) in
     let at : slice_get words 1 ≡ Some word = slice_get_read words (length words) 1 word refl within c.word-item.is in
     let named : Some (shape_of c.in-Some.named) ≡ command_named (string_bytes word) =
-    sym (ap (option_map shape_of) c.in-Some.is) ∙ c.in_ok-named.ensures.shape ∙ ap command_named c.as_str.ensures.value in
+    sym (ap (option_map shape_of) c.in-Some.is)
+    ∙ c.in_ok-named.ensures.shape
+    ∙ ap command_named c.as_str.ensures.value in
     let local : (fields_of c.in-Some.named).has_globals ≡ false =
-    subst (λ o. IfSome o (λ command. (fields_of command).has_globals ≡ false)) c.in-Some.is c.in_ok-named.ensures.local in
+    subst
+    (λ o. IfSome o (λ command. (fields_of command).has_globals ≡ false)) c.in-Some.is c.in_ok-named.ensures.local in
     IfOk-weaker c.subcommand.result _ _
     (λ r h. h.shape local ∙ ap (λ app. with_subcommand app (shape_of c.in-Some.named)) c.pkder.ensures
     ∙ ap program_with named ∙ program_of_word words word at)
@@ -36,6 +39,8 @@ returns-in-None c =
     let within : 1 < length words = omega (arith, c.in-len2-up.len_at_least) in
     let at : slice_get words 1 ≡ Some word = slice_get_read words (length words) 1 word refl within c.word-item.is in
     let none : None ≡ command_named (string_bytes word) =
-    sym (ap (option_map shape_of) c.in-None.is) ∙ c.in_ok-named.ensures.shape ∙ ap command_named c.as_str.ensures.value in
+    sym (ap (option_map shape_of) c.in-None.is)
+    ∙ c.in_ok-named.ensures.shape
+    ∙ ap command_named c.as_str.ensures.value in
     IfOk-weaker c.command-in-None.result _ _
     (λ r h. h ∙ ap program_with none ∙ program_of_word words word at) c.command-in-None.ensures

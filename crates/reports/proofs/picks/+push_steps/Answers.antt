@@ -5,14 +5,14 @@ use Rattle.reports.proofs.picks.+push_steps.Goals as goal
 
 pub returns-in_default : goal.returns-in_default
 returns-in_default t c =
-    let old = c.args.way.now.items in
+    let old = c.args.path.now.items in
     sym (append-nil old)
     ∙ ap (λ s. old ++ s)
     (steps_none c.args.most c.args.lines.now c.args.number c.if-most-eq0.false c.in_default.ensures)
 
 pub returns : goal.returns
 returns t c =
-    let old = c.args.way.now.items in
+    let old = c.args.path.now.items in
     let lines = c.args.lines.now in
     let line = c.in-Some.line.now in
     let before = c.steps_before-before.result in

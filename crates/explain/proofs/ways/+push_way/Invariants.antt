@@ -1,4 +1,0 @@
-use Rattle.explain.proofs.ways.+push_way.Given as goal
-
-abbrev pub decreases-push_way : goal.decreases-push_way
-decreases-push_way l = l.number
