@@ -29,7 +29,7 @@ SECONDS = {"tlv_core": 120, "x690": 10, "x690_laws": 70, "pkix_definitions": 20,
            "asn_elements": 280, "ber_outline": 60, "asn_names": 120, "reports": 300, "asn_fields": 280,
            "asn_lists": 240, "asn_open_values": 180, "asn_values": 40, "asn_documents": 120,
            "pkix_values": 460, "pkcs10": 160, "private_keys": 190, "pkcs8": 370, "pk_documents": 320,
-           "pk_show": 250, "explain": 300, "pk_same": 200, "pk_same_key": 150, "commands": 300, "pkder": 300,
+           "pk_show": 250, "explain": 300, "comparison": 330, "commands": 300, "pkder": 300,
            "pkder_c": 240, "rows": 400}
 OTHERS, LIBRARY, FIRST = 250, 200, 300
 

@@ -45,7 +45,7 @@ def crates():
 def sources(crate):
     """The sources of a crate by their paths, those of its tests left out."""
     for path in sorted(glob.glob(f"{TOP}/crates/{crate}/src/**/*.rt", recursive=True)):
-        if os.path.basename(path) != "tests.rt":
+        if not re.search(r"/tests(\.rt$|/)", path):
             with open(path, encoding="utf-8") as it:
                 yield os.path.relpath(path, TOP), it.read()
 

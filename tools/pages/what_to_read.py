@@ -21,7 +21,7 @@ from tools.gate.looks import counted
 
 PAGE = f"{TOP}/docs/definitions.md"
 OF_C = ("normalise", "check", "same", "signed", "show", "explain", "field", "reason_name", "interface")
-CALLS = {"run": "commands/src/run.rt", "run_files": "commands/src/files.rt", "asked_of": "pkder/src/line.rt",
+CALLS = {"run": "commands/src/run.rt", "run_files": "commands/src/files.rt", "invocation_of": "pkder/src/line.rt",
          "compare": "commands/src/compare.rt", "show_text": "pk_show/src/lib.rt", "respond": "pkder/src/respond.rt"}
 CALLS |= {f"pkder_{it}": "pkder_c/src/lib.rt" for it in OF_C}
 PLAIN_READING = {f"x690.{it}" for it in ("Reading", "ReadHeaders", "ReadContents", "ReadTypes")}

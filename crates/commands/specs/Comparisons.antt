@@ -8,14 +8,14 @@ use Rattle.x690.specs.Values.{Value}
 use Rattle.pk_documents.specs.declared.document.Document.{Document}
 use Rattle.pk_documents.specs.KindRows.{is_key}
 use Rattle.pk_documents.specs.declared.kind.Kind.{Kind}
-use Rattle.pk_same.specs.Written.{IsWritten}
-use Rattle.pk_same.specs.declared.same.Style.{Style}
-use Rattle.pk_same.specs.declared.same.Style.TheVariants.{Json, Text}
-use Rattle.pk_same.specs.declared.sameness.Sameness.{Sameness}
-use Rattle.pk_same.specs.declared.sameness.Sameness.TheVariants as documents
-use Rattle.pk_same_key.specs.KeySameness.{AreCompared, AreRefusedKeys}
-use Rattle.pk_same_key.specs.declared.verdict.KeySameness.{KeySameness}
-use Rattle.pk_same_key.specs.declared.verdict.KeySameness.TheVariants as keys
+use Rattle.comparison.specs.Written.{IsWritten}
+use Rattle.comparison.specs.declared.same.Style.{Style}
+use Rattle.comparison.specs.declared.same.Style.TheVariants.{Json, Text}
+use Rattle.comparison.specs.declared.sameness.Sameness.{Sameness}
+use Rattle.comparison.specs.declared.sameness.Sameness.TheVariants as documents
+use Rattle.comparison.specs.KeySameness.{AreCompared, AreRefusedKeys}
+use Rattle.comparison.specs.declared.verdict.KeySameness.{KeySameness}
+use Rattle.comparison.specs.declared.verdict.KeySameness.TheVariants as keys
 use Rattle.commands.specs.Inputs.{StopsTaking, TakesFirst}
 use Rattle.commands.specs.Names.{file_name, shown_name}
 use Rattle.commands.specs.Outcomes.{line_feed}

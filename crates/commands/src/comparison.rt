@@ -2,8 +2,8 @@
 ghost use Rattle.std.specs.Prelude.{◌≡◌};
 ghost use Rattle.commands.specs.Comparisons.{compared_status};
 
+use comparison::same::Style;
 use pk_documents::kind::Kind;
-use pk_same::same::Style;
 use tlv_core::limits::Limits;
 
 /// What is asked of two documents.

@@ -63,7 +63,8 @@ pub fn run_files<N: Names, O: Opener, W: Target>(
 ) -> FilesEnd
     requires writable { W.has_failed dst.old ≡ false }
     ensures known { FilesSaid ⟦<Document as Valued>⟧.value (O.known opener.now) (O.refuses opener.now)
-        (IsLeft O.Document.has_failed O.Document.remaining) task.now (N.left names.old) (HasStopped N.left N.stops names.new)
+        (IsLeft O.Document.has_failed O.Document.remaining) task.now (N.left names.old)
+        (HasStopped N.left N.stops names.new)
         (W.contents dst.old) (W.contents dst.new) result }
     ensures failed { W.has_failed dst.new ≡ has_failed_write result }
 {
@@ -89,12 +90,15 @@ fn next_file<N: Names, O: Opener, W: Target>(
     requires writable { W.has_failed dst.old ≡ false }
     ensures known { (all : List Entry) (list : Option (List (List ℕ))) (old : Option (List ℕ))
         → Went ⟦<Document as Valued>⟧.value (O.known opener.now) (O.refuses opener.now)
-        (IsLeft O.Document.has_failed O.Document.remaining) task.now list (N.left names.old) old (W.contents dst.old) progress.status progress.out all
+        (IsLeft O.Document.has_failed O.Document.remaining) task.now list (N.left names.old) old
+        (W.contents dst.old) progress.status progress.out all
         → MatchResult result (λ further. (more : List Entry) × (length more ≡ length all + 1)
         × Went ⟦<Document as Valued>⟧.value (O.known opener.now) (O.refuses opener.now)
-        (IsLeft O.Document.has_failed O.Document.remaining) task.now list (N.left names.new) old (W.contents dst.new) further.status further.out more)
+        (IsLeft O.Document.has_failed O.Document.remaining) task.now list (N.left names.new) old
+        (W.contents dst.new) further.status further.out more)
         (FilesSaid ⟦<Document as Valued>⟧.value (O.known opener.now) (O.refuses opener.now)
-        (IsLeft O.Document.has_failed O.Document.remaining) task.now list (HasStopped N.left N.stops names.new) old (W.contents dst.new)) }
+        (IsLeft O.Document.has_failed O.Document.remaining) task.now list (HasStopped N.left N.stops names.new) old
+        (W.contents dst.new)) }
     ensures failed { MatchResult result (λ _. W.has_failed dst.new ≡ false)
         (λ end. W.has_failed dst.new ≡ has_failed_write end) }
 {

@@ -1,14 +1,14 @@
 //! The commands of the program, over any streams: documents are read, and what the command says is written.
 //!
-//! `run` does a task over a source and a target: `reply` reads, and has the text that is then written. `streams` does it
-//! and flushes the target (`flush`), `outcome` has the status and the line of how it ended, and `closing` writes that
-//! line. `files` does it over the documents of a list of names: `names` and `ended_names` are such lists, `opener` opens
-//! the document of a name, `file_system` in files, `name` is how a name is shown, and `lines` has the memory for a
-//! line. `compare` says of two documents what they are to each other, `comparison` has what is asked. `new_file` writes
-//! what a task makes into a file that then takes its place.
+//! `run` does a task over a source and a target: `reply` reads, and has the text that is then written. `streams` does
+//! it and flushes the target (`flush`), `outcome` has the status and the line of how it ended, and `closing` writes
+//! that line. `files` does it over the documents of a list of names: `names` and `ended_names` are such lists, `opener`
+//! opens the document of a name, `file_system` in files, `name` is how a name is shown, and `lines` has the memory for
+//! a line. `compare` says of two documents what they are to each other, `comparison` has what is asked. `new_file`
+//! writes what a task makes into a file that then takes its place.
 //!
-//! Over the streams of a program (`standard`) `judge` says what a task has to say of documents by their names, `convert`
-//! writes what it makes of one, and `pair` compares two.
+//! Over the streams of a program (`standard`) `judge` says what a task has to say of documents by their names,
+//! `convert` writes what it makes of one, and `pair` compares two.
 #![tactic(auto)]
 
 mod block_target;

@@ -125,8 +125,8 @@ pub fn make_file<R: Source, M: NewFiles>(
     task: &Task,
 ) -> Result<(Outcome, M::File), Unmade>
     requires readable { R.has_failed src.old ≡ false }
-    // It has its place where all that was due is in it; otherwise it is gone. Of a kind with private keys its owner alone
-    // may read it.
+    // It has its place where all that was due is in it; otherwise it is gone. Of a kind with private keys its owner
+    // alone may read it.
     ensures made { MatchResult result (λ it. IsMade name.now task.now it.0 (M.File.made it.1))
         (Unmakes M.File.made (M.refuses files.now name.now) name.now) }
     ensures answered { IfOk result (λ it. WroteMade (Served ⟦<Document as Valued>⟧.value task.now

@@ -15,8 +15,8 @@ use reports::report::{Answer, Report};
 use std::alloc::{AllocError, Global};
 use tlv_core::fault::Fault;
 
-/// A report as `check` gives it in JSON, with up to so many places that aren't in DER; if that is to be `quiet`, nothing of
-/// what is in DER. It says which file it is of, if that has a name.
+/// A report as `check` gives it in JSON, with up to so many places that aren't in DER; if that is to be `quiet`,
+/// nothing of what is in DER. It says which file it is of, if that has a name.
 pub fn check_text(
     alloc: Global,
     report: &Report,

@@ -11,8 +11,8 @@ pub enum Action {
     Show {
         json: bool,
     },
-    /// Write whether it is in DER, as a line or as JSON with up to so many places that aren't; if that is to be `quiet`,
-    /// nothing of what is in DER.
+    /// Write whether it is in DER, as a line or as JSON with up to so many places that aren't; if that is to be
+    /// `quiet`, nothing of what is in DER.
     Check {
         json: bool,
         quiet: bool,

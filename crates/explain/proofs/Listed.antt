@@ -7,7 +7,7 @@ use Rattle.explain.specs.Insides.{AddsContained, AddsInside, HasInsides, IsDocum
 use Rattle.reports.specs.declared.report.Line.{Line}
 use Rattle.explain.specs.Listings.{AddsDocument, AddsElement, ListingState, Lists, ListsFile, after_inside, first_inside, listing_state, start_of}
 use Rattle.explain.specs.Places.{ListedDocument}
-use Rattle.explain.specs.declared.inside.Inside.{Inside}
+use Rattle.explain.specs.declared.document.inside.Inside.{Inside}
 use Rattle.asn_names.specs.declared.element.NamedElement.{NamedElement}
 use Rattle.tlv_core.specs.Limits.{Limits}
 

@@ -5,7 +5,7 @@ use Rattle.std.proofs.lemmas.List.{length-drop, take_all}
 use Rattle.std.proofs.lemmas.Bool.Decides.{nat_tests}
 use Rattle.asn_names.specs.declared.element.NamedElement.{NamedElement}
 use Rattle.explain.specs.Places.{ListedDocument, Skips, place_of, sum_of}
-use Rattle.explain.specs.declared.places.Piece.{Piece}
+use Rattle.explain.specs.declared.document.places.Piece.{Piece}
 use Rattle.reports.specs.declared.report.Cause.{Cause}
 
 pub skip_none : (pieces : List Piece) → Skips pieces 0 pieces

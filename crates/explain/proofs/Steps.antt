@@ -12,8 +12,8 @@ use Rattle.explain.specs.FaultContainers.{IsNearest, end_of}
 use Rattle.explain.specs.Disclosures.{AddsFaultPath, AddsInnerPath, IsDisclosedPath, IsFaultPathIn, is_near, names_in}
 use Rattle.explain.specs.Insides.{inside_at}
 use Rattle.explain.specs.FaultLocations.{AddsPath, AddsPathTo, IsPathBy, IsPathTo, due_steps, enclosed, location_at, own_step}
-use Rattle.explain.specs.declared.inside.Inside.{Inside}
-use Rattle.explain.specs.declared.fault_location.FaultLocation.{FaultLocation}
+use Rattle.explain.specs.declared.document.inside.Inside.{Inside}
+use Rattle.explain.specs.declared.fault.location.FaultLocation.{FaultLocation}
 
 -- to the outermost one there are none
 pub top_path : (elements : List NamedElement) (number : ℕ) (old : List Step) → enclosed elements number ≡ None

@@ -11,8 +11,8 @@ use Rattle.explain.specs.Lines.{AddsLine}
 use Rattle.explain.specs.ListingLaws.{HasLine, HasPrivate}
 use Rattle.explain.specs.Listings.{AddsAfter, AddsDocument, AddsOne, IsListed, IsNext, ListingState, Lists, ListsFile, ListsInside, number_around, start_of}
 use Rattle.explain.specs.Places.{ListedDocument, placed_in}
-use Rattle.explain.specs.declared.inside.Inside.{Inside}
-use Rattle.explain.specs.declared.places.Placed.{Placed}
+use Rattle.explain.specs.declared.document.inside.Inside.{Inside}
+use Rattle.explain.specs.declared.document.places.Placed.{Placed}
 use Rattle.reports.specs.declared.report.Cause.{Cause}
 use Rattle.reports.specs.declared.report.Line.{Line}
 

@@ -13,8 +13,8 @@ use Rattle.ber_outline.specs.declared.event.ElementHeader.{ElementHeader}
 use Rattle.pkix_shapes.specs.declared.shape.Shape.{Choice', Containing', DefinedBy', Leaf, ListOf', Named', Open, Private', Refused, Sequence', SetOf', Shape}
 use Rattle.explain.specs.Contents.{between, contents_in}
 use Rattle.explain.specs.Public.{is_field, sort_of}
-use Rattle.explain.specs.declared.values.Sort.{Sort}
-use Rattle.explain.specs.declared.values.Sort.TheVariants.{Bits, Boolean, Characters, Identifier, Integer, Null, Octets}
+use Rattle.explain.specs.declared.document.values.Sort.{Sort}
+use Rattle.explain.specs.declared.document.values.Sort.TheVariants.{Bits, Boolean, Characters, Identifier, Integer, Null, Octets}
 use Rattle.reports.specs.declared.report.Cause.{Cause}
 use Rattle.reports.specs.declared.report.Cause.TheVariants as causes
 

@@ -3,7 +3,7 @@ use Rattle.std.specs.Prelude.{Bool, List, None, Option, Some, cond, false, true,
 use Rattle.std.specs.List.{slice_get}
 use Rattle.tlv_core.specs.Identifier.{Tag}
 use Rattle.x690.specs.Layouts.{context_specific, universal}
-use Rattle.explain.specs.declared.class.ElementClass.{ElementClass}
+use Rattle.explain.specs.declared.fault.class.ElementClass.{ElementClass}
 
 abbrev pub class_as : Tag → Bool → Option ElementClass
 class_as tag constructed = Some (record { tag = tag; constructed = constructed })

@@ -21,7 +21,7 @@ use Rattle.explain.specs.Guesses.{IsGuess}
 use Rattle.explain.specs.Shapes.{IsShapeOf}
 use Rattle.explain.specs.FaultLocations.{IsPath, IsPathTo, location_at}
 use Rattle.explain.specs.declared.disclosed.Disclosed.{Disclosed}
-use Rattle.explain.specs.declared.inside.Inside.{Inside}
+use Rattle.explain.specs.declared.document.inside.Inside.{Inside}
 use Rattle.reports.specs.declared.report.Answer.{Answer}
 use Rattle.reports.specs.declared.report.Answer.TheVariants.{Der, NotDer, Refused}
 use Rattle.reports.specs.declared.report.Guess.{Guess}

@@ -7,7 +7,7 @@ use Rattle.asn_names.specs.declared.element.Level.TheVariants as levels
 use Rattle.pkix_shapes.specs.declared.shape.Shape.{Shape}
 use Rattle.tlv_core.specs.declared.reason.Reason.{Reason}
 use Rattle.tlv_core.specs.declared.reason.Reason.TheVariants as reasons
-use Rattle.explain.specs.declared.fault_location.FaultLocation.{FaultLocation}
+use Rattle.explain.specs.declared.fault.location.FaultLocation.{FaultLocation}
 use Rattle.reports.specs.declared.report.Due.{Due}
 use Rattle.reports.specs.declared.report.Due.TheVariants.{Fields, «Type» as OfType, Unsaid}
 

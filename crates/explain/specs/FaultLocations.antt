@@ -16,7 +16,7 @@ use Rattle.pkix_shapes.specs.declared.shape.Shape.{Choice', Containing', Defined
 use Rattle.tlv_core.specs.Identifier.{Tag}
 use Rattle.tlv_core.specs.declared.reason.Reason.{Reason}
 use Rattle.tlv_core.specs.declared.reason.Reason.TheVariants as reasons
-use Rattle.explain.specs.declared.fault_location.FaultLocation.{FaultLocation}
+use Rattle.explain.specs.declared.fault.location.FaultLocation.{FaultLocation}
 
 -- the number of the first of the elements, counted from here, whose identifier is at this place
 abbrev pub number_from : ℕ → ℕ → List NamedElement → Option ℕ

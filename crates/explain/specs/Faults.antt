@@ -15,9 +15,9 @@ use Rattle.explain.specs.Disclosures.{is_near}
 use Rattle.explain.specs.Dues.{due_at, is_of_type}
 use Rattle.explain.specs.FaultLines.{is_between, line_at}
 use Rattle.explain.specs.FaultLocations.{location_at}
-use Rattle.explain.specs.declared.class.ElementClass.{ElementClass}
-use Rattle.explain.specs.declared.diagnosis.RefusedFront.{RefusedFront}
-use Rattle.explain.specs.declared.fault_location.FaultLocation.{FaultLocation}
+use Rattle.explain.specs.declared.fault.class.ElementClass.{ElementClass}
+use Rattle.explain.specs.declared.fault.diagnosis.RefusedFront.{RefusedFront}
+use Rattle.explain.specs.declared.fault.location.FaultLocation.{FaultLocation}
 use Rattle.reports.specs.declared.report.Answer.{Answer}
 use Rattle.reports.specs.declared.report.Answer.TheVariants.{Der, NotDer, Refused}
 use Rattle.reports.specs.declared.report.Diagnosis.{Diagnosis}

@@ -17,11 +17,11 @@ use Rattle.explain.specs.Contents.{contents_in}
 use Rattle.explain.specs.Lines.{end_after}
 use Rattle.explain.specs.Public.{is_field, sort_of}
 use Rattle.explain.specs.FaultLocations.{element_with}
-use Rattle.explain.specs.declared.front.Mark.{Mark}
-use Rattle.explain.specs.declared.front.Mark.TheVariants as marks
-use Rattle.explain.specs.declared.front.FrontState.{FrontState}
-use Rattle.explain.specs.declared.values.Sort.{Sort}
-use Rattle.explain.specs.declared.values.Sort.TheVariants.{Bits, Boolean, Characters, Identifier, Integer, Null, Octets}
+use Rattle.explain.specs.declared.listing.front.Mark.{Mark}
+use Rattle.explain.specs.declared.listing.front.Mark.TheVariants as marks
+use Rattle.explain.specs.declared.listing.front.FrontState.{FrontState}
+use Rattle.explain.specs.declared.document.values.Sort.{Sort}
+use Rattle.explain.specs.declared.document.values.Sort.TheVariants.{Bits, Boolean, Characters, Identifier, Integer, Null, Octets}
 
 -- contents are one of two octets
 abbrev pub is_one_of : List ℕ → ℕ → ℕ → Bool

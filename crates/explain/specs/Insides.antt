@@ -10,8 +10,8 @@ use Rattle.ber_outline.specs.declared.event.Event.{Event}
 use Rattle.ber_outline.specs.declared.event.Stop.{Stop}
 use Rattle.pkix_shapes.specs.declared.shape.Shape.{Choice', Containing', DefinedBy', Leaf, ListOf', Named', Open, Private', Refused, Sequence', SetOf', Shape}
 use Rattle.explain.specs.Contents.{contents_in}
-use Rattle.explain.specs.declared.inside.Inside.{Inside}
-use Rattle.explain.specs.declared.places.Piece.{Piece}
+use Rattle.explain.specs.declared.document.inside.Inside.{Inside}
+use Rattle.explain.specs.declared.document.places.Piece.{Piece}
 
 -- The elements of a document by their names in this type, and where they stop matching it.
 pub record IsNamed (limits : Limits) (document : List ℕ) (root : Bor Shape) (named : List NamedElement × Mismatch)

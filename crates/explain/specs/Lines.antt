@@ -6,7 +6,7 @@ use Rattle.ber_outline.specs.declared.announced.Announced.{Announced}
 use Rattle.ber_outline.specs.declared.event.ElementHeader.{ElementHeader}
 use Rattle.explain.specs.Contents.{contents_in}
 use Rattle.explain.specs.Public.{ShowsContents}
-use Rattle.explain.specs.declared.places.Placed.{Placed}
+use Rattle.explain.specs.declared.document.places.Placed.{Placed}
 use Rattle.reports.specs.declared.report.Cause.{Cause}
 use Rattle.reports.specs.declared.report.Length.{Length}
 use Rattle.reports.specs.declared.report.Line.{Line}

@@ -5,8 +5,8 @@ use Rattle.explain.specs.Causes.{line_cause}
 use Rattle.explain.specs.Lines.{IsHeaderLine, IsListedValue}
 use Rattle.explain.specs.Listings.{IsListed}
 use Rattle.explain.specs.Places.{ListedDocument}
-use Rattle.explain.specs.declared.inside.Inside.{Inside}
-use Rattle.explain.specs.declared.places.Placed.{Placed}
+use Rattle.explain.specs.declared.document.inside.Inside.{Inside}
+use Rattle.explain.specs.declared.document.places.Placed.{Placed}
 use Rattle.reports.specs.declared.report.Cause.{Cause}
 use Rattle.reports.specs.declared.report.Line.{Line}
 use Rattle.std.specs.Prelude.{Option}

@@ -8,7 +8,7 @@ use Rattle.explain.specs.Causes.{causes_of, line_cause}
 use Rattle.explain.specs.Fronts.{is_deeper}
 use Rattle.explain.specs.Lines.{AddsLine}
 use Rattle.explain.specs.Places.{ListedDocument, placed_in}
-use Rattle.explain.specs.declared.inside.Inside.{Inside}
+use Rattle.explain.specs.declared.document.inside.Inside.{Inside}
 use Rattle.reports.specs.declared.report.Cause.{Cause}
 use Rattle.reports.specs.declared.report.Line.{Line}
 

@@ -4,9 +4,9 @@ use Rattle.std.specs.Prelude.{Bool, List, None, Option, Some, [], cond, min, nat
 use Rattle.asn_names.specs.declared.element.NamedElement.{NamedElement}
 use Rattle.ber_outline.specs.declared.event.ElementHeader.{ElementHeader}
 use Rattle.explain.specs.Lines.{end_after, listed_length}
-use Rattle.explain.specs.declared.places.Piece.{Piece}
-use Rattle.explain.specs.declared.places.Placed.{Placed}
-use Rattle.explain.specs.declared.places.DocumentCursor.{DocumentCursor}
+use Rattle.explain.specs.declared.document.places.Piece.{Piece}
+use Rattle.explain.specs.declared.document.places.Placed.{Placed}
+use Rattle.explain.specs.declared.document.places.DocumentCursor.{DocumentCursor}
 use Rattle.reports.specs.declared.report.Cause.{Cause}
 use Rattle.reports.specs.declared.report.Length.{Length}
 

@@ -13,8 +13,8 @@ use Rattle.pkix_shapes.specs.Identifiers.{row_of, usual}
 use Rattle.pkix_shapes.specs.declared.shape.Contents.{Contents}
 use Rattle.pkix_shapes.specs.declared.shape.Contents.TheVariants as leaves
 use Rattle.pkix_shapes.specs.declared.shape.Shape.{Choice', Containing', DefinedBy', Leaf, ListOf', Named', Open, Private', Refused as RefusedType, Sequence', SetOf', Shape}
-use Rattle.explain.specs.declared.values.Sort.{Sort}
-use Rattle.explain.specs.declared.values.Sort.TheVariants.{Bits, Boolean, Characters, Identifier as IdentifierSort, Integer, Null, Octets}
+use Rattle.explain.specs.declared.document.values.Sort.{Sort}
+use Rattle.explain.specs.declared.document.values.Sort.TheVariants.{Bits, Boolean, Characters, Identifier as IdentifierSort, Integer, Null, Octets}
 use Rattle.reports.specs.declared.report.Value.{Value}
 use Rattle.reports.specs.declared.report.Value.TheVariants as values
 

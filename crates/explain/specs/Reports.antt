@@ -18,7 +18,7 @@ use Rattle.explain.specs.Places.{end_by_listed}
 use Rattle.explain.specs.Rules.{front_document}
 use Rattle.explain.specs.Shapes.{IsShapeOf}
 use Rattle.explain.specs.declared.disclosed.Disclosed.{Disclosed}
-use Rattle.explain.specs.declared.inside.Inside.{Inside}
+use Rattle.explain.specs.declared.document.inside.Inside.{Inside}
 use Rattle.reports.specs.declared.report.Line.{Line}
 use Rattle.reports.specs.declared.report.Report.{Report}
 

@@ -3,14 +3,14 @@ ghost use Rattle.std.specs.Prelude.{None, [], ◌≡◌, IfOk, OnOk, length, tak
 ghost use Rattle.explain.specs.Disclosures.{AddsFaultPath, AddsInnerPath, IsDisclosed, IsDisclosedPath, IsRefused, disclosed_class, is_near, names_in, says_field};
 ghost use Rattle.reports.specs.declared.report.Answer.TheVariants.{Refused};
 
-use crate::answer::answer_of;
-use crate::class::class_at;
-use crate::fault_line::is_between;
-use crate::fault_location::{location_at, push_location_path, push_path};
-use crate::front::front_size;
+use crate::document::inside::{Inside, documents_inside, inside_at, named_elements};
+use crate::document::kinds::shape_of;
+use crate::fault::answer::answer_of;
+use crate::fault::class::class_at;
+use crate::fault::location::{location_at, push_location_path, push_path};
 use crate::guess::guess_of;
-use crate::inside::{Inside, documents_inside, inside_at, named_elements};
-use crate::kinds::shape_of;
+use crate::listing::fault_line::is_between;
+use crate::listing::front::front_size;
 use asn_names::element::{NamedElement, Step};
 use asn_names::naming::NamedElements;
 use pk_documents::kind::Kind;
@@ -36,7 +36,7 @@ pub(crate) struct Disclosed<'a> {
 }
 
 /// What may be shown of octets that have to be one document of the kind.
-#[tactic(auto, using(crate::proofs::Disclosing::refused_disclosed, crate::proofs::Disclosing::der_disclosed, crate::proofs::Disclosing::not_der_disclosed))]
+#[tactic(auto, using(crate::proofs::Disclosing::refused_disclosed, crate::proofs::Disclosing::der_disclosed, crate::proofs::Disclosing::not_der_disclosed,))]
 pub(crate) fn disclose(
     alloc: Global,
     octets: &[u8],
@@ -166,7 +166,7 @@ fn disclosed_path(
 }
 
 /// The steps to what is refused.
-#[tactic(auto, using(crate::proofs::Steps::path_outside, crate::proofs::Steps::path_around, crate::proofs::Steps::path_inside))]
+#[tactic(auto, using(crate::proofs::Steps::path_outside, crate::proofs::Steps::path_around, crate::proofs::Steps::path_inside,))]
 fn push_fault_path(
     path: &mut Vec<Step>,
     named: &NamedElements,

@@ -1,15 +1,17 @@
 //! A guess at what a file is that is refused near its start.
+mod heads;
+
 ghost use Rattle.std.specs.Prelude.{IfOk, None, false, map, ◌≡◌};
 ghost use Rattle.std.specs.List.{list_all};
 ghost use Rattle.std.specs.Option.{option_map};
 ghost use Rattle.pk_documents.specs.KindRows.{kinds};
 ghost use Rattle.explain.specs.Guesses.{BeginsAs, IsDocument, IsFirst, IsGuessOf, IsOtherDocument, IsGuess, has_beginning, is_base64, is_hexadecimal, is_kind_like, is_labelled, is_guessed, label_among, label_of, pem_label, guess_by_text};
 
-use crate::front::{is_usual_mark, mark_of};
-use crate::heads::guess_by_outline;
-use crate::inside::named_elements;
-use crate::kinds::{deciding_field, shape_of, words_of};
-use crate::values::is_field;
+use crate::document::inside::named_elements;
+use crate::document::kinds::{deciding_field, shape_of, words_of};
+use crate::document::values::is_field;
+use crate::guess::heads::guess_by_outline;
+use crate::listing::front::{is_usual_mark, mark_of};
 use asn_names::element::NamedElement;
 use ber_outline::outline::outline;
 use pk_documents::kind::{KINDS, Kind};

@@ -1,4 +1,8 @@
 //! The lines of a report: an element each.
+pub(crate) mod causes;
+pub(crate) mod fault_line;
+pub(crate) mod front;
+
 ghost use Rattle.std.specs.Prelude.{List, Option, Some, ℕ, [], ◌≡◌, IfOk, OnOk, length, min, slice_get, true, unwrap_or, ◌+◌, ◌-◌, ◌^◌};
 ghost use Rattle.std.specs.Option.{option_map};
 ghost use Rattle.asn_names.specs.declared.element.NamedElement.{NamedElement};
@@ -8,11 +12,11 @@ ghost use Rattle.explain.specs.Lines.{AddsLine, IsHeaderLine, IsListedValue, ins
 ghost use Rattle.explain.specs.Listings.{AddsDocument, AddsElement, IsListed, ListingState, Lists, after_inside, causes_inside, first_inside, hidden_after, listing_state, most_lines, number_around, own_number, own_place, start_of};
 ghost use Rattle.explain.specs.Places.{SkipsIn, listed_document};
 
-use crate::causes::{cause_within, causes_of};
-use crate::front::is_deeper;
-use crate::inside::{Inside, element_at};
-use crate::places::{DocumentCursor, Placed, later_pieces, listed_length, placed_in};
-use crate::values::{contents_of, listed_value};
+use crate::document::inside::{Inside, element_at};
+use crate::document::places::{DocumentCursor, Placed, later_pieces, listed_length, placed_in};
+use crate::document::values::{contents_of, listed_value};
+use crate::listing::causes::{cause_within, causes_of};
+use crate::listing::front::is_deeper;
 use asn_names::element::NamedElement;
 use reports::report::{Cause, Line, Value};
 use std::alloc::{AllocError, Global};

@@ -1,12 +1,14 @@
 //! What other standards forbid in an accepted document, by its lines.
+mod keys;
+
 ghost use Rattle.std.specs.Prelude.{◌≡◌, ◌≤◌, IfOk, OnOk, length, option_and_then, slice_get};
 ghost use Rattle.std.specs.Option.{option_map};
 ghost use Rattle.pkix_definitions.specs.Identifiers.{ec_public_key, length_under};
 ghost use Rattle.x690.specs.Lists.{same_octets};
 ghost use Rattle.explain.specs.Notes.{add_note, arcs_of, are_same, context_after, context_start, curve_after, is_attribute, is_curve_named, is_point, is_public_key, is_repeated, is_same_field, is_same_identifier, is_same_step, is_single_valued, members_of, ml_dsa_lengths, ml_kem_lengths, most_notes, named, nist_encapsulation, nist_signature, notes_on, parameters, public_octets, remark_if, remark_on, remark_on_algorithm, remark_on_bits, remark_on_key, remark_on_repeat, remark_on_values, remark_once_more, slh_dsa_sha2_lengths, slh_dsa_shake_lengths};
 
-use crate::keys::{are_same_octets, curve_octets};
-use crate::values::is_field;
+use crate::document::values::is_field;
+use crate::notes::keys::{are_same_octets, curve_octets};
 use asn_names::element::Step;
 use reports::report::{Line, Note, Remark, Value};
 use std::alloc::{AllocError, Global};

@@ -34,7 +34,7 @@ use Rattle.commands.specs.declared.comparison.Comparison.{Comparison}
 use Rattle.commands.specs.declared.comparison.Question.{Question}
 use Rattle.commands.specs.declared.comparison.Question.TheVariants.{Document, Key}
 use Rattle.commands.specs.declared.task.Task.{Task}
-use Rattle.pk_same.specs.declared.same.Style.TheVariants.{Json, Text as TextForm}
+use Rattle.comparison.specs.declared.same.Style.TheVariants.{Json, Text as TextForm}
 
 -- ---- the options: their names, and what stands for one that isn't given
 

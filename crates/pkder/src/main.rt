@@ -1,9 +1,10 @@
-//! `pkder` reads documents in BER or DER, from files or from standard input, and writes what its command says: what they
-//! are, whether they are in DER, whether two are the same, their one DER text, a part of them.
+//! `pkder` reads documents in BER or DER, from files or from standard input, and writes what its command says: what
+//! they are, whether they are in DER, whether two are the same, their one DER text, a part of them.
 //!
 //! Proved here: which words ask for what, and that others are refused; in `respond`, what is done then, whatever the
-//! streams and files are that it is handed. Only tested, by the tables of `tests/` and tests/harness/files.py: the texts
-//! of help and of lines that clap refuses, which file a name opens, and `main`, which hands on what the system gives.
+//! streams and files are that it is handed. Only tested, by the tables of `tests/` and tests/harness/files.py: the
+//! texts of help and of lines that clap refuses, which file a name opens, and `main`, which hands on what the system
+//! gives.
 #![tactic(auto)]
 
 mod command;

@@ -100,8 +100,8 @@ impl NewFile for FileBeside<'_> {
     // With the mode and the owner of what it replaces where that is allowed.
     fn place(&mut self, _written: ToFlush<File>) -> Result<(), Unmade> {
         if let Some(old) = &self.replaced {
-            // (only root sets the owner, and a member of the group may still set that; where it isn't kept, the group that
-            // the file has gets no rights of another one)
+            // (only root sets the owner, and a member of the group may still set that; where it isn't kept, the group
+            // that the file has gets no rights of another one)
             let access = match fchown(&self.file, None, Some(old.gid())) {
                 Ok(()) => ACCESS,
                 Err(_) => ACCESS_WITHOUT_GROUP,

@@ -7,8 +7,8 @@ use crate::line::{is_flagged, read_limits, value};
 use crate::refusal::{BadValue, advice_for_kind};
 use clap::ArgMatches;
 use commands::comparison::{Comparison, Question};
+use comparison::same::Style;
 use pk_documents::kind::{KEY_WORDS, Kind, WORDS};
-use pk_same::same::Style;
 
 /// Two documents to compare.
 #[derive(Debug, Drop)]

@@ -50,7 +50,8 @@ pub fn respond<R: Source + Drop, W: Flush, E: Target, O: Opener, M: NewFiles>(
     requires readable { IsReadable R.has_failed standard.old.input }
     requires writable { W.has_failed standard.old.output ≡ false }
     ensures { Responds ⟦<Document as Valued>⟧.value (sources_of R.has_failed R.remaining O.Document.has_failed
-        O.Document.remaining (O.known system.now.opener) (O.refuses system.now.opener)) M.File.made (M.refuses system.now.files)
+        O.Document.remaining (O.known system.now.opener) (O.refuses system.now.opener)) M.File.made
+        (M.refuses system.now.files)
         system.now.is_terminal (map string_bytes words.entry.now)
         (seen R.remaining W.contents W.has_failed W.is_flushed E.contents E.has_failed standard.old)
         (seen R.remaining W.contents W.has_failed W.is_flushed E.contents E.has_failed standard.new)
@@ -72,7 +73,8 @@ fn perform<R: Source + Drop, W: Flush, E: Target, O: Opener, M: NewFiles>(
     requires readable { IsReadable R.has_failed standard.old.input }
     requires writable { W.has_failed standard.old.output ≡ false }
     ensures { Does ⟦<Document as Valued>⟧.value (sources_of R.has_failed R.remaining O.Document.has_failed
-        O.Document.remaining (O.known system.now.opener) (O.refuses system.now.opener)) M.File.made (M.refuses system.now.files)
+        O.Document.remaining (O.known system.now.opener) (O.refuses system.now.opener)) M.File.made
+        (M.refuses system.now.files)
         system.now.is_terminal invocation.now
         (seen R.remaining W.contents W.has_failed W.is_flushed E.contents E.has_failed standard.old)
         (seen R.remaining W.contents W.has_failed W.is_flushed E.contents E.has_failed standard.new)
@@ -100,7 +102,8 @@ fn follow<R: Source + Drop, W: Flush, E: Target, O: Opener, M: NewFiles>(
     requires readable { IsReadable R.has_failed standard.old.input }
     requires writable { W.has_failed standard.old.output ≡ false }
     ensures { Follows ⟦<Document as Valued>⟧.value (sources_of R.has_failed R.remaining O.Document.has_failed
-        O.Document.remaining (O.known system.now.opener) (O.refuses system.now.opener)) M.File.made (M.refuses system.now.files)
+        O.Document.remaining (O.known system.now.opener) (O.refuses system.now.opener)) M.File.made
+        (M.refuses system.now.files)
         system.now.is_terminal order.now
         (is_binary order.now.task.action) (is_none order.now.to && system.now.is_terminal)
         (seen R.remaining W.contents W.has_failed W.is_flushed E.contents E.has_failed standard.old)

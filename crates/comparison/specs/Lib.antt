@@ -1,0 +1,11 @@
+pub mod Differences
+pub mod Json
+pub mod Said
+pub mod Sameness
+pub mod Texts
+pub mod DifferenceWords
+pub mod DifferenceLists
+pub mod Written
+pub mod KeySameness
+pub mod Parts
+pub mod Verdicts

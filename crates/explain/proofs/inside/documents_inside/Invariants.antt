@@ -1,5 +1,0 @@
-use Rattle.explain.specs.Insides.{HasInsides}
-use Rattle.explain.proofs.inside.documents_inside.Given as goal
-
-abbrev pub invariant-loop-i : goal.invariant-loop-i
-invariant-loop-i l = HasInsides l.limits l.file l.elements l.i l.all.items

@@ -1,5 +1,0 @@
-pub mod DifferenceLaws
-pub mod PrivateValues
-pub mod Samenesses
-pub mod FirstDifferences
-pub mod DifferenceRounds

@@ -1,5 +1,0 @@
-use Rattle.pk_same.proofs.PrivateValues.{private_values_are_shown_together}
-use Rattle.pk_same.proofs.laws.private_values_are_shown_together.Goals as goal
-
-pub returns : goal.returns
-returns c = private_values_are_shown_together

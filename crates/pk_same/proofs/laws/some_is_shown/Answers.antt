@@ -1,5 +1,0 @@
-use Rattle.pk_same.proofs.DifferenceLaws.{some_is_shown}
-use Rattle.pk_same.proofs.laws.some_is_shown.Goals as goal
-
-pub returns : goal.returns
-returns c = some_is_shown

@@ -1,3 +1,0 @@
-pub mod KeySameness
-pub mod Parts
-pub mod Verdicts
