@@ -3,7 +3,7 @@ use Rattle.std.proofs.Common.{◌≡◌, List, subst, ℕ}
 use Rattle.x690.specs.Values.{Value}
 use Rattle.pk_documents.specs.declared.document.Document.{Document}
 use Rattle.commands.specs.Comparisons.{Answers, AnswersQuestion, said_name}
-use Rattle.commands.specs.declared.comparison.Comparison.{Comparison}
+use Rattle.commands.specs.declared.question.Comparison.{Comparison}
 
 -- the names as they are said
 pub answers_named : (value_of : Document → Value) (comparison : Comparison)

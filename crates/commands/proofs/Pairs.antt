@@ -7,7 +7,7 @@ use Rattle.commands.specs.Files.{line_after}
 use Rattle.commands.specs.Names.{shown_name}
 use Rattle.commands.specs.Pairs.{ComparesNamed, ComparesWith}
 use Rattle.commands.specs.Standards.{Comes, ComesNot, LeadsNowhere, LeadsTo, Seen, input_after, is_dash}
-use Rattle.commands.specs.declared.comparison.Comparison.{Comparison}
+use Rattle.commands.specs.declared.question.Comparison.{Comparison}
 use Rattle.commands.specs.declared.files.Came.TheVariants.{Ran, Unopened}
 use Rattle.commands.specs.declared.opener.Unopened.{Unopened as Why}
 use Rattle.commands.specs.declared.outcome.Outcome.TheVariants.{ReadFailed}

@@ -19,11 +19,11 @@ use Rattle.comparison.specs.declared.verdict.KeySameness.TheVariants as keys
 use Rattle.commands.specs.Inputs.{StopsTaking, TakesFirst}
 use Rattle.commands.specs.Names.{file_name, shown_name}
 use Rattle.commands.specs.Outcomes.{line_feed}
-use Rattle.commands.specs.declared.comparison.Compared.{Compared}
-use Rattle.commands.specs.declared.comparison.Compared.TheVariants.{Answered, FirstFailed, Memory, SecondFailed, WriteFailed}
-use Rattle.commands.specs.declared.comparison.Comparison.{Comparison}
-use Rattle.commands.specs.declared.comparison.Question.{Question}
-use Rattle.commands.specs.declared.comparison.Question.TheVariants as questions
+use Rattle.commands.specs.declared.question.Compared.{Compared}
+use Rattle.commands.specs.declared.question.Compared.TheVariants.{Answered, FirstFailed, Memory, SecondFailed, WriteFailed}
+use Rattle.commands.specs.declared.question.Comparison.{Comparison}
+use Rattle.commands.specs.declared.question.Question.{Question}
+use Rattle.commands.specs.declared.question.Question.TheVariants as questions
 
 -- ---- the statuses, as of `cmp` and `diff`
 

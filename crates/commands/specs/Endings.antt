@@ -6,8 +6,8 @@ use Rattle.x690.specs.Values.{Value}
 use Rattle.asn_documents.specs.WrittenValues.{WritesText}
 use Rattle.pk_documents.specs.declared.document.Document.{Document}
 use Rattle.commands.specs.Files.{FilesSaid, has_failed_write, line_after}
-use Rattle.commands.specs.declared.comparison.Compared.{Compared}
-use Rattle.commands.specs.declared.comparison.Compared.TheVariants as compared
+use Rattle.commands.specs.declared.question.Compared.{Compared}
+use Rattle.commands.specs.declared.question.Compared.TheVariants as compared
 use Rattle.commands.specs.declared.names.NamesFault.{NamesFault}
 use Rattle.commands.specs.declared.opener.Unopened.{Unopened as Why}
 use Rattle.commands.specs.Outcomes.{line_of, words_of}

@@ -8,8 +8,8 @@ use Rattle.commands.specs.Files.{line_after, status_of_came, words_of_came}
 use Rattle.commands.specs.Names.{shown_name}
 use Rattle.commands.specs.Outcomes.{line_of}
 use Rattle.commands.specs.Standards.{Comes, ComesNot, Ends, EndsAlone, Seen, input_after}
-use Rattle.commands.specs.declared.comparison.Compared.{Compared}
-use Rattle.commands.specs.declared.comparison.Comparison.{Comparison}
+use Rattle.commands.specs.declared.question.Compared.{Compared}
+use Rattle.commands.specs.declared.question.Comparison.{Comparison}
 use Rattle.commands.specs.declared.files.Came.{Came}
 use Rattle.commands.specs.declared.opener.Unopened.{Unopened as Why}
 use Rattle.commands.specs.declared.outcome.Outcome.TheVariants.{Memory}

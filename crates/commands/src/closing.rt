@@ -7,11 +7,11 @@ ghost use Rattle.commands.specs.Lines.{name_of_line};
 ghost use Rattle.commands.specs.NameLists.{fault_of};
 ghost use Rattle.commands.specs.Outcomes.{line_of, status_of};
 
-use crate::comparison::{Compared, compared_status};
 use crate::files::{Came, FilesEnd, came_status, files_status, words_of_came};
 use crate::lines::NamedLine;
 use crate::names::NamesFault;
 use crate::outcome::{Outcome, outcome_line, status};
+use crate::question::{Compared, compared_status};
 use asn_documents::value::write_octets;
 use tlv_core::target::Target;
 

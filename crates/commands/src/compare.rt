@@ -3,10 +3,10 @@ ghost use Rattle.std.specs.Prelude.{◌≡◌, ◌++◌, Bool, IfOk, MatchBool, 
 ghost use Rattle.commands.specs.Comparisons.{Answers, AnswersDocument, AnswersKey, AnswersQuestion, AnsweredPair, ComparedAs, ComparedFailed, IsNote, IsAnswered, IsUnanswered, RepliedComparing, first_unread, has_note, key_note, key_status, note_by, said_name, sameness_status, second_unread};
 ghost use Rattle.std.specs.Io.KnownBytes.{Keeps};
 
-use crate::comparison::{Compared, Comparison, PairNames, Question};
 use crate::flush::Flush;
 use crate::input::read_all;
 use crate::name::{file_name, shown_name};
+use crate::question::{Compared, Comparison, PairNames, Question};
 use asn_documents::value::write_octets;
 use comparison::same::{Style, TwoDocuments, same_text};
 use comparison::same_key::same_key_text;

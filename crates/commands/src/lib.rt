@@ -4,7 +4,7 @@
 //! it and flushes the target (`flush`), `outcome` has the status and the line of how it ended, and `closing` writes
 //! that line. `files` does it over the documents of a list of names: `names` and `ended_names` are such lists, `opener`
 //! opens the document of a name, `file_system` in files, `name` is how a name is shown, and `lines` has the memory for
-//! a line. `compare` says of two documents what they are to each other, `comparison` has what is asked. `new_file`
+//! a line. `compare` says of two documents what they are to each other, `question` has what is asked. `new_file`
 //! writes what a task makes into a file that then takes its place.
 //!
 //! Over the streams of a program (`standard`) `judge` says what a task has to say of documents by their names,
@@ -14,7 +14,6 @@
 mod block_target;
 pub mod closing;
 pub mod compare;
-pub mod comparison;
 pub mod convert;
 pub mod ended_names;
 pub mod file_system;
@@ -30,6 +29,7 @@ pub mod new_file;
 pub mod opener;
 pub mod outcome;
 pub mod pair;
+pub mod question;
 mod reply;
 pub mod reported;
 mod run;

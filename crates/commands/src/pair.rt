@@ -12,12 +12,12 @@ ghost use Rattle.commands.specs.declared.outcome.Outcome.TheVariants.{ReadFailed
 
 use crate::closing::{finish, finish_named, finish_pair};
 use crate::compare::answer_pair;
-use crate::comparison::{Comparison, PairNames};
 use crate::files::Came;
 use crate::flush::Flush;
 use crate::lines::NamedLine;
 use crate::opener::Opener;
 use crate::outcome::Outcome;
+use crate::question::{Comparison, PairNames};
 use crate::standard::{Standard, is_dash};
 use pk_documents::document::{Document, Valued};
 use std::alloc::Global;

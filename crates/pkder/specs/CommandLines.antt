@@ -30,9 +30,9 @@ use Rattle.pkder.specs.declared.line.Invocation.{Invocation}
 use Rattle.pkder.specs.declared.line.Invocation.TheVariants.{Both, Each}
 use Rattle.pkder.specs.declared.line.Order.{Order}
 use Rattle.pkder.specs.declared.pair.Pair.{Pair}
-use Rattle.commands.specs.declared.comparison.Comparison.{Comparison}
-use Rattle.commands.specs.declared.comparison.Question.{Question}
-use Rattle.commands.specs.declared.comparison.Question.TheVariants.{Document, Key}
+use Rattle.commands.specs.declared.question.Comparison.{Comparison}
+use Rattle.commands.specs.declared.question.Question.{Question}
+use Rattle.commands.specs.declared.question.Question.TheVariants.{Document, Key}
 use Rattle.commands.specs.declared.task.Task.{Task}
 use Rattle.comparison.specs.declared.same.Style.TheVariants.{Json, Text as TextForm}
 

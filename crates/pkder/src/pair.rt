@@ -6,7 +6,7 @@ ghost use Rattle.pkder.specs.CommandLines.{BadComparison, BadKinds, BadOther, Ba
 use crate::line::{is_flagged, read_limits, value};
 use crate::refusal::{BadValue, advice_for_kind};
 use clap::ArgMatches;
-use commands::comparison::{Comparison, Question};
+use commands::question::{Comparison, Question};
 use comparison::same::Style;
 use pk_documents::kind::{KEY_WORDS, Kind, WORDS};
 

@@ -7,7 +7,6 @@ ghost use Rattle.pkder.specs.Responses.{Does, Follows, Responds, SaysFault, firs
 
 use crate::line::{Invocation, LineFault, Order, invocation_of};
 use commands::closing::{complain, finish};
-use commands::comparison::PairNames;
 use commands::convert::{Places, convert};
 use commands::flush::Flush;
 use commands::judge::judge;
@@ -15,6 +14,7 @@ use commands::new_file::NewFiles;
 use commands::opener::Opener;
 use commands::outcome::Outcome;
 use commands::pair::compare_named;
+use commands::question::PairNames;
 use commands::standard::Standard;
 use commands::streams::say;
 use commands::task::Action;
