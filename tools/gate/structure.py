@@ -30,8 +30,8 @@ WRAPPED = re.compile(r"let (\w+) = ([^;]*)\?; Ok\(\w+(?:\(\1\)| \{ \1 \})\)")
 OWN_NAMES = ("Listed",)
 # As many of each count as there may be.
 LIMITS = {"handing": 49, "handing_lines": 799, "wrapping": 55, "wrapping_lines": 909, "same": 2, "frames": 0,
-          "request": 204, "key": 769, "newtypes": 3, "forms": 0, "crates": 27, "names": 0,
-          "types": 2, "equal": 0, "parameters": 0, "tools": 10}
+          "request": 204, "key": 769, "newtypes": 3, "forms": 0, "crates": 26, "names": 0,
+          "types": 1, "equal": 0, "parameters": 0, "tools": 8}
 # A function has so many parameters, at most.
 PARAMETERS = 6
 
