@@ -12,6 +12,7 @@ from tests.oracle.secret_documents import KINDS
 DEPTH, OCTETS = 32, 1048576
 # Reports as the library makes them: their names, and the numbers of their forms.
 FORMS = {"explain": 0, "explain --all": 1, "explain --json": 2, "explain --json --all": 3}
+WHOLE = "explain --json --all"
 ACCEPTED, NOT_DER = 0, 5
 # What the program is asked for beside its line.
 COMMANDS = ("explain", "explain --all", "explain --json", "explain --json --all", "explain --places 1",
@@ -76,6 +77,12 @@ class Library:
             found["show"] = self.written(self.show(number, DEPTH, OCTETS, *given, self.room, ROOM))
             yield found
 
+    def listings(self, kind, documents):
+        """The whole report of each, as JSON."""
+        number = KINDS.index(kind) + 1
+        return [self.written(self.explain(number, DEPTH, OCTETS, FORMS[WHOLE], it, len(it), self.room, ROOM))
+                for it in documents]
+
     def same_texts(self, kind, document, third):
         """What it says of two documents, in both orders."""
         number, one, other = KINDS.index(kind) + 1, (document, len(document)), (third, len(third))
@@ -129,6 +136,10 @@ class Program:
         with self.files(documents) as folder:
             said = [self.said(folder, kind, it.split(), len(documents)) for it in COMMANDS]
         return [dict(zip(COMMANDS, it)) for it in zip(*said)]
+
+    def listings(self, kind, documents):
+        with self.files(documents) as folder:
+            return self.said(folder, kind, WHOLE.split(), len(documents))
 
     def same_texts(self, kind, document, third):
         found = {}

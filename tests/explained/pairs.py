@@ -24,6 +24,7 @@ from pathlib import Path
 
 sys.path[0] = str(Path(__file__).resolve().parents[2])
 from tests.explained.asked_reports import Library, Program
+from tests.explained.chance import chances_that_fail, is_by_chance
 from tests.explained.report_differences import (
     LOOKED_AT, differences, private_runs, rules_that_fail, runs_told_alone, untold_forms)
 from tests.oracle import reader
@@ -73,8 +74,10 @@ class Pair:
         return self.kind == "request" and any(self.marks[at] >= SECRETS
                                               for it in self.texts[:2] for at in subject_of(it))
 
-    def made_public(self, texts):
+    def made_public(self, asked, texts, is_looked_at):
         """What the damage made of private octets of a refused document that a report may tell of them, if anything."""
+        if is_by_chance(asked, self.kind, self.texts[:2], is_looked_at):
+            return "they happen to be what is usual there"
         if len({front(it) for it in self.texts[:2]}) > 1:
             return "they spell a usual front"
         if any(self.has_private_length(it["explain --json --all"]) for it in texts):
@@ -161,7 +164,7 @@ def difference_of(one, other):
     return f"{one[begin : at + 40]!r} and {other[begin : at + 40]!r}"
 
 
-def compare(found, pair, texts, is_accepted):
+def compare(found, asked, pair, texts, is_accepted):
     """Compares all reports of a pair."""
     is_looked_at, wrong = pair.is_looked_at(), {}
     for name, one in texts[0].items():
@@ -174,7 +177,7 @@ def compare(found, pair, texts, is_accepted):
         found.count.update(f"{it} of a refused document" for it in allowed if "--json --all" in name)
         for it in apart:
             wrong.setdefault(it, f"{name}: {difference_of(one, other)}")
-    made = wrong and not is_accepted and pair.made_public(texts)
+    made = wrong and not is_accepted and pair.made_public(asked, texts, is_looked_at)
     if made:
         found.count[f"refused, and left apart: {made}"] += 1
     elif wrong and (not is_accepted or pair.are_private()):
@@ -213,7 +216,7 @@ def try_kind(found, asked, kind, pairs):
     for pair, lines in likes:
         if asked.is_accepted(lines[0]):
             accepted.append(pair)
-        found.count["failed"] += not compare(found, pair, [next(texts), next(texts)], asked.is_accepted(lines[0]))
+        found.count["failed"] += not compare(found, asked, pair, [next(texts), next(texts)], asked.is_accepted(lines[0]))
     for pair, lines in apart:
         are_accepted = [*map(asked.is_accepted, lines)]
         found.count["failed"] += not look_through(found, pair, [next(texts), next(texts)], are_accepted)
@@ -297,7 +300,7 @@ def main(words):
     began, whole = time.monotonic(), Found()
     untold = untold_forms(random.Random(seed).randbytes(7))
     wrong = [f"private octets that are told as {it} aren't seen" for it in untold]
-    wrong += [*rules_that_fail(), *grammar_is_wrong(seed)]
+    wrong += [*rules_that_fail(), *chances_that_fail(), *grammar_is_wrong(seed)]
     units = ((seed, number, library, programs) for number in range(-(-count // UNIT)))
     with Pool(jobs) if jobs > 1 else contextlib.nullcontext() as pool:
         for found in pool.imap(try_unit, units) if pool else map(try_unit, units):
