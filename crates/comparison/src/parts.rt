@@ -5,12 +5,14 @@ ghost use Rattle.asn_elements.specs.Leaves.{octets_of};
 ghost use Rattle.pkix_definitions.specs.Identifiers.{ec_public_key};
 ghost use Rattle.pkix_values.specs.Algorithms.{parameters_of};
 ghost use Rattle.pkcs8.specs.Keys.{curve_octets, identifier_of};
-ghost use Rattle.comparison.specs.Parts.{asymmetric_parts, document_parts, ec_parts, number_octets, parts_seen, rsa_parts};
+ghost use Rattle.comparison.specs.Parts.{asymmetric_parts, document_parts, ec_parts, number_octets, parts_seen};
+ghost use Rattle.comparison.specs.Parts.{rsa_parts};
 
 use asn_values::octets::Octets;
 use pk_documents::document::Document;
 use pkcs8::one_asymmetric_key::OneAsymmetricKey;
 use pkcs8::private_key::PrivateKey;
+use pkix_definitions::identifiers::EC_PUBLIC_KEY;
 use pkix_values::algorithm::AlgorithmIdentifier;
 use private_keys::ec_private_key::EcPrivateKey;
 use private_keys::rsa_private_key::RsaPrivateKey;
@@ -86,7 +88,7 @@ fn curve_and_key<'a>(curve: Option<&'a Oid>, key: &'a Octets) -> (&'a [u8], &'a 
 pub(crate) fn id_ec_public_key() -> &'static [u8]
     ensures { result.now ≡ ec_public_key }
 {
-    &[0x2A, 0x86, 0x48, 0xCE, 0x3D, 0x02, 0x01]
+    EC_PUBLIC_KEY
 }
 
 fn rsa_parts(key: &RsaPrivateKey) -> KeyParts<'_>

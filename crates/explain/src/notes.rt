@@ -1,15 +1,22 @@
 //! What other standards forbid in an accepted document, by its lines.
-mod keys;
-
 ghost use Rattle.std.specs.Prelude.{◌≡◌, ◌≤◌, IfOk, OnOk, length, option_and_then, slice_get};
 ghost use Rattle.std.specs.Option.{option_map};
 ghost use Rattle.pkix_definitions.specs.Identifiers.{ec_public_key, length_under};
 ghost use Rattle.x690.specs.Lists.{same_octets};
-ghost use Rattle.explain.specs.Notes.{add_note, arcs_of, are_same, context_after, context_start, curve_after, is_attribute, is_curve_named, is_point, is_public_key, is_repeated, is_same_field, is_same_identifier, is_same_step, is_single_valued, members_of, ml_dsa_lengths, ml_kem_lengths, most_notes, named, nist_encapsulation, nist_signature, notes_on, parameters, public_octets, remark_if, remark_on, remark_on_algorithm, remark_on_bits, remark_on_key, remark_on_repeat, remark_on_values, remark_once_more, slh_dsa_sha2_lengths, slh_dsa_shake_lengths};
+ghost use Rattle.explain.specs.Notes.{add_note, arcs_of, are_same, context_after, context_start, curve_after};
+ghost use Rattle.explain.specs.Notes.{is_attribute, is_curve_named, is_point, is_public_key, is_repeated};
+ghost use Rattle.explain.specs.Notes.{is_same_field, is_same_identifier, is_same_step, is_single_valued, members_of};
+ghost use Rattle.explain.specs.Notes.{ml_dsa_lengths, ml_kem_lengths, most_notes, named, nist_encapsulation};
+ghost use Rattle.explain.specs.Notes.{nist_signature, notes_on, parameters, public_octets, remark_if, remark_on};
+ghost use Rattle.explain.specs.Notes.{remark_on_algorithm, remark_on_bits, remark_on_key, remark_on_repeat};
+ghost use Rattle.explain.specs.Notes.{remark_on_values, remark_once_more, slh_dsa_sha2_lengths};
+ghost use Rattle.explain.specs.Notes.{slh_dsa_shake_lengths};
 
 use crate::document::values::is_field;
-use crate::notes::keys::{are_same_octets, curve_octets};
 use asn_names::element::Step;
+use pkix_definitions::identifiers::{
+    EC_PUBLIC_KEY, EXTENSION_REQUEST, are_same_octets, curve_length,
+};
 use reports::report::{Line, Note, Remark, Value};
 use std::alloc::{AllocError, Global};
 
@@ -120,8 +127,8 @@ fn curve_after(curve: Option<u64>, name: Option<&[u8]>) -> Option<u64>
     let Some(name) = name else {
         return curve;
     };
-    match curve_octets(name) {
-        Some(octets) => Some(octets),
+    match curve_length(name) {
+        Some(octets) => Some(octets as u64),
         None => curve,
     }
 }
@@ -136,10 +143,7 @@ fn is_single_valued(name: Option<&[u8]>) -> bool
     are_same_octets(
         name,
         &[0x2A, 0x86, 0x48, 0x86, 0xF7, 0x0D, 0x01, 0x09, 0x07],
-    ) || are_same_octets(
-        name,
-        &[0x2A, 0x86, 0x48, 0x86, 0xF7, 0x0D, 0x01, 0x09, 0x0E],
-    )
+    ) || are_same_octets(name, EXTENSION_REQUEST)
 }
 
 /// The octets of a public key under the algorithm, where all have the same number.
@@ -263,7 +267,7 @@ fn is_encapsulation(algorithm: &[u8], number: u8) -> bool
 fn is_ec_public_key(algorithm: &[u8]) -> bool
     ensures { result ≡ same_octets algorithm.now ec_public_key }
 {
-    are_same_octets(algorithm, &[0x2A, 0x86, 0x48, 0xCE, 0x3D, 0x02, 0x01])
+    are_same_octets(algorithm, EC_PUBLIC_KEY)
 }
 
 /// What is remarked on a line, by what the lines before say and by the lines after.

@@ -16,6 +16,7 @@ use asn_values::fields::Next;
 use asn_values::ruled::{Ruled, Rules};
 use asn_values::sequence::{FieldsText, FirstFields, Required};
 use ber_pull::pull::Pull;
+use pkix_definitions::identifiers::{EC_PUBLIC_KEY, RSA_ENCRYPTION};
 use pkix_values::algorithm::AlgorithmIdentifier;
 use pkix_values::identifiers::has_contents;
 use pkix_values::version::Version;
@@ -49,17 +50,14 @@ pub fn is_version_0(number: u8) -> bool
 pub fn is_ec_public_key(algorithm: &Oid) -> bool
     ensures { result ≡ one_of algorithm.now (ec_public_key ∷ []) }
 {
-    has_contents(algorithm, &[0x2A, 0x86, 0x48, 0xCE, 0x3D, 0x02, 0x01])
+    has_contents(algorithm, EC_PUBLIC_KEY)
 }
 
 /// Whether it is rsaEncryption (RFC 8017 A.1).
 pub fn is_rsa_encryption(algorithm: &Oid) -> bool
     ensures { result ≡ one_of algorithm.now (rsa_encryption ∷ []) }
 {
-    has_contents(
-        algorithm,
-        &[0x2A, 0x86, 0x48, 0x86, 0xF7, 0x0D, 0x01, 0x01, 0x01],
-    )
+    has_contents(algorithm, RSA_ENCRYPTION)
 }
 
 /// In a private key id-ecPublicKey has parameters, and they name its curve.

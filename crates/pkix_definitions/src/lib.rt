@@ -7,3 +7,4 @@
 #![tactic(auto)]
 
 pub mod documents;
+pub mod identifiers;

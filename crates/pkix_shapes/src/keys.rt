@@ -4,20 +4,10 @@ use crate::shared::{ALGORITHM_IDENTIFIER, ATTRIBUTE};
 use crate::universal::{
     BIT_STRING, INTEGER, OBJECT_IDENTIFIER, OCTETS, PRIVATE_INTEGER, PRIVATE_OCTETS, SEQUENCE,
 };
+use pkix_definitions::identifiers::{EC_PUBLIC_KEY, ED448, ED25519, RSA_ENCRYPTION, X448, X25519};
 
-/// id-ecPublicKey, 1.2.840.10045.2.1.
-const EC_PUBLIC_KEY: &[u8] = &[0x2A, 0x86, 0x48, 0xCE, 0x3D, 0x02, 0x01];
-
-/// rsaEncryption, 1.2.840.113549.1.1.1.
-const RSA_ENCRYPTION: &[u8] = &[0x2A, 0x86, 0x48, 0x86, 0xF7, 0x0D, 0x01, 0x01, 0x01];
-
-/// X25519, X448, Ed25519 and Ed448, 1.3.101.110 to 113 (RFC 8410 section 3).
-const CURVES: &[&[u8]] = &[
-    &[0x2B, 0x65, 0x6E],
-    &[0x2B, 0x65, 0x6F],
-    &[0x2B, 0x65, 0x70],
-    &[0x2B, 0x65, 0x71],
-];
+/// The algorithms of RFC 8410 section 3.
+const CURVES: &[&[u8]] = &[X25519, X448, ED25519, ED448];
 
 /// The contents of an INTEGER that is 0.
 const VERSION_0: &[u8] = &[0];

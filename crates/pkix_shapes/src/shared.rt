@@ -3,9 +3,7 @@ use crate::shape::{Fields, Shape, fields};
 use crate::universal::{
     BIT_STRING, BOOLEAN, OBJECT_IDENTIFIER, OCTET_STRING, PRIVATE_VALUE, SEQUENCE, SET,
 };
-
-/// extensionRequest, 1.2.840.113549.1.9.14.
-const EXTENSION_REQUEST: &[u8] = &[0x2A, 0x86, 0x48, 0x86, 0xF7, 0x0D, 0x01, 0x09, 0x0E];
+use pkix_definitions::identifiers::EXTENSION_REQUEST;
 
 pub const ALGORITHM_IDENTIFIER: Shape = Shape::Named(
     "AlgorithmIdentifier",

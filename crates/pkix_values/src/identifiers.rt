@@ -1,9 +1,10 @@
-//! The object identifiers that the types name, by their contents (X.690 8.19).
+//! The object identifiers that the types name, as values of X.690 8.19.
 ghost use Rattle.std.specs.Prelude.{◌≡◌, ◌∷◌, []};
 ghost use Rattle.std.specs.Option.{is_some};
 ghost use Rattle.pkix_definitions.specs.Identifiers.{extension_request, length_under, rfc8410_algorithms, rfc8410_lengths};
 ghost use Rattle.x690.specs.Lists.{one_of, same_octets};
 
+use pkix_definitions::identifiers::{EXTENSION_REQUEST, rfc8410_length};
 use tlv_core::oid::Oid;
 
 /// Whether the identifier has these contents.
@@ -20,23 +21,12 @@ pub fn public_key_length(algorithm: &Oid) -> Option<usize>
     ensures length { result ≡ length_under rfc8410_lengths algorithm.now }
     ensures listed { is_some result ≡ one_of algorithm.now rfc8410_algorithms }
 {
-    // X25519, X448, Ed25519, Ed448
-    if has_contents(algorithm, &[0x2B, 0x65, 0x6E]) {
-        Some(32)
-    } else if has_contents(algorithm, &[0x2B, 0x65, 0x6F]) {
-        Some(56)
-    } else if has_contents(algorithm, &[0x2B, 0x65, 0x70]) {
-        Some(32)
-    } else if has_contents(algorithm, &[0x2B, 0x65, 0x71]) {
-        Some(57)
-    } else {
-        None
-    }
+    rfc8410_length(algorithm.contents())
 }
 
 /// Whether an attribute of this type has extensions (RFC 2985 section 5.4.2).
 pub fn is_extension_request(id: &Oid) -> bool
     ensures { result ≡ one_of id.now (extension_request ∷ []) }
 {
-    has_contents(id, &[0x2A, 0x86, 0x48, 0x86, 0xF7, 0x0D, 0x01, 0x09, 0x0E])
+    has_contents(id, EXTENSION_REQUEST)
 }
