@@ -4,8 +4,9 @@
 From the names in a call's clauses it follows definition by definition, through the imports of the files in specs/, and
 counts the lines of what it reaches, without comments, imports and empty lines: what an auditor of the call has to read.
 With a CALL it lists the files, with their lines and the names that are reached; with --text it prints these definitions
-as one text, with their comments, those of a file after those of the files that it imports. It doesn't follow into std
-and clap, which are trusted, into the plain reading, which laws tie to the rest, nor into src/: types that are declared
+as one text, with their comments, those of a file after those of the files that it imports. How a report is worded comes
+after what is promised, and is counted apart: without it the promises stand as they are, and say less. It doesn't follow
+into std and clap, which are trusted, into the plain reading, which laws tie to the rest, nor into src/: types that are declared
 there, and what a type stands for (`ghost value`).
 
 --check compares the table with the one in docs/definitions.md and ends in 'definitions: N passed, M failed', a line of
@@ -25,9 +26,11 @@ CALLS = {"run": "commands/src/run.rt", "run_files": "commands/src/files.rt", "in
          "compare": "commands/src/compare.rt", "show_text": "pk_show/src/lib.rt", "respond": "pkder/src/respond.rt"}
 CALLS |= {f"pkder_{it}": "pkder_c/src/lib.rt" for it in OF_C}
 PLAIN_READING = {f"x690.{it}" for it in ("Reading", "ReadHeaders", "ReadContents", "ReadTypes")}
+# how a report is worded, which its promises do without: a module and a crate
+WORDING = {"explain.Wordings", "reports"}
 # what the plain reading answers, and the relation by which the law `answers::there_is_one_answer` says the same
 TIED = {"answer": "IsAnswer"}
-HEAD = "| Call | Files | Lines |"
+HEAD = "| Call | Files | Lines | With words of reports |"
 
 
 def imported(text):
@@ -85,12 +88,16 @@ def is_followed(module):
     return module and module not in PLAIN_READING and os.path.isdir(f"{TOP}/crates/{module.split('.')[0]}")
 
 
+def is_wording(module):
+    return module in WORDING or module.split(".")[0] in WORDING
+
+
 def names_in(lines):
     """The names that lines use, each with what stands behind a full stop."""
     return re.findall(r"(?<![\w.])([^\s(){}\[\],;.]+)(?:\.([^\s(){}\[\],;.]+))?", "\n".join(lines))
 
 
-def reached(function, file):
+def reached(function, file, follows=is_followed):
     """The definitions that a function's clauses stand on: of each module their lines, by their place, with a name."""
     with open(f"{TOP}/crates/{file}", encoding="utf-8") as it:
         text = it.read()
@@ -101,7 +108,7 @@ def reached(function, file):
         for head, behind in names_in(lines):
             module, name = seen.get(head, ("", None))
             name = name or behind
-            if not is_followed(module):
+            if not follows(module):
                 continue
             place, defined = module_of(module).defines.get(name, (None, [name]))
             if place in found.setdefault(module, {}):
@@ -111,6 +118,18 @@ def reached(function, file):
                 found[module][place] = (name, defined)
             left.append((module_of(module).seen, [*defined, TIED.get(name, "")]))
     return {module: parts for module, parts in found.items() if parts}
+
+
+def promised(function, file):
+    """The same without how reports are worded."""
+    return reached(function, file, lambda module: is_followed(module) and not is_wording(module))
+
+
+def without(modules, others):
+    """What of these definitions isn't among the others."""
+    left = {name: {at: it for at, it in parts.items() if at not in others.get(name, {})}
+            for name, parts in modules.items()}
+    return {name: parts for name, parts in left.items() if parts}
 
 
 def in_order(modules):
@@ -128,34 +147,53 @@ def in_order(modules):
     return found
 
 
+def parts_of(call):
+    """The definitions that a call stands on: what is promised, and how reports are worded."""
+    promises = promised(call, CALLS[call])
+    return promises, without(reached(call, CALLS[call]), promises)
+
+
 def text_of(call):
     """The definitions that a call stands on, as one text."""
-    modules = reached(call, CALLS[call])
-    for module in in_order(modules):
-        yield f"-- ======== crates/{module.replace('.', '/specs/')}.antt"
-        yield from (module_of(module).texts[place] for place in sorted(modules[module]))
+    for modules, what in zip(parts_of(call), ("", "worded: ")):
+        for module in in_order(modules):
+            yield f"-- ======== {what}crates/{module.replace('.', '/specs/')}.antt"
+            yield from (module_of(module).texts[place] for place in sorted(modules[module]))
 
 
 def count(parts):
     return sum(len(lines) for _, lines in parts.values())
 
 
-def table():
-    """The lines of the table: a call's files and their lines, and those of all calls together."""
-    found = {f"`{name}`": reached(name, file) for name, file in CALLS.items()}
+def lines_in(modules):
+    return sum(map(count, modules.values()))
+
+
+def joined(all_modules):
+    """The definitions of any of these."""
     whole = {}
-    for modules in found.values():
+    for modules in all_modules:
         for module, parts in modules.items():
             whole.setdefault(module, {}).update(parts)
-    rows = {**found, "all of these": whole}.items()
-    return [HEAD, "|---|---|---|", *(f"| {name} | {len(it)} | {sum(map(count, it.values()))} |" for name, it in rows)]
+    return whole
+
+
+def table():
+    """The lines of the table: a call's files and lines, and those with how reports are worded; of all calls together."""
+    calls = {f"`{name}`": (promised(name, file), reached(name, file)) for name, file in CALLS.items()}
+    calls["all of these"] = [joined(it) for it in zip(*calls.values())]
+    return [HEAD, "|---|---|---|---|", *(
+        f"| {name} | {len(promises)} | {lines_in(promises)} | {lines_in(whole)} |"
+        for name, (promises, whole) in calls.items())]
 
 
 def main(words):
     if words and words[0] in CALLS:
-        for module, parts in sorted(reached(words[0], CALLS[words[0]]).items()):
-            names = ", ".join(name for name, _ in parts.values())
-            print(f"{count(parts):5} crates/{module.replace('.', '/specs/')}.antt: {names}")
+        for modules, what in zip(parts_of(words[0]), ("promised", "how reports are worded")):
+            print(f"{lines_in(modules):5} {what}")
+            for module, parts in sorted(modules.items()):
+                names = ", ".join(name for name, _ in parts.values())
+                print(f"{count(parts):5} crates/{module.replace('.', '/specs/')}.antt: {names}")
         return 0
     if words[:1] == ["--text"] and words[1:] and words[1] in CALLS:
         print("\n\n".join(text_of(words[1])))

@@ -3,6 +3,7 @@ pub mod Listed
 pub mod Ordered
 pub mod Outlined
 pub mod Pieces
+pub mod Promised
 pub mod Repeats
 pub mod Sound
 pub mod Steps

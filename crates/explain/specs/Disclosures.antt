@@ -1,5 +1,5 @@
 -- What a report may show of a document: all that one is made of.
-use Rattle.std.specs.Prelude.{Bool, List, None, Option, Some, [], cond, false, length, nat_le, not, take, true, ℕ, ◌++◌, ◌&&◌, ◌==◌, ◌∷◌, ◌≡◌}
+use Rattle.std.specs.Prelude.{Bool, List, None, Option, Some, [], cond, false, length, nat_le, not, take, true, ℕ, ◌++◌, ◌&&◌, ◌∷◌, ◌≡◌}
 use Rattle.std.specs.Borrow.{Bor}
 use Rattle.asn_names.specs.declared.element.NamedElement.{NamedElement}
 use Rattle.asn_names.specs.declared.element.Mismatch.{Mismatch}
@@ -24,7 +24,6 @@ use Rattle.explain.specs.declared.disclosed.Disclosed.{Disclosed}
 use Rattle.explain.specs.declared.document.inside.Inside.{Inside}
 use Rattle.reports.specs.declared.report.Answer.{Answer}
 use Rattle.reports.specs.declared.report.Answer.TheVariants.{Der, NotDer, Refused}
-use Rattle.reports.specs.declared.report.Guess.{Guess}
 
 -- the reason alone says which field is refused
 abbrev pub says_field : Reason → Bool

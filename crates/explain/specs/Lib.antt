@@ -16,10 +16,12 @@ pub mod Listings
 pub mod Guesses
 pub mod Notes
 pub mod Places
+pub mod Promises
 pub mod Public
 pub mod ReportLaws
 pub mod Reports
 pub mod Rules
 pub mod Shapes
 pub mod FaultLocations
+pub mod Wordings
 pub mod Written

@@ -3,7 +3,7 @@ use Rattle.std.specs.Prelude.{List, ℕ}
 use Rattle.tlv_core.specs.Limits.{Limits}
 use Rattle.pk_documents.specs.declared.kind.Kind.{Kind}
 use Rattle.explain.specs.Disclosures.{IsDisclosed}
-use Rattle.explain.specs.Reports.{IsReportBy, IsReportOf}
+use Rattle.explain.specs.Reports.{IsReportOf}
 use Rattle.explain.specs.declared.disclosed.Disclosed.{Disclosed}
 use Rattle.reports.specs.declared.report.Report.{Report}
 

@@ -1,75 +1,22 @@
 -- What is reported of octets that have to be one document of a kind.
-use Rattle.std.specs.Prelude.{List, None, Option, [], length, ℕ, ◌∷◌, ◌≡◌, ◌≤◌}
-use Rattle.std.specs.Borrow.{Bor}
+use Rattle.std.specs.Prelude.{List, length, ℕ, ◌≡◌}
 use Rattle.tlv_core.specs.Limits.{Limits}
-use Rattle.tlv_core.specs.declared.fault.Fault.{Fault}
-use Rattle.asn_names.specs.declared.element.NamedElement.{NamedElement}
-use Rattle.asn_names.specs.declared.element.Mismatch.{Mismatch}
-use Rattle.pkix_shapes.specs.declared.shape.Shape.{Shape}
-use Rattle.pk_documents.specs.KindRows.{type_name_of, word_of}
+use Rattle.pk_documents.specs.Kinds.{type_of}
 use Rattle.pk_documents.specs.declared.kind.Kind.{Kind}
-use Rattle.explain.specs.Disclosures.{IsDisclosed}
-use Rattle.explain.specs.FaultLines.{AddsFault}
-use Rattle.explain.specs.Faults.{Case, IsDiagnosisIf}
-use Rattle.explain.specs.Insides.{HasInsides, IsNamed}
-use Rattle.explain.specs.Listings.{IsListed}
-use Rattle.explain.specs.Notes.{most_notes, notes_by}
-use Rattle.explain.specs.Places.{end_by_listed}
-use Rattle.explain.specs.Rules.{front_document}
-use Rattle.explain.specs.Shapes.{IsShapeOf}
-use Rattle.explain.specs.declared.disclosed.Disclosed.{Disclosed}
-use Rattle.explain.specs.declared.document.inside.Inside.{Inside}
+use Rattle.explain.specs.Answers.{IsAnswer}
+use Rattle.explain.specs.Promises.{EndsIn, IsFront, IsListing}
+use Rattle.explain.specs.Wordings.{IsWordedReport}
 use Rattle.reports.specs.declared.report.Line.{Line}
 use Rattle.reports.specs.declared.report.Report.{Report}
 
--- where the outermost element ends by its length, where that is shown: by the first line
-abbrev pub announced_end : List Line → Option ℕ
-announced_end [] = None
-announced_end (line ∷ lines) = end_by_listed line.at line.length
-
--- The elements of the front, by the names of the kind's type, a line each, and those of the documents inside them.
-pub record IsListing (limits : Limits) (of : Kind) (disclosed : Disclosed) (lines : List Line) : Type 0 where
-  pub root : Bor Shape
-  pub is_shape : IsShapeOf of root
-  pub elements : List NamedElement
-  pub mismatch : Mismatch
-  pub is_named : IsNamed limits disclosed.front.now root (elements, mismatch)
-  pub insides : List Inside
-  pub has_insides : HasInsides limits disclosed.front.now elements (length elements) insides
-  pub listed : IsListed (front_document disclosed.answer disclosed.front.now elements) insides lines
-
--- a document that is refused for a fault, by its front and these lines
-abbrev pub case_by : Disclosed → Bor Shape → List NamedElement → Mismatch → List Line → Fault → Case
-case_by disclosed root elements mismatch lines fault = record {
-  fault = fault;
-  root = root;
-  elements = elements;
-  mismatch = mismatch;
-  octets = disclosed.octets;
-  front = length disclosed.front.now;
-  class = disclosed.class;
-  lines = lines;
-}
-
--- The report is made of what may be shown of the document, and of nothing else.
-pub record IsReportBy (limits : Limits) (of : Kind) (disclosed : Disclosed) (report : Report) : Type 0 where
-  pub word : report.kind.word.now ≡ word_of of
-  pub type_name : report.kind.type_name.now ≡ type_name_of of
-  pub octets : report.octets ≡ disclosed.octets
-  pub answer : report.answer ≡ disclosed.answer
-  pub listing : List Line
-  pub is_listing : IsListing limits of disclosed listing
-  pub lines : AddsFault disclosed.answer (length disclosed.path.items) listing report.lines.items
-  pub diagnosis : IsDiagnosisIf disclosed.answer
-      (case_by disclosed is_listing.root is_listing.elements is_listing.mismatch report.lines.items)
-      disclosed.path.items report.diagnosis
-  pub announced : report.announced ≡ announced_end report.lines.items
-  pub guess : report.guess ≡ disclosed.guess
-  pub notes : report.notes.items ≡ notes_by disclosed.answer report.lines.items
-  pub few : length report.notes.items ≤ most_notes
-
--- What may be shown of the document, and the report that is made of that.
+-- The answer is that of `check`. The lines are those of the first octets of the document, of all of them where it is
+-- accepted. Which octets are shown of one that is refused, and what is said beyond its lines, is its wording.
 pub record IsReportOf (limits : Limits) (of : Kind) (document : List ℕ) (report : Report) : Type 0 where
-  pub disclosed : Disclosed
-  pub is_disclosed : IsDisclosed limits of document disclosed
-  pub made_of : IsReportBy limits of disclosed report
+  pub octets : report.octets ≡ length document
+  pub answer : IsAnswer limits (type_of of) document report.answer
+  pub front : List ℕ
+  pub is_front : IsFront report.answer document front
+  pub listing : List Line
+  pub is_listing : IsListing limits of front listing
+  pub lines : EndsIn report.answer listing report.lines.items
+  pub worded : IsWordedReport limits of document report

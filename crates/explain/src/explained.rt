@@ -3,8 +3,9 @@
 ghost use Rattle.std.specs.Prelude.{◌≡◌, ◌≤◌, IfOk, length};
 ghost use Rattle.explain.specs.Listings.{IsListed};
 ghost use Rattle.explain.specs.Notes.{most_notes, notes_by};
-ghost use Rattle.explain.specs.Reports.{IsReportBy, IsReportOf, announced_end};
+ghost use Rattle.explain.specs.Reports.{IsReportOf};
 ghost use Rattle.explain.specs.Rules.{causes_by, front_document};
+ghost use Rattle.explain.specs.Wordings.{IsReportBy, announced_end};
 
 use crate::disclosed::{Disclosed, disclose};
 use crate::document::inside::{Inside, documents_inside, named_elements};

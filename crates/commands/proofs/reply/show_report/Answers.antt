@@ -22,7 +22,7 @@ returns-in-Some-clause-replied g c =
       made.0,
       made.1,
       subst (IsAnswer c.args.task.now.limits (type_of c.args.task.now.kind) made.0)
-          (sym made.2.made_of.answer ∙ c.in-Some.ensures) made.2.is_disclosed.answer,
+          c.in-Some.ensures made.2.answer,
     )
 
 pub returns-in_err-text-clause-replied : goal.returns-in_err-text-clause-replied

@@ -4,8 +4,8 @@ use Rattle.explain.specs.Faults.{IsDiagnosisIf}
 use Rattle.explain.specs.Insides.{HasInsides}
 use Rattle.explain.specs.Listings.{IsListed}
 use Rattle.explain.specs.Notes.{notes_by}
-use Rattle.explain.specs.Reports.{announced_end, case_by}
 use Rattle.explain.specs.Rules.{front_document}
+use Rattle.explain.specs.Wordings.{announced_end, case_by}
 use Rattle.explain.proofs.explained.report_of.Goals as goal
 
 pub returns : goal.returns

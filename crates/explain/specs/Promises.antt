@@ -1,0 +1,116 @@
+-- What is promised of the lines of a report: each element of what is shown has one, in their order, and they are true.
+use Rattle.std.specs.Prelude.{List, None, Option, Some, [], cond, false, length, take, true, ℕ, ◌++◌, ◌∷◌, ◌≡◌, ◌⊎◌}
+use Rattle.std.specs.Borrow.{Bor}
+use Rattle.std.specs.List.{slice_get}
+use Rattle.std.specs.Option.{is_none}
+use Rattle.tlv_core.specs.Limits.{Limits}
+use Rattle.x690.specs.Lists.{Each}
+use Rattle.asn_names.specs.declared.element.NamedElement.{NamedElement}
+use Rattle.asn_names.specs.declared.element.Mismatch.{Mismatch}
+use Rattle.pkix_shapes.specs.declared.shape.Shape.{Shape}
+use Rattle.pk_documents.specs.declared.kind.Kind.{Kind}
+use Rattle.explain.specs.FaultLines.{IsPlaceAlone}
+use Rattle.explain.specs.Fronts.{is_deeper}
+use Rattle.explain.specs.Insides.{HasInsides, IsNamed}
+use Rattle.explain.specs.Lines.{IsHeaderLine, IsListedValue}
+use Rattle.explain.specs.Listings.{hidden_after}
+use Rattle.explain.specs.Places.{ListedDocument, placed_in}
+use Rattle.explain.specs.Shapes.{IsShapeOf}
+use Rattle.explain.specs.declared.document.inside.Inside.{Inside}
+use Rattle.reports.specs.declared.report.Answer.{Answer}
+use Rattle.reports.specs.declared.report.Answer.TheVariants.{Der, NotDer, Refused}
+use Rattle.reports.specs.declared.report.Cause.{Cause}
+use Rattle.reports.specs.declared.report.Line.{Line}
+
+-- the octets that are shown of a document: its first ones, and all of them where it is accepted
+abbrev pub IsFront : Answer → List ℕ → List ℕ → Type 0
+IsFront Der document front = front ≡ document
+IsFront (NotDer place) document front = front ≡ document
+IsFront (Refused fault) document front = (count : ℕ) × (front ≡ take count document)
+
+-- the lines of what is shown; of a document that is refused one more may show the place of the fault, and nothing else
+abbrev pub EndsIn : Answer → List Line → List Line → Type 0
+EndsIn Der listing lines = lines ≡ listing
+EndsIn (NotDer place) listing lines = lines ≡ listing
+EndsIn (Refused fault) listing lines =
+    (lines ≡ listing)
+    ⊎ ((line : Line) × (depth : ℕ) × (lines ≡ listing ++ (line ∷ [])) × IsPlaceAlone fault.at depth line)
+
+-- A line is of an element of a document: it has the element's header and name, stands where that is in the file, and
+-- says what its contents are; of a private one how many octets.
+pub record IsLineOf (document : ListedDocument) (element : NamedElement) (line : Line) : Type 0 where
+  pub around : ℕ
+  pub header : IsHeaderLine (placed_in document element around) element line
+  pub value : IsListedValue document.octets element line.value
+
+-- the elements that are in no private one, after others of which one is private and so deep, if it is known
+abbrev pub in_no_private : Option ℕ → List NamedElement → List NamedElement
+in_no_private private [] = []
+in_no_private private (element ∷ elements) =
+    cond (is_deeper private element) [] (element ∷ []) ++ in_no_private (hidden_after private element) elements
+
+-- a file of which these octets are shown
+abbrev pub file_with : List ℕ → List NamedElement → List (Option Cause) → ListedDocument
+file_with octets elements causes = record {
+  octets = octets;
+  elements = elements;
+  causes = causes;
+  pieces = record { at = 0; octets = length octets } ∷ [];
+  is_inside = false;
+  depth = 0;
+  around = 0;
+}
+
+-- a document inside an OCTET STRING of it, so deep, after so many lines
+abbrev pub document_in : Inside → List (Option Cause) → ℕ → ℕ → ListedDocument
+document_in inside causes depth around = record {
+  octets = inside.octets.items;
+  elements = inside.named.elements.items;
+  causes = causes;
+  pieces = inside.pieces.items;
+  is_inside = true;
+  depth = depth;
+  around = around;
+}
+
+-- the lines of the file's own elements
+abbrev pub own_lines : List Line → List Line
+own_lines [] = []
+own_lines (line ∷ lines) = cond (is_none line.inside) (line ∷ []) [] ++ own_lines lines
+
+-- A line is of an element of one of the documents inside.
+pub record IsInnerLine (insides : List Inside) (line : Line) : Type 0 where
+  pub before : List Inside
+  pub inside : Inside
+  pub after : List Inside
+  pub are : insides ≡ before ++ (inside ∷ after)
+  pub causes : List (Option Cause)
+  pub depth : ℕ
+  pub around : ℕ
+  pub number : ℕ
+  pub element : NamedElement
+  pub listed : slice_get inside.named.elements.items number ≡ Some element
+  pub is_line : IsLineOf (document_in inside causes depth around) element line
+
+abbrev pub IsInnerIf : List Inside → Option ℕ → Line → Type 0
+IsInnerIf insides None line = Unit {0}
+IsInnerIf insides (Some at) line = IsInnerLine insides line
+
+-- Those of the lines that are of no element of the file are of elements of documents inside.
+abbrev pub AreInner : List Inside → List Line → Type 0
+AreInner insides [] = Unit {0}
+AreInner insides (line ∷ lines) = IsInnerIf insides line.inside line × AreInner insides lines
+
+-- The lines of the first octets of a document: by the names of the kind's type each element in no private one has its
+-- line, in their order; the other lines are of what is inside the OCTET STRINGs that contain a document.
+pub record IsListing (limits : Limits) (of : Kind) (front : List ℕ) (lines : List Line) : Type 0 where
+  pub root : Bor Shape
+  pub is_shape : IsShapeOf of root
+  pub elements : List NamedElement
+  pub mismatch : Mismatch
+  pub is_named : IsNamed limits front root (elements, mismatch)
+  pub insides : List Inside
+  pub has_insides : HasInsides limits front elements (length elements) insides
+  pub causes : List (Option Cause)
+  pub own : Each (IsLineOf (file_with front elements causes)) (in_no_private None elements) (own_lines lines)
+  pub inner : AreInner insides lines
