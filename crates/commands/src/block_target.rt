@@ -1,5 +1,6 @@
 //! Many small pieces go on in blocks.
-ghost use Rattle.std.specs.Prelude.{◌≡◌, ◌≤◌, ◌+◌, ◌-◌, ◌++◌, ◌↔◌, ℕ, IsErr, IsOk, List, None, Option, OnOk, [], false, length, true};
+ghost use Rattle.std.specs.Prelude.{◌≡◌, ◌≤◌, ◌+◌, ◌-◌, ◌++◌, ◌↔◌, ℕ, IsErr, IsOk, List, None, Option, OnOk, []};
+ghost use Rattle.std.specs.Prelude.{false, length, true};
 ghost use Rattle.std.specs.Io.KnownBytes.{Keeps};
 ghost use Rattle.asn_documents.specs.WrittenValues.{WritesText};
 ghost use Rattle.commands.specs.KnownOctets.{known_length};

@@ -1,6 +1,9 @@
 //! What two inputs are to each other, of which each has to be one document.
 ghost use Rattle.std.specs.Prelude.{◌≡◌, ◌++◌, Bool, IfOk, MatchBool, codes, false, string_bytes, true};
-ghost use Rattle.commands.specs.Comparisons.{Answers, AnswersDocument, AnswersKey, AnswersQuestion, AnsweredPair, ComparedAs, ComparedFailed, IsNote, IsAnswered, IsUnanswered, RepliedComparing, first_unread, has_note, key_note, key_status, note_by, said_name, sameness_status, second_unread};
+ghost use Rattle.commands.specs.Comparisons.{Answers, AnswersDocument, AnswersKey, AnswersQuestion, AnsweredPair};
+ghost use Rattle.commands.specs.Comparisons.{ComparedAs, ComparedFailed, IsNote, IsAnswered, IsUnanswered};
+ghost use Rattle.commands.specs.Comparisons.{RepliedComparing, first_unread, has_note, key_note, key_status, note_by};
+ghost use Rattle.commands.specs.Comparisons.{said_name, sameness_status, second_unread};
 ghost use Rattle.std.specs.Io.KnownBytes.{Keeps};
 
 use crate::flush::Flush;

@@ -1,7 +1,8 @@
 //! One document that is converted, to standard output or into a new file.
 ghost use Rattle.std.specs.Prelude.{◌≡◌, IfOk, IfSome, false, string_bytes};
 ghost use Rattle.std.specs.Option.{option_map};
-ghost use Rattle.commands.specs.Conversions.{ClosesConverted, ClosesUnmade, Converts, ConvertsTo, is_irregular, name_or_none, unmade_line, unmade_status};
+ghost use Rattle.commands.specs.Conversions.{ClosesConverted, ClosesUnmade, Converts, ConvertsTo, is_irregular};
+ghost use Rattle.commands.specs.Conversions.{name_or_none, unmade_line, unmade_status};
 ghost use Rattle.commands.specs.Endings.{Served, WritesLine};
 ghost use Rattle.commands.specs.Lines.{name_of_line};
 ghost use Rattle.commands.specs.Standards.{IsReadable, file_named, seen};

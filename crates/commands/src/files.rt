@@ -1,7 +1,9 @@
 //! One task over any number of documents, which have names.
 ghost use Rattle.std.specs.Prelude.{◌≡◌, ◌+◌, ◌<◌, ◌≤◌, ◌++◌, ℕ, IfOk, List, MatchResult, OnOk, Option, false, length};
 ghost use Rattle.arrayvec.specs.ArrayString.{array_string_len};
-ghost use Rattle.commands.specs.Files.{CameAs, Entry, FilesSaid, IsLeft, IsSaid, Went, front_of, has_failed_write, is_json, kept, named_line, said_line, said_text, status_of_came, status_of_end, words_of_came};
+ghost use Rattle.commands.specs.Files.{CameAs, Entry, FilesSaid, IsLeft, IsSaid, Went, front_of, has_failed_write};
+ghost use Rattle.commands.specs.Files.{is_json, kept, named_line, said_line, said_text, status_of_came};
+ghost use Rattle.commands.specs.Files.{status_of_end, words_of_came};
 ghost use Rattle.commands.specs.NameLists.{HasStopped};
 ghost use Rattle.commands.specs.Names.{shown_name};
 ghost use Rattle.commands.specs.Openings.{why_of};

@@ -2,7 +2,8 @@
 ghost use Rattle.std.specs.Prelude.{◌≡◌, IfSome, false, map};
 ghost use Rattle.std.specs.List.{list_any};
 ghost use Rattle.std.specs.Option.{option_map};
-ghost use Rattle.commands.specs.Judgements.{Goes, Judges, JudgesAll, JudgesInput, JudgesNames, JudgesNone, part_of, parts_named, parts_of, sources_of, status_after, status_through};
+ghost use Rattle.commands.specs.Judgements.{Goes, Judges, JudgesAll, JudgesInput, JudgesNames, JudgesNone, part_of};
+ghost use Rattle.commands.specs.Judgements.{parts_named, parts_of, sources_of, status_after, status_through};
 ghost use Rattle.commands.specs.Files.{IsLeft};
 ghost use Rattle.commands.specs.Judgements.Part.{Listed, Named};
 ghost use Rattle.commands.specs.Lines.{name_of_line};

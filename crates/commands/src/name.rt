@@ -3,7 +3,8 @@ ghost use Rattle.std.specs.Prelude.{◌≡◌, ◌++◌, IfOk, OnOk, string_byte
 ghost use Rattle.std.specs.Char.Escape.{escape_ascii, escape_default};
 ghost use Rattle.std.specs.List.{list_any};
 ghost use Rattle.std.specs.Str.{chars};
-ghost use Rattle.commands.specs.Names.{escaped, file_name, is_plain, needs_quotes, quoted, quoted_octets, shown_name, shown_text};
+ghost use Rattle.commands.specs.Names.{escaped, file_name, is_plain, needs_quotes, quoted, quoted_octets, shown_name};
+ghost use Rattle.commands.specs.Names.{shown_text};
 
 use std::alloc::{AllocError, Global};
 

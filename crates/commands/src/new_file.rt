@@ -1,7 +1,8 @@
 //! Files that take their place once they are whole.
 ghost use Rattle.std.specs.Prelude.{◌≡◌, IfErr, IfOk, List, MatchResult, OnOk, false, true, ℕ};
 ghost use Rattle.commands.specs.Endings.{Served};
-ghost use Rattle.commands.specs.MadeFiles.{IsEmpty, IsMade, IsNew, Made, Unmakes, WroteMade, placed_with, removed, why_unmade};
+ghost use Rattle.commands.specs.MadeFiles.{IsEmpty, IsMade, IsNew, Made, Unmakes, WroteMade, placed_with, removed};
+ghost use Rattle.commands.specs.MadeFiles.{why_unmade};
 
 use crate::flush::Flush;
 use crate::outcome::Outcome;

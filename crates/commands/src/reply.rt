@@ -5,7 +5,8 @@ ghost use Rattle.asn_elements.specs.Whole.{IsFailedRead};
 ghost use Rattle.pk_documents.specs.Kinds.{type_of};
 ghost use Rattle.commands.specs.Inputs.{StopsTaking};
 ghost use Rattle.commands.specs.Outcomes.{words_of};
-ghost use Rattle.commands.specs.Replies.{DueOfCheck, DueOfOctets, DueOfShow, IsReportOfInput, StopsShowing, Unreadable, checked_outcome};
+ghost use Rattle.commands.specs.Replies.{DueOfCheck, DueOfOctets, DueOfShow, IsReportOfInput, StopsShowing};
+ghost use Rattle.commands.specs.Replies.{Unreadable, checked_outcome};
 ghost use Rattle.commands.specs.Reported.{DueOfReport, DueOfShownReport, check_text};
 ghost use Rattle.explain.specs.Written.{written_text};
 

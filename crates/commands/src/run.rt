@@ -6,7 +6,8 @@ ghost use Rattle.asn_documents.specs.WrittenValues.{WritesText};
 ghost use Rattle.pk_documents.specs.Kinds.{type_of};
 ghost use Rattle.pk_documents.specs.RequestParts.{part_of};
 ghost use Rattle.pk_documents.specs.declared.kind.Kind.TheVariants as kinds;
-ghost use Rattle.commands.specs.Replies.{DueOfValue, FailedBy, IsSilent, Replied, RepliedTo, RepliedWith, WroteText, unread_outcome, written_outcome};
+ghost use Rattle.commands.specs.Replies.{DueOfValue, FailedBy, IsSilent, Replied, RepliedTo, RepliedWith, WroteText};
+ghost use Rattle.commands.specs.Replies.{unread_outcome, written_outcome};
 
 use crate::block_target::{BlockTarget, Start, new_block};
 use crate::outcome::Outcome;

@@ -5,7 +5,10 @@
 //! attribute are compared all at once: they are in the order of their octets, and so which of them differ says
 //! something of these.
 ghost use Rattle.std.specs.Prelude.{◌≡◌, ◌+◌, ◌++◌, IfOk, OnOk, length};
-ghost use Rattle.comparison.specs.DifferenceLists.{are_private_values, after_pass, deeper, differences, first_pass, follows, has_inner, is_size_alone, is_values, meet_field, meeting, meet_lines, octets_to, opens, same_octets, same_step, second_pass, differences_of, differences_along};
+ghost use Rattle.comparison.specs.DifferenceLists.{are_private_values, after_pass, deeper, differences, first_pass};
+ghost use Rattle.comparison.specs.DifferenceLists.{follows, has_inner, is_size_alone, is_values, meet_field, meeting};
+ghost use Rattle.comparison.specs.DifferenceLists.{meet_lines, octets_to, opens, same_octets, same_step, second_pass};
+ghost use Rattle.comparison.specs.DifferenceLists.{differences_of, differences_along};
 
 use asn_elements::tags::is_same_tag;
 use asn_names::element::Step;

@@ -2,7 +2,8 @@
 ghost use Rattle.std.specs.Prelude.{◌≡◌, ◌++◌, IfOk, OnOk, flat_map, map, string_bytes};
 ghost use Rattle.json.specs.Print.{print};
 ghost use Rattle.reports.specs.Texts.{line_feed};
-ghost use Rattle.comparison.specs.Json.{another_object, called_member, difference_members, fault_members, head_members, refused_object, same_object, words_object};
+ghost use Rattle.comparison.specs.Json.{another_object, called_member, difference_members, fault_members};
+ghost use Rattle.comparison.specs.Json.{head_members, refused_object, same_object, words_object};
 ghost use Rattle.comparison.specs.DifferenceWords.{words_of};
 
 use crate::difference_text::DifferenceText;

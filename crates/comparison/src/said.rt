@@ -1,6 +1,8 @@
 //! Fields and values in words.
 ghost use Rattle.std.specs.Prelude.{◌≡◌, ◌++◌, IfOk, OnOk, drop, string_bytes};
-ghost use Rattle.comparison.specs.Said.{arcs_said, characters_said, contents_said, field_said, identifier_said, is_member, is_unnamed, kind_along, kind_part, kind_said, line_said, value_said, wraps};
+ghost use Rattle.comparison.specs.Said.{arcs_said, characters_said, contents_said, field_said, identifier_said};
+ghost use Rattle.comparison.specs.Said.{is_member, is_unnamed, kind_along, kind_part, kind_said, line_said};
+ghost use Rattle.comparison.specs.Said.{value_said, wraps};
 
 use asn_names::element::Step;
 use reports::paths::path_text;

@@ -1,7 +1,8 @@
 //! What two documents are to each other, as it is written.
 ghost use Rattle.std.specs.Prelude.{◌≡◌, IfOk, map, string_bytes};
 ghost use Rattle.comparison.specs.DifferenceWords.{words_of};
-ghost use Rattle.comparison.specs.Written.{AreShown, IsCompared, IsWritten, another_written, refused_written, same_written};
+ghost use Rattle.comparison.specs.Written.{AreShown, IsCompared, IsWritten, another_written, refused_written};
+ghost use Rattle.comparison.specs.Written.{same_written};
 
 use crate::difference_list::{Encodings, differences};
 use crate::difference_text::{DifferenceText, Sides, first_shown, left_out};

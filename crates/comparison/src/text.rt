@@ -1,6 +1,7 @@
 //! What two documents are to each other, in lines.
 ghost use Rattle.std.specs.Prelude.{◌≡◌, ◌++◌, IfOk, OnOk, flat_map, map, string_bytes};
-ghost use Rattle.comparison.specs.Texts.{another_text, difference_lines, fault_line, field_after, fields_said, more_said, refused_text, same_line, side_line};
+ghost use Rattle.comparison.specs.Texts.{another_text, difference_lines, fault_line, field_after, fields_said};
+ghost use Rattle.comparison.specs.Texts.{more_said, refused_text, same_line, side_line};
 ghost use Rattle.comparison.specs.DifferenceWords.{words_of};
 
 use crate::difference_text::DifferenceText;

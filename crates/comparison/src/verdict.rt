@@ -2,7 +2,8 @@
 ghost use Rattle.std.specs.Prelude.{◌≡◌};
 ghost use Rattle.std.specs.Option.{option_map};
 ghost use Rattle.comparison.specs.Parts.{parts_seen};
-ghost use Rattle.comparison.specs.Verdicts.{by_test, is_unnamed, rsa_verdict, scalar_verdict, verdict_of, verdict_of_parts};
+ghost use Rattle.comparison.specs.Verdicts.{by_test, is_unnamed, rsa_verdict, scalar_verdict, verdict_of};
+ghost use Rattle.comparison.specs.Verdicts.{verdict_of_parts};
 
 use crate::parts::{KeyParts, id_ec_public_key};
 use tlv_core::fault::Fault;

@@ -1,6 +1,7 @@
 //! What a report may show of a document: all that one is made of.
 ghost use Rattle.std.specs.Prelude.{None, [], ◌≡◌, IfOk, OnOk, length, take};
-ghost use Rattle.explain.specs.Disclosures.{AddsFaultPath, AddsInnerPath, IsDisclosed, IsDisclosedPath, IsRefused, disclosed_class, is_near, names_in, says_field};
+ghost use Rattle.explain.specs.Disclosures.{AddsFaultPath, AddsInnerPath, IsDisclosed, IsDisclosedPath, IsRefused};
+ghost use Rattle.explain.specs.Disclosures.{disclosed_class, is_near, names_in, says_field};
 ghost use Rattle.reports.specs.declared.report.Answer.TheVariants.{Refused};
 
 use crate::document::inside::{Inside, documents_inside, inside_at, named_elements};

@@ -5,7 +5,9 @@ ghost use Rattle.std.specs.Prelude.{IfOk, None, false, map, ◌≡◌};
 ghost use Rattle.std.specs.List.{list_all};
 ghost use Rattle.std.specs.Option.{option_map};
 ghost use Rattle.pk_documents.specs.KindRows.{kinds};
-ghost use Rattle.explain.specs.Guesses.{BeginsAs, IsDocument, IsFirst, IsGuessOf, IsOtherDocument, IsGuess, has_beginning, is_base64, is_hexadecimal, is_kind_like, is_labelled, is_guessed, label_among, label_of, pem_label, guess_by_text};
+ghost use Rattle.explain.specs.Guesses.{BeginsAs, IsDocument, IsFirst, IsGuessOf, IsOtherDocument, IsGuess};
+ghost use Rattle.explain.specs.Guesses.{has_beginning, is_base64, is_hexadecimal, is_kind_like, is_labelled};
+ghost use Rattle.explain.specs.Guesses.{is_guessed, label_among, label_of, pem_label, guess_by_text};
 
 use crate::document::inside::named_elements;
 use crate::document::kinds::{deciding_field, shape_of, words_of};

@@ -6,8 +6,8 @@
 //!
 //! `explained` makes the report of the record, by subject: `document` has where elements are, what of their contents is
 //! shown, and what OCTET STRINGs contain; `listing` the lines of the front, and why an element isn't in DER; `fault`
-//! what a fault is about; `guess` what else the file may be; `notes` what other standards say to the document. `written`
-//! has the report as it is written, `laws` what is proved of all reports.
+//! what a fault is about; `guess` what else the file may be; `notes` what other standards say to the document.
+//! `written` has the report as it is written, `laws` what is proved of all reports.
 #![tactic(auto)]
 
 mod disclosed;

@@ -3,13 +3,16 @@ pub(crate) mod causes;
 pub(crate) mod fault_line;
 pub(crate) mod front;
 
-ghost use Rattle.std.specs.Prelude.{List, Option, Some, ℕ, [], ◌≡◌, IfOk, OnOk, length, min, slice_get, true, unwrap_or, ◌+◌, ◌-◌, ◌^◌};
+ghost use Rattle.std.specs.Prelude.{List, Option, Some, ℕ, [], ◌≡◌, IfOk, OnOk, length, min, slice_get, true};
+ghost use Rattle.std.specs.Prelude.{unwrap_or, ◌+◌, ◌-◌, ◌^◌};
 ghost use Rattle.std.specs.Option.{option_map};
 ghost use Rattle.asn_names.specs.declared.element.NamedElement.{NamedElement};
 ghost use Rattle.explain.specs.Causes.{line_cause};
 ghost use Rattle.explain.specs.Fronts.{is_deeper};
 ghost use Rattle.explain.specs.Lines.{AddsLine, IsHeaderLine, IsListedValue, inside_of, size_between};
-ghost use Rattle.explain.specs.Listings.{AddsDocument, AddsElement, IsListed, ListingState, Lists, after_inside, causes_inside, first_inside, hidden_after, listing_state, most_lines, number_around, own_number, own_place, start_of};
+ghost use Rattle.explain.specs.Listings.{AddsDocument, AddsElement, IsListed, ListingState, Lists, after_inside};
+ghost use Rattle.explain.specs.Listings.{causes_inside, first_inside, hidden_after, listing_state, most_lines};
+ghost use Rattle.explain.specs.Listings.{number_around, own_number, own_place, start_of};
 ghost use Rattle.explain.specs.Places.{SkipsIn, listed_document};
 
 use crate::document::inside::{Inside, element_at};

@@ -2,7 +2,13 @@
 ghost use Rattle.std.specs.Prelude.{◌≡◌, IfOk, IfSome, false, map, option_map, string_bytes};
 ghost use Rattle.clap.specs.Words.{app_of, rule_of, shape_of, with_rule};
 ghost use Rattle.clap.specs.declared.builder.command.Command.TheViews.{out-Command as fields_of};
-ghost use Rattle.pkder.specs.CommandLines.{check_shape, command_named as command_shape, depth_rule, explain_shape, file_rule, flag_rule, kind_rule, name_rule, names_rule, normalise_shape, octets_rule, pair_kinds_rule, part_rule, places_rule, program, program_for, request_rule, required_rule, same_shape, show_shape, signed_shape, top, with_limit_rules, with_name as app_with_name, with_names as app_with_names, with_pair as app_with_pair, with_json_and_places as app_with_places};
+ghost use Rattle.pkder.specs.CommandLines.{check_shape, command_named as command_shape, depth_rule, explain_shape};
+ghost use Rattle.pkder.specs.CommandLines.{file_rule, flag_rule, kind_rule, name_rule, names_rule, normalise_shape};
+ghost use Rattle.pkder.specs.CommandLines.{octets_rule, pair_kinds_rule, part_rule, places_rule, program};
+ghost use Rattle.pkder.specs.CommandLines.{program_for, request_rule, required_rule, same_shape, show_shape};
+ghost use Rattle.pkder.specs.CommandLines.{signed_shape, top, with_limit_rules, with_name as app_with_name};
+ghost use Rattle.pkder.specs.CommandLines.{with_names as app_with_names, with_pair as app_with_pair};
+ghost use Rattle.pkder.specs.CommandLines.{with_json_and_places as app_with_places};
 
 use crate::help::{CHECK, EXPLAIN, NORMALISE, PROGRAM, SAME, SHOW, SIGNED};
 use clap::{Arg, ArgAction, Command};

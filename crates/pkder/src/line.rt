@@ -2,7 +2,12 @@
 ghost use Rattle.std.specs.Prelude.{◌≡◌, ◌≤◌, ℕ, IfErr, IfOk, MatchOption, MatchResult, Some, codes, map, string_bytes};
 ghost use Rattle.clap.specs.Words.{found_of, kind_of, rows_of, subcommand_rows_of};
 ghost use Rattle.pk_documents.specs.KindRows.{kind_named};
-ghost use Rattle.pkder.specs.CommandLines.{Invokes, InvokesNothing, BadAction, BadInvocation, BadOrder, BadKind, BadKindOf, BadLimit, BadPart, BadPlaces, BadRequest, BadTask, DoesAction, IsFaultOf, IsNumber, Means, MeansInvocation, MeansBy, MeansNothing, MeansTask, ReadsForm, ReadsKind, ReadsLimits, ReadsPlaces, asks_reasons, has_second_dash as has_dash_again, is_given, names_of, part_name, value_of};
+ghost use Rattle.pkder.specs.CommandLines.{Invokes, InvokesNothing, BadAction, BadInvocation, BadOrder, BadKind};
+ghost use Rattle.pkder.specs.CommandLines.{BadKindOf, BadLimit, BadPart, BadPlaces, BadRequest, BadTask, DoesAction};
+ghost use Rattle.pkder.specs.CommandLines.{IsFaultOf, IsNumber, Means, MeansInvocation, MeansBy, MeansNothing};
+ghost use Rattle.pkder.specs.CommandLines.{MeansTask, ReadsForm, ReadsKind, ReadsLimits, ReadsPlaces, asks_reasons};
+ghost use Rattle.pkder.specs.CommandLines.{has_second_dash as has_dash_again, is_given, names_of, part_name};
+ghost use Rattle.pkder.specs.CommandLines.{value_of};
 ghost use Rattle.pkder.specs.declared.line.LineFault.TheVariants.{Memory};
 ghost use Rattle.pk_documents.specs.declared.kind.Kind.TheVariants as kinds;
 

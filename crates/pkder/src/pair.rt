@@ -1,7 +1,10 @@
 //! Two documents that a line has compared.
 ghost use Rattle.std.specs.Prelude.{◌≡◌, ◌&&◌, IfErr, MatchResult, Some, [], map};
 ghost use Rattle.clap.specs.Words.{found_of, rows_of};
-ghost use Rattle.pkder.specs.CommandLines.{BadComparison, BadKinds, BadOther, BadPair, BadQuestion, BadTaken, ReadsComparison, ReadsPair, is_of_keys, key_kind as key_kind_of, kinds_given, kinds_of, other_taken, question_of, taken_kind as taken_kind_of};
+ghost use Rattle.pkder.specs.CommandLines.{BadComparison, BadKinds, BadOther, BadPair, BadQuestion, BadTaken};
+ghost use Rattle.pkder.specs.CommandLines.{ReadsComparison, ReadsPair, is_of_keys, key_kind as key_kind_of};
+ghost use Rattle.pkder.specs.CommandLines.{kinds_given, kinds_of, other_taken, question_of};
+ghost use Rattle.pkder.specs.CommandLines.{taken_kind as taken_kind_of};
 
 use crate::line::{is_flagged, read_limits, value};
 use crate::refusal::{BadValue, advice_for_kind};

@@ -2,7 +2,10 @@
 ghost use Rattle.std.specs.Prelude.{◌≡◌, ◌++◌, IfOk, OnOk, false, map, option_map, string_bytes};
 ghost use Rattle.std.specs.List.{list_any};
 ghost use Rattle.clap.specs.Words.{kind_of};
-ghost use Rattle.pkder.specs.CommandLines.{ShowsOwn, advice_for_command as command_advice, advice_for_kind as kind_advice, advice_for_option as option_advice, advised_line, are_of_same, bad_value_line, command_advised, controls_line, has_control, no_kind_line, option_advised, shown, tip};
+ghost use Rattle.pkder.specs.CommandLines.{ShowsOwn, advice_for_command as command_advice};
+ghost use Rattle.pkder.specs.CommandLines.{advice_for_kind as kind_advice, advice_for_option as option_advice};
+ghost use Rattle.pkder.specs.CommandLines.{advised_line, are_of_same, bad_value_line, command_advised, controls_line};
+ghost use Rattle.pkder.specs.CommandLines.{has_control, no_kind_line, option_advised, shown, tip};
 
 use clap::Error;
 use clap::error::ErrorKind;

@@ -1,6 +1,7 @@
 //! Documents by arguments that are numbers.
 ghost use Rattle.std.specs.Prelude.{IfErr, IfOk};
-ghost use Rattle.pkder_c.specs.Calls.{AreLines, FieldRefused, IsField, IsPartText, IsPlace, IsReport, IsSame, IsText, KindRefused, PairRefused, PartRefused, ReportRefused};
+ghost use Rattle.pkder_c.specs.Calls.{AreLines, FieldRefused, IsField, IsPartText, IsPlace, IsReport, IsSame, IsText};
+ghost use Rattle.pkder_c.specs.Calls.{KindRefused, PairRefused, PartRefused, ReportRefused};
 
 use crate::numbers::{form_of, kind_of, limits_of, request_part_of};
 use crate::refusal::{PairRefusal, Refusal};

@@ -9,7 +9,9 @@
 #![tactic(auto)]
 
 ghost use Rattle.std.specs.Prelude.{◌≡◌, length};
-ghost use Rattle.pkder_c.specs.Calls.{AreLines, Checked, Compared, FieldRefused, IsField, IsPartText, IsPlace, IsReport, IsSame, IsText, KindRefused, Named, PairRefused, PartRefused, ReportRefused, Reported, Wrote};
+ghost use Rattle.pkder_c.specs.Calls.{AreLines, Checked, Compared, FieldRefused, IsField, IsPartText, IsPlace};
+ghost use Rattle.pkder_c.specs.Calls.{IsReport, IsSame, IsText, KindRefused, Named, PairRefused, PartRefused};
+ghost use Rattle.pkder_c.specs.Calls.{ReportRefused, Reported, Wrote};
 
 mod by_number;
 mod delivery;

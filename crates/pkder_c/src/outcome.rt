@@ -1,6 +1,8 @@
 //! Outcomes as C sees them.
 ghost use Rattle.std.specs.Prelude.{◌≡◌};
-ghost use Rattle.pkder_c.specs.Outcomes.{accepted_outcome, answered_outcome, checked_outcome, compared_outcome, inside_of, refused_outcome, reported_outcome, too_small_outcome, uncompared_outcome, unreported_outcome};
+ghost use Rattle.pkder_c.specs.Outcomes.{accepted_outcome, answered_outcome, checked_outcome, compared_outcome};
+ghost use Rattle.pkder_c.specs.Outcomes.{inside_of, refused_outcome, reported_outcome, too_small_outcome};
+ghost use Rattle.pkder_c.specs.Outcomes.{uncompared_outcome, unreported_outcome};
 
 use crate::refusal::{PairRefusal, Refusal};
 use reports::report::Answer;

@@ -5,7 +5,8 @@ ghost use Rattle.pk_documents.specs.RequestParts.{part_of};
 ghost use Rattle.pk_documents.specs.declared.kind.Kind.TheVariants.{Request as request_kind};
 ghost use Rattle.pk_show.specs.Shown.{document_lines};
 ghost use Rattle.explain.specs.Written.{IsFieldOf, IsWritten};
-ghost use Rattle.pkder_c.specs.Wholes.{WholeChecked, WholeLines, WholePairRefused, WholePart, WholeRefused, WholeSame, WholeText};
+ghost use Rattle.pkder_c.specs.Wholes.{WholeChecked, WholeLines, WholePairRefused, WholePart, WholeRefused};
+ghost use Rattle.pkder_c.specs.Wholes.{WholeSame, WholeText};
 ghost use Rattle.pkder_c.specs.declared.refusal.Refusal.TheVariants.{Memory};
 
 use crate::refusal::{PairRefusal, Refusal, first_refused, second_refused, unread, unwritten};

@@ -1,7 +1,9 @@
 //! Documents that OCTET STRINGs contain, and where their octets are in the file.
 ghost use Rattle.std.specs.Prelude.{◌<◌, ◌++◌, ◌≡◌, IfOk, IfSome, OnOk, length, slice_get};
 ghost use Rattle.std.specs.Option.{option_map};
-ghost use Rattle.explain.specs.Insides.{AddsInside, HasInsides, IsDocumentIn, IsNamed, contained, contents_within, deeper_contents, deeper_pieces, inside_at, is_at_place, own_contents, own_pieces, pieces_within};
+ghost use Rattle.explain.specs.Insides.{AddsInside, HasInsides, IsDocumentIn, IsNamed, contained, contents_within};
+ghost use Rattle.explain.specs.Insides.{deeper_contents, deeper_pieces, inside_at, is_at_place, own_contents};
+ghost use Rattle.explain.specs.Insides.{own_pieces, pieces_within};
 
 use crate::document::places::Piece;
 use crate::document::values::contents_of;

@@ -2,7 +2,8 @@
 ghost use Rattle.std.specs.Prelude.{true, ◌-◌, ◌≡◌, ◌≤◌};
 ghost use Rattle.explain.specs.FaultContainers.{announced_end};
 ghost use Rattle.explain.specs.Lines.{end_after, listed_length};
-ghost use Rattle.explain.specs.Places.{Skips, SkipsIn, end_by_length, end_of, is_in_first, listed_document, listed_end, place_in_file, place_of, placed_in, sum_of};
+ghost use Rattle.explain.specs.Places.{Skips, SkipsIn, end_by_length, end_of, is_in_first, listed_document};
+ghost use Rattle.explain.specs.Places.{listed_end, place_in_file, place_of, placed_in, sum_of};
 
 use asn_names::element::NamedElement;
 use ber_outline::event::ElementHeader;

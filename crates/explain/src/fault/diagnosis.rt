@@ -2,7 +2,8 @@
 ghost use Rattle.std.specs.Prelude.{◌≡◌, IfOk};
 ghost use Rattle.explain.specs.FaultContainers.{found_of};
 ghost use Rattle.explain.specs.Dues.{is_of_type};
-ghost use Rattle.explain.specs.Faults.{IsDiagnosis, IsDiagnosisIf, IsFaultContainer, case_with, due_in, found_in_place, line_in, more_in, place_in_file, with_class};
+ghost use Rattle.explain.specs.Faults.{IsDiagnosis, IsDiagnosisIf, IsFaultContainer, case_with, due_in};
+ghost use Rattle.explain.specs.Faults.{found_in_place, line_in, more_in, place_in_file, with_class};
 
 use crate::disclosed::is_near;
 use crate::fault::class::class_of;

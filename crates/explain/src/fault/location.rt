@@ -2,7 +2,10 @@
 ghost use Rattle.std.specs.Prelude.{◌<◌, ◌≡◌, ◌++◌, IfSome, OnOk, drop};
 ghost use Rattle.std.specs.Option.{option_map};
 ghost use Rattle.explain.specs.Dues.{due_at, number_due, reason_due};
-ghost use Rattle.explain.specs.FaultLocations.{AddsPath, AddsPathTo, at_element, due_step, due_steps, element_with, enclosed, is_outside_of, is_sequence, key_in, location_at, number_from, own_step, private_from, unfinished, where_mismatch, where_placed};
+ghost use Rattle.explain.specs.FaultLocations.{AddsPath, AddsPathTo, at_element, due_step, due_steps, element_with};
+ghost use Rattle.explain.specs.FaultLocations.{enclosed, is_outside_of, is_sequence, key_in, location_at};
+ghost use Rattle.explain.specs.FaultLocations.{number_from, own_step, private_from, unfinished, where_mismatch};
+ghost use Rattle.explain.specs.FaultLocations.{where_placed};
 
 use crate::document::inside::element_at;
 use asn_names::element::{Level, Mismatch, NamedElement, Step};

@@ -1,7 +1,9 @@
 //! What a document is by its first headers.
 ghost use Rattle.std.specs.Prelude.{◌≡◌, bytes_eq};
 ghost use Rattle.std.specs.Option.{option_map};
-ghost use Rattle.explain.specs.Heads.{are_numbers, begins_with, code_of, code_of_event, guess_by_outline, has_contents, is_certificate, is_content_info, is_exponent, is_integer, is_pfx, is_rsa_private_key, is_rsa_public_key};
+ghost use Rattle.explain.specs.Heads.{are_numbers, begins_with, code_of, code_of_event, guess_by_outline};
+ghost use Rattle.explain.specs.Heads.{has_contents, is_certificate, is_content_info, is_exponent, is_integer, is_pfx};
+ghost use Rattle.explain.specs.Heads.{is_rsa_private_key, is_rsa_public_key};
 
 use crate::document::values::octets_between;
 use ber_outline::event::Event;

@@ -4,7 +4,10 @@ ghost use Rattle.std.specs.Option.{option_map};
 ghost use Rattle.x690.specs.DerTexts.{padded_less};
 ghost use Rattle.asn_elements.specs.Members.{ascends};
 ghost use Rattle.asn_names.specs.Levels.{holds_segments, is_string};
-ghost use Rattle.explain.specs.Causes.{bits_cause, boolean_cause, cause_in_contents, cause_within, causes_of, holds_hidden, is_disordered, is_hidden, is_in_segments, is_out_of_order, is_set, length_cause, member_encodings, own_cause, encoding_of, unit_of, with_order};
+ghost use Rattle.explain.specs.Causes.{bits_cause, boolean_cause, cause_in_contents, cause_within, causes_of};
+ghost use Rattle.explain.specs.Causes.{holds_hidden, is_disordered, is_hidden, is_in_segments, is_out_of_order};
+ghost use Rattle.explain.specs.Causes.{is_set, length_cause, member_encodings, own_cause, encoding_of, unit_of};
+ghost use Rattle.explain.specs.Causes.{with_order};
 ghost use Rattle.explain.specs.Contents.{contents_in};
 
 use crate::document::inside::element_at;

@@ -1,7 +1,12 @@
 //! The front of a refused document: its first octets, as far as they say one of a few things that many documents say.
 ghost use Rattle.std.specs.Prelude.{◌≡◌, drop};
 ghost use Rattle.std.specs.Option.{option_map};
-ghost use Rattle.explain.specs.Fronts.{after_element, after_header, after_length, after_outside_subject, after_subject, after_whole, begins_key, cut_at, front_by, front_size, has_key_after, header_end, is_container, is_container_tag, is_deeper, is_in_place, is_kept, is_misformed, is_named, is_one_of, is_usual, is_usual_leaf, is_usual_mark, mark_of, mark_of_container, mark_of_leaf, shown_end, start};
+ghost use Rattle.explain.specs.Fronts.{after_element, after_header, after_length, after_outside_subject};
+ghost use Rattle.explain.specs.Fronts.{after_subject, after_whole, begins_key, cut_at, front_by, front_size};
+ghost use Rattle.explain.specs.Fronts.{has_key_after, header_end, is_container, is_container_tag, is_deeper};
+ghost use Rattle.explain.specs.Fronts.{is_in_place, is_kept, is_misformed, is_named, is_one_of, is_usual};
+ghost use Rattle.explain.specs.Fronts.{is_usual_leaf, is_usual_mark, mark_of, mark_of_container, mark_of_leaf};
+ghost use Rattle.explain.specs.Fronts.{shown_end, start};
 
 use crate::document::places::{announced_end, end_after};
 use crate::document::values::{Sort, contents_of, is_field, sort_of};
