@@ -16,7 +16,9 @@ import sys
 import textwrap
 from pathlib import Path
 
-TOP = str(Path(__file__).resolve().parents[2])
+TOP = sys.path[0] = str(Path(__file__).resolve().parents[2])
+from tools.pages import what_to_read
+
 PAGE = f"{TOP}/docs/structure.md"
 FRAME = ("same_source", "keeps", "read", "onward")
 # A function from its name to its body, or to its end where it has none.
@@ -30,10 +32,12 @@ WRAPPED = re.compile(r"let (\w+) = ([^;]*)\?; Ok\(\w+(?:\(\1\)| \{ \1 \})\)")
 OWN_NAMES = ("Listed",)
 # As many of each count as there may be.
 LIMITS = {"handing": 49, "handing_lines": 799, "wrapping": 55, "wrapping_lines": 909, "same": 2, "frames": 0,
-          "request": 204, "key": 769, "newtypes": 3, "forms": 0, "crates": 26, "names": 0,
-          "types": 1, "equal": 0, "parameters": 0, "tools": 8}
-# A function has so many parameters, at most.
-PARAMETERS = 6
+          "request": 204, "key": 767, "newtypes": 3, "forms": 0, "crates": 26, "names": 0,
+          "types": 1, "equal": 0, "parameters": 0, "tools": 8, "identifiers": 0, "retold": 37, "columns": 62}
+# A function has so many parameters, at most; a line so many columns.
+PARAMETERS, COLUMNS = 6, 120
+# The table of the names of object identifiers, by their contents.
+NAMES = "crates/pkix_shapes/src/identifiers.rt"
 
 
 def crates():
@@ -152,6 +156,38 @@ def many_parameters():
                     yield f"{path}: {found[1]}"
 
 
+def repeated_identifiers():
+    """The contents of object identifiers that stand in several places beside the table of their names."""
+    places = collections.defaultdict(list)
+    for crate in crates():
+        for path, text in sources(crate):
+            for found in re.findall(r"\[(0x[0-9A-F]{2}(?:, 0x[0-9A-F]{2}){2,})\]", text) if path != NAMES else ():
+                places[found].append(path)
+    return [f"{found}: {', '.join(those)}" for found, those in places.items() if len(those) > 1]
+
+
+def retelling():
+    """The functions that answer what a definition of their name says which the promise of `run` stands on."""
+    promises = what_to_read.promised("run", what_to_read.CALLS["run"])
+    named = {(module, name) for module, parts in promises.items()
+             for _, lines in parts.values() for name in what_to_read.defined_by(lines)}
+    for crate in crates():
+        for path, text in sources(crate):
+            seen = what_to_read.imported(text)
+            for found in SIGNATURE.finditer(text):
+                if seen.get(found[1]) in named and re.search(rf"≡ {found[1]}\b", found[0]):
+                    yield f"{path}: {found[1]}"
+
+
+def long_lines():
+    """The lines with more columns than that."""
+    for crate in crates():
+        for path, text in sources(crate):
+            for number, line in enumerate(text.splitlines(), 1):
+                if len(line) > COLUMNS:
+                    yield f"{path}:{number}"
+
+
 def drawn():
     """Fifteen lines that say something: the crate, the file and the line of each."""
     said = [(crate, os.path.basename(path), line.strip()) for crate in crates() for path, text in sources(crate)
@@ -204,7 +240,8 @@ def counts():
             "forms": list(matching(r"(?m)^impl Form for .*")), "names": shared_names("pub "),
             "types": shared_names(r"(?:pub(?:\(crate\))? )?"), "equal": equal_functions(),
             "parameters": list(many_parameters()),
-            "tools": sorted({*os.listdir(f"{TOP}/tools")} - {"__pycache__"})}
+            "tools": sorted({*os.listdir(f"{TOP}/tools")} - {"__pycache__"}),
+            "identifiers": repeated_identifiers(), "retold": list(retelling()), "columns": list(long_lines())}
     found = {name: (len(it), [str(one) for one in it]) for name, it in told.items()}
     for name, it in {"handing_lines": hands, "wrapping_lines": wrapping, "request": request, "key": key}.items():
         found[name] = sum(lines for _, lines in it), [f"{lines} {what}" for what, lines in it]
