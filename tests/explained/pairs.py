@@ -23,12 +23,12 @@ from multiprocessing import Pool
 from pathlib import Path
 
 sys.path[0] = str(Path(__file__).resolve().parents[2])
-from tests.explained.asked_reports import Library, Program
+from tests.explained.asked_reports import WHOLE, Library, Program
 from tests.explained.chance import chances_that_fail, is_by_chance
 from tests.explained.report_differences import (
     LOOKED_AT, differences, private_runs, rules_that_fail, runs_told_alone, untold_forms)
 from tests.oracle import reader
-from tests.oracle.private_places import differ_in_private, front, part_at, private_places, subject_of
+from tests.oracle.private_places import differ_in_private, part_at, private_places, subject_of
 from tests.oracle.secret_documents import CONTENTS, KINDS, SECRETS, Grammar
 from tests.oracle.secret_octets import Filling, damaged
 
@@ -56,18 +56,12 @@ class Pair:
         marks = self.marks if " steps" in self.name else self.marks[:LOOKED_AT]
         return self.is_text or any(it >= SECRETS for it in marks)
 
-    def spells_an_end(self):
-        """Whether private octets of one of a public key's documents alone are end-of-contents octets."""
-        ends = [{at for at in range(len(self.marks) - 1) if self.marks[at] >= SECRETS and text[at : at + 2] == b"\0\0"}
-                for text in self.texts[:2]]
-        return self.kind == "public" and ends[0] != ends[1]
-
     def has_private_length(self, report):
-        """Whether private octets are the length of a container that is listed, with its first member behind it."""
+        """Whether private octets are the length of a container that is listed, with its first member after it."""
         lines = json.loads(report).get("lines", [])
-        return any(it.get("constructed") and behind["at"] == it["at"] + it["header"] and "header" in behind
-                   and any(mark >= SECRETS for mark in self.marks[it["at"] + 1 : behind["at"]])
-                   for it, behind in zip(lines, lines[1:]) if "header" in it)
+        return any(it.get("constructed") and after["at"] == it["at"] + it["header"] and "header" in after
+                   and any(mark >= SECRETS for mark in self.marks[it["at"] + 1 : after["at"]])
+                   for it, after in zip(lines, lines[1:]) if "header" in it)
 
     def has_private_name(self):
         """Whether the damage put private octets into a request's subject, in front of its public key."""
@@ -78,12 +72,8 @@ class Pair:
         """What the damage made of private octets of a refused document that a report may tell of them, if anything."""
         if is_by_chance(asked, self.kind, self.texts[:2], is_looked_at):
             return "they happen to be what is usual there"
-        if len({front(it) for it in self.texts[:2]}) > 1:
-            return "they spell a usual front"
-        if any(self.has_private_length(it["explain --json --all"]) for it in texts):
+        if any(self.has_private_length(it[WHOLE]) for it in texts):
             return "they are the length of a usual container"
-        if self.spells_an_end():
-            return "they end a public key's contents"
         return "they stand in a subject" if self.has_private_name() else ""
 
     def marks_of(self, at):

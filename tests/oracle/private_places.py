@@ -6,10 +6,8 @@ from tests.oracle.secret_documents import CURVE_KEYS, EXTENSION_REQUEST
 from tools.pages.identifier_names import names_by_contents
 
 CONSTRUCTED = 0x20
-# What is usual in front, by first octets: contents.
-VERSIONS = {b"\2": (b"\0", b"\1")}
-ALGORITHMS = {b"\6": (*names_by_contents(),)}
-PARAMETERS = {b"\5": (b"",), **ALGORITHMS}
+# The contents of object identifiers that have usual names.
+NAMED = {*names_by_contents()}
 
 
 class Part:
@@ -104,23 +102,6 @@ def header_at(octets, at):
     return octets[at : at + 2 + (length - 128 if length > 128 else 0)]
 
 
-def front(octets):
-    """What a report of a refused key may show as it stands: the headers in front, the version and the algorithm, where
-    these are usual ones; else nothing. (Private octets may spell it.)"""
-    at, found = 0, b""
-    while octets[at : at + 1] == b"\x30":
-        at += len(header_at(octets, at))
-    for usual in (VERSIONS, ALGORITHMS, PARAMETERS) if at else ():
-        if usual == ALGORITHMS and octets[at : at + 1] == b"\x30":
-            at += len(header_at(octets, at))
-        header = header_at(octets, at)
-        end = at + len(header) + (header[-1] if len(header) > 1 else 0)
-        if octets[at + len(header) : end] not in usual.get(header[:1], ()):
-            break
-        at, found = end, octets[:end]
-    return found
-
-
 def length_in(header):
     """The length that a header says, or none where it is of indefinite length or isn't whole."""
     length = header[1] if len(header) > 1 else 128
@@ -135,7 +116,7 @@ def begins_key(octets):
             return False
         at += len(header_at(octets, at))
     end = at + 2 + (octets[at + 1] if at + 1 < len(octets) else 0)
-    return octets[at + 2 : end] in ALGORITHMS.get(octets[at : at + 1], ())
+    return octets[at : at + 1] == b"\6" and octets[at + 2 : end] in NAMED
 
 
 def subject_of(octets):
