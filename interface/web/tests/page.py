@@ -177,7 +177,7 @@ class Documents(Page):
     def test_a_refused_document(self):
         self.paste(pem("PRIVATE KEY", KEY[:20]))
         self.assertEqual(self.text("verdict"), "key: fault at 20: Truncated")
-        self.assertIn("\nlikely  a transfer that broke off", self.text("report"))
+        self.assertIn("\nfield   privateKey\nfound   20 octets", self.text("report"))
         self.assertTrue(self.is_shown("report"))
         self.assertFalse(self.is_shown("save") or self.is_shown("parts"))
 
