@@ -34,8 +34,9 @@ of them, too; where it isn't, its edits are tried with all of them.
 The record, tools/gate/edits_refused.tsv, has for each file of a crate how many edits of it were refused, and the sum of
 the program logic (not of the kit that it comes in), of what the proofs of the file's functions rest on in the crate
 (tools/gate/reach.py), and of the edits. An edit of code in several files is recorded by all of these; any other by the
-word 'all', and rests on the whole crate. What the crate stands on isn't in it: a contract below that gets too weak to
-refuse an edit is found by the quarter that comes to the crate, and so is a false record.
+word 'all', and rests on the whole crate. Comments aren't in the sum, nor how imports are laid out. What the crate
+stands on isn't in it: a contract below that gets too weak to refuse an edit is found by the quarter that comes to the
+crate, and so is a false record.
 
 What was refused is kept, round by round, for later runs on this machine, in clones too, in pkder/refused_edits of the
 user's folder for caches ($XDG_CACHE_HOME, or ~/.cache): by the sum of the edit, its crate, all crates below, the
@@ -59,7 +60,7 @@ import tomllib
 from pathlib import Path
 
 TOP = sys.path[0] = str(Path(__file__).resolve().parents[1])
-from tools.gate.reach import PARTS, Reach, text_of
+from tools.gate.reach import PARTS, Reach, bare, text_of
 
 RECORD = "tools/gate/edits_refused.tsv"
 KEPT = os.path.join(os.environ.get("XDG_CACHE_HOME") or os.path.expanduser("~/.cache"), "pkder/refused_edits")
@@ -206,7 +207,8 @@ class Record:
         reach, edits = Reach(crate.folder, crate.name), crate.edits()
         keys = sorted({it.recorded_by() for it in edits})
         named = {it: [one for one in edits if one.recorded_by() == it] for it in keys}
-        texts = {it: reach.texts if it == "all" else reach.of(it.split(",")) for it in named}
+        found = {it: reach.texts if it == "all" else reach.of(it.split(",")) for it in named}
+        texts = {it: {file: bare(file, text) for file, text in all_texts.items()} for it, all_texts in found.items()}
         return {
             it: (str(len(some)), self.sum_of(crate, texts[it], *(f"{one.name} {one.changes}" for one in some)))
             for it, some in named.items()

@@ -12,11 +12,22 @@ import re
 PARTS = ("src", "specs", "proofs")
 FUNCTION = re.compile(r"( *)(?:pub(?:\([^)]*\))? )?(?:(?:final|const|unsafe|extern \"C\") )*fn ")
 IMPL = re.compile(r"^impl\b(.*?)\{", re.M | re.S)
+COMMENT = {".rt": re.compile(r"(?m)^ *//.*\n?"), ".antt": re.compile(r"(?m)^ *--.*\n?")}
+IMPORT = re.compile(r"(?m)^( *(?:ghost )?use [\w.:]+[.:])\{([^{}]*)\};?\n")
 
 
 def text_of(file):
     with open(file, encoding="utf-8") as it:
         return it.read()
+
+
+def bare(file, text):
+    """A file without what no proof rests on: lines of comments, and how imports are laid out, each of which has a line
+    of its own."""
+    for ending, comment in COMMENT.items():
+        text = comment.sub("", text) if file.endswith(ending) else text
+    names = lambda it: [name.strip() for name in it[2].split(",") if name.strip()]
+    return IMPORT.sub(lambda it: "".join(f"{it[1]}{name}\n" for name in names(it)), text)
 
 
 def without_bodies(text):
