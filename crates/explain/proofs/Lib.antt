@@ -8,4 +8,3 @@ pub mod Repeats
 pub mod Sound
 pub mod Steps
 pub mod Taken
-pub mod Whole

@@ -1,9 +1,10 @@
 -- The lines of a report are those of the elements in no private one.
-use Rattle.std.proofs.Common.{Bool, List, None, Option, Some, ℕ, [], ap, cond, false, inl, inr, length, refl, slice_get, subst, suc, sym, take, true, zero, ◌++◌, ◌==◌, ◌∙◌, ◌∷◌, ◌≡◌, ◌⊎◌, ◌||◌}
-use Rattle.std.proofs.lemmas.List.{append-nil, append_assoc}
-use Rattle.std.proofs.lemmas.Option.{get_or_from_slice_get, slice_get_within}
+use Rattle.std.proofs.Common.{Bool, List, None, Option, Some, ℕ, [], ap, arith, cond, false, inl, inr, length, refl, slice_get, subst, suc, sym, take, true, zero, ◌+◌, ◌++◌, ◌<◌, ◌∙◌, ◌∷◌, ◌≡◌, ◌≤◌, ◌⊎◌, ◌||◌}
+use Rattle.std.proofs.lemmas.List.{append-nil, append_assoc, length-take-le}
+use Rattle.std.proofs.lemmas.Option.{get_or_from_slice_get, slice_get_past, slice_get_within}
+use Rattle.std.proofs.Math.Nat.{zero-add}
 use Rattle.std.proofs.Math.Seq.{take-length, take-suc}
-use Rattle.std.specs.Option.{is_none, is_some}
+use Rattle.std.specs.Option.{is_some}
 use Rattle.x690.specs.Lists.{Each}
 use Rattle.asn_names.specs.declared.element.NamedElement.{NamedElement}
 use Rattle.asn_names.specs.declared.element.Step.{Step}
@@ -15,10 +16,10 @@ use Rattle.explain.specs.Causes.{line_cause}
 use Rattle.explain.specs.Disclosures.{IsShown}
 use Rattle.explain.specs.FaultLines.{AddsFault, AddsPlace, IsPlaceAlone, is_between, line_at}
 use Rattle.explain.specs.Fronts.{is_deeper}
-use Rattle.explain.specs.Lines.{AddsLine, inside_of}
-use Rattle.explain.specs.Listings.{AddsAfter, AddsDocument, AddsOne, ListingState, Lists, ListsFile, after_inside, first_inside, hidden_after, inside_document, number_around, start_of}
+use Rattle.explain.specs.Lines.{AddsLine}
+use Rattle.explain.specs.Listings.{AddsAfter, AddsDocument, AddsOne, IsNext, ListingState, Lists, ListsFile, after_inside, first_inside, hidden_after, inside_document, number_around, start_of}
 use Rattle.explain.specs.Places.{ListedDocument, placed_in}
-use Rattle.explain.specs.Promises.{AreInner, EndsIn, IsFront, IsInnerIf, IsLineOf, IsListing, document_in, in_no_private, own_lines}
+use Rattle.explain.specs.Promises.{EndsIn, HasInner, HasLines, IsFront, IsLineOf, IsListing, in_no_private}
 use Rattle.explain.specs.Reports.{IsReportOf}
 use Rattle.explain.specs.Rules.{causes_by, front_document}
 use Rattle.explain.specs.Wordings.{IsListingBy, IsWordedReport}
@@ -36,36 +37,6 @@ each_both R [] zs [] ws h g = g
 each_both R [] zs (y ∷ ys) ws h g = absurd h
 each_both R (x ∷ xs) zs [] ws h g = absurd h
 each_both R (x ∷ xs) zs (y ∷ ys) ws h g = (h.0, each_both R xs zs ys ws h.1 g)
-
--- own lines of lines one after another
-own_both : (one other : List Line) → own_lines (one ++ other) ≡ own_lines one ++ own_lines other
-own_both [] other = refl
-own_both (line ∷ lines) other =
-    let is = cond (is_none line.inside) (line ∷ []) [] in
-    ap (λ some. is ++ some) (own_both lines other) ∙ sym (append_assoc is (own_lines lines) (own_lines other))
-
-own_one : (line : Line) (inside : Option ℕ) → line.inside ≡ inside
-    → own_lines (line ∷ []) ≡ cond (is_none inside) (line ∷ []) []
-own_one line inside e =
-    append-nil (cond (is_none line.inside) (line ∷ []) []) ∙ ap (λ it. cond (is_none it) (line ∷ []) []) e
-
-own_added : (old new : List Line) (line : Line) (inside : Option ℕ) → new ≡ old ++ (line ∷ []) → line.inside ≡ inside
-    → own_lines new ≡ own_lines old ++ cond (is_none inside) (line ∷ []) []
-own_added old new line inside e i =
-    ap own_lines e ∙ (own_both old (line ∷ []) ∙ ap (λ some. own_lines old ++ some) (own_one line inside i))
-
-inner_both : (insides : List Inside) (one other : List Line) → AreInner insides one → AreInner insides other
-    → AreInner insides (one ++ other)
-inner_both insides [] other h g = g
-inner_both insides (line ∷ lines) other h g = (h.0, inner_both insides lines other h.1 g)
-
-inner_added : (insides : List Inside) (old new : List Line) (line : Line) (inside : Option ℕ)
-    → new ≡ old ++ (line ∷ []) → line.inside ≡ inside → IsInnerIf insides inside line → AreInner insides old
-    → AreInner insides new
-inner_added insides old new line inside e i is h =
-    subst (AreInner insides) (sym e) (
-    inner_both insides old (line ∷ []) h (subst (λ it. IsInnerIf insides it line) (sym i) is, tt)
-    )
 
 -- how deep the private element is that what comes after elements is in
 abbrev hidden_all : Option ℕ → List NamedElement → Option ℕ
@@ -106,47 +77,47 @@ first_none [] (suc number) e = refl
 first_none (element ∷ elements) zero e = absurd (cc)
 first_none (element ∷ elements) (suc number) e = ap (λ some. element ∷ some) (first_none elements number e)
 
--- what is known of the lines of the first elements of a file, so many
-record State (document : ListedDocument) (insides : List Inside) (number : ℕ) (state : ListingState) : Type 0 where
-  hidden : state.hidden ≡ hidden_all None (take number document.elements)
-  own : Each (IsLineOf document) (in_no_private None (take number document.elements)) (own_lines state.lines)
-  inner : AreInner insides state.lines
+-- what an element adds to the lines: its own, unless it is in a private one
+record Adds (document : ListedDocument) (hidden : Bool) (element : NamedElement) (old new : List Line) : Type 0 where
+  more : List Line
+  are : new ≡ old ++ more
+  lines : Each (IsLineOf document) (cond hidden [] (element ∷ [])) more
 
--- an element more has its line, or is in a private one
-line_one : (document : ListedDocument) (element : NamedElement) (around : ℕ) (hidden : Bool) (cause : Option Cause)
-    (old new : List Line) → document.is_inside ≡ false
+adds_line : (document : ListedDocument) (element : NamedElement) (around : ℕ) (hidden : Bool) (cause : Option Cause)
+    (old new : List Line)
     → AddsLine hidden document.octets (placed_in document element around) element cause old new
-    → (more : List Line) × (own_lines new ≡ own_lines old ++ more)
-    × Each (IsLineOf document) (cond hidden [] (element ∷ [])) more
-    × ((insides : List Inside) → AreInner insides old → AreInner insides new)
-line_one document element around true cause old new file h =
-    ([], ap own_lines h ∙ sym (append-nil (own_lines old)), tt, λ insides is. subst (AreInner insides) (sym h) is)
-line_one document element around false cause old new file h =
-    let inside = h.2.inside ∙ ap (λ is. inside_of is element.header.at) file in (
-      h.0 ∷ [],
-      own_added old new h.0 None h.1 inside,
-      (record { around = around; header = h.2; value = h.3 }, tt),
-      λ insides is. inner_added insides old new h.0 None h.1 inside tt is,
-    )
+    → Adds document hidden element old new
+adds_line document element around true cause old new h =
+    record { more = []; are = h ∙ sym (append-nil old); lines = tt }
+adds_line document element around false cause old new h = record {
+  more = h.0 ∷ [];
+  are = h.1;
+  lines = (record { around = around; header = h.2; value = h.3 }, tt);
+}
 
-next_one : (document : ListedDocument) (insides : List Inside) (number : ℕ) (found : Option NamedElement)
-    (cause : Option Cause) (before after : ListingState) → document.is_inside ≡ false
-    → slice_get document.elements number ≡ found → AddsOne document cause found before after
-    → State document insides number before → State document insides (suc number) after
-next_one document insides number None cause before after file listed h state =
+-- The lines of the first elements of a document, so many, after others.
+record Run (document : ListedDocument) (start : List Line) (number : ℕ) (state : ListingState) : Type 0 where
+  hidden : state.hidden ≡ hidden_all None (take number document.elements)
+  run : List Line
+  are : state.lines ≡ start ++ run
+  own : Each (IsLineOf document) (in_no_private None (take number document.elements)) run
+
+run_more : (document : ListedDocument) (start : List Line) (number : ℕ) (found : Option NamedElement)
+    (cause : Option Cause) (before after : ListingState) → slice_get document.elements number ≡ found
+    → AddsOne document cause found before after → Run document start number before
+    → Run document start (suc number) after
+run_more document start number None cause before after listed h state =
     let first = first_none document.elements number listed in record {
       hidden = ap (λ (it : ListingState). it.hidden) h ∙ (state.hidden ∙ ap (hidden_all None) (sym first));
-      own = subst (λ (some : List NamedElement). Each (IsLineOf document) (in_no_private None some) (own_lines after.lines))
-          (sym first)
-          (subst (λ (it : ListingState). Each (IsLineOf document) (in_no_private None (take number document.elements)) (own_lines it.lines))
-          (sym h) state.own);
-      inner = subst (λ (it : ListingState). AreInner insides it.lines) (sym h) state.inner;
+      run = state.run;
+      are = ap (λ (it : ListingState). it.lines) h ∙ state.are;
+      own = subst (λ some. Each (IsLineOf document) (in_no_private None some) state.run) (sym first) state.own;
     }
-next_one document insides number (Some element) cause before after file listed h state =
-    let first = first_more document.elements number element listed in
+run_more document start number (Some element) cause before after listed h state =
     let elements = take number document.elements in
-    let line = line_one document element (number_around before.numbers document.around element)
-    (is_deeper before.hidden element) cause before.lines after.lines file h.line in
+    let first = first_more document.elements number element listed in
+    let adds = adds_line document element (number_around before.numbers document.around element)
+    (is_deeper before.hidden element) cause before.lines after.lines h.line in
     let shown : in_no_private None (take (suc number) document.elements)
     ≡ in_no_private None elements ++ cond (is_deeper before.hidden element) [] (element ∷ []) =
     ap (in_no_private None) first
@@ -156,159 +127,247 @@ next_one document insides number (Some element) cause before after file listed h
       hidden = h.hidden
           ∙ (ap (λ it. hidden_after it element) state.hidden
           ∙ (sym (hidden_both None elements element) ∙ ap (hidden_all None) (sym first)));
-      own = subst (λ some. Each (IsLineOf document) some (own_lines after.lines)) (sym shown)
-          (subst
-          (λ some. Each (IsLineOf document)
-          (in_no_private None elements ++ cond (is_deeper before.hidden element) [] (element ∷ [])) some)
-          (sym line.1)
+      run = state.run ++ adds.more;
+      are = adds.are ∙ (ap (λ some. some ++ adds.more) state.are ∙ append_assoc start state.run adds.more);
+      own = subst (λ some. Each (IsLineOf document) some (state.run ++ adds.more)) (sym shown)
           (each_both (IsLineOf document) (in_no_private None elements)
-          (cond (is_deeper before.hidden element) [] (element ∷ [])) (own_lines before.lines) line.0 state.own line.2));
-      inner = line.3 insides state.inner;
+          (cond (is_deeper before.hidden element) [] (element ∷ [])) state.run adds.more state.own adds.lines);
     }
 
--- The lines of a document inside are of its elements, and none is of the file's own.
-record Inner (insides : List Inside) (old new : List Line) : Type 0 where
-  own : own_lines new ≡ own_lines old
-  inner : AreInner insides old → AreInner insides new
-
-inner_same : (insides : List Inside) (old new : List Line) → new ≡ old → Inner insides old new
-inner_same insides old new e = record {
-  own = ap own_lines e;
-  inner = λ is. subst (AreInner insides) (sym e) is;
+run_all : (document : ListedDocument) (start : List Line) (number : ℕ) (end : ListingState)
+    → Lists document number (start_of start) end → Run document start number end
+run_all document start zero end h = record {
+  hidden = ap (λ it. it.hidden) h;
+  run = [];
+  are = ap (λ it. it.lines) h ∙ sym (append-nil start);
+  own = tt;
 }
+run_all document start (suc number) end h =
+    run_more document start number (slice_get document.elements number)
+    (line_cause document.elements document.causes number) h.0 end refl h.2 (run_all document start number h.0 h.1)
 
-inner_two : (insides : List Inside) (a b c : List Line) → Inner insides a b → Inner insides b c → Inner insides a c
-inner_two insides a b c h g = record { own = g.own ∙ h.own; inner = λ is. g.inner (h.inner is) }
-
--- a document is inside
-record Among (insides : List Inside) (inside : Inside) : Type 0 where
-  before : List Inside
-  after : List Inside
-  are : insides ≡ before ++ (inside ∷ after)
-
-inner_line : (insides : List Inside) (inside : Inside) (causes : List (Option Cause)) (depth outer number around : ℕ)
-    (element : NamedElement) (hidden : Bool) (cause : Option Cause) (old new : List Line) → Among insides inside
-    → slice_get inside.named.elements.items number ≡ Some element
-    → AddsLine hidden (document_in inside causes depth outer).octets
-    (placed_in (document_in inside causes depth outer) element around) element cause old new
-    → Inner insides old new
-inner_line insides inside causes depth outer number around element true cause old new among listed h =
-    inner_same insides old new h
-inner_line insides inside causes depth outer number around element false cause old new among listed h = record {
-  own = own_added old new h.0 (Some element.header.at) h.1 h.2.inside ∙ append-nil (own_lines old);
-  inner = λ is. inner_added insides old new h.0 (Some element.header.at) h.1 h.2.inside (record {
-    before = among.before;
-    inside = inside;
-    after = among.after;
-    are = among.are;
-    causes = causes;
-    depth = depth;
-    around = outer;
-    number = number;
-    element = element;
-    listed = listed;
-    is_line = record { around = around; header = h.2; value = h.3 };
-  }) is;
-}
-
-inner_found : (insides : List Inside) (inside : Inside) (causes : List (Option Cause)) (depth outer number : ℕ)
-    (found : Option NamedElement) (cause : Option Cause) (before after : ListingState) → Among insides inside
-    → slice_get inside.named.elements.items number ≡ found
-    → AddsOne (document_in inside causes depth outer) cause found before after
-    → Inner insides before.lines after.lines
-inner_found insides inside causes depth outer number None cause before after among listed h =
-    inner_same insides before.lines after.lines (ap (λ it. it.lines) h)
-inner_found insides inside causes depth outer number (Some element) cause before after among listed h =
-    inner_line insides inside causes depth outer number (number_around before.numbers outer element) element
-    (is_deeper before.hidden element) cause before.lines after.lines among listed h.line
-
-inner_all : (insides : List Inside) (inside : Inside) (causes : List (Option Cause)) (depth outer number : ℕ)
-    (start end : ListingState) → Among insides inside
-    → Lists (document_in inside causes depth outer) number start end → Inner insides start.lines end.lines
-inner_all insides inside causes depth outer zero start end among h =
-    inner_same insides start.lines end.lines (ap (λ it. it.lines) h)
-inner_all insides inside causes depth outer (suc number) start end among h =
-    inner_two insides start.lines h.0.lines end.lines
-    (inner_all insides inside causes depth outer number start h.0 among h.1)
-    (inner_found insides inside causes depth outer number (slice_get inside.named.elements.items number)
-    (line_cause inside.named.elements.items causes number) h.0 end among refl h.2)
-
--- what a document inside leaves of what is known
-record Leaves (insides : List Inside) (before after : ListingState) : Type 0 where
-  lines : Inner insides before.lines after.lines
+-- the lines of the document inside an element, after others
+record Holds (inside : Option Inside) (before after : ListingState) : Type 0 where
+  inner : List Line
+  are : after.lines ≡ before.lines ++ inner
+  holds : HasInner inside inner
   hidden : after.hidden ≡ before.hidden
 
-leaves_same : (insides : List Inside) (before after : ListingState) → after ≡ before → Leaves insides before after
-leaves_same insides before after e = record {
-  lines = inner_same insides before.lines after.lines (ap (λ it. it.lines) e);
-  hidden = ap (λ it. it.hidden) e;
-}
-
-leaves_after : (insides : List Inside) (causes : List (Option Cause)) (inside : Inside) (number : ℕ)
-    (line : Option Line) (before after : ListingState) → Among insides inside
-    → AddsAfter causes inside number line before after → Leaves insides before after
-leaves_after insides causes inside number None before after among h = leaves_same insides before after h
-leaves_after insides causes inside number (Some line) before after among h =
-    let document = inside_document causes inside line.depth number in record {
-      lines = subst (Inner insides before.lines) (sym h.lines)
-          (inner_all insides inside document.causes document.depth number (length document.elements)
-          (start_of before.lines) h.end among h.lists);
+holds_after : (causes : List (Option Cause)) (inside : Inside) (number : ℕ) (line : Line) (found : Option Line)
+    (before after : ListingState) → found ≡ Some line → AddsAfter causes inside number found before after
+    → Holds (Some inside) before after
+holds_after causes inside number line None before after e h = absurd (cc)
+holds_after causes inside number line (Some other) before after e h =
+    let document = inside_document causes inside other.depth number in
+    let run = run_all document before.lines (length document.elements) h.end h.lists in record {
+      inner = run.run;
+      are = h.lines ∙ run.are;
+      holds = (
+        document.causes,
+        document.depth,
+        number,
+        subst (λ some. Each (IsLineOf document) (in_no_private None some) run.run) (take-length document.elements)
+            run.own,
+      );
       hidden = h.hidden;
     }
 
--- the last ones of the documents inside
-abbrev Last : List Inside → List Inside → Type 0
-Last insides others = (gone : List Inside) × (insides ≡ gone ++ others)
-
-last_by : (insides others : List Inside) (inside : Inside) (is : Bool) → Last insides (inside ∷ others)
-    → Last insides (cond is others (inside ∷ others))
-last_by insides others inside true h = (h.0 ++ (inside ∷ []), h.1 ∙ sym (append_assoc h.0 (inside ∷ []) others))
-last_by insides others inside false h = h
-
-last_after : (insides others : List Inside) (number : ℕ) → Last insides others
-    → Last insides (after_inside others number)
-last_after insides [] number h = h
-last_after insides (inside ∷ others) number h = last_by insides others inside (inside.container == number) h
-
-leaves_if : (insides others : List Inside) (inside : Inside) (is : Bool) (causes : List (Option Cause)) (number : ℕ)
-    (before after : ListingState) → Last insides (inside ∷ others)
-    → AddsDocument causes (cond is (Some inside) None) number before after → Leaves insides before after
-leaves_if insides others inside true causes number before after last h =
-    leaves_after insides causes inside number (slice_get before.lines number) before after
-    (record { before = last.0; after = others; are = last.1 }) h
-leaves_if insides others inside false causes number before after last h = leaves_same insides before after h
-
-leaves_first : (insides others : List Inside) (causes : List (Option Cause)) (number line : ℕ)
-    (before after : ListingState) → Last insides others
-    → AddsDocument causes (first_inside others number) line before after → Leaves insides before after
-leaves_first insides [] causes number line before after last h = leaves_same insides before after h
-leaves_first insides (inside ∷ others) causes number line before after last h =
-    leaves_if insides others inside (inside.container == number) causes line before after last h
-
-after_document : (document : ListedDocument) (insides : List Inside) (number : ℕ) (before after : ListingState)
-    → Leaves insides before after → State document insides number before → State document insides number after
-after_document document insides number before after leaves state = record {
-  hidden = leaves.hidden ∙ state.hidden;
-  own = subst (Each (IsLineOf document) (in_no_private None (take number document.elements))) (sym leaves.lines.own)
-      state.own;
-  inner = leaves.lines.inner state.inner;
+holds_document : (causes : List (Option Cause)) (inside : Option Inside) (number : ℕ) (line : Line)
+    (before after : ListingState) → slice_get before.lines number ≡ Some line
+    → AddsDocument causes inside number before after → Holds inside before after
+holds_document causes None number line before after e h = record {
+  inner = [];
+  are = ap (λ it. it.lines) h ∙ sym (append-nil before.lines);
+  holds = refl;
+  hidden = ap (λ it. it.hidden) h;
 }
+holds_document causes (Some inside) number line before after e h =
+    holds_after causes inside number line (slice_get before.lines number) before after e h
 
-whole_file : (document : ListedDocument) (insides : List Inside) (number : ℕ) (left : List Inside) (end : ListingState)
-    → document.is_inside ≡ false → ListsFile document insides number left end
-    → State document insides number end × Last insides left
-whole_file document insides zero left end file h = (
-  subst (State document insides 0) (sym h.1) (record { hidden = refl; own = tt; inner = tt }),
-  ([], sym h.0),
-)
-whole_file document insides (suc number) left end file h =
-    let before = whole_file document insides number h.0 h.1 file h.3 in
-    let mid = next_one document insides number (slice_get document.elements number)
-    (line_cause document.elements document.causes number) h.1 h.2 file refl h.4 before.0 in
-    let leaves = leaves_first insides h.0 document.causes number (length h.1.lines) h.2 end before.1 h.5 in (
-      after_document document insides (suc number) h.2 end leaves mid,
-      subst (Last insides) (sym h.6) (last_after insides h.0 number before.1),
+-- an element that has no line contains none
+none_after : (causes : List (Option Cause)) (inside : Inside) (number : ℕ) (found : Option Line)
+    (before after : ListingState) → found ≡ None → AddsAfter causes inside number found before after → after ≡ before
+none_after causes inside number None before after e h = h
+none_after causes inside number (Some line) before after e h = absurd (cc)
+
+none_document : (causes : List (Option Cause)) (inside : Option Inside) (number : ℕ) (before after : ListingState)
+    → slice_get before.lines number ≡ None → AddsDocument causes inside number before after → after ≡ before
+none_document causes None number before after e h = h
+none_document causes (Some inside) number before after e h =
+    none_after causes inside number (slice_get before.lines number) before after e h
+
+-- of elements one after another: which documents are left, and the number of the next element
+abbrev left_all : List Inside → ℕ → List NamedElement → List Inside
+left_all insides number [] = insides
+left_all insides number (element ∷ elements) = left_all (after_inside insides number) (suc number) elements
+
+abbrev number_all : ℕ → List NamedElement → ℕ
+number_all number [] = number
+number_all number (element ∷ elements) = number_all (suc number) elements
+
+left_both : (insides : List Inside) (number : ℕ) (elements : List NamedElement) (element : NamedElement)
+    → left_all insides number (elements ++ (element ∷ []))
+    ≡ after_inside (left_all insides number elements) (number_all number elements)
+left_both insides number [] element = refl
+left_both insides number (one ∷ elements) element =
+    left_both (after_inside insides number) (suc number) elements element
+
+number_is : (number : ℕ) (elements : List NamedElement) → number_all number elements ≡ number + length elements
+number_is number [] = omega arith
+number_is number (element ∷ elements) =
+    let more : suc number + length elements ≡ number + suc (length elements) = omega arith in
+    number_is (suc number) elements ∙ more
+
+-- one type or the other
+abbrev Case : Bool → Type 0 → Type 0 → Type 0
+Case is A B = elim is [ true ↦ A | false ↦ B ]
+
+by_both : {A B C D : Type 0} (is : Bool) → (A → C) → (B → D) → Case is A B → Case is C D
+by_both true one other h = one h
+by_both false one other h = other h
+
+lines_more : (file : ListedDocument) (insides : List Inside) (private : Option ℕ) (number : ℕ)
+    (elements : List NamedElement) (element : NamedElement) (lines more : List Line)
+    → HasLines file insides private number elements lines
+    → HasLines file (left_all insides number elements) (hidden_all private elements) (number_all number elements)
+    (element ∷ []) more
+    → HasLines file insides private number (elements ++ (element ∷ [])) (lines ++ more)
+lines_more file insides private number [] element lines more h g =
+    subst (λ some. HasLines file insides private number (element ∷ []) (some ++ more)) (sym h) g
+lines_more file insides private number (one ∷ elements) element lines more h g =
+    by_both (is_deeper private one)
+    (λ has.
+    lines_more file (after_inside insides number) (hidden_after private one) (suc number) elements element lines more has
+    g)
+    (λ has. (
+      has.0,
+      has.1,
+      has.2 ++ more,
+      ap (λ some. some ++ more) has.3 ∙ ap (λ some. has.0 ∷ some) (append_assoc has.1 has.2 more),
+      has.4,
+      has.5,
+      lines_more file (after_inside insides number) (hidden_after private one) (suc number) elements element has.2 more
+          has.6 g,
+    ))
+    h
+
+-- the last one of lines
+last_line : (lines : List Line) (line : Line) → slice_get (lines ++ (line ∷ [])) (length lines) ≡ Some line
+last_line [] line = refl
+last_line (one ∷ lines) line = last_line lines line
+
+-- the lines of one element of a file, with those of the document inside it
+record One (file : ListedDocument) (others : List Inside) (number : ℕ) (hidden : Bool) (after : Option ℕ)
+    (element : NamedElement) (before end : List Line) : Type 0 where
+  more : List Line
+  are : end ≡ before ++ more
+  lines : Case hidden (HasLines file (after_inside others number) after (suc number) [] more)
+      ((line : Line) × (inner : List Line) × (rest : List Line) × (more ≡ line ∷ (inner ++ rest))
+      × IsLineOf file element line × HasInner (first_inside others number) inner
+      × HasLines file (after_inside others number) after (suc number) [] rest)
+
+one_by : (file : ListedDocument) (others : List Inside) (number around : ℕ) (hidden : Bool) (after : Option ℕ)
+    (element : NamedElement) (cause : Option Cause) (before mid end : ListingState)
+    → AddsLine hidden file.octets (placed_in file element around) element cause before.lines mid.lines
+    → AddsDocument file.causes (first_inside others number) (length before.lines) mid end
+    → (end.hidden ≡ mid.hidden) × One file others number hidden after element before.lines end.lines
+one_by file others number around true after element cause before mid end line document =
+    let few : length mid.lines ≤ length before.lines = subst (λ some. length some ≤ length before.lines) (sym line)
+    (omega arith) in
+    let same = none_document file.causes (first_inside others number) (length before.lines) mid end
+    (slice_get_past mid.lines (length before.lines) few) document in (
+      ap (λ (it : ListingState). it.hidden) same,
+      record {
+        more = [];
+        are = ap (λ (it : ListingState). it.lines) same ∙ (line ∙ sym (append-nil before.lines));
+        lines = refl;
+      },
     )
+one_by file others number around false after element cause before mid end line document =
+    let last : slice_get mid.lines (length before.lines) ≡ Some line.0 =
+    ap (λ some. slice_get some (length before.lines)) line.1 ∙ last_line before.lines line.0 in
+    let holds = holds_document file.causes (first_inside others number) (length before.lines) line.0 mid end last
+    document in (
+      holds.hidden,
+      record {
+        more = line.0 ∷ holds.inner;
+        are = holds.are
+            ∙ (ap (λ some. some ++ holds.inner) line.1 ∙ append_assoc before.lines (line.0 ∷ []) holds.inner);
+        lines = (
+          line.0,
+          holds.inner,
+          [],
+          ap (λ some. line.0 ∷ some) (sym (append-nil holds.inner)),
+          record { around = around; header = line.2; value = line.3 },
+          holds.holds,
+          refl,
+        );
+      },
+    )
+
+listed_at : (elements : List NamedElement) (number : ℕ) → number < length elements
+    → (element : NamedElement) × (slice_get elements number ≡ Some element)
+listed_at [] number less = absurd (omega arith)
+listed_at (element ∷ elements) zero less = (element, refl)
+listed_at (element ∷ elements) (suc number) less = listed_at elements number (omega (arith, less))
+
+-- what is known of the lines of the first elements of a file, so many
+record State (file : ListedDocument) (insides : List Inside) (number : ℕ) (left : List Inside) (state : ListingState)
+    : Type 0 where
+  hidden : state.hidden ≡ hidden_all None (take number file.elements)
+  left_are : left ≡ left_all insides 0 (take number file.elements)
+  lines : HasLines file insides None 0 (take number file.elements) state.lines
+
+state_more : (file : ListedDocument) (insides others left : List Inside) (number : ℕ) (element : NamedElement)
+    (before mid end : ListingState) → number < length file.elements
+    → slice_get file.elements number ≡ Some element
+    → IsNext file (line_cause file.elements file.causes number) element before mid
+    → AddsDocument file.causes (first_inside others number) (length before.lines) mid end
+    → left ≡ after_inside others number → State file insides number others before
+    → State file insides (suc number) left end
+state_more file insides others left number element before mid end less listed next document e state =
+    let elements = take number file.elements in
+    let first = first_more file.elements number element listed in
+    let number_of : number_all 0 elements ≡ number =
+    number_is 0 elements ∙ (ap (λ n. 0 + n) (length-take-le number file.elements (omega (arith, less))) ∙ zero-add number) in
+    let one = one_by file others number (number_around before.numbers file.around element)
+    (is_deeper before.hidden element) (hidden_after before.hidden element) element
+    (line_cause file.elements file.causes number) before mid end next.line document in
+    let lines : HasLines file others before.hidden number (element ∷ []) one.1.more = one.1.lines in
+    let moved : HasLines file (left_all insides 0 elements) (hidden_all None elements) (number_all 0 elements)
+    (element ∷ []) one.1.more =
+    subst
+    (λ n. HasLines file (left_all insides 0 elements) (hidden_all None elements) n (element ∷ []) one.1.more)
+    (sym number_of)
+    (subst (λ p. HasLines file (left_all insides 0 elements) p number (element ∷ []) one.1.more) state.hidden
+    (subst (λ some. HasLines file some before.hidden number (element ∷ []) one.1.more) state.left_are lines)) in
+    record {
+      hidden = one.0
+          ∙ (next.hidden
+          ∙ (ap (λ it. hidden_after it element) state.hidden
+          ∙ (sym (hidden_both None elements element) ∙ ap (hidden_all None) (sym first))));
+      left_are = e
+          ∙ (ap (λ some. after_inside some number) state.left_are
+          ∙ (ap (λ n. after_inside (left_all insides 0 elements) n) (sym number_of)
+          ∙ (sym (left_both insides 0 elements element) ∙ ap (left_all insides 0) (sym first))));
+      lines = subst (λ some. HasLines file insides None 0 some end.lines) (sym first)
+          (subst (λ some. HasLines file insides None 0 (elements ++ (element ∷ [])) some) (sym one.1.are)
+          (lines_more file insides None 0 elements element before.lines one.1.more state.lines moved));
+    }
+
+whole_file : (file : ListedDocument) (insides : List Inside) (number : ℕ) (left : List Inside) (end : ListingState)
+    → number ≤ length file.elements → ListsFile file insides number left end → State file insides number left end
+whole_file file insides zero left end few h = record {
+  hidden = ap (λ (it : ListingState). it.hidden) h.1;
+  left_are = h.0;
+  lines = ap (λ (it : ListingState). it.lines) h.1;
+}
+whole_file file insides (suc number) left end few h =
+    let less : number < length file.elements = omega (arith, few) in
+    let listed = listed_at file.elements number less in
+    state_more file insides h.0 left number listed.0 h.1 h.2 end less listed.1
+    (subst (λ found. AddsOne file (line_cause file.elements file.causes number) found h.1 h.2) listed.1 h.4) h.5 h.6
+    (whole_file file insides number h.0 h.1 (omega (arith, few)) h.3)
 
 is_front : (limits : Limits) (of : Kind) (document : List ℕ) (answer : Answer) (front : List ℕ) (path : List Step)
     (class : Option ℕ) → IsShown limits of document answer front path class → IsFront answer document front
@@ -331,7 +390,8 @@ is_listing : (limits : Limits) (of : Kind) (disclosed : Disclosed) (lines : List
     → IsListingBy limits of disclosed lines → IsListing limits of disclosed.front.now lines
 is_listing limits of disclosed lines is =
     let file = front_document disclosed.answer disclosed.front.now is.elements in
-    let state = (whole_file file is.insides (length is.elements) is.listed.left is.listed.end refl is.listed.lists).0 in
+    let state = whole_file file is.insides (length is.elements) is.listed.left is.listed.end (omega arith)
+    is.listed.lists in
     record {
       root = is.root;
       is_shape = is.is_shape;
@@ -341,10 +401,9 @@ is_listing limits of disclosed lines is =
       insides = is.insides;
       has_insides = is.has_insides;
       causes = causes_by disclosed.answer disclosed.front.now is.elements;
-      own = subst (λ some. Each (IsLineOf file) (in_no_private None is.elements) (own_lines some)) (sym is.listed.are)
-          (subst (λ some. Each (IsLineOf file) (in_no_private None some) (own_lines is.listed.end.lines))
-          (take-length is.elements) state.own);
-      inner = subst (AreInner is.insides) (sym is.listed.are) state.inner;
+      are = subst (HasLines file is.insides None 0 is.elements) (sym is.listed.are)
+          (subst (λ some. HasLines file is.insides None 0 some is.listed.end.lines) (take-length is.elements)
+          state.lines);
     }
 
 -- What is worded so keeps what is promised of a report.

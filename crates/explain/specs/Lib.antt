@@ -11,7 +11,6 @@ pub mod Fronts
 pub mod Heads
 pub mod Insides
 pub mod Lines
-pub mod ListingLaws
 pub mod Listings
 pub mod Guesses
 pub mod Notes

@@ -1,8 +1,6 @@
 -- What is promised of the lines of a report: each element of what is shown has one, in their order, and they are true.
-use Rattle.std.specs.Prelude.{List, None, Option, Some, [], cond, false, length, take, true, ℕ, ◌++◌, ◌∷◌, ◌≡◌, ◌⊎◌}
+use Rattle.std.specs.Prelude.{List, None, Option, Some, [], cond, false, length, suc, take, true, ℕ, ◌++◌, ◌∷◌, ◌≡◌, ◌⊎◌}
 use Rattle.std.specs.Borrow.{Bor}
-use Rattle.std.specs.List.{slice_get}
-use Rattle.std.specs.Option.{is_none}
 use Rattle.tlv_core.specs.Limits.{Limits}
 use Rattle.x690.specs.Lists.{Each}
 use Rattle.asn_names.specs.declared.element.NamedElement.{NamedElement}
@@ -13,7 +11,7 @@ use Rattle.explain.specs.FaultLines.{IsPlaceAlone}
 use Rattle.explain.specs.Fronts.{is_deeper}
 use Rattle.explain.specs.Insides.{HasInsides, IsNamed}
 use Rattle.explain.specs.Lines.{IsHeaderLine, IsListedValue}
-use Rattle.explain.specs.Listings.{hidden_after}
+use Rattle.explain.specs.Listings.{after_inside, first_inside, hidden_after}
 use Rattle.explain.specs.Places.{ListedDocument, placed_in}
 use Rattle.explain.specs.Shapes.{IsShapeOf}
 use Rattle.explain.specs.declared.document.inside.Inside.{Inside}
@@ -73,36 +71,28 @@ document_in inside causes depth around = record {
   around = around;
 }
 
--- the lines of the file's own elements
-abbrev pub own_lines : List Line → List Line
-own_lines [] = []
-own_lines (line ∷ lines) = cond (is_none line.inside) (line ∷ []) [] ++ own_lines lines
+-- the lines of what is in an element, where that contains a document: one for each element in no private one
+abbrev pub HasInner : Option Inside → List Line → Type 0
+HasInner None lines = lines ≡ []
+HasInner (Some inside) lines =
+    (causes : List (Option Cause))
+    × (depth : ℕ)
+    × (around : ℕ)
+    × Each (IsLineOf (document_in inside causes depth around)) (in_no_private None inside.named.elements.items) lines
 
--- A line is of an element of one of the documents inside.
-pub record IsInnerLine (insides : List Inside) (line : Line) : Type 0 where
-  pub before : List Inside
-  pub inside : Inside
-  pub after : List Inside
-  pub are : insides ≡ before ++ (inside ∷ after)
-  pub causes : List (Option Cause)
-  pub depth : ℕ
-  pub around : ℕ
-  pub number : ℕ
-  pub element : NamedElement
-  pub listed : slice_get inside.named.elements.items number ≡ Some element
-  pub is_line : IsLineOf (document_in inside causes depth around) element line
+-- The lines of elements of a file, the first of which has this number, where these documents are inside of them: each
+-- one in no private one has its line, and after that those of what it contains.
+abbrev pub HasLines : ListedDocument → List Inside → Option ℕ → ℕ → List NamedElement → List Line → Type 0
+HasLines file insides private number [] lines = lines ≡ []
+HasLines file insides private number (element ∷ elements) lines =
+    elim (is_deeper private element) [
+      | true ↦ HasLines file (after_inside insides number) (hidden_after private element) (suc number) elements lines
+      | false ↦ (line : Line) × (inner : List Line) × (rest : List Line) × (lines ≡ line ∷ (inner ++ rest))
+          × IsLineOf file element line × HasInner (first_inside insides number) inner
+          × HasLines file (after_inside insides number) (hidden_after private element) (suc number) elements rest
+    ]
 
-abbrev pub IsInnerIf : List Inside → Option ℕ → Line → Type 0
-IsInnerIf insides None line = Unit {0}
-IsInnerIf insides (Some at) line = IsInnerLine insides line
-
--- Those of the lines that are of no element of the file are of elements of documents inside.
-abbrev pub AreInner : List Inside → List Line → Type 0
-AreInner insides [] = Unit {0}
-AreInner insides (line ∷ lines) = IsInnerIf insides line.inside line × AreInner insides lines
-
--- The lines of the first octets of a document: by the names of the kind's type each element in no private one has its
--- line, in their order; the other lines are of what is inside the OCTET STRINGs that contain a document.
+-- The lines of the first octets of a document, by the names of the kind's type.
 pub record IsListing (limits : Limits) (of : Kind) (front : List ℕ) (lines : List Line) : Type 0 where
   pub root : Bor Shape
   pub is_shape : IsShapeOf of root
@@ -112,5 +102,4 @@ pub record IsListing (limits : Limits) (of : Kind) (front : List ℕ) (lines : L
   pub insides : List Inside
   pub has_insides : HasInsides limits front elements (length elements) insides
   pub causes : List (Option Cause)
-  pub own : Each (IsLineOf (file_with front elements causes)) (in_no_private None elements) (own_lines lines)
-  pub inner : AreInner insides lines
+  pub are : HasLines (file_with front elements causes) insides None 0 elements lines
