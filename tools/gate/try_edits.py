@@ -80,7 +80,9 @@ CHANGES = (
     ("the contract of what it calls", "src/b.rt", "{ P }", "{ P P }", [ABOVE, BOTH, BELOW]),
     ("a definition of that contract", "specs/Means.antt", "Zero", "Succ Zero", [ABOVE, BOTH, BELOW]),
     ("a definition that none names", "specs/Others.antt", "Zero", "Succ Zero", []),
-    ("its answers", "proofs/a/low/Answers.antt", "use", "-- told\nuse", [ABOVE, BOTH]),
+    ("its answers", "proofs/a/low/Answers.antt", "{lemma}", "{lemma, another}", [ABOVE, BOTH]),
+    ("a comment of its answers", "proofs/a/low/Answers.antt", "use", "-- said\nuse", None),
+    ("the layout of their imports", "proofs/a/low/Answers.antt", "{lemma}", "{\n  lemma,\n}", None),
     ("a lemma of them", "proofs/Lemmas.antt", "tt", "(tt)", [ABOVE, BOTH]),
     ("a file that none names", "src/c.rt", "apart", "astray", []),
     ("an impl that none names", "src/c.rt", "pub fn", "impl Told for Word {}\n\npub fn", [ABOVE, BOTH, BELOW]),
@@ -198,7 +200,8 @@ def try_files(it):
     it.see("each is tried", it.run("--stale"), (0, "edits: 5 passed, 0 failed"))
     for what, file, old, new, stale in CHANGES:
         it.change(f"crates/upper/{file}", old, new)
-        it.see(what, it.forge("print(*r.stale_in('upper'))").split(), ["all", *stale])
+        due = [] if stale is None else ["all", *stale]
+        it.see(what, it.forge("print(*r.stale_in('upper'))").split(), due)
         it.change(f"crates/upper/{file}", new, old)
     it.change("crates/upper/src/b.rt", "    2", "    0;\n    2")
     it.see("those of a body", it.run("--stale"), (0, "edits: 4 passed, 0 failed"), "upper: 0 of its 3 edits were")
