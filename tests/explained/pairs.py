@@ -56,6 +56,12 @@ class Pair:
         marks = self.marks if " steps" in self.name else self.marks[:LOOKED_AT]
         return self.is_text or any(it >= SECRETS for it in marks)
 
+    def spells_an_end(self):
+        """Whether private octets of one of a public key's documents alone are end-of-contents octets (X.690 8.1.5)."""
+        ends = [{at for at in range(len(self.marks) - 1) if self.marks[at] >= SECRETS and text[at : at + 2] == b"\0\0"}
+                for text in self.texts[:2]]
+        return self.kind == "public" and ends[0] != ends[1]
+
     def has_private_length(self, report):
         """Whether private octets are the length of a container that is listed, with its first member after it."""
         lines = json.loads(report).get("lines", [])
@@ -74,6 +80,8 @@ class Pair:
             return "they happen to be what is usual there"
         if any(self.has_private_length(it[WHOLE]) for it in texts):
             return "they are the length of a usual container"
+        if self.spells_an_end():
+            return "they end a public key's contents"
         return "they stand in a subject" if self.has_private_name() else ""
 
     def marks_of(self, at):
