@@ -28,7 +28,8 @@ from tests.explained.chance import chances_that_fail, is_by_chance
 from tests.explained.report_differences import (
     LOOKED_AT, differences, private_runs, rules_that_fail, runs_told_alone, untold_forms)
 from tests.oracle import reader
-from tests.oracle.private_places import differ_in_private, part_at, private_places, subject_of
+from tests.oracle.private_places import (
+    differ_in_private, name_and_key_begin_of, part_at, private_places, subject_of)
 from tests.oracle.secret_documents import CONTENTS, KINDS, SECRETS, Grammar
 from tests.oracle.secret_octets import Filling, damaged
 
@@ -70,9 +71,10 @@ class Pair:
                    for it, after in zip(lines, lines[1:]) if "header" in it)
 
     def has_private_name(self):
-        """Whether the damage put private octets into a request's subject, in front of its public key."""
+        """Whether the damage put private octets into a request's subject, or into what says that its public key
+        follows."""
         return self.kind == "request" and any(self.marks[at] >= SECRETS
-                                              for it in self.texts[:2] for at in subject_of(it))
+                                              for it in self.texts[:2] for at in name_and_key_begin_of(it))
 
     def made_public(self, asked, texts, is_looked_at):
         """What the damage made of private octets of a refused document that a report may tell of them, if anything."""

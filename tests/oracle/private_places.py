@@ -108,15 +108,16 @@ def length_in(header):
     return int.from_bytes(header[2:], "big") if length > 128 else length if length < 128 else None
 
 
-def begins_key(octets):
-    """Whether octets begin as a public key does whose algorithm has a usual name (RFC 5280, section 4.1)."""
+def key_begin(octets):
+    """How many octets say that a public key begins whose algorithm has a usual name (RFC 5280, section 4.1); 0 where
+    none does."""
     at = 0
     for _ in range(2):
         if octets[at : at + 1] != b"\x30":
-            return False
+            return 0
         at += len(header_at(octets, at))
     end = at + 2 + (octets[at + 1] if at + 1 < len(octets) else 0)
-    return octets[at : at + 1] == b"\6" and octets[at + 2 : end] in NAMED
+    return end if octets[at : at + 1] == b"\6" and octets[at + 2 : end] in NAMED else 0
 
 
 def subject_of(octets):
@@ -132,9 +133,15 @@ def subject_of(octets):
             at += length_in(header) or 0
     else:
         end = at + (length_in(header) or 0)
-        if begins_key(octets[end:]):
+        if key_begin(octets[end:]):
             return range(at, end)
     return range(0)
+
+
+def name_and_key_begin_of(octets):
+    """The same, and the places of what says that a public key follows."""
+    found = subject_of(octets)
+    return range(found.start, found.stop + key_begin(octets[found.stop :])) if found.stop else found
 
 
 def differ_in_private(kind, octets, others):
