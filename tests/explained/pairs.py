@@ -63,11 +63,11 @@ class Pair:
                 for text in self.texts[:2]]
         return self.kind == "public" and ends[0] != ends[1]
 
-    def has_private_length(self, report):
-        """Whether private octets are the length of a container that is listed, with its first member after it."""
+    def has_private_header(self, report):
+        """Whether private octets are in the header of a container that is listed, with its first member after it."""
         lines = json.loads(report).get("lines", [])
         return any(it.get("constructed") and after["at"] == it["at"] + it["header"] and "header" in after
-                   and any(mark >= SECRETS for mark in self.marks[it["at"] + 1 : after["at"]])
+                   and any(mark >= SECRETS for mark in self.marks[it["at"] : after["at"]])
                    for it, after in zip(lines, lines[1:]) if "header" in it)
 
     def has_private_name(self):
@@ -80,8 +80,8 @@ class Pair:
         """What the damage made of private octets of a refused document that a report may tell of them, if anything."""
         if is_by_chance(asked, self.kind, self.texts[:2], is_looked_at):
             return "they happen to be what is usual there"
-        if any(self.has_private_length(it[WHOLE]) for it in texts):
-            return "they are the length of a usual container"
+        if any(self.has_private_header(it[WHOLE]) for it in texts):
+            return "they are in the header of a usual container"
         if self.spells_an_end():
             return "they end a public key's contents"
         return "they stand in a subject" if self.has_private_name() else ""
