@@ -1,5 +1,6 @@
 //! Where octets differ from the DER text of a value.
-ghost use Rattle.std.specs.Prelude.{◌≡◌, ◌≤◌, ◌≢◌, ◌<◌, ◌^◌, ℕ, [], Some, IsSome, true, false, length, slice_get, drop, take};
+ghost use Rattle.std.specs.Prelude.{◌≡◌, ◌≤◌, ◌≢◌, ◌<◌, ◌^◌, ℕ, [], Some, IsSome, true, false, length, slice_get};
+ghost use Rattle.std.specs.Prelude.{drop, take};
 ghost use Rattle.x690.specs.DerTexts.{der};
 ghost use Rattle.asn_documents.specs.Differences.{Differs};
 

@@ -1,6 +1,7 @@
 //! OCTET STRINGs that contain an element (X.690 8.7, X.682 11).
 ghost use Rattle.x690_laws.proofs.TextsTellApart.{leaf_one_text};
-ghost use Rattle.std.specs.Prelude.{◌≡◌, ◌+◌, ◌<◌, ◌^◌, List, [], IfErr, IfOk, IsSome, None, Ok, OnOk, false, length, refl, slice_get, ℕ};
+ghost use Rattle.std.specs.Prelude.{◌≡◌, ◌+◌, ◌<◌, ◌^◌, List, [], IfErr, IfOk, IsSome, None, Ok, OnOk, false, length};
+ghost use Rattle.std.specs.Prelude.{refl, slice_get, ℕ};
 ghost use Rattle.tlv_core.specs.Limits.{Limits};
 ghost use Rattle.tlv_core.specs.Sinks.{count, Puts};
 ghost use Rattle.x690.specs.DerTexts.{der};

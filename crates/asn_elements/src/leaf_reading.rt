@@ -13,7 +13,8 @@ ghost use Rattle.ber_pull.specs.Hears.{heard, heard_error};
 ghost use Rattle.ber_pull.specs.View.{standing, AsksNoMemory, Repeats, Answers, Uses, Unmoved, Frame};
 ghost use Rattle.ber_pull.specs.declared.state.Given.{Given};
 ghost use Rattle.asn_elements.specs.BitStrings.{IsDerBits};
-ghost use Rattle.asn_elements.specs.Reading.{AnswersValue, HasContents, kind_of, read_given, read_given_leaf, string_kind};
+ghost use Rattle.asn_elements.specs.Reading.{AnswersValue, HasContents, kind_of, read_given, read_given_leaf};
+ghost use Rattle.asn_elements.specs.Reading.{string_kind};
 
 use crate::integer::is_integer;
 use crate::tags::is_same_tag;

@@ -3,7 +3,8 @@
 //! `Dependent<A, F>` are the fields `A` and one behind them, `F`, that is due; in `OptionalDependent<A, F>` it may be
 //! absent. `F` is put together of `Independent`, an element of any type, `DefinedBy`, one of two by a leaf of the
 //! fields before it, `RuledBehind` and `RuledContaining`, with a rule that looks at these fields, and `Refused`.
-ghost use Rattle.std.specs.Prelude.{◌≡◌, ◌+◌, ◌++◌, ◌<◌, ◌^◌, ◌∷◌, Bool as Truth, IfOk, IfSome, IsSome, List, None, Ok, OnOk, [], false, length, slice_get, true};
+ghost use Rattle.std.specs.Prelude.{◌≡◌, ◌+◌, ◌++◌, ◌<◌, ◌^◌, ◌∷◌, Bool as Truth, IfOk, IfSome, IsSome, List, None};
+ghost use Rattle.std.specs.Prelude.{Ok, OnOk, [], false, length, slice_get, true};
 ghost use Rattle.tlv_core.specs.Sinks.{count, Puts};
 ghost use Rattle.x690.specs.DerTexts.{der};
 ghost use Rattle.x690.specs.TypeTerms.{TypeTerm, fits_tag};
@@ -11,7 +12,8 @@ ghost use Rattle.x690.specs.Values.{Value, value_tag};
 ghost use Rattle.ber_pull.specs.View.{standing, AsksNoMemory, Unmoved, Uses, Frame};
 ghost use Rattle.asn_fields.specs.Apart.{may_begin};
 ghost use Rattle.asn_fields.specs.Fields.{IsInside, LeavesWithin, StaysInside, stands_next};
-ghost use Rattle.asn_fields.specs.Dependents.{AnswersBehind, RequiredBehind, OneTextBehind, OptionalBehind, TakesBehind, suits_where_there};
+ghost use Rattle.asn_fields.specs.Dependents.{AnswersBehind, RequiredBehind, OneTextBehind, OptionalBehind};
+ghost use Rattle.asn_fields.specs.Dependents.{TakesBehind, suits_where_there};
 ghost use Rattle.asn_fields.specs.Listings.{nothing, through};
 ghost use Rattle.asn_fields.specs.DependentLaws.{dependent};
 

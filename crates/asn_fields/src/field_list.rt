@@ -1,6 +1,7 @@
 //! What a list of fields is, in the order of the ASN.1 (X.690 8.9): `(A, B)` is `A` in front of `B`, and more of them
 //! are pairs in pairs, `(A, (B, C))`.
-ghost use Rattle.std.specs.Prelude.{◌≡◌, ◌+◌, ◌++◌, ◌*◌, ◌^◌, ◌<◌, ◌≤◌, IfOk, List, None, OnOk, length, slice_get, true};
+ghost use Rattle.std.specs.Prelude.{◌≡◌, ◌+◌, ◌++◌, ◌*◌, ◌^◌, ◌<◌, ◌≤◌, IfOk, List, None, OnOk, length, slice_get};
+ghost use Rattle.std.specs.Prelude.{true};
 ghost use Rattle.tlv_core.specs.Sinks.{count, Puts};
 ghost use Rattle.x690.specs.DerTexts.{texts_of};
 ghost use Rattle.x690.specs.Values.{Value};

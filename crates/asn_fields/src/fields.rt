@@ -1,18 +1,20 @@
 //! The fields of a SEQUENCE, one call each, in the order of its ASN.1 (X.690 8.9).
 //!
 //! A reader of a type is a list of these calls: `begin` with the type's tag, then `due` or `optional` for each field,
-//! then `end`. Its proof is a list of the rules of `proofs/BegunSequence.antt` in the same order: `after_` each call that gave
-//! a value, which keep in a record what was read so far and what is left, and `answered`, or `stopped_at_` the call
-//! that failed, where it returns. A rule on a field is tested between `take` and `ahead`, which `due` is put together
-//! from; one on the whole value behind `end`. `take`, `due` and `optional` also tell that the text of a field is short;
-//! they are the calls of `dependent`, where no field stands before.
+//! then `end`. Its proof is a list of the rules of `proofs/BegunSequence.antt` in the same order: `after_` each call
+//! that gave a value, which keep in a record what was read so far and what is left, and `answered`, or `stopped_at_`
+//! the call that failed, where it returns. A rule on a field is tested between `take` and `ahead`, which `due` is put
+//! together from; one on the whole value behind `end`. `take`, `due` and `optional` also tell that the text of a field
+//! is short; they are the calls of `dependent`, where no field stands before.
 ghost use Rattle.std.specs.Prelude.{◌≡◌, ◌<◌, ◌^◌, IfOk, IfSome, IsSome, None, Ok, OnOk, false, length};
 ghost use Rattle.x690.specs.DerTexts.{der};
 ghost use Rattle.asn_fields.specs.FieldReadings.{read_end};
 ghost use Rattle.ber_pull.specs.Hears.{heard};
 ghost use Rattle.ber_pull.specs.View.{standing, AsksNoMemory, Repeats, Unmoved, Frame};
 ghost use Rattle.asn_fields.specs.Apart.{BeginsAs};
-ghost use Rattle.asn_fields.specs.Fields.{AnswersAhead, AnswersBegin, AnswersDue, AnswersInside, AnswersOptional, AnswersTake, IsInside, LeavesContainer, LeavesWithin, StandsAhead, StandsInto, StaysInside, next_of, stands_next};
+ghost use Rattle.asn_fields.specs.Fields.{AnswersAhead, AnswersBegin, AnswersDue, AnswersInside, AnswersOptional};
+ghost use Rattle.asn_fields.specs.Fields.{AnswersTake, IsInside, LeavesContainer, LeavesWithin, StandsAhead};
+ghost use Rattle.asn_fields.specs.Fields.{StandsInto, StaysInside, next_of, stands_next};
 
 use crate::dependent::{Independent, NoFields, due_dependent, optional_dependent, take_dependent};
 use asn_elements::element::Element;

@@ -15,11 +15,11 @@
 //! reads a SEQUENCE by its list, `parts` writes one, and `fields` has the calls beneath: they begin a SEQUENCE, read
 //! its fields and end it.
 //!
-//! Proved here, once for all types: what `Sequence` and the others read is what the plain reading of the type that their
-//! list says gives for the octets taken, the first fault included, also that of a rule at its place; a value keeps what
-//! its rules say; what is written is the DER text of the value, by its length, whole and octet by octet; and two values
-//! with one text are the same, as long as no field that may be absent begins as what may follow it, which is computed
-//! from the types (`apart`).
+//! Proved here, once for all types: what `Sequence` and the others read is what the plain reading of the type that
+//! their list says gives for the octets taken, the first fault included, also that of a rule at its place; a value
+//! keeps what its rules say; what is written is the DER text of the value, by its length, whole and octet by octet; and
+//! two values with one text are the same, as long as no field that may be absent begins as what may follow it, which is
+//! computed from the types (`apart`).
 #![tactic(auto)]
 
 pub mod default_false;

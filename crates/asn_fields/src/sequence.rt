@@ -1,8 +1,8 @@
 //! SEQUENCEs by the list of their fields, in the order of the ASN.1 (X.690 8.9).
 //!
-//! `(Required<Oid>, Optional<Any>)` are the fields of `SEQUENCE { algorithm OBJECT IDENTIFIER, parameters ANY OPTIONAL }`;
-//! more of them are pairs in pairs, `(A, (B, C))`. What may stand in such a list is passed on here. A type round such a
-//! list has names for the fields, and `Sequence` of it is the SEQUENCE.
+//! `(Required<Oid>, Optional<Any>)` are the fields of `SEQUENCE { algorithm OBJECT IDENTIFIER, parameters ANY OPTIONAL
+//! }`; more of them are pairs in pairs, `(A, (B, C))`. What may stand in such a list is passed on here. A type round
+//! such a list has names for the fields, and `Sequence` of it is the SEQUENCE.
 ghost use Rattle.std.proofs.Common.{subst, sym};
 ghost use Rattle.std.specs.Prelude.{◌≡◌, ◌*◌, ◌<◌, ◌^◌, ◌≤◌, IfOk, IsSome, None, OnOk, length, true};
 ghost use Rattle.x690.specs.DerTexts.{texts_of};

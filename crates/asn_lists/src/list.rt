@@ -1,6 +1,7 @@
 //! SEQUENCE OF (X.690 8.10).
 ghost use Rattle.x690_laws.proofs.TextsTellApart.{list_one_text};
-ghost use Rattle.std.specs.Prelude.{◌≡◌, ◌↔◌, ◌+◌, ◌<◌, ◌≤◌, ◌^◌, IfOk, None, Some, IsSome, IsTrue, OnOk, length, map, slice_get};
+ghost use Rattle.std.specs.Prelude.{◌≡◌, ◌↔◌, ◌+◌, ◌<◌, ◌≤◌, ◌^◌, IfOk, None, Some, IsSome, IsTrue, OnOk, length};
+ghost use Rattle.std.specs.Prelude.{map, slice_get};
 ghost use Rattle.std.specs.Option.{option_map};
 ghost use Rattle.tlv_core.specs.Sinks.{count, Puts};
 ghost use Rattle.x690_laws.proofs.TypesClosed.{sequence_of_closed};

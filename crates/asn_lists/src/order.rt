@@ -1,5 +1,6 @@
 // The order of SET OF (X.690 11.6). No DER text begins another one, so it is the plain order of the members' texts.
-ghost use Rattle.std.specs.Prelude.{◌≡◌, ◌==◌, ◌↔◌, ◌<◌, ◌^◌, IfOk, IsOk, IsPermutation, IsSorted, IsTrue, length, map, true};
+ghost use Rattle.std.specs.Prelude.{◌≡◌, ◌==◌, ◌↔◌, ◌<◌, ◌^◌, IfOk, IsOk, IsPermutation, IsSorted, IsTrue, length};
+ghost use Rattle.std.specs.Prelude.{map, true};
 ghost use Rattle.std.proofs.Common.{rules};
 ghost use Rattle.std.specs.Cmp.{partial_order_from_own_ties};
 ghost use Rattle.std.specs.Cmp.Rules.{comparing};

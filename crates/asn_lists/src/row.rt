@@ -1,5 +1,6 @@
 // Members one after another, with where the text of each begins.
-ghost use Rattle.std.specs.Prelude.{◌≡◌, ◌+◌, ◌^◌, ◌<◌, ◌≤◌, ◌∷◌, IfOk, IfSome, IsNone, drop, false, get_or, length, map, slice_get};
+ghost use Rattle.std.specs.Prelude.{◌≡◌, ◌+◌, ◌^◌, ◌<◌, ◌≤◌, ◌∷◌, IfOk, IfSome, IsNone, drop, false, get_or, length};
+ghost use Rattle.std.specs.Prelude.{map, slice_get};
 ghost use Rattle.tlv_core.specs.Sinks.{count, is_broken, Puts};
 ghost use Rattle.x690.specs.DerTexts.{texts_of};
 ghost use Rattle.asn_elements.specs.Framing.{framed};

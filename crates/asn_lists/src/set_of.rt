@@ -1,6 +1,7 @@
 //! SET OF (X.690 8.12, 11.6).
 ghost use Rattle.x690_laws.proofs.TextsTellApart.{set_one_text};
-ghost use Rattle.std.specs.Prelude.{◌≡◌, ◌↔◌, ◌<◌, ◌≤◌, ◌^◌, Err, IfErr, IfOk, None, Some, IsSome, OnOk, IsPermutation, IsTrue, length, map, slice_get, true};
+ghost use Rattle.std.specs.Prelude.{◌≡◌, ◌↔◌, ◌<◌, ◌≤◌, ◌^◌, Err, IfErr, IfOk, None, Some, IsSome, OnOk};
+ghost use Rattle.std.specs.Prelude.{IsPermutation, IsTrue, length, map, slice_get, true};
 ghost use Rattle.std.specs.Option.{option_map};
 ghost use Rattle.x690_laws.proofs.TypesClosed.{set_of_closed};
 ghost use Rattle.x690.specs.DerTexts.{Ascends, der, texts_of};

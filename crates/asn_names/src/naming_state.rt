@@ -1,6 +1,8 @@
 //! Naming, one step after another: an element begins, or a container ends.
 ghost use Rattle.std.specs.Prelude.{[], ◌≡◌, ◌+◌, ◌++◌, ◌∷◌, IfOk, OnOk, drop, reverse};
-ghost use Rattle.asn_names.specs.NamingSteps.{began, begins_as, begins_at, begins_outside, ended, ended_at, is_private, is_refused, listed, state_of, taken, typed_as, unplaced, with_after, with_opened};
+ghost use Rattle.asn_names.specs.NamingSteps.{began, begins_as, begins_at, begins_outside, ended, ended_at};
+ghost use Rattle.asn_names.specs.NamingSteps.{is_private, is_refused, listed, state_of, taken, typed_as, unplaced};
+ghost use Rattle.asn_names.specs.NamingSteps.{with_after, with_opened};
 
 use crate::element::{Level, Mismatch, NamedElement, Step};
 use crate::level::{Place, level_of, may_close, outermost, place_in};

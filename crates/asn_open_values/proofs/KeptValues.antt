@@ -10,7 +10,7 @@ use Rattle.asn_open_values.specs.KeptValues.{identifier_kept, text_kept}
 use Rattle.asn_open_values.specs.OpenValues.{open_value_of}
 use Rattle.asn_open_values.specs.TextValues.{open_value}
 use Rattle.asn_open_values.specs.declared.any.Any.{Any}
-use Rattle.asn_open_values.specs.declared.any.Kept.TheVariants.{Identifier}
+use Rattle.asn_open_values.specs.declared.any.KeptContents.TheVariants.{Identifier}
 use Rattle.asn_open_values.proofs.TextValues.{identifier_same}
 
 -- they have one text

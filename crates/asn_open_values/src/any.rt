@@ -29,7 +29,7 @@ use tlv_core::target::Target;
 
 /// What is kept of an open value.
 #[derive(Drop)]
-enum Kept {
+enum KeptContents {
     Identifier(Oid),
     /// The DER text of a value that is no OBJECT IDENTIFIER.
     Text(Vec<u8>),
@@ -38,7 +38,7 @@ enum Kept {
 /// An open value.
 #[derive(Drop)]
 pub struct Any {
-    kept: Kept,
+    kept: KeptContents,
     ghost whole: { der (open_value (text_kept kept)) ≡ text_kept kept },
     ghost identified: { identifier_kept kept ≡ identifier_in (open_value (text_kept kept)) },
 }
@@ -51,8 +51,8 @@ impl Any {
         ensures { option_map (λ r. r.now) result ≡ identifier_in (open_value_of self.now) }
     {
         match &self.kept {
-            Kept::Identifier(oid) => Some(oid),
-            Kept::Text(_) => None,
+            KeptContents::Identifier(oid) => Some(oid),
+            KeptContents::Text(_) => None,
         }
     }
 }
@@ -67,22 +67,22 @@ impl DerText for Any {
 
     fn size(&self) -> u64 {
         match &self.kept {
-            Kept::Identifier(oid) => oid.size(),
-            Kept::Text(text) => text.len() as u64,
+            KeptContents::Identifier(oid) => oid.size(),
+            KeptContents::Text(text) => text.len() as u64,
         }
     }
 
     fn put<W: Target>(&self, sink: &mut Sink<'_, W>) -> Result<(), WriteError> {
         match &self.kept {
-            Kept::Identifier(oid) => oid.put(sink),
-            Kept::Text(text) => sink.put(text),
+            KeptContents::Identifier(oid) => oid.put(sink),
+            KeptContents::Text(text) => sink.put(text),
         }
     }
 
     fn octet(&self, i: u64) -> Option<u8> {
         match &self.kept {
-            Kept::Identifier(oid) => oid.octet(i),
-            Kept::Text(text) => {
+            KeptContents::Identifier(oid) => oid.octet(i),
+            KeptContents::Text(text) => {
                 if i < text.len() as u64 {
                     Some(text[i as usize])
                 } else {
@@ -111,13 +111,13 @@ impl Element for Any {
         if is_same_tag(universal_tag(6), tag) {
             read_leaf_into(alloc, pull, SimpleType::ObjectIdentifier, &mut room)?;
             return Ok(Any {
-                kept: Kept::Identifier(Oid::from_checked(room)),
+                kept: KeptContents::Identifier(Oid::from_checked(room)),
             });
         }
         let mut text = Vec::new(alloc);
         append_open(alloc, pull, &mut room, &mut text, tag, constructed)?;
         Ok(Any {
-            kept: Kept::Text(text),
+            kept: KeptContents::Text(text),
         })
     }
 }

@@ -1,5 +1,6 @@
 // Reading open values (X.690; profile): elements that stand where any type may, kept as their text in DER.
-ghost use Rattle.std.specs.Prelude.{◌≡◌, ◌++◌, ◌+◌, ◌<◌, ◌≤◌, List, [], ℕ, None, Ok, Some, IfErr, IfOk, IsSome, OnOk, false, true, length, suc};
+ghost use Rattle.std.specs.Prelude.{◌≡◌, ◌++◌, ◌+◌, ◌<◌, ◌≤◌, List, [], ℕ, None, Ok, Some, IfErr, IfOk, IsSome, OnOk};
+ghost use Rattle.std.specs.Prelude.{false, true, length, suc};
 ghost use Rattle.tlv_core.specs.Header.{der_header};
 ghost use Rattle.tlv_core.specs.Identifier.{Tag as Identified};
 ghost use Rattle.tlv_core.specs.declared.fault.ReadError.TheVariants.{Memory};
@@ -11,7 +12,9 @@ ghost use Rattle.ber_pull.specs.View.{standing, source, Repeats, Answers, Uses, 
 ghost use Rattle.ber_pull.specs.declared.state.Given.{Given};
 ghost use Rattle.asn_elements.specs.Framing.{framed};
 ghost use Rattle.asn_elements.specs.Members.{StandIn};
-ghost use Rattle.asn_open_values.specs.OpenTexts.{AnswersText, AnswersTexts, IsNext, StandBehind, read_given_container, read_given_contents, read_given_open, read_given_open_members};
+ghost use Rattle.asn_open_values.specs.OpenTexts.{AnswersText, AnswersTexts, IsNext, StandBehind};
+ghost use Rattle.asn_open_values.specs.OpenTexts.{read_given_container, read_given_contents, read_given_open};
+ghost use Rattle.asn_open_values.specs.OpenTexts.{read_given_open_members};
 
 use crate::open_form::{OpenForm, open_form};
 use crate::texts::in_order;

@@ -3,9 +3,9 @@
 //! `DerText` is what has a text, `Element` what can be read as well, from any source and in any layout of BER. There
 //! are the leaves `Bool`, `Int`, `Null`, `Bits`, `Octets`, `Text` and `tlv_core`'s `Oid`, the containers `List`,
 //! `ListOfSome` and `SetOf`, `Tagged` for explicit tags, `Implicit` for implicit ones, and `Any`, an open value.
-//! `sequence` keeps a SEQUENCE as the list of its fields, with rules on it by `ruled`, and on a field by those before it
-//! by `dependent`; `parts` writes one, `fields` reads one field by field. `Containing` is an OCTET STRING that contains
-//! an element.
+//! `sequence` keeps a SEQUENCE as the list of its fields, with rules on it by `ruled`, and on a field by those before
+//! it by `dependent`; `parts` writes one, `fields` reads one field by field. `Containing` is an OCTET STRING that
+//! contains an element.
 //!
 //! This crate is the table of contents: what stands here is proved in `asn_elements` (the traits and the leaves),
 //! `asn_fields`, `asn_lists` and `asn_open_values`, each of which says what. `tests/rows/values.tsv` has

@@ -1,5 +1,6 @@
 //! Lengths and contents that a source has at hand are looked at in one piece, where reading them would succeed.
-ghost use Rattle.std.specs.Prelude.{◌≡◌, ◌<◌, ◌≤◌, ◌+◌, ◌^◌, ◌++◌, ◌∷◌, [], ℕ, List, None, Some, Ok, IfSome, OnOk, drop, length, take};
+ghost use Rattle.std.specs.Prelude.{◌≡◌, ◌<◌, ◌≤◌, ◌+◌, ◌^◌, ◌++◌, ◌∷◌, [], ℕ, List, None, Some, Ok, IfSome, OnOk};
+ghost use Rattle.std.specs.Prelude.{drop, length, take};
 ghost use Rattle.tlv_core.specs.Length.{SpellsLength};
 ghost use Rattle.x690.specs.ReadHeaders.{primitive_contents};
 ghost use Rattle.x690.specs.Reading.{Took, run};

@@ -1,5 +1,6 @@
 //! Contents octets, in pieces into a buffer that grows with what came.
-ghost use Rattle.std.specs.Prelude.{◌≡◌, ◌<◌, ◌≤◌, ◌+◌, ◌-◌, ◌^◌, ◌↔◌, ℕ, None, Some, IfOk, IfSome, IsSome, IsTrue, OnOk, length};
+ghost use Rattle.std.specs.Prelude.{◌≡◌, ◌<◌, ◌≤◌, ◌+◌, ◌-◌, ◌^◌, ◌↔◌, ℕ, None, Some, IfOk, IfSome, IsSome, IsTrue};
+ghost use Rattle.std.specs.Prelude.{OnOk, length};
 ghost use Rattle.x690.specs.ReadHeaders.{next_octets, primitive_contents};
 ghost use Rattle.ber_pull.specs.Calls.{read_primitive};
 ghost use Rattle.ber_pull.specs.Hears.{heard};
@@ -16,14 +17,16 @@ use tlv_core::source::{Failed, Source};
 /// How many octets are asked for at once, at most.
 const PIECE: usize = 1024;
 
-/// Pieces of no more than these are read into rooms of their own, which takes less than to make the vector longer first.
+/// Pieces of no more than these are read into rooms of their own, which takes less than to make the vector longer
+/// first.
 const SHORT: usize = 32;
 
 /// Longer pieces of no more than these, as keys and signatures of curves are, get the next larger ones.
 const MIDDLE: usize = 160;
 
 impl<R: Source> Pull<'_, R> {
-    ghost use Rattle.ber_pull.specs.View.{FailsThere, answered, standing, source, SameSource, Repeats, ReadsFail, Onward, Answers, Moves, Uses, Frame};
+    ghost use Rattle.ber_pull.specs.View.{FailsThere, answered, standing, source, SameSource, Repeats, ReadsFail};
+    ghost use Rattle.ber_pull.specs.View.{Onward, Answers, Moves, Uses, Frame};
     ghost use Rattle.ber_pull.specs.Contents.{AddsPiece, octet_or};
 
     /// The contents of the primitive element that `next_tag` gave.

@@ -5,7 +5,9 @@ ghost use Rattle.tlv_core.specs.declared.fault.ReadError.TheVariants.{Fault as r
 ghost use Rattle.tlv_core.specs.declared.reason.Reason.TheVariants.{Truncated};
 ghost use Rattle.x690.specs.Points.{ends_with_zeros, fault};
 ghost use Rattle.x690.specs.Reading.{Ask, Done};
-ghost use Rattle.x690.specs.ReadHeaders.{ContainerEnds, fit_contents, header_octet, read_big_endian, read_high_number, read_definite_length, read_length, read_number, read_tag_number};
+ghost use Rattle.x690.specs.ReadHeaders.{ContainerEnds, fit_contents, header_octet, read_big_endian};
+ghost use Rattle.x690.specs.ReadHeaders.{read_high_number, read_definite_length, read_length, read_number};
+ghost use Rattle.x690.specs.ReadHeaders.{read_tag_number};
 ghost use Rattle.ber_pull.specs.Calls.{read_end_of_contents};
 ghost use Rattle.ber_pull.specs.Hears.{heard};
 ghost use Rattle.ber_pull.specs.Standing.{enclosing, ending, failed_with, is_over, moved, no_room};
@@ -26,7 +28,8 @@ pub enum LengthForm {
 }
 
 impl<R: Source> Pull<'_, R> {
-    ghost use Rattle.ber_pull.specs.View.{AsksNoMemory, FailsThere, answered, standing, source, told, SameSource, ReadsFail, Onward, Answers, Moves, Frame};
+    ghost use Rattle.ber_pull.specs.View.{AsksNoMemory, FailsThere, answered, standing, source, told, SameSource};
+    ghost use Rattle.ber_pull.specs.View.{ReadsFail, Onward, Answers, Moves, Frame};
     ghost use Rattle.ber_pull.specs.Lengths.{AnswersClipped, IsClipped, IsWithin, form_of};
 
     /// The next octet of a header or of end-of-contents octets, which belongs to the identifier at `start`.

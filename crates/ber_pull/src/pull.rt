@@ -1,5 +1,6 @@
 //! The reader: one element after another, with a stack of the open containers in itself.
-ghost use Rattle.std.specs.Prelude.{◌≡◌, ◌<◌, ◌≤◌, ◌↔◌, None, Some, Ok, IfOk, IfSome, IsSome, OnOk, false, true, ℕ, [], length};
+ghost use Rattle.std.specs.Prelude.{◌≡◌, ◌<◌, ◌≤◌, ◌↔◌, None, Some, Ok, IfOk, IfSome, IsSome, OnOk, false, true, ℕ};
+ghost use Rattle.std.specs.Prelude.{[], length};
 ghost use Rattle.tlv_core.specs.declared.fault.ReadError.{ReadError};
 ghost use Rattle.tlv_core.specs.declared.fault.ReadError.TheVariants.{Fault as refused, Memory};
 ghost use Rattle.tlv_core.specs.declared.reason.Reason.TheVariants.{Inner};
@@ -7,7 +8,8 @@ ghost use Rattle.ber_pull.specs.Calls.{read_next, read_entering, read_leaving};
 ghost use Rattle.ber_pull.specs.Hears.{heard, next_at};
 ghost use Rattle.x690.specs.Points.{fault};
 ghost use Rattle.ber_pull.specs.declared.state.Given.{Given};
-ghost use Rattle.ber_pull.specs.Standing.{IsAtEnd, IsGiven, TellsInside, started, place, failed_with, gives_primitive, enclosing, after_next, closing, is_done, moved, opening};
+ghost use Rattle.ber_pull.specs.Standing.{IsAtEnd, IsGiven, TellsInside, started, place, failed_with};
+ghost use Rattle.ber_pull.specs.Standing.{gives_primitive, enclosing, after_next, closing, is_done, moved, opening};
 
 use crate::header::{LengthForm, tag_of};
 use crate::state::{Container, Halted, State};
@@ -30,7 +32,8 @@ pub struct Pull<'a, R: Source> {
 }
 
 impl<'a, R: Source> Pull<'a, R> {
-    ghost use Rattle.ber_pull.specs.View.{AsksNoMemory, FailsThere, answered, standing, source, SameSource, Unmoved, Repeats, Answers, Opens, Frame};
+    ghost use Rattle.ber_pull.specs.View.{AsksNoMemory, FailsThere, answered, standing, source, SameSource, Unmoved};
+    ghost use Rattle.ber_pull.specs.View.{Repeats, Answers, Opens, Frame};
     ghost use Rattle.ber_pull.specs.Lengths.{IsWithin, form_of};
 
     /// A reader at place 0, with no container open.

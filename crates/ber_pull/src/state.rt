@@ -70,9 +70,12 @@ impl Model for State {
         × IfSome (nearest_end_in (first_of (reverse (take s.depth s.containers)))) (λ end. end < 2 ^ 32) };
 }
 
-ghost use Rattle.std.specs.Prelude.{◌≡◌, ◌<◌, ◌≤◌, ◌^◌, ◌+◌, IfSome, None, Some, false, is_some, length, nat_lt, not, reverse, true};
+ghost use Rattle.std.specs.Prelude.{◌≡◌, ◌<◌, ◌≤◌, ◌^◌, ◌+◌, IfSome, None, Some, false, is_some, length, nat_lt, not};
+ghost use Rattle.std.specs.Prelude.{reverse, true};
 ghost use Rattle.tlv_core.specs.declared.fault.ReadError.TheVariants.{Read};
-ghost use Rattle.ber_pull.specs.Standing.{started, failed_with, failure, moved, used, giving, enclosing, first_of, has_room, nearest_end_in, bound_of, is_done, ending, closing, with_container};
+ghost use Rattle.ber_pull.specs.Standing.{started, failed_with, failure, moved, used, giving, enclosing, first_of};
+ghost use Rattle.ber_pull.specs.Standing.{has_room, nearest_end_in, bound_of, is_done, ending, closing};
+ghost use Rattle.ber_pull.specs.Standing.{with_container};
 ghost use Rattle.tlv_core.specs.Identifier.{IsTag};
 ghost use Rattle.x690.specs.Points.{ends_with_zeros, past_end};
 

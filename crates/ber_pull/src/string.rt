@@ -1,5 +1,6 @@
 //! Strings in one piece or in segments of any nesting (X.690 8.6, 8.7).
-ghost use Rattle.std.specs.Prelude.{◌≡◌, ◌<◌, ◌≤◌, ◌+◌, ◌*◌, ◌==◌, ◌||◌, ◌&&◌, ◌++◌, ◌∷◌, [], not, Bool, List, ℕ, None, Some, IfOk, IsSome, OnOk, length, false, true};
+ghost use Rattle.std.specs.Prelude.{◌≡◌, ◌<◌, ◌≤◌, ◌+◌, ◌*◌, ◌==◌, ◌||◌, ◌&&◌, ◌++◌, ◌∷◌, [], not, Bool, List, ℕ};
+ghost use Rattle.std.specs.Prelude.{None, Some, IfOk, IsSome, OnOk, length, false, true};
 ghost use Rattle.x690.specs.Contents as values;
 ghost use Rattle.x690.specs.Layouts.{same_tag, universal};
 ghost use Rattle.x690.specs.ReadContents as reading;
@@ -104,7 +105,8 @@ fn clear_unused(mut octets: Vec<u8>, unused: u8) -> Vec<u8>
 
 impl<R: Source> Pull<'_, R> {
     ghost use Rattle.ber_pull.specs.View.{answered, standing, Repeats, Answers, Uses, Frame};
-    ghost use Rattle.ber_pull.specs.Segments.{AddsSegment, AnswersJoined, Joins, Level, Stacked, Steps, read_one_segment, read_rest, segment_number};
+    ghost use Rattle.ber_pull.specs.Segments.{AddsSegment, AnswersJoined, Joins, Level, Stacked, Steps};
+    ghost use Rattle.ber_pull.specs.Segments.{read_one_segment, read_rest, segment_number};
 
     /// The octets of the string that `next_tag` gave, its segments joined. Segments have the tag of OCTET STRING.
     ///

@@ -13,7 +13,8 @@ ghost use Rattle.asn_documents.specs.WrittenValues.{WritesText};
 ghost use Rattle.pk_documents.specs.Documents.{kind_of, value_by};
 ghost use Rattle.pk_documents.specs.Kinds.{type_of};
 ghost use Rattle.pk_documents.specs.declared.kind.Kind.TheVariants as kinds;
-ghost use Rattle.pkix_definitions.proofs.LawfulTypes.{ec_key, encrypted_key, key, key_package, public_key_info, request};
+ghost use Rattle.pkix_definitions.proofs.LawfulTypes.{ec_key, encrypted_key, key, key_package, public_key_info};
+ghost use Rattle.pkix_definitions.proofs.LawfulTypes.{request};
 
 use crate::kind::Kind;
 use asn_documents::value::{read_value, write_value};

@@ -2,7 +2,10 @@
 ghost use Rattle.std.specs.Prelude.{IfSome, IsSome, ◌≡◌, ◌↔◌};
 ghost use Rattle.std.specs.List.{list_any};
 ghost use Rattle.std.specs.Str.{bytes_eq};
-ghost use Rattle.pk_documents.specs.KindRows.{IsKindNumber, first_kind, has_number, has_plain_keys, has_word, is_key, kind_named, kind_numbered, labels_of, may_be_private, number_of, other_words_of, private_keys_of, standard_of, texts, type_name_of, word_of};
+ghost use Rattle.pk_documents.specs.KindRows.{IsKindNumber, first_kind, has_number, has_plain_keys, has_word, is_key};
+ghost use Rattle.pk_documents.specs.KindRows.{kind_named, kind_numbered, labels_of, may_be_private, number_of};
+ghost use Rattle.pk_documents.specs.KindRows.{other_words_of, private_keys_of, standard_of, texts, type_name_of};
+ghost use Rattle.pk_documents.specs.KindRows.{word_of};
 
 /// What a document is; the caller says.
 #[derive(Clone, Copy, Debug, PartialEq, Eq)]

@@ -4,7 +4,8 @@ ghost use Rattle.std.specs.Option.{option_map};
 ghost use Rattle.asn_lists.specs.Containers.{list_items, set_items};
 ghost use Rattle.pkix_definitions.specs.Identifiers.{extension_request};
 ghost use Rattle.pkix_values.specs.RequestAttributes.{request_attribute_type_of};
-ghost use Rattle.pk_show.specs.Shown.{attribute_line, attribute_lines, attributes_lines, extension_line, extensions_lines, request_attribute_lines, value_line};
+ghost use Rattle.pk_show.specs.Shown.{attribute_line, attribute_lines, attributes_lines, extension_line};
+ghost use Rattle.pk_show.specs.Shown.{extensions_lines, request_attribute_lines, value_line};
 ghost use Rattle.x690.specs.Lists.{one_of};
 
 use crate::lines::{push_absent_line, push_any_line, push_list, push_number_line, push_set};

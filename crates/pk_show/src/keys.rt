@@ -1,7 +1,8 @@
 //! Keys, and what they are for.
 ghost use Rattle.std.specs.Prelude.{◌≡◌, ◌++◌, OnOk, string_bytes};
 ghost use Rattle.pkcs8.specs.Seen.{key_seen};
-ghost use Rattle.pk_show.specs.Shown.{algorithm_lines, ec_lines, encrypted_lines, key_lines, package_lines, private_key_lines, public_key_lines};
+ghost use Rattle.pk_show.specs.Shown.{algorithm_lines, ec_lines, encrypted_lines, key_lines, package_lines};
+ghost use Rattle.pk_show.specs.Shown.{private_key_lines, public_key_lines};
 
 use crate::attributes::push_attributes;
 use crate::lines::{

@@ -3,8 +3,8 @@
 //! `texts` has octets and bits, `lines` what one line says and the members of lists and sets, `attributes`, `keys` and
 //! `requests` the lines of what documents are made of; `laws` has a law on these lines.
 //!
-//! Proved: the text of a document is `document_lines` of `specs/Shown.antt`, wherever there is memory for it, and private
-//! octets change nothing in these lines but numbers of octets (`specs/PublicFields.antt`).
+//! Proved: the text of a document is `document_lines` of `specs/Shown.antt`, wherever there is memory for it, and
+//! private octets change nothing in these lines but numbers of octets (`specs/PublicFields.antt`).
 #![tactic(auto)]
 
 ghost use Rattle.std.specs.Prelude.{◌≡◌, ◌++◌, IfOk, OnOk, codes, string_bytes};

@@ -175,7 +175,8 @@ impl RuledFields for KeyFields {
 pub struct OneAsymmetricKey(RuledSequence<KeyFields>);
 
 impl OneAsymmetricKey {
-    ghost use Rattle.pkcs8.specs.AsymmetricKeys.{key_algorithm_of, key_attributes_of, key_version_of, private_key_of, public_key_of};
+    ghost use Rattle.pkcs8.specs.AsymmetricKeys.{key_algorithm_of, key_attributes_of, key_version_of, private_key_of};
+    ghost use Rattle.pkcs8.specs.AsymmetricKeys.{public_key_of};
 
     fn body(&self) -> &KeyBody
         ensures { result.now ≡ self.now.0.value.fields.0.earlier }

@@ -1,7 +1,8 @@
 //! The usual names of object identifiers, the same for all that says one.
 ghost use Rattle.std.specs.Prelude.{map, ◌≡◌};
 ghost use Rattle.std.specs.Option.{option_map};
-ghost use Rattle.pkix_shapes.specs.Identifiers.{curves_rows, encryption_rows, hash_based_rows, keys_rows, names_rows, others_rows, signatures_rows, or_row, row_of, row_with, usual};
+ghost use Rattle.pkix_shapes.specs.Identifiers.{curves_rows, encryption_rows, hash_based_rows, keys_rows, names_rows};
+ghost use Rattle.pkix_shapes.specs.Identifiers.{others_rows, signatures_rows, or_row, row_of, row_with, usual};
 
 /// An object identifier by its usual name.
 #[derive(Clone, Copy)]

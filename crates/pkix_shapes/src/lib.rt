@@ -5,10 +5,10 @@
 //! `shared`: there a kind's types and names stand once, in the order of their ASN.1 (`docs/formats.md`). `due` says
 //! which field an element belongs to.
 //!
-//! Proved: each type is the type term of `pkix_definitions`, its rules apart; exactly its private parts are marked; the field
-//! that an element belongs to is the one that the fault grammar of `x690` has there, and its name the one that stands
-//! in the type; the path to an element at fault is a path of that grammar (`laws`). That the names are those of the
-//! ASN.1 no proof can see: `tools/pages/shape_names.py` compares them with `docs/formats.md`.
+//! Proved: each type is the type term of `pkix_definitions`, its rules apart; exactly its private parts are marked; the
+//! field that an element belongs to is the one that the fault grammar of `x690` has there, and its name the one that
+//! stands in the type; the path to an element at fault is a path of that grammar (`laws`). That the names are those of
+//! the ASN.1 no proof can see: `tools/pages/shape_names.py` compares them with `docs/formats.md`.
 #![tactic(auto)]
 
 pub mod documents;

@@ -1,7 +1,8 @@
 //! The object identifiers that the types name, as values of X.690 8.19.
 ghost use Rattle.std.specs.Prelude.{◌≡◌, ◌∷◌, []};
 ghost use Rattle.std.specs.Option.{is_some};
-ghost use Rattle.pkix_definitions.specs.Identifiers.{extension_request, length_under, rfc8410_algorithms, rfc8410_lengths};
+ghost use Rattle.pkix_definitions.specs.Identifiers.{extension_request, length_under, rfc8410_algorithms};
+ghost use Rattle.pkix_definitions.specs.Identifiers.{rfc8410_lengths};
 ghost use Rattle.x690.specs.Lists.{one_of, same_octets};
 
 use pkix_definitions::identifiers::{EXTENSION_REQUEST, rfc8410_length};

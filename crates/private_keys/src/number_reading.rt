@@ -1,6 +1,7 @@
 //! One INTEGER of many that are due, read behind those before it: the contents of each stand in a vector that is used
 //! again, and its DER encoding goes behind the others.
-ghost use Rattle.std.specs.Prelude.{◌≡◌, ◌++◌, ◌<◌, ◌≤◌, ◌^◌, ◌∷◌, [], None, IfOk, OnOk, false, length, slice_range, true};
+ghost use Rattle.std.specs.Prelude.{◌≡◌, ◌++◌, ◌<◌, ◌≤◌, ◌^◌, ◌∷◌, [], None, IfOk, OnOk, false, length, slice_range};
+ghost use Rattle.std.specs.Prelude.{true};
 ghost use Rattle.tlv_core.specs.Header.{der_header};
 ghost use Rattle.x690.specs.DerTexts.{der};
 ghost use Rattle.x690.specs.Layouts.{universal};

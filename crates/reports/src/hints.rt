@@ -1,6 +1,8 @@
 //! What is likely, and what to do: by what the file looks like, else by the reason.
 ghost use Rattle.std.specs.Prelude.{◌≡◌, ◌++◌, IfOk, OnOk, string_bytes};
-ghost use Rattle.reports.specs.Hints.{cause_said, do_said, guess_act, guess_name, guess_said, guess_words, is_lines, likely_said, line_said, reason_act, reason_likely, remark_said, signed_words, sound_said};
+ghost use Rattle.reports.specs.Hints.{cause_said, do_said, guess_act, guess_name, guess_said, guess_words, is_lines};
+ghost use Rattle.reports.specs.Hints.{likely_said, line_said, reason_act, reason_likely, remark_said, signed_words};
+ghost use Rattle.reports.specs.Hints.{sound_said};
 
 use crate::placed_advice::{push_fault_act, push_fault_likely};
 use crate::report::{Answer, Cause, Guess, Remark, Report};

@@ -1,7 +1,11 @@
 //! The elements of a report, and what is said of some, as JSON.
 ghost use Rattle.std.specs.Prelude.{[], ◌≡◌, ◌++◌, IfOk, OnOk, codes, flat_map, length, string_bytes};
 ghost use Rattle.std.specs.Option.{option_map};
-ghost use Rattle.reports.specs.JsonLists.{characters_member, field_members, field_of_line, first_ones, form_members, is_nothing, length_members, line_members, line_object, marked_in, marked_object, not_der_members, note_members, note_object, path_of, remark_members, some_members, tag_member, tag_members, value_member, value_members};
+ghost use Rattle.reports.specs.JsonLists.{characters_member, field_members, field_of_line, first_ones, form_members};
+ghost use Rattle.reports.specs.JsonLists.{is_nothing, length_members, line_members, line_object, marked_in};
+ghost use Rattle.reports.specs.JsonLists.{marked_object, not_der_members, note_members, note_object, path_of};
+ghost use Rattle.reports.specs.JsonLists.{remark_members, some_members, tag_member, tag_members, value_member};
+ghost use Rattle.reports.specs.JsonLists.{value_members};
 ghost use Rattle.reports.specs.JsonMembers.{list_member, number_member, optional};
 ghost use Rattle.reports.specs.JsonWords.{class_word};
 ghost use Rattle.reports.specs.Paths.{with_step};

@@ -2,7 +2,10 @@
 ghost use Rattle.std.specs.Prelude.{◌≡◌, ◌++◌, IfOk, OnOk, codes, string_bytes};
 ghost use Rattle.std.specs.Option.{option_map};
 ghost use Rattle.json.specs.Print.{print};
-ghost use Rattle.reports.specs.Json.{advice_members, answer_members, check_object, due_members, about_members, file_place, follow_by, head_members, inside_members, lines_member, missing_members, more_members, more_than, notes_member, number_members, place_members, places_members, report_object, verdict_members};
+ghost use Rattle.reports.specs.Json.{advice_members, answer_members, check_object, due_members, about_members};
+ghost use Rattle.reports.specs.Json.{file_place, follow_by, head_members, inside_members, lines_member};
+ghost use Rattle.reports.specs.Json.{missing_members, more_members, more_than, notes_member, number_members};
+ghost use Rattle.reports.specs.Json.{place_members, places_members, report_object, verdict_members};
 ghost use Rattle.reports.specs.JsonMembers.{optional, text_member};
 ghost use Rattle.reports.specs.Texts.{line_feed};
 

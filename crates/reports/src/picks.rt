@@ -1,7 +1,8 @@
 //! Which lines of a listing are picked, the path to a line, and of which line the place alone is shown.
 ghost use Rattle.std.specs.Prelude.{◌≡◌, ◌++◌, IfOk, OnOk, cond, nat_lt, reverse, slice_get};
 ghost use Rattle.std.specs.Option.{option_map};
-ghost use Rattle.reports.specs.Picks.{causes, first_cause, is_beside, is_not_shown, is_place_alone, judge_line, numbers_from, start_of, ends_path, steps_to, path_to_line};
+ghost use Rattle.reports.specs.Picks.{causes, first_cause, is_beside, is_not_shown, is_place_alone, judge_line};
+ghost use Rattle.reports.specs.Picks.{numbers_from, start_of, ends_path, steps_to, path_to_line};
 
 use crate::report::{Line, Value};
 use asn_names::element::Step;

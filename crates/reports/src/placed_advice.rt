@@ -1,6 +1,7 @@
 //! What often causes a fault, and what to do, where its place says more than its reason.
 ghost use Rattle.std.specs.Prelude.{◌≡◌, ◌++◌, OnOk, string_bytes};
-ghost use Rattle.reports.specs.PlacedAdvice.{act_at, act_inside, fault_act, fault_likely, likely_at, likely_inside, wrong_tag_likely};
+ghost use Rattle.reports.specs.PlacedAdvice.{act_at, act_inside, fault_act, fault_likely, likely_at, likely_inside};
+ghost use Rattle.reports.specs.PlacedAdvice.{wrong_tag_likely};
 
 use crate::advice::advice_on;
 use crate::text::push_between;

@@ -1,7 +1,10 @@
 //! A line of the listing: an element.
 ghost use Rattle.std.specs.Prelude.{◌≡◌, ◌-◌, ◌<◌, ◌++◌, IfOk, OnOk, decimal, length, string_bytes, take};
 ghost use Rattle.tlv_core.specs.Identifier.{identifier};
-ghost use Rattle.reports.specs.Lines.{below, carets, contents_part, element_said, element_shown, end_part, extent_part, header_octets, header_text, length_octets, line_lines, line_start, name_said, number_in, padding, place_column, sized_part, type_said, unread, unused_part, value_part};
+ghost use Rattle.reports.specs.Lines.{below, carets, contents_part, element_said, element_shown, end_part};
+ghost use Rattle.reports.specs.Lines.{extent_part, header_octets, header_text, length_octets, line_lines, line_start};
+ghost use Rattle.reports.specs.Lines.{name_said, number_in, padding, place_column, sized_part, type_said, unread};
+ghost use Rattle.reports.specs.Lines.{unused_part, value_part};
 
 use crate::hints::cause_words;
 use crate::picks::is_place_alone;

@@ -1,6 +1,7 @@
 //! The listing: which lines of the elements are shown.
 ghost use Rattle.std.specs.Prelude.{◌≡◌, ◌++◌, OnOk, reverse, string_bytes};
-ghost use Rattle.reports.specs.Listings.{all_lines, causes_listing, gap, header_columns, header_width, layout_of, line_at, listed, listing, others_said, place_columns, some_listing};
+ghost use Rattle.reports.specs.Listings.{all_lines, causes_listing, gap, header_columns, header_width, layout_of};
+ghost use Rattle.reports.specs.Listings.{line_at, listed, listing, others_said, place_columns, some_listing};
 
 use crate::picks::{Pick, causes, line_of, picked};
 use crate::report::{Answer, Line, Report};

@@ -1,6 +1,7 @@
 //! The parts of a report around its listing.
 ghost use Rattle.std.specs.Prelude.{◌≡◌, ◌++◌, OnOk, flat_map, string_bytes};
-ghost use Rattle.reports.specs.Reports.{answer_line, answer_lines, head_line, inside_said, note_line, note_lines, place_said, refused_lines};
+ghost use Rattle.reports.specs.Reports.{answer_line, answer_lines, head_line, inside_said, note_line, note_lines};
+ghost use Rattle.reports.specs.Reports.{place_said, refused_lines};
 
 use crate::field::field_text;
 use crate::hints::{do_text, likely_text, note_text};

@@ -1,6 +1,7 @@
 //! Tags and types in words.
 ghost use Rattle.std.specs.Prelude.{◌≡◌, ◌++◌, OnOk, string_bytes};
-ghost use Rattle.reports.specs.TypeWords.{bracketed, field_said, fields_said, shape_said, shape_tag_said, tag_said, universal_name, universal_said};
+ghost use Rattle.reports.specs.TypeWords.{bracketed, field_said, fields_said, shape_said, shape_tag_said, tag_said};
+ghost use Rattle.reports.specs.TypeWords.{universal_name, universal_said};
 
 use crate::text::push_number;
 use pkix_shapes::shape::{Fields, Shape, ShapeTag};

@@ -1,7 +1,10 @@
 //! What is said of a document that is refused, of what isn't in DER, and of what other standards forbid. Where nothing
 //! is said a text is empty.
 ghost use Rattle.std.specs.Prelude.{◌≡◌, ◌++◌, IfOk, OnOk, string_bytes};
-ghost use Rattle.reports.specs.Words.{container_said, diagnosis_said, due_of, due_said, due_type_said, element_said, ends_before, found_of, found_said, header_said, joined, length_said, more_of, more_said, more_words, off_by, passed_said, placed, says_size, size_of, size_said, sized, would_end};
+ghost use Rattle.reports.specs.Words.{container_said, diagnosis_said, due_of, due_said, due_type_said, element_said};
+ghost use Rattle.reports.specs.Words.{ends_before, found_of, found_said, header_said, joined, length_said, more_of};
+ghost use Rattle.reports.specs.Words.{more_said, more_words, off_by, passed_said, placed, says_size, size_of};
+ghost use Rattle.reports.specs.Words.{size_said, sized, would_end};
 
 use crate::paths::path_text;
 use crate::reason_due::reason_due;

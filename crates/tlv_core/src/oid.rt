@@ -1,5 +1,6 @@
 //! Object identifiers (X.690 8.19).
-ghost use Rattle.std.specs.Prelude.{◌≡◌, ◌↔◌, ◌<◌, ◌≤◌, ◌^◌, ℕ, List, IfOk, IfSome, IsNone, IsTrue, ◌∷◌, drop, flat_map, length, min, slice_get};
+ghost use Rattle.std.specs.Prelude.{◌≡◌, ◌↔◌, ◌<◌, ◌≤◌, ◌^◌, ℕ, List, IfOk, IfSome, IsNone, IsTrue, ◌∷◌, drop};
+ghost use Rattle.std.specs.Prelude.{flat_map, length, min, slice_get};
 ghost use Rattle.tlv_core.specs.Identifier.{base128};
 ghost use Rattle.tlv_core.specs.ObjectIdentifier.{ObjectIdentifierOctets, IsObjectIdentifier, LaterOctets};
 ghost use Rattle.tlv_core.specs.declared.oid.OidError.TheVariants.{Bad, Memory};

@@ -1,5 +1,6 @@
 //! Readers that say what they still tell, and whether they have failed.
-ghost use Rattle.std.specs.Prelude.{◌≡◌, ◌<◌, ◌≤◌, ◌↔◌, ℕ, Bool, true, false, Option, None, Some, List, [], IfOk, IsErr, IsSome, length, take};
+ghost use Rattle.std.specs.Prelude.{◌≡◌, ◌<◌, ◌≤◌, ◌↔◌, ℕ, Bool, true, false, Option, None, Some, List, [], IfOk};
+ghost use Rattle.std.specs.Prelude.{IsErr, IsSome, length, take};
 ghost use Rattle.std.specs.Io.{ReadsAtMost};
 ghost use Rattle.std.specs.Io.KnownBytes.{Consumes, ReadConsumes};
 
@@ -212,7 +213,8 @@ impl<'a> Pieces<'a> {
 }
 
 impl Source for Pieces<'_> {
-    ghost use Rattle.tlv_core.specs.Sources.{octets_left, pieces_failed, piece_size, fails_at_end, no_frame, none_at_hand};
+    ghost use Rattle.tlv_core.specs.Sources.{octets_left, pieces_failed, piece_size, fails_at_end, no_frame};
+    ghost use Rattle.tlv_core.specs.Sources.{none_at_hand};
 
     ghost remaining = { λ source. Some (octets_left source) };
 

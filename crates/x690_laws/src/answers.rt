@@ -1,5 +1,6 @@
 //! The laws on the answer to a whole document.
-ghost use Rattle.x690_laws.specs.AnswerLaws.{OneAnswer, SpellingIsAnswered, RefusedIsSpelledByNone, NeededOctets, InsideOfAnswers, TextAnswersItself, TextsTellValues};
+ghost use Rattle.x690_laws.specs.AnswerLaws.{OneAnswer, SpellingIsAnswered, RefusedIsSpelledByNone, NeededOctets};
+ghost use Rattle.x690_laws.specs.AnswerLaws.{InsideOfAnswers, TextAnswersItself, TextsTellValues};
 
 /// The plain reading's answer is an answer by the definitions: octets that spell a value, or the fault that stops the
 /// document. There is no other one: not a second value or count, not a second fault, not both.

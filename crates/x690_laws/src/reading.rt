@@ -1,5 +1,6 @@
 //! The laws on the plain reading of an element that has to stand at a place, for every type term.
-ghost use Rattle.x690_laws.specs.ReadingLaws.{ReadIsTaken, TakenIsRead, FaultTakesNothing, OneTaken, MoreOctets, TruncatedAtTheEnd, InsideOfFaults, BehindIsTaken, TakenIsBehind};
+ghost use Rattle.x690_laws.specs.ReadingLaws.{ReadIsTaken, TakenIsRead, FaultTakesNothing, OneTaken, MoreOctets};
+ghost use Rattle.x690_laws.specs.ReadingLaws.{TruncatedAtTheEnd, InsideOfFaults, BehindIsTaken, TakenIsBehind};
 
 /// What the plain reading takes, an element takes by the definitions of layout and fit: no more octets, and this value.
 pub fn what_is_read_is_taken()
