@@ -86,13 +86,13 @@ begin (Missing), or where the octets or the document end (Truncated, Trailing).
   BadText      a UTF8String that isn't UTF-8
   Curve        two curves that differ are named
   EmptySet     a SET of no members that has to have one
-  Extra        an element behind the last field
+  Extra        an element after the last field
   Inner        what is inside privateKey isn't the key of the algorithm
   KeyLength    a key that hasn't the length of its curve
   LeftOut      a type that isn't read where any type may stand
   Missing      the end of an element where a field is due
   Parameters   parameters that the algorithm may not have, or no named curve
-  PastEnd      an element that ends behind the one that it is in
+  PastEnd      an element that ends after the one that it is in
   TextTooLong  a DER text of more octets than --octets
   TooDeep      more nesting than --depth
   TooLong      more octets than --octets

@@ -17,7 +17,7 @@ abbrev pub advice_of : Reason → Words
 advice_of Truncated =
     record {
       means = codes "the input ends before the document does; P is how many octets there are";
-      likely = codes "a transfer that broke off, an outer length that is too great, an empty file (P is 0)";
+      likely = codes "a transfer that broke off, an outer length that is too large, an empty file (P is 0)";
       act = codes "compare the size with the sender's, fetch it again";
     }
 advice_of TooLong =
@@ -34,7 +34,7 @@ advice_of BadTag =
     }
 advice_of PastEnd =
     record {
-      means = codes "the element at P ends behind the one that it is in";
+      means = codes "the element at P ends after the one that it is in";
       likely = codes "a length that is damaged, here or around it; a field edited by hand";
       act = codes "look at the lengths before P; refuse it";
     }
@@ -59,8 +59,8 @@ advice_of WrongTag =
     }
 advice_of Extra =
     record {
-      means = codes "an element behind the last field";
-      likely = codes "a container's length that is too great, two values in one, a writer's own additions";
+      means = codes "an element after the last field";
+      likely = codes "a container's length that is too large, two values in one, a writer's own additions";
       act = codes "look at the container; refuse it";
     }
 advice_of LeftOut =
@@ -151,7 +151,7 @@ advice_of Inner =
     record {
       means = codes "what is inside privateKey isn't the key that the algorithm asks for; the place and "
           ++ codes "reason inside follow";
-      likely = codes "an octet behind it, a key wrapped once too often or too little (TooLong inside is "
+      likely = codes "an octet after it, a key wrapped once too often or too little (TooLong inside is "
           ++ codes "often a bare seed); or any fault of this table";
       act = codes "read the reason inside";
     }

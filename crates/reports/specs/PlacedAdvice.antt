@@ -13,14 +13,14 @@ wrong_tag_likely at =
 
 abbrev pub likely_at : ℕ → Reason → List ℕ
 likely_at at WrongTag = wrong_tag_likely at
-likely_at at Truncated = codes "a transfer that broke off, an outer length that is too great"
+likely_at at Truncated = codes "a transfer that broke off, an outer length that is too large"
 likely_at at BadEnd = codes "a wrong length before " ++ decimal at ++ codes ", padding with zeros"
 likely_at at why = (advice_of why).likely
 
 -- inside privateKey, where the file is whole and its lengths are right
 abbrev pub likely_inside : Reason → List ℕ
 likely_inside WrongTag = codes "a damaged octet"
-likely_inside Truncated = codes "a length inside that is too great"
+likely_inside Truncated = codes "a length inside that is too large"
 likely_inside BadEnd = codes "padding with zeros, a wrong length before it"
 likely_inside Trailing = codes "padding, an octet that the writer added"
 likely_inside why = (advice_of why).likely

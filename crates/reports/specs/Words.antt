@@ -121,7 +121,7 @@ diagnosis_said report = found_in report.kind.type_name.now report.diagnosis
 
 abbrev pub more_words : Bool → List ℕ
 more_words is_inside =
-    cond is_inside (codes " more inside privateKey, behind the key") (codes " more behind the document")
+    cond is_inside (codes " more inside privateKey, after the key") (codes " more after the document")
 
 -- so many octets after what is inside privateKey, or after a document whose length doesn't say where it ends
 unfoldable pub more_of : Bool → Bool → ℕ → List ℕ

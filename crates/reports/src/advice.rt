@@ -21,7 +21,7 @@ pub fn advice_on(why: Reason) -> Advice
     match why {
         Reason::Truncated => Advice {
             means: "the input ends before the document does; P is how many octets there are",
-            likely: "a transfer that broke off, an outer length that is too great, an empty file (P \
+            likely: "a transfer that broke off, an outer length that is too large, an empty file (P \
                 is 0)",
             act: "compare the size with the sender's, fetch it again",
         },
@@ -36,7 +36,7 @@ pub fn advice_on(why: Reason) -> Advice
             act: "refuse it",
         },
         Reason::PastEnd => Advice {
-            means: "the element at P ends behind the one that it is in",
+            means: "the element at P ends after the one that it is in",
             likely: "a length that is damaged, here or around it; a field edited by hand",
             act: "look at the lengths before P; refuse it",
         },
@@ -57,8 +57,8 @@ pub fn advice_on(why: Reason) -> Advice
             act: "see the manual's table of other kinds and formats",
         },
         Reason::Extra => Advice {
-            means: "an element behind the last field",
-            likely: "a container's length that is too great, two values in one, a writer's own \
+            means: "an element after the last field",
+            likely: "a container's length that is too large, two values in one, a writer's own \
                 additions",
             act: "look at the container; refuse it",
         },
@@ -137,7 +137,7 @@ pub fn advice_on(why: Reason) -> Advice
         Reason::Inner => Advice {
             means: "what is inside privateKey isn't the key that the algorithm asks for; the place \
                 and reason inside follow",
-            likely: "an octet behind it, a key wrapped once too often or too little (TooLong inside \
+            likely: "an octet after it, a key wrapped once too often or too little (TooLong inside \
                 is often a bare seed); or any fault of this table",
             act: "read the reason inside",
         },

@@ -26,7 +26,7 @@ fn push_likely_at(text: &mut String, at: u64, why: Reason) -> Result<(), AllocEr
     match why {
         Reason::WrongTag => text.push_str(wrong_tag_likely(at)),
         Reason::Truncated => text.push_str(
-            "a transfer that broke off, an outer length that is too great",
+            "a transfer that broke off, an outer length that is too large",
         ),
         Reason::BadEnd => push_between(text, "a wrong length before ", at, ", padding with zeros"),
         _ => text.push_str(advice_on(why).likely),
@@ -52,7 +52,7 @@ fn likely_inside(why: Reason) -> &'static str
 {
     match why {
         Reason::WrongTag => "a damaged octet",
-        Reason::Truncated => "a length inside that is too great",
+        Reason::Truncated => "a length inside that is too large",
         Reason::BadEnd => "padding with zeros, a wrong length before it",
         Reason::Trailing => "padding, an octet that the writer added",
         _ => advice_on(why).likely,

@@ -299,9 +299,9 @@ fn more_words(is_inside: bool) -> &'static str
     ensures { result.now ≡ more_words is_inside }
 {
     if is_inside {
-        " more inside privateKey, behind the key"
+        " more inside privateKey, after the key"
     } else {
-        " more behind the document"
+        " more after the document"
     }
 }
 
