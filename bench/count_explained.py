@@ -31,12 +31,12 @@ def attributes(count, make=element, value=None):
     return make(ATTRIBUTES, *(make(SEQUENCE, identifier(it), make(SET, value)) for it in kinds))
 
 
-def request(count, subject=None, given=None, make=element, behind=True):
+def request(count, subject=None, given=None, make=element, after=True):
     """A request with so many attributes, or with this subject or these attributes; else it breaks off."""
     key = make(SEQUENCE, algorithm(ED25519), bits(32))
     given = attributes(count, make) if given is None else given
     info = make(SEQUENCE, number(0), subject or make(SEQUENCE), key, given)
-    return make(SEQUENCE, info, *([algorithm(ED25519), bits(12)] if behind else []))
+    return make(SEQUENCE, info, *([algorithm(ED25519), bits(12)] if after else []))
 
 
 def subject(count):
@@ -77,7 +77,7 @@ SHAPES = {
     "request: attributes": ("request", request),
     "request: attributes, indefinite": ("request", lambda it: request(it, make=indefinite)),
     "request: attributes out of order": ("request", lambda it: request(0, given=out_of_order(it))),
-    "request: attributes, and no signature": ("request", lambda it: request(it, behind=False)),
+    "request: attributes, and no signature": ("request", lambda it: request(it, after=False)),
     "request: names": ("request", lambda it: request(0, subject(it))),
     "request: extensions": ("request", lambda it: request(0, given=extensions(it))),
     "request: an identifier of arcs": ("request", lambda it: request(0, element(SEQUENCE, element(SET, element(

@@ -73,7 +73,7 @@ def octets_of(came):
     """The octets of the request in what came, and what it came as; raises NoOctets."""
     if came[:1] == b"\x30":
         return came, "octets"
-    # (a byte order mark is no part of the text, whose letters before and behind a block may be any)
+    # (a byte order mark is no part of the text, whose letters before and after a block may be any)
     text = came.removeprefix(b"\xef\xbb\xbf").decode("latin-1")
     lines = [line.strip(BLANKS) for line in re.split("\r\n|\r|\n", text)]
     if any(map(BOUNDARY.fullmatch, lines)):

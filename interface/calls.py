@@ -4,12 +4,12 @@
 Each line has six cells between tabs: rule, words, input, status, output, error. The words are a command and its
 options, none left out, as
   normalise --kind key --depth 32 --octets 1048576
-(check and show the same; signed has --part in place of --kind; explain may have --all and --json behind them). Input
+(check and show the same; signed has --part in place of --kind; explain may have --all and --json after them). Input
 and output are in hex, and the error is a line. tests/harness/rows.py reads such a table too. Left out are help and
 command lines that are refused, which no call has, rows whose reads or writes fail, and rows that state no answer.
 
-The program has no command `field`. A row of it stands behind each row of explain, with what that says behind `field`,
-and behind each row of check whose document is in DER, of which nothing is said. The last rows are of the documents that
+The program has no command `field`. A row of it stands after each row of explain, with what that says after `field`,
+and after each row of check whose document is in DER, of which nothing is said. The last rows are of the documents that
 tests/pkder/explained/reports.txt names one field of. Their status is that of explain."""
 import json
 import re
@@ -22,7 +22,7 @@ from tests.harness import rows
 
 USUAL = {"depth": "32", "octets": "1048576"}
 FLAGS = ("--all", "--json")
-# (a long line is broken at a blank, and goes on behind 8 of them)
+# (a long line is broken at a blank, and goes on after 8 of them)
 FIELD = re.compile(r"^field   (.*(?:\n {8}.*)*)", re.M)
 
 

@@ -58,7 +58,7 @@ extern "C" {
  * reason that this header doesn't name for one that refuses. */
 #define PKDER_INTERFACE 1
 
-/* What a document is; the caller says. All of the octets given have to be one: octets behind it are a fault. Octets of
+/* What a document is; the caller says. All of the octets given have to be one: octets after it are a fault. Octets of
  * a PEM file are none (WrongTag at 0). Of a file of unknown kind ask for each kind: one accepts it at most, within
  * whatever limits, since the tags inside the outermost SEQUENCE differ from kind to kind (proved). Where all refuse it,
  * the faults can't be compared by their places: take that of the kind which the file's label or sender names; the next
@@ -210,7 +210,7 @@ pkder_outcome pkder_signed(uint32_t part, uint32_t depth, uint64_t octets, const
                            uint8_t *dst, size_t dst_len);
 
 /* Writes what the document is that the octets of src are, in lines of ASCII, each ended by a line feed, where dst
- * begins. No octet 0 stands behind them. Of private and encrypted keys their lengths alone are shown; of a request all
+ * begins. No octet 0 stands after them. Of private and encrypted keys their lengths alone are shown; of a request all
  * attributes, a challengePassword among them.
  *
  * Promised: as of pkder_normalise, but that what is written is the document's lines (docs/formats.md states them), and
@@ -221,7 +221,7 @@ pkder_outcome pkder_show(uint32_t kind, uint32_t depth, uint64_t octets, const u
 /* Writes the report of the octets of src where dst begins: what pkder_check answers, as the program's line, the
  * elements with their places, names and sizes, and of octets that are no document which field is at fault, what is due
  * there, the class of what stands there, the usual cause and what to do. As text it is printable ASCII, as JSON UTF-8;
- * each line ends in a line feed. No octet 0 stands behind them. Octets of private keys and values of attributes aren't
+ * each line ends in a line feed. No octet 0 stands after them. Octets of private keys and values of attributes aren't
  * in it: of octets that are no document it tells the first elements, as far as they are usual, and what docs/formats.md
  * lists beside them ("What a report tells").
  *
@@ -240,16 +240,16 @@ pkder_outcome pkder_explain(uint32_t kind, uint32_t depth, uint64_t octets, uint
 
 /* Writes the field that the report of the octets of src is about, where dst begins: of octets that are no document the
  * one that is refused, or in which something is missing; of a document that isn't in DER the first one that isn't, of
- * those that are told; of a document in DER nothing. It is the path that stands behind `field` in the report, as
+ * those that are told; of a document in DER nothing. It is the path that stands after `field` in the report, as
  * "certificationRequestInfo.subject[1][0].value", and of the outermost element, or where none is told, the name of the
- * document's type, in printable ASCII. No line feed and no octet 0 stands behind it.
+ * document's type, in printable ASCII. No line feed and no octet 0 stands after it.
  *
  * Promised: as of pkder_explain, but that what is written is this path, so that `size` is 0 of a document in DER; and
  * that PKDER_BAD_CALL comes exactly where no kind has that number or the limits are out of range. */
 pkder_outcome pkder_field(uint32_t kind, uint32_t depth, uint64_t octets, const uint8_t *src, size_t src_len,
                           uint8_t *dst, size_t dst_len);
 
-/* Writes the name of a reason, as "Truncated", and an octet 0 behind it, where dst begins.
+/* Writes the name of a reason, as "Truncated", and an octet 0 after it, where dst begins.
  *
  * Promised: it returns the octets of the name without the 0 (of the longest today 11; 16 octets of room, the 0 among
  * them, will stay enough for each), or 0 where no reason has that number. Where one has, and dst_len is greater than

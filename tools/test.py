@@ -3,8 +3,8 @@
 
 Each part ends with a line "N passed, M failed", a word with a colon before it or not. One that doesn't, or whose
 status is not 0, has failed. The last line counts over all parts. Those before the proofs take seconds; where one of
-them fails, or the proofs do, nothing behind it is begun. The edits of a crate are tried beside the proofs, over the
-libraries that they leave; the parts behind the proofs run the programs that they built.
+them fails, or the proofs do, nothing after it is begun. The edits of a crate are tried beside the proofs, over the
+libraries that they leave; the parts after the proofs run the programs that they built.
 
 'quick' proves nothing and tries no edits. Over the program that it is given, or that tools/build.py made of this very
 commit, it runs all other parts; where there is none, some rows on a program that is made for a try."""
@@ -193,7 +193,7 @@ def prove_and_edit(pool):
 
 
 def run_all(given, at_once):
-    """Runs these parts, so many at once of those behind the first ones, and returns what each counted."""
+    """Runs these parts, so many at once of those after the first ones, and returns what each counted."""
     counts, later = {}, {}
     with ThreadPoolExecutor(at_once) as pool:
         for name, commands in given.items():
@@ -206,7 +206,7 @@ def run_all(given, at_once):
             else:
                 counts[name] = run_part(commands)
             if counts[name].failed:
-                print(f"{name}: failed, so nothing behind it is begun")
+                print(f"{name}: failed, so nothing after it is begun")
                 break
             if name == "proofs":
                 os.environ["LIBRARY"] = "built"

@@ -1,6 +1,6 @@
 /* filter COMMAND [--kind KIND | --part PART] [--depth N] [--octets N] [--all] [--json]: the program pkder again, over
  * the library, from standard input to standard output. It passes the tables of the program's tests. A command of its own
- * is field, which writes the field that the report is about, and nothing behind it. */
+ * is field, which writes the field that the report is about, and nothing after it. */
 #include "common.h"
 
 /* The number that a word says; one that is out of range for all limits where it says none. */

@@ -394,7 +394,7 @@ static void try_names(void) {
 /* The public key of 32 octets 0 under Ed25519. */
 static const uint8_t ed25519[44] = {0x30, 0x2A, 0x30, 0x05, 0x06, 0x03, 0x2B, 0x65, 0x70, 0x03, 0x21, 0x00};
 
-/* Input and output in one page, the one right behind the other, and a closed page behind both. */
+/* Input and output in one page, the one right after the other, and a closed page after both. */
 static void try_one_page(void) {
     uint8_t *last = dst_room.at + dst_room.size - sizeof ed25519, *before = last - sizeof ed25519;
     for (int is_input_last = 0; is_input_last < 2; is_input_last++) {

@@ -8,13 +8,13 @@
 
 #include "trial.h"
 
-/* What stands before and behind the nested containers of a document: so many containers round them, all of indefinite
+/* What stands before and after the nested containers of a document: so many containers round them, all of indefinite
  * length. */
 struct shape {
     uint32_t kind, outside;
     uint8_t nested; /* the identifier of the nested containers: SEQUENCE, SET or a string in segments */
-    uint8_t before_len, behind_len;
-    uint8_t before[20], behind[24];
+    uint8_t before_len, after_len;
+    uint8_t before[20], after[24];
 };
 
 /* clang-format off */
@@ -54,7 +54,7 @@ static void make_deep(const struct shape *shape, uint32_t depth) {
     put(nested, sizeof nested, times);
     put(is_string ? segment : set, is_string ? sizeof segment : sizeof set, 20000);
     put(end, sizeof end, times);
-    put(shape->behind, shape->behind_len, 1);
+    put(shape->after, shape->after_len, 1);
 }
 
 /* The status of a call on a document that isn't in DER, without room. */

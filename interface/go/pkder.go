@@ -106,7 +106,7 @@ type Fault struct {
 	Which        int
 }
 
-// Error is the line that the program prints; of Same behind the words "first: " or "second: ".
+// Error is the line that the program prints; of Same after the words "first: " or "second: ".
 func (fault *Fault) Error() string {
 	line := fmt.Sprintf("fault at %d: %s", fault.At, fault.Reason)
 	switch fault.Which {

@@ -281,7 +281,7 @@ func TestField(t *testing.T) {
 // A report of all elements that is longer than the room that it gets at first.
 func TestLongReport(t *testing.T) {
 	names := bytes.Repeat(octetsOf(t, "310b300906035504030c026161"), 400)
-	// (the octets end behind the algorithm of the public key, without which no subject is listed)
+	// (the octets end after the algorithm of the public key, without which no subject is listed)
 	request := append(octetsOf(t, "30827fff30827ff002010030821450"), names...)
 	request = append(request, octetsOf(t, "302a300506032b6570")...)
 	report, err := Explain(Request, Usual(), request, ReportForm{All: true, JSON: true})

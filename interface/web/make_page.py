@@ -18,7 +18,7 @@ def text_of(name):
 
 
 def joined(names):
-    """The scripts as one: what one exports the ones behind it have by its name."""
+    """The scripts as one: what one exports the ones after it have by its name."""
     texts = [re.sub(r"^import .*?;\n", "", text_of(f"src/{it}"), flags=re.M | re.S) for it in names]
     return "\n".join(re.sub(r"^export ", "", it, flags=re.M) for it in texts)
 

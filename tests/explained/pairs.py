@@ -154,7 +154,7 @@ class Found:
         self.count += more.count
         self.failed += more.failed
         for what, how in more.first.items():
-            self.first.setdefault(what, f"{how}\n  (behind {self.count['pairs']} pairs)")
+            self.first.setdefault(what, f"{how}\n  (after {self.count['pairs']} pairs)")
 
 
 def difference_of(one, other):

@@ -185,7 +185,7 @@ def differences(program, document, due):
     said = [f"missing: {it}" for it in missing] + [f"more: {it}" for it in more]
     if not said and len(found) != len(due):
         return ["a line stands twice"]
-    # (the lines of what is inside segments stand behind those)
+    # (the lines of what is inside segments stand after those)
     in_segments = any(it[5:] == (True, "universal 4") for it in due)
     if not said and not in_segments and [it[0] for it in found] != sorted(it[0] for it in due):
         return ["not in the order of the octets"]

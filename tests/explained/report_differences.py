@@ -54,11 +54,11 @@ def first_difference(one, other, way=""):
     return way if one is not None and other is not None else f"{way}, whether it is told"
 
 
-def behind_class(found):
+def after_class(found):
     """What is found beside the class of an element."""
     words = " ".join((found or "").split())
-    first, _, behind = words.partition("; ")
-    return behind if first in CLASSES else words
+    first, _, after = words.partition("; ")
+    return after if first in CLASSES else words
 
 
 def without_depth(rest):
@@ -74,7 +74,7 @@ def is_told_on_purpose(key, one, other, is_looked_at):
     if key in LOOKS:
         return is_looked_at
     if key == "found":
-        return behind_class(one) == behind_class(other)
+        return after_class(one) == after_class(other)
     numbers = [INDEX.findall(it or "") for it in (one, other)]
     return all(mine == others for mine, others in zip(*numbers))
 

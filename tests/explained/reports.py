@@ -7,9 +7,9 @@ to stand there each, in small or capital letters:
   kind       of the document
   line       the line of `check`
   field      the path; any of those between bars; where the block has none, the report has none either
-  due, found, likely, do   words that stand behind this label
+  due, found, likely, do   words that stand after this label
   note       the same; there are as many notes as such lines
-  any        words that stand behind some label
+  any        words that stand after some label
   untold     words that stand nowhere in the text
   number     a key of the JSON, and its number
   without    keys that the JSON hasn't, nor that of `check`
@@ -61,12 +61,12 @@ class Report:
 
     @staticmethod
     def labels(text):
-        """The text behind each label, as one line."""
+        """The text after each label, as one line."""
         found, label = {}, None
         for line in text.split("\n"):
-            word, _, behind = line.partition(" ")
+            word, _, after = line.partition(" ")
             label = word or label
-            found[label] = f"{found.get(label, '')} {behind.strip()}".strip()
+            found[label] = f"{found.get(label, '')} {after.strip()}".strip()
         return found
 
     def lines(self):

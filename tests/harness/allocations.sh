@@ -1,6 +1,6 @@
 #!/bin/sh
 # allocations.sh PROGRAM INPUT WORD..: the program with each allocation refused in turn. Each run answers as
-# with ample memory, or says "out of memory" with status 3, perhaps behind the name of a file, and writes nothing; the
+# with ample memory, or says "out of memory" with status 3, perhaps after the name of a file, and writes nothing; the
 # last ones meet no refusal. The last line counts those that were answered as want of memory.
 set -u
 program=$1 input=$2

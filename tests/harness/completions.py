@@ -141,7 +141,7 @@ def indented(lines, by):
 
 
 def bash_cases(commands):
-    """What is offered behind each option, and behind other words."""
+    """What is offered after each option, and after other words."""
     for name, command in commands.items():
         for it in command.options:
             names = " | ".join(f"{name}:{dash}" for dash in ([f"-{it.letter}"] if it.letter else []) + [f"--{it.name}"])
@@ -182,7 +182,7 @@ def zsh_option(option):
     sign = "=" if option.value else ""
     if not option.letter:
         return shlex.quote(f"--{option.name}{sign}{about}{value}")
-    # (a brace expansion, which repeats what is behind it)
+    # (a brace expansion, which repeats what is after it)
     letter = f"-{option.letter}{'+' if option.value else ''}"
     return f"{{{letter},--{option.name}{sign}}}{shlex.quote(about + value)}"
 
@@ -282,7 +282,7 @@ def in_zsh(file, typed):
                     pass
             late.cancel()
         os.close(ours)
-        # (of a path it says what stands behind the last slash)
+        # (of a path it says what stands after the last slash)
         above = "".join(re.findall(r"\S*/", typed.split(" ")[-1]))
         with open(said, encoding="utf-8") as it:
             return {above + word for word in it.read().split()}

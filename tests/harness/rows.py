@@ -9,7 +9,7 @@ A row is a line of cells between tabs; cells left out are empty, and a line that
   status    the exit status, 0 if left out
   output    standard output; = for the input, "TEXT" for lines of text, \\n between them, * for any that isn't empty
   error     the line on standard error, "TEXT" and * as for the output
-  device    'reading fails': standard input fails behind its octets; 'pieces N': each read gives N octets of it, and
+  device    'reading fails': standard input fails after its octets; 'pieces N': each read gives N octets of it, and
             what it has no room for is lost, so that N is 1 where a program may ask for one octet;
             'room N': the output takes N octets and fails
 Octets are in hex with spaces as one likes, 00*3000 is 3,000 of them, and @FILE those of a file in the table's folder.

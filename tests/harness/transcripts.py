@@ -2,9 +2,9 @@
 """transcripts.py TEXT.md.. PROGRAM..: the transcripts and recipes of texts, tried on each program.
 
 A block whose first line begins with '$ ' is a transcript. Its lines that begin so are commands, a backslash at their
-end taking the next line with them, and the lines behind a command are what it prints, on both outputs; a line of three
+end taking the next line with them, and the lines after a command are what it prints, on both outputs; a line of three
 dots stands for any lines, and three dots in a line for any text. A block marked sh or bash is a recipe: functions that
-transcripts behind it call. It ends with status 0 and prints nothing. A block marked with a language and a name is a
+transcripts after it call. It ends with status 0 and prints nothing. A block marked with a language and a name is a
 file of that name. Other blocks are left alone.
 
 The blocks of a section run in one shell, bash where one is marked so, in a folder of their own with the program as
@@ -48,7 +48,7 @@ def is_installed(tool):
 
 
 def steps_of(number, language, lines):
-    """The steps of a block that begins behind the line of this number."""
+    """The steps of a block that begins after the line of this number."""
     if language in ("sh", "bash"):
         return [Step(number + 1, "\n".join(lines), language)]
     if " " in language:
@@ -102,7 +102,7 @@ def folder_with(folder, program):
 
 
 def script_of(steps):
-    """The script that runs the steps, and prints behind each its status."""
+    """The script that runs the steps, and prints after each its status."""
     script = "exec 2>&1 < /dev/null\n"
     for at, step in enumerate(steps):
         script += f"{{\n{step.text}\n}}\nprintf '\\n{MARK} {at} %s\\n' $?\n"

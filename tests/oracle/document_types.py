@@ -85,7 +85,7 @@ def tag_at(octets, at, bound):
         return None
     high = HIGH_NUMBER.match(octets, at + 1) if octets[at] & 31 == 31 else None
     end = high.end() if high else at + 1
-    # (with a length behind it that any identifier may have)
+    # (with a length after it that any identifier may have)
     header = header_at(octets[at:end] + b"\0", 0)
     return header.tag if header and end <= bound else None
 
@@ -124,7 +124,7 @@ class Element:
         self.end = None if self.length is None else self.begin + self.length
         self.is_private = bool(type_ and type_.is_private or around and around.element.is_private)
         self.form = form_of(type_, self.tag, self.is_constructed) if type_ else None
-        # by how many octets the contents end behind the end in force, and whether all of them are there before that; a
+        # by how many octets the contents end after the end in force, and whether all of them are there before that; a
         # container of indefinite length is taken for whole
         self.over = max(0, (self.end or 0) - (around.bound if around else NO_BOUND))
         self.is_too_long = self.over > 0 or (self.end or 0) > limit
@@ -227,11 +227,11 @@ class Walk:
             field = None
         found = Element(self.at, header, around, field, len(self.octets), self.limit)
         self.outermost = self.outermost or found
-        self.go_behind(found, around)
+        self.go_after(found, around)
         return found
 
-    def go_behind(self, found, around):
-        """Goes to what is next behind the header of an element."""
+    def go_after(self, found, around):
+        """Goes to what is next after the header of an element."""
         if found.type is None or not found.is_constructed and found.end is None:
             self.is_stopped = True
         elif found.is_constructed:

@@ -2,8 +2,8 @@
 """hostile_families.py [--all] PROGRAM..: families of faulty documents, made from rows that are accepted.
 
 Of each document of ROWS, in tests/pkder:
-  every proper prefix is Truncated at its length, and `read failed` there where standard input fails behind it, as it
-  is behind the whole document;
+  every proper prefix is Truncated at its length, and `read failed` there where standard input fails after it, as it
+  is after the whole document;
   a document that differs from it in one octet gets what tests/oracle/reader.py answers, whole and octet by octet:
   with --all each of the 255 others at each place, both ways, which takes long; else a few of them, each in one way,
   the same ones each time.
@@ -49,7 +49,7 @@ def prefixes(question):
         yield question.about(f"the first {length} octets", prefix), (2, b"", f"fault at {length}: Truncated")
     for length in range(len(question.octets) + 1):
         prefix = question.octets[:length]
-        asked = question.about(f"a read that fails behind {length} octets", prefix, FAILING)
+        asked = question.about(f"a read that fails after {length} octets", prefix, FAILING)
         yield asked, (3, b"", f"read failed at {length}")
 
 

@@ -358,7 +358,7 @@ class Maker:
     # Octets
 
     def changed(self, octets):
-        """These octets cut, or with a few changed, put in, taken out, or put behind."""
+        """These octets cut, or with a few changed, put in, taken out, or put after."""
         which, place = self.random.randint(0, 6), self.random.randint(0, max(0, len(octets) - 1))
         if which == 0:
             return octets[:place]

@@ -14,7 +14,7 @@ Part = namedtuple("Part", "first octets contents")
 
 
 def parts(octets):
-    """The elements that stand behind one another in octets that are DER (X.690 8.1, 10.1)."""
+    """The elements that stand after one another in octets that are DER (X.690 8.1, 10.1)."""
     found, at = [], 0
     while at < len(octets):
         begin, first = at, octets[at]

@@ -12,7 +12,7 @@ NAMED = {*names_by_contents()}
 
 class Part:
     """An element: its first octet, the places of the octets of its contents where it is primitive, its members where
-    it is constructed, and the number of the octet behind it."""
+    it is constructed, and the number of the octet after it."""
 
     def __init__(self, first, places, members, end):
         self.first, self.places, self.members, self.end = first, places, members, end

@@ -6,7 +6,7 @@ from tests.oracle import reader
 from tests.oracle.parts import PARTS
 from tests.oracle.reader import DEPTH, OCTETS
 
-# How standard input comes, as tests/harness/rows.py has it: it fails behind the octets, or each read gives one of them.
+# How standard input comes, as tests/harness/rows.py has it: it fails after the octets, or each read gives one of them.
 FAILING, PIECES = "reading fails", ("pieces 1",)
 
 

@@ -3,7 +3,7 @@
 to tests/oracle/reader.py and to each program: whether output, line and status agree.
 
 The documents are those of tests/oracle/made_documents.py: of all kinds, in random layouts, some with mistakes, some
-cut, changed or followed by further octets, under random limits, some with a standard input that fails behind them or
+cut, changed or followed by further octets, under random limits, some with a standard input that fails after them or
 comes in pieces; under --whole no input fails, for programs that read it to its end before they judge. A document is
 made from the seed and its number alone: --first N --count 1 makes that one. Without a program the reader alone is
 asked. The action is any of the four, or one of those that are named. What differs is shown as a row, as
@@ -78,7 +78,7 @@ def command_line(words):
     parser.add_argument("--seed", default="1")
     parser.add_argument("--count", type=int, default=4000)
     parser.add_argument("--first", type=int, default=0)
-    parser.add_argument("--whole", action="store_true", help="no input fails behind the document")
+    parser.add_argument("--whole", action="store_true", help="no input fails after the document")
     parser.add_argument("--action", choices=ACTIONS, action="append")
     parser.add_argument("programs", nargs="*", metavar="PROGRAM")
     return parser.parse_args(words)

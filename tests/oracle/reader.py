@@ -20,7 +20,7 @@ UNIVERSAL, CONTEXT = 0, 2
 BOOLEAN, INTEGER, BIT_STRING, OCTET_STRING, NULL, OBJECT_IDENTIFIER = ((UNIVERSAL, it) for it in range(1, 7))
 ENUMERATED, UTF8_STRING, SEQUENCE, SET = ((UNIVERSAL, it) for it in (10, 12, 16, 17))
 TAG_0, TAG_1 = (CONTEXT, 0), (CONTEXT, 1)
-# The last row of the table of open values; 0 stands for every number behind 30.
+# The last row of the table of open values; 0 stands for every number after 30.
 LEFT_OUT = (0, 8, 9, 11, 13, 14, 15, 29)
 
 # A container has definite or indefinite length; the outermost element stands in neither.
@@ -110,7 +110,7 @@ class Reader:
         self.at = 0
 
     def ended(self):
-        """What it is that an octet is needed behind the last one."""
+        """What it is that an octet is needed after the last one."""
         place = len(self.octets)
         return ReadFailed(place) if self.reading_fails else Fault(place, "Truncated")
 
@@ -143,7 +143,7 @@ class Reader:
         return Element(place, (first >> 6, number), bool(first & 0x20), around)
 
     def high_number(self, place, around):
-        """Reads a tag number behind the first octet of an identifier (X.690 8.1.2.4)."""
+        """Reads a tag number after the first octet of an identifier (X.690 8.1.2.4)."""
         number = 0
         for count in range(1, 5):
             octet = self.header_octet(place, around)
@@ -293,8 +293,8 @@ def bit_string(reader, element):
             list_of(reader, segment, BIT_STRING, take)
             return
         contents = reader.contents(segment)
-        is_behind_unused = pieces and pieces[-1][0] > 0
-        if is_behind_unused or not contents or contents[0] > (7 if contents[1:] else 0):
+        is_after_unused = pieces and pieces[-1][0] > 0
+        if is_after_unused or not contents or contents[0] > (7 if contents[1:] else 0):
             raise Fault(segment.place, "BadBits")
         pieces.append(contents)
 

@@ -271,7 +271,7 @@ class Grammar:
         if not self.slips(0.35):
             return due()
         which = self.chance.randrange(7)
-        self.name.append(("bare", "bare", "bare", "a string", "twice", "octets behind", "an INTEGER")[which])
+        self.name.append(("bare", "bare", "bare", "a string", "twice", "octets after", "an INTEGER")[which])
         if which < 3:
             return self.secret(count)
         if which == 3:
@@ -345,7 +345,7 @@ class Grammar:
         text = getattr(self, kind)()
         write = None
         if kind in ("public", "encrypted"):
-            text = text + self.named("a key behind", self.one_of(self.bare, self.ec, self.key)())
+            text = text + self.named("a key after", self.one_of(self.bare, self.ec, self.key)())
         elif self.often(0.09):
             self.secrets, self.name = [], []
             kind = self.one_of("key", "key", "key", "ec", "ec", "request", "public", "encrypted", "package")

@@ -42,7 +42,7 @@ def without_bodies(text):
         found = FUNCTION.match(line)
         indent = found[1] if found else indent
         is_cycle = line.lstrip().startswith("#[cycle(") or is_cycle
-        # (a body begins where the function's own line ends, the list of its parameters, or behind its clauses)
+        # (a body begins where the function's own line ends, the list of its parameters, or after its clauses)
         if indent is not None and line.endswith("{") and re.match(rf"{indent}(?:[)>]|\{{$|\w.*\bfn )", line):
             is_body, is_cycle = not is_cycle, False
     return "\n".join(kept)

@@ -121,7 +121,7 @@ class Place:
             yield f"{self.where(last)}: {key} is to stand there{more}"
         for row in rows:
             said = " ".join(row[0].split())
-            yield from (f"{self.where(row.start())}: behind {key} {it!r} is to stand" for it in due
+            yield from (f"{self.where(row.start())}: after {key} {it!r} is to stand" for it in due
                         if it not in row[0] and it not in said)
 
     def strangers(self, entries):
@@ -149,7 +149,7 @@ def looks_at(name, told):
     """The looks at a place of a list: at each entry, at what is of none, and at an entry that there isn't."""
     place, entries = Place(told), entries_of(name)
     if not place.found:
-        yield f"{told['file']}: there is no {told.get('from')!r} with {told.get('to')!r} behind it", False
+        yield f"{told['file']}: there is no {told.get('from')!r} with {told.get('to')!r} after it", False
         return
     for entry in entries:
         lacking = [f"{name}: {it}" for it in place.lacks(entry)]

@@ -147,7 +147,7 @@ def put(value):
 
 
 def first_again(part, name):
-    """The part's first key behind all others."""
+    """The part's first key after all others."""
     first = next(iter(part[name]))
     part[name] = {**{it: part[name][it] for it in part[name] if it != first}, first: part[name][first]}
 

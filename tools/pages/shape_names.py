@@ -37,11 +37,11 @@ class Table:
             self.alternatives(self.value(name))
 
     def value(self, name):
-        """What a constant is: a name, text or number, a list, or a tuple of a name and what stands behind it."""
+        """What a constant is: a name, text or number, a list, or a tuple of a name and what stands after it."""
         left = [*self.constants[name]]
         value = self.expression(left)
         if left:
-            raise ValueError(f"{name} has more behind it: {' '.join(left)}")
+            raise ValueError(f"{name} has more after it: {' '.join(left)}")
         return value
 
     def expression(self, left):

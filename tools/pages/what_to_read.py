@@ -93,7 +93,7 @@ def is_wording(module):
 
 
 def names_in(lines):
-    """The names that lines use, each with what stands behind a full stop."""
+    """The names that lines use, each with what stands after a full stop."""
     return re.findall(r"(?<![\w.])([^\s(){}\[\],;.]+)(?:\.([^\s(){}\[\],;.]+))?", "\n".join(lines))
 
 
@@ -105,9 +105,9 @@ def reached(function, file, follows=is_followed):
     found, left = {}, [(imported(text), clauses)]
     while left:
         seen, lines = left.pop()
-        for head, behind in names_in(lines):
+        for head, after in names_in(lines):
             module, name = seen.get(head, ("", None))
-            name = name or behind
+            name = name or after
             if not follows(module):
                 continue
             place, defined = module_of(module).defines.get(name, (None, [name]))

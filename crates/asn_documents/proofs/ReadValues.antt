@@ -36,7 +36,7 @@ answers_fault : (l : Limits) (T : TypeTerm) (octets : List ℕ) (f : Fault) → 
     → AnswersFault l T octets f
 answers_fault l T octets f e = record { is_answer = is_answer l T octets (Refused f) e; answers = e }
 
--- These octets go on behind what is spelled by the first ones of them.
+-- These octets go on after what is spelled by the first ones of them.
 record GoesOn (l : Limits) (T : TypeTerm) (octets text : List ℕ) (n : ℕ) : Type 0 where
   pub value : Value
   pub spelling : List ℕ
@@ -97,7 +97,7 @@ refused_within l T before octets after text n f is refused a =
         sym refused ∙ answered l T octets (Took g.value n (g.octet ∷ g.more)) took ∙ g.spelled (g.octet ∷ g.more) in
         cc
 
--- octets of a list before the same ones behind them are as many
+-- octets of a list before the same ones after them are as many
 same_count : (s octets others behind : List ℕ) → s ≡ octets ++ behind → s ≡ others ++ behind
     → length octets ≡ length others
 same_count s octets others behind is is' =

@@ -1,4 +1,4 @@
--- What stands behind a value that was read.
+-- What stands after a value that was read.
 use Rattle.std.proofs.Common.{◌⊎◌, List, None, Option, Some, [], ℕ, append-nil, inl, inr, subst, sym}
 use Rattle.std.specs.Io.KnownBytes.{Consumes, Keeps}
 use Rattle.std.proofs.KnownBytes.{Consumes-trans}
@@ -24,7 +24,7 @@ kept_none None after kept = tt
 kept_none (Some xs) None kept = absurd kept
 kept_none (Some xs) (Some ys) kept = sym kept
 
--- an octet stands behind it, or the source failed there
+-- an octet stands after it, or the source failed there
 pub followed : (l : Limits) (T : TypeTerm) (e : ReadError) (w : Value) (before mid after : Option (List ℕ)) (taken : ℕ)
     → ReadsValue l T w before mid taken → (behind : List ℕ) × Consumes mid after behind × EndsBadly e behind taken
     → StopsWhole l T e before after
@@ -37,7 +37,7 @@ followed l T e w before mid after taken r more = inr (record {
   ends_badly = subst (EndsBadly e more.0) r.taken_are more.2;
 })
 
--- nothing is inside the fault behind a value
+-- nothing is inside the fault after a value
 pub ends_badly_inside : (e : ReadError) (behind : List ℕ) (place : ℕ) → EndsBadly e behind place → TellsInsideOf e
 ends_badly_inside (errors.Fault found) behind place h =
     let outside : InsideMatches (fault place Trailing) = (λ z. cc, λ z. cc) in subst InsideMatches (sym h.1) outside

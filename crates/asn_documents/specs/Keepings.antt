@@ -26,7 +26,7 @@ abbrev pub whole : List ℕ → Option (List ℕ) → List ℕ
 whole kept None = []
 whole kept (Some left) = kept ++ left
 
--- the number of some numbers stands before them, so that they can be told from those behind
+-- the number of some numbers stands before them, so that they can be told from those after
 abbrev pub framed : ℕ → List ℕ → List ℕ → List ℕ
 framed name numbers behind = name ∷ (length numbers ∷ (numbers ++ behind))
 

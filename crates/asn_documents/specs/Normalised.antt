@@ -22,7 +22,7 @@ pub record Took (limits : Limits) (type : TypeTerm) (value : Value) (before afte
   pub takes : Consumes before after octets
   pub taken_are : taken ≡ length octets
   pub spells : Spells limits type value octets
-  -- whatever stands behind them, nothing else that begins there is a spelling, and they say no other value
+  -- whatever stands after them, nothing else that begins there is a spelling, and they say no other value
   pub one : (other : Value) (behind more rest : List ℕ) → octets ++ behind ≡ more ++ rest
       → Spells limits type other more → (more ≡ octets) × Same other value
 

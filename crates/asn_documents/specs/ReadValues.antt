@@ -25,7 +25,7 @@ pub record ReadsValue (limits : Limits) (type : TypeTerm) (value : Value) (befor
   pub spelled : Value
   pub spells : Spells limits type spelled octets
   pub same : Same spelled value
-  -- and this is the answer by the definitions, whatever stands behind them,
+  -- and this is the answer by the definitions, whatever stands after them,
   pub is_answer : (more : List ℕ) → IsAnswer limits type (octets ++ more) (Spelled (der value) taken)
   -- and what the plain reading answers
   pub answers : (more : List ℕ) → answer limits type (octets ++ more) ≡ Spelled (der value) taken
@@ -38,7 +38,7 @@ pub record AnswersFault (limits : Limits) (type : TypeTerm) (octets : List ℕ) 
 
 -- Why there is no value, these octets being taken of those that were told: a fault is the answer to all of them;
 -- where a read failed, the octets taken are too few for any other answer; where memory ran out, no octet is taken
--- behind a value that stands there.
+-- after a value that stands there.
 abbrev pub Halts : Limits → TypeTerm → ReadError → List ℕ → List ℕ → Type 0
 Halts limits type (Fault found) octets before = AnswersFault limits type before found
 Halts limits type (Read at) octets before = (at ≡ length octets) × AnswersFault limits type octets (fault at Truncated)

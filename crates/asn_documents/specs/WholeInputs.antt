@@ -14,7 +14,7 @@ use Rattle.asn_documents.specs.Normalised.{Unread, WrittenInPart}
 use Rattle.asn_documents.specs.declared.normalise.NormaliseError.{NormaliseError}
 use Rattle.asn_documents.specs.declared.normalise.NormaliseError.TheVariants.{Read, Write}
 
--- What stands behind a spelling: an octet, which is a fault there; or it isn't known, since the source failed there.
+-- What stands after a spelling: an octet, which is a fault there; or it isn't known, since the source failed there.
 abbrev pub EndsBadly : ReadError → List ℕ → ℕ → Type 0
 EndsBadly (errors.Fault found) behind place = (length behind ≡ 1) × (found ≡ fault place Trailing)
 EndsBadly (errors.Read at) behind place = (behind ≡ []) × (at ≡ place)
@@ -27,7 +27,7 @@ EndsAfter place before after result =
     (λ _. Consumes before after [] × IsAtEnd after)
     (λ error. (behind : List ℕ) × Consumes before after behind × EndsBadly error behind place)
 
--- A value was taken, and the input doesn't end behind it.
+-- A value was taken, and the input doesn't end after it.
 pub record Followed (limits : Limits) (type : TypeTerm) (error : ReadError)
     (before after : Option (List ℕ)) : Type 0 where
   pub value : Value

@@ -84,7 +84,7 @@ impl<R: Source> Source for Keeping<'_, R> {
 ghost use Rattle.std.specs.Prelude.{◌++◌, ◌+◌, ◌≤◌, length};
 ghost use Rattle.std.specs.Vec.{vec_capacity, vec_len};
 
-/// Octets that there is room for, behind those kept. One alone, as those of headers come, needs no call that copies.
+/// Octets that there is room for, after those kept. One alone, as those of headers come, needs no call that copies.
 #[inline(always)]
 fn keep(kept: &mut Vec<u8>, octets: &[u8])
     requires { vec_len kept.old + length octets.now ≤ vec_capacity kept.old }

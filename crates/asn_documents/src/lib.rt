@@ -3,7 +3,7 @@
 //!
 //! `document` reads one value and writes one, `normalise` does both. `check` tells whether the octets of a value are
 //! its DER text, or where they differ first: it keeps them as they come (`keeping`) and compares as it writes
-//! (`difference`). `whole` asks besides that nothing stands behind the value.
+//! (`difference`). `whole` asks besides that nothing stands after the value.
 //!
 //! Proved, of every type and every source and target: exactly the octets that spell one value are taken, the answer is
 //! the one that the definitions give, the first fault included, and a failed read or write is answered where the source

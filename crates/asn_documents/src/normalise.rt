@@ -21,7 +21,7 @@ pub enum NormaliseError {
     /// It was not read, and nothing was written.
     #[error("{0}")]
     Read(ReadError),
-    /// It was read, and the writer failed behind the first octets of its text.
+    /// It was read, and the writer failed after the first octets of its text.
     #[error("{0}")]
     Write(WriteError),
 }

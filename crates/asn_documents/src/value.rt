@@ -39,7 +39,7 @@ pub fn read_value<R: Source, T: Element>(
         (IsFailedRead (R.has_failed src.new)) }
     ensures frame { R.frame src.new ≡ R.frame src.old }
 {
-    // (not by `?`, which moves a great value once more)
+    // (not by `?`, which moves a large value once more)
     let (value, taken) = match read_element::<R, T>(alloc, src, limits) {
         Ok(read) => read,
         Err(error) => return Err(error),

@@ -20,7 +20,7 @@ use tlv_core::reason::Reason;
 use tlv_core::source::{Failed, Source};
 use tlv_core::target::Target;
 
-/// Asks for one octet more, behind so many that were taken.
+/// Asks for one octet more, after so many that were taken.
 ///
 /// Faults: `Trailing` where one comes.
 pub fn expect_end<R: Source>(src: &mut R, taken: u64) -> Result<(), ReadError>
@@ -43,9 +43,9 @@ pub fn expect_end<R: Source>(src: &mut R, taken: u64) -> Result<(), ReadError>
     }
 }
 
-/// Reads one value, behind which the source has to end. Answers it with the number of its octets.
+/// Reads one value, after which the source has to end. Answers it with the number of its octets.
 ///
-/// Faults: those of `read_value`; `Trailing` at the first octet behind the value.
+/// Faults: those of `read_value`; `Trailing` at the first octet after the value.
 pub fn read_whole_input<R: Source, T: Element>(
     alloc: Global,
     src: &mut R,
@@ -102,7 +102,7 @@ pub fn normalise_whole<R: Source, W: Target, T: Element>(
 /// Reads one value, which has to be all of the input, and answers the number of its octets and the first place where
 /// they differ from its DER text: `None` where they are in DER.
 ///
-/// Faults: those of `check_value`; `Trailing` at the first octet behind the value, whether it is in DER or not.
+/// Faults: those of `check_value`; `Trailing` at the first octet after the value, whether it is in DER or not.
 pub fn check_whole<R: Source, T: Element>(
     alloc: Global,
     src: &mut R,

@@ -34,7 +34,7 @@ use Rattle.asn_elements.specs.Whole.{HaltsInside, read_inside}
 use Rattle.asn_elements.specs.Contained.{read_contained, read_given_contained}
 use Rattle.asn_elements.proofs.LeafReadings.{judged, leaf_is}
 
--- A type that doesn't look at the earlier fields of its container reads the same behind any.
+-- A type that doesn't look at the earlier fields of its container reads the same after any.
 inside_any : (l : Limits) (T : TypeTerm) (earlier : List Value) (p : ℕ) (octets : List ℕ) → IsClosed T
     → read_inside l T earlier p octets ≡ read_inside l T [] p octets
 inside_any l T earlier p octets closed =

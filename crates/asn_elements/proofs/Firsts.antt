@@ -1,4 +1,4 @@
--- The first call of a new reader, and what a type reads behind it.
+-- The first call of a new reader, and what a type reads after it.
 use Rattle.std.proofs.Common.{◌≡◌, ◌∙◌, ◌<◌, ◌^◌, ◌≤◌, Bool, Err, List, None, Ok, Option, Result, Some, [], ℕ, ⊎_elim, ap, arith, length, refl, subst, sym}
 use Rattle.tlv_core.specs.Identifier.{Tag}
 use Rattle.tlv_core.specs.Limits.{Limits}

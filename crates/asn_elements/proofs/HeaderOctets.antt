@@ -1,4 +1,4 @@
--- Octets of a header and of the contents behind it.
+-- Octets of a header and of the contents after it.
 use Rattle.std.proofs.Common.{◌≡◌, ◌∙◌, ◌+◌, ◌-◌, ◌<◌, ◌≤◌, ℕ, zero, suc, List, [], ◌∷◌, ◌++◌, refl, ap, length, slice_get, arith, Some}
 
 pub get_after : (xs ys : List ℕ) (i : ℕ) → length xs ≤ i → slice_get (xs ++ ys) i ≡ slice_get ys (i - length xs)
@@ -13,7 +13,7 @@ get_before [] ys i h = absurd (omega arith)
 get_before (x ∷ xs) ys zero h = refl
 get_before (x ∷ xs) ys (suc i) h = get_before xs ys i (omega arith)
 
--- an octet that stands in the header, or in the contents behind it
+-- an octet that stands in the header, or in the contents after it
 pub get_framed : (h cs : List ℕ) (i at : ℕ) → length h + at ≡ i → slice_get (h ++ cs) i ≡ slice_get cs at
 get_framed h cs i at e =
     get_after h cs i (omega arith) ∙ ap (slice_get cs) (let d : i - length h ≡ at = omega arith in d)

@@ -66,7 +66,7 @@ module _ (one : Enclosing → ℕ → Tag → Bool → Reading Value) where
   abbrev pub rest : ℕ → Limits → Enclosing → List Value → Reading (Ended (List Value))
   rest fuel l c values = each_member (add_member (one c)) fuel l c values
 
-  -- what a member is, and those behind it
+  -- what a member is, and those after it
   abbrev behind : ℕ → Limits → Enclosing → List Value → Next → Reading (Ended (List Value))
   behind fuel l c values next = elim next [
     | ContainerEnds place ↦ Done (record { all = values; at = place })

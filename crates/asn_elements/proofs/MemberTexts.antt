@@ -23,7 +23,7 @@ starts_at n (v ∷ vs) zero h = omega arith
 starts_at n (v ∷ vs) (suc k) h =
     omega (arith, starts_at (n + length (der v)) vs k (omega arith), length-append (der v) (texts_of (take k vs)))
 
--- the member at a place: its text, those before it and those behind it
+-- the member at a place: its text, those before it and those after it
 pub texts_at : (vs : List Value) (i : ℕ) (v : Value) → i < length vs → v ≡ get_or vs i v
     → texts_of vs ≡ texts_of (take i vs) ++ (der v ++ texts_of (drop (suc i) vs))
 texts_at [] i v h e = absurd (omega arith)
@@ -111,7 +111,7 @@ pub starts_some : (vs : List Value) (ss : List ℕ) → ss ≡ starts_from 0 vs 
 starts_some [] ss s h = absurd (omega arith)
 starts_some (v ∷ vs) ss s h = let n = ap length s in (omega arith, ap (λ z. get_or z 0 0) s)
 
--- one text more behind the others, which begins where they end
+-- one text more after the others, which begins where they end
 pub texts_last : (vs : List Value) (v : Value) → texts_of (vs ++ v ∷ []) ≡ texts_of vs ++ der v
 texts_last [] v = append-nil (der v)
 texts_last (w ∷ vs) v = ap (λ z. der w ++ z) (texts_last vs v) ∙ sym (append_assoc (der w) (texts_of vs) (der v))

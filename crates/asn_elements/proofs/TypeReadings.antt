@@ -1,4 +1,4 @@
--- The plain readings of types, behind their tags.
+-- The plain readings of types, after their tags.
 use Rattle.std.proofs.Common.{◌≡◌, List, length, nat_le, refl, true, ℕ}
 use Rattle.tlv_core.specs.Identifier.{Tag}
 use Rattle.tlv_core.specs.declared.reason.Reason.TheVariants.{EmptySet, Missing, WrongTag}

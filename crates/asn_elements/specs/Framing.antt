@@ -5,7 +5,7 @@ use Rattle.tlv_core.specs.Identifier.{Tag}
 use Rattle.asn_elements.specs.declared.framing.Stands.{Stands}
 use Rattle.asn_elements.specs.declared.framing.Stands.TheVariants as place
 
--- Octet `i` of a header with contents behind it is this one of the header, or stands at this place of the contents.
+-- Octet `i` of a header with contents after it is this one of the header, or stands at this place of the contents.
 abbrev pub StandsAt : List ℕ → ℕ → Stands → Type 0
 StandsAt header i (place.InHeader octet) = slice_get header i ≡ Some octet
 StandsAt header i (place.InContents at) = length header + at ≡ i

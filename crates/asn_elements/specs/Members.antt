@@ -12,7 +12,7 @@ starts_from n (value ∷ values) = n ∷ starts_from (n + length (der value)) va
 abbrev pub StandIn : List Value → List ℕ → List ℕ → Type 0
 StandIn values octets starts = (octets ≡ texts_of values) × (starts ≡ starts_from 0 values)
 
--- No text is greater than the one behind it: `Ascends` of x690 as a test.
+-- No text is greater than the one after it: `Ascends` of x690 as a test.
 abbrev pub ascends : List (List ℕ) → Bool
 ascends [] = true
 ascends (text ∷ []) = true

@@ -26,7 +26,7 @@ use tlv_core::target::Target;
 /// A BIT STRING.
 #[derive(Drop)]
 pub struct Bits {
-    /// The number of unused bits, and behind it the octets, in which these bits are 0.
+    /// The number of unused bits, and after it the octets, in which these bits are 0.
     contents: Vec<u8>,
     ghost some: { 0 < length contents.items },
     ghost whole: { IsDerBits contents.items },

@@ -8,7 +8,7 @@ use ber_pull::pull::Pull;
 use tlv_core::fault::ReadError;
 use tlv_core::source::Source;
 
-/// One more item behind the others; the reader fails where it finds no memory.
+/// One more item after the others; the reader fails where it finds no memory.
 pub fn keep<R: Source, T: Drop>(
     pull: &mut Pull<'_, R>,
     items: &mut Vec<T>,

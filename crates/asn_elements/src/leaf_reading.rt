@@ -110,7 +110,7 @@ fn bad_contents(kind: SimpleType) -> Reason
     }
 }
 
-/// Sets the unused bits behind the contents of a BIT STRING to 0 (X.690 11.2.1).
+/// Sets the unused bits after the contents of a BIT STRING to 0 (X.690 11.2.1).
 fn clear_bits(contents: &mut Vec<u8>)
     requires { reading.is_bit_segment contents.old.items ≡ true }
     ensures { contents.new.items ≡ bit_contents (contents.old.items ∷ []) }

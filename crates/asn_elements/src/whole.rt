@@ -42,7 +42,7 @@ pub fn read_element<R: Source, T: Element>(
 
 /// The element that the octets are, and nothing else.
 ///
-/// Faults: those of `read_element`; `Trailing` at the first octet behind it.
+/// Faults: those of `read_element`; `Trailing` at the first octet after it.
 pub fn read_whole<T: Element>(alloc: Global, octets: &[u8], limits: Limits) -> Result<T, ReadError>
     ensures inside { MatchResult result (λ x. IsValueInside limits T.type_term octets.now
         (T.value x)) (HaltsInside limits T.type_term octets.now) }

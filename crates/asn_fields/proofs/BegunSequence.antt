@@ -1,7 +1,7 @@
 -- A SEQUENCE that is read field by field: what was read so far, and what is left to read.
 -- The proof of a reader is a list of these rules: `after_begin`, then `after_` each call that gave a value,
 -- then `answered`, or `stopped_at_` the call that failed. A rule on a field goes between `take` and `ahead`,
--- one on the whole behind `end`.
+-- one on the whole after `end`.
 use Rattle.std.proofs.Common.{◌≡◌, ◌∙◌, ◌++◌, ℕ, Bool, true, false, List, [], ◌∷◌, Option, Some, None, ap, ap₂, append_assoc, append-nil, refl, subst, sym}
 use Rattle.tlv_core.specs.Identifier.{Tag}
 use Rattle.tlv_core.specs.Limits.{Limits}
@@ -119,7 +119,7 @@ module _ {k : ℕ} {s : Option (List ℕ)} {whole : Reading Value} {finish : Lis
       → Hears whole k s (heard_error e) i u
   stopped_at_due e i u reads = stopped_at_due_behind e i u (λ fields same. reads fields)
 
--- the values of fields, and of those behind them
+-- the values of fields, and of those after them
 pub behind_both : {k : ℕ} {s : Option (List ℕ)} {whole : Reading Value} {finish : List Value → Reading Value}
     {rest : Fields} {next : Next} {now : Standing} {t : Option (List ℕ)} (ws vs vs' : List Value)
     → BegunSequence k s whole finish rest ((ws ++ vs) ++ vs') next now t
@@ -127,9 +127,9 @@ pub behind_both : {k : ℕ} {s : Option (List ℕ)} {whole : Reading Value} {fin
 behind_both {k} {s} {whole} {finish} {rest} {next} {now} {t} ws vs vs' a =
     subst (λ z. BegunSequence k s whole finish rest z next now t) (append_assoc ws vs vs') a
 
--- A field that is due, by itself: a rule on it is tested before what stands behind it is looked at.
+-- A field that is due, by itself: a rule on it is tested before what stands after it is looked at.
 
--- An element was read for a field that is due: `w`. Nothing behind it was looked at; `judge` of it, and what
+-- An element was read for a field that is due: `w`. Nothing after it was looked at; `judge` of it, and what
 -- is left, answer the whole.
 pub record FieldTaken (k : ℕ) (s : Option (List ℕ)) (whole : Reading Value) (finish : List Value → Reading Value)
     (judge : List Value → Value → Reading Value) (rest : Fields) (ws : List Value) (w : Value) (now : Standing)
@@ -329,7 +329,7 @@ module _ {k : ℕ} {s : Option (List ℕ)} {whole : Reading Value} {finish : Lis
 
 -- A field that may be absent.
 
--- fields that are the same behind others that are
+-- fields that are the same after others that are
 each_field : (vs ws : List Value) (o o' : Option Value) → Each Same vs ws → SameField o o'
     → Each Same (vs ++ with_field o []) (ws ++ with_field o' [])
 each_field vs ws None None h s =

@@ -23,7 +23,7 @@ use Rattle.ber_pull.specs.Standing.{Standing, enclosing}
 use Rattle.ber_pull.proofs.Hearing.{hears_as, hears_fail, hears_first, hears_on, hears_second}
 use Rattle.asn_fields.proofs.Insides.{inside_limits}
 
--- at the point inside, behind the same fields
+-- at the point inside, after the same fields
 pub there_as : (outer : Standing) (inside : Enclosing) (s : Standing) (next : Next) (T : TypeTerm) (fields : List Value)
     (p : ℕ) (tag : Tag) (form : Bool) (h : Heard Value) (k i : ℕ) (o u : Option (List ℕ))
     → Inside outer inside s next

@@ -22,7 +22,7 @@ use Rattle.ber_pull.specs.Hears.{Hears, heard_error, next_at}
 use Rattle.ber_pull.proofs.Hearing.{hears_done, hears_error, hears_fail, hears_first, hears_off, hears_on, hears_same, hears_second, hears_then}
 use Rattle.asn_fields.specs.FieldReadings.{but_default, read_begin, read_due, read_end, read_optional, read_take, with_field}
 
--- a field that is there, and the fields behind it
+-- a field that is there, and the fields after it
 there : {B : Type 0} (p : Reading Value) (q : Reading Next) (rest : Value → Next → Reading (List Value))
     (then' : List Value → Reading B)
     → Alike ((p >>= λ v. q >>= λ n. rest v n >>= λ vs. Done (v ∷ vs)) >>= then')
@@ -95,14 +95,14 @@ due_alike l T rest earlier c (ElementStands p tag constructed) then' =
     (there (read_type l T earlier c p tag constructed) (next_tag l c)
     (λ v n. read_fields l rest (earlier ++ (v ∷ [])) c n) then'))
 
--- the field by itself, and then what stands behind it
+-- the field by itself, and then what stands after it
 take_alike : (l : Limits) (T : TypeTerm) (earlier : List Value) (c : Enclosing) (next : Next)
     → Alike (read_take l T earlier c next >>= λ v. next_tag l c >>= λ n. Done (v, n)) (read_due l T earlier c next)
 unfolding read_take read_due ◌>>=◌
 take_alike l T earlier c (ContainerEnds p) = λ k s. refl
 take_alike l T earlier c (ElementStands p tag constructed) = require_then (fits_tag T tag) _ _ _ _ (λ k s. refl)
 
--- a type that looks at no earlier field is read the same behind any
+-- a type that looks at no earlier field is read the same after any
 pub take_any : (l : Limits) (T : TypeTerm) (earlier : List Value) (c : Enclosing) (next : Next) → IsClosed T
     → read_take l T [] c next ≡ read_take l T earlier c next
 unfolding read_take
@@ -276,7 +276,7 @@ due_error l T rest earlier c next then' e k i s u x =
     hears_same _ _ (heard_error e) k i s u (due_alike l T rest earlier c next then')
     (hears_error _ (then_due l rest earlier c then') e k i s u x)
 
--- The field that is due by itself, then what stands behind it, then the rest: with a rule that judges it between.
+-- The field that is due by itself, then what stands after it, then the rest: with a rule that judges it between.
 
 abbrev pub then_take : {B : Type 0} → Limits → Fields → List Value → Enclosing → (List Value → Reading B) → Value
     → Reading B
@@ -473,7 +473,7 @@ pub take_read : (l : Limits) (T : TypeTerm) (earlier : List Value) (c : Enclosin
 unfolding read_take
 take_read l T earlier c p n t h k i s u e f x = rw e (hears_on _ _ _ h k i s u f x)
 
--- what was taken, and then what stands behind it
+-- what was taken, and then what stands after it
 pub take_then : (l : Limits) (T : TypeTerm) (earlier : List Value) (c : Enclosing) (next : Next)
     (h : Heard (Value × Next)) (k i : ℕ) (s u : Option (List ℕ))
     → Hears (read_take l T earlier c next >>= λ v. next_tag l c >>= λ n. Done (v, n)) k s h i u

@@ -61,7 +61,7 @@ pub stands_there : (T : TypeTerm) (n : Option (Tag × Bool)) (t : Tag × Bool) �
     → may_stand T n ≡ false → ⊥
 stands_there T n t is on off = let turned : true ≡ false = sym on ∙ sym (ap (may_stand T) is) ∙ off in cc
 
--- behind any earlier fields
+-- after any earlier fields
 pub field_tagged : (T : TypeTerm) (earlier : List Value) (s : Standing) (p : ℕ) (t : Tag) (form : Bool)
     (v w : Value) (q : ℕ) (o u : Option (List ℕ))
     → BeginsBefore s (ElementStands p t form)

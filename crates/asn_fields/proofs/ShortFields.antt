@@ -27,7 +27,7 @@ begins_here l c k p (Some t) s o u x fits =
     let next = next_took l c k given.0 (ElementStands p t.0 t.1) s.taken [] given.2 in
     (fits, (let at = next.at in let place = next.place in omega arith))
 
--- behind any earlier fields
+-- after any earlier fields
 pub field_short : (T : TypeTerm) (earlier : List Value) (s : Standing) (p : ℕ) (t : Tag) (form : Bool)
     (v w : Value) (q : ℕ) (o u : Option (List ℕ))
     → BeginsBefore s (ElementStands p t form)

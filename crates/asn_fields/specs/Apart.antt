@@ -62,7 +62,7 @@ abbrev pub BeginsAsTyped : {A : Type 0} → (A → Bool) → (Fields → Fields)
 BeginsAsTyped {A} known types values =
     (x : A) (rest : Fields) (vs : List Value) → known x ≡ true → Begins rest vs → Begins (types rest) (values x ++ vs)
 
--- and are told by their texts, and so are those behind them.
+-- and are told by their texts, and so are those after them.
 abbrev pub Tells : {A : Type 0} → (A → Bool) → (Fields → Fields) → (A → List Value) → Type 0
 Tells {A} known types values =
     (x y : A) (rest : Fields) (vs ws : List Value) → known x ≡ true → known y ≡ true → apart (types rest) ≡ true

@@ -186,7 +186,7 @@ each_both [] vs' (w ∷ ws) ws' h k = absurd h
 each_both (v ∷ vs) vs' [] ws' h k = absurd h
 each_both (v ∷ vs) vs' (w ∷ ws) ws' h k = (h.0, each_both vs vs' ws ws' h.1 k)
 
--- fields and those behind them
+-- fields and those after them
 module _ {A B : Type 0} {values : A → List Value} {values' : B → List Value} (of : Listing values)
     (of' : Listing values') where
   pub both_begin : BeginsAsTyped {A = A × B} (λ x. of.known x.0 && of'.known x.1) (λ rest. of.types (of'.types rest))

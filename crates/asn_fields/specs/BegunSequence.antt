@@ -30,7 +30,7 @@ pub record BegunSequence (k : ℕ) (s : Option (List ℕ)) (whole : Reading Valu
   pub onward : Continues whole k s
       (read_fields outer.limits fields values inside next >>= λ more. finish (values ++ more)) now.taken t
 
--- Wherever these fields are the first that are left, they are read: their values stand behind those that were read
+-- Wherever these fields are the first that are left, they are read: their values stand after those that were read
 -- before, and the others are left; or what is answered is the error of the whole.
 abbrev pub ReadsFields : {R A : Type 0} {s : Ghosts R} → Pull R s → Pull R s → code.Next → code.Next → (Fields → Fields)
     → (A → List Value) → Result A ReadError → Type 0

@@ -1,4 +1,4 @@
--- Fields with one behind them that depends on them are told apart by their texts.
+-- Fields with one after them that depends on them are told apart by their texts.
 use Rattle.std.proofs.Common.{◌≡◌, ◌∙◌, ◌+◌, ◌++◌, ◌&&◌, ◌∷◌, Bool, List, None, Option, Some, [], append_assoc, ap, false, map, subst, sym, true, ℕ}
 use Rattle.std.specs.Option.{option_map}
 use Rattle.x690.specs.DerTexts.{der}
@@ -15,7 +15,7 @@ use Rattle.asn_fields.specs.declared.either.Either.TheVariants.{First, Second}
 use Rattle.asn_fields.specs.Listings.{Listing}
 use Rattle.asn_fields.specs.Dependents.{OneTextBehind, suits_as, suits_where_there}
 
--- Fields, and one that is due behind them and suits them.
+-- Fields, and one that is due after them and suits them.
 module _ {A B : Type 0} {values : A → List Value} (of : Listing values) (value : B → Value) (T : TypeTerm)
     (suits : List Value → B → Bool) (one : OneTextBehind value suits) where
   abbrev pub Suited : Type 0
@@ -62,7 +62,7 @@ one_field value suits vs ws None (Some y) f same h k = tt
 one_field value suits vs ws (Some x) None f same h k = tt
 one_field value suits vs ws (Some x) (Some y) f same h k = f vs ws x y same h k
 
--- Fields, and one behind them that may be absent, and suits them.
+-- Fields, and one after them that may be absent, and suits them.
 module _ {A B : Type 0} {values : A → List Value} (of : Listing values) (value : B → Value) (T : TypeTerm)
     (suits : List Value → B → Bool) (one : OneTextBehind value suits) where
   abbrev pub SuitedWhereThere : Type 0

@@ -22,11 +22,11 @@ use Rattle.asn_fields.specs.declared.either.Either.{Either}
 use Rattle.asn_fields.specs.declared.either.Either.TheVariants.{First, Second}
 use Rattle.asn_fields.specs.declared.fields.Next as code
 
--- the element that is given, as the type behind these fields
+-- the element that is given, as the type after these fields
 abbrev pub read_given_behind : TypeTerm → List Value → Standing → Given → Reading Value
 read_given_behind type fields s g = read_type s.limits type fields (enclosing s) g.at g.tag g.constructed
 
--- What a reader answered of the element that is given is what the reading gives behind any fields
+-- What a reader answered of the element that is given is what the reading gives after any fields
 -- that are the same as these.
 abbrev pub AnswersBehind : {R A : Type 0} {s : Ghosts R} → Pull R s → Pull R s → TypeTerm → List Value → (A → Value)
     → Result A ReadError → Type 0
@@ -42,7 +42,7 @@ TakesBehind old new next type earlier value result =
     → Inside outer inside old.state (next_of next)
     → AnswersValue old new (read_take outer.limits type fields inside (next_of next)) value result
 
--- with what stands behind it,
+-- with what stands after it,
 abbrev pub RequiredBehind : {R A : Type 0} {s : Ghosts R} → Pull R s → Pull R s → code.Next → code.Next → TypeTerm
     → List Value → (A → Value) → Result A ReadError → Type 0
 RequiredBehind old new next next' type earlier value result =

@@ -18,13 +18,13 @@ read_begin limits own enclosing place tag constructed =
     (in_container limits enclosing place constructed Done
     >>= λ inside. next_tag limits inside >>= λ next. Done (inside, next))
 
--- a field that is due, by itself: what stands behind it isn't looked at
+-- a field that is due, by itself: what stands after it isn't looked at
 unfoldable pub read_take : Limits → TypeTerm → List Value → Enclosing → Next → Reading Value
 read_take limits type earlier enclosing (ContainerEnds place) = Fail (fault place Missing)
 read_take limits type earlier enclosing (ElementStands place tag constructed) =
     require (fits_tag type tag) (fault place WrongTag) (read_type limits type earlier enclosing place tag constructed)
 
--- a field that is due: its value, and what stands behind it
+-- a field that is due: its value, and what stands after it
 unfoldable pub read_due : Limits → TypeTerm → List Value → Enclosing → Next → Reading (Value × Next)
 read_due limits type earlier enclosing (ContainerEnds place) = Fail (fault place Missing)
 read_due limits type earlier enclosing (ElementStands place tag constructed) =

@@ -60,7 +60,7 @@ SameField (Some value) None = ⊥
 SameField (Some value) (Some other) = Same value other
 
 -- Wherever the container was opened, the field is what this reading gives, up to the order of what stands in a SET OF,
--- and so is what stands behind it.
+-- and so is what stands after it.
 abbrev pub AnswersField : {R A V : Type 0} {s : Ghosts R} → Pull R s → Pull R s → Next
     → (Standing → Enclosing → Reading (V × headers.Next)) → (V → V → Type 0) → (A → V) → headers.Next
     → Result A ReadError → Type 0
@@ -69,7 +69,7 @@ AnswersField {R} {A} {V} old new next p Alike value behind result =
     → MatchResult result (λ x. (v : V) × Alike v (value x) × Answers old new (p outer inside) (Said (v, behind)))
     (λ e. Answers old new (p outer inside) (heard_error e))
 
--- the element that is given is read as the type, behind any fields
+-- the element that is given is read as the type, after any fields
 abbrev pub AnswersGiven : {R A : Type 0} {s : Ghosts R} → Pull R s → Pull R s → TypeTerm → (A → Value)
     → Result A ReadError → Type 0
 AnswersGiven old new type value result =
@@ -119,7 +119,7 @@ LeavesWithin old new next =
     (outer : Standing) (inside : Enclosing) → Inside outer inside old.state (next_of next)
     → Within outer inside new.state
 
--- and with what stands behind it
+-- and with what stands after it
 abbrev pub AnswersDue : {R A : Type 0} {s : Ghosts R} → Pull R s → Pull R s → Next → Next → TypeTerm → (A → Value)
     → Result A ReadError → Type 0
 AnswersDue old new next next' type value result =

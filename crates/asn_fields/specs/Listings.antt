@@ -4,7 +4,7 @@ use Rattle.x690.specs.TypeTerms.{Fields}
 use Rattle.x690.specs.Values.{Value}
 use Rattle.asn_fields.specs.Apart.{BeginsAsTyped, Tells}
 
--- What is known of fields with these values: their types, in front of those behind them; how many there are at most;
+-- What is known of fields with these values: their types, in front of those after them; how many there are at most;
 -- that each that is there begins as its type may; and that they are told by their texts.
 pub record Listing {A : Type 0} (values : A → List Value) : Type 0 where
   pub types : Fields → Fields

@@ -1,6 +1,6 @@
 //! Fields whose type or rule goes by those before them.
 //!
-//! `Dependent<A, F>` are the fields `A` and one behind them, `F`, that is due; in `OptionalDependent<A, F>` it may be
+//! `Dependent<A, F>` are the fields `A` and one after them, `F`, that is due; in `OptionalDependent<A, F>` it may be
 //! absent. `F` is put together of `Independent`, an element of any type, `DefinedBy`, one of two by a leaf of the
 //! fields before it, `RuledBehind` and `RuledContaining`, with a rule that looks at these fields, and `Refused`.
 ghost use Rattle.std.specs.Prelude.{◌≡◌, ◌+◌, ◌++◌, ◌<◌, ◌^◌, ◌∷◌, Bool as Truth, IfOk, IfSome, IsSome, List, None};
@@ -39,17 +39,17 @@ pub trait DependentElement<A: FieldsText>: Sized + Drop {
     /// What it stands for.
     ghost value: { Self → Value };
 
-    /// Whether it is of the type behind fields of these values.
+    /// Whether it is of the type after fields of these values.
     ghost suits: { List Value → Self → Truth };
 
-    /// Behind the same fields, two that have one text are the same.
+    /// After the same fields, two that have one text are the same.
     ghost one_text: { OneTextBehind value suits };
 
     /// Whether a value of the type may begin with this tag.
     fn fits(tag: Tag) -> bool
         ensures { result ≡ fits_tag type_term tag };
 
-    /// Reads the element that `next_tag` has given, as the plain reading of the type does behind the earlier fields.
+    /// Reads the element that `next_tag` has given, as the plain reading of the type does after the earlier fields.
     fn read<R: Source>(
         alloc: Global,
         pull: &mut Pull<'_, R>,
@@ -138,7 +138,7 @@ impl<A: FieldsText, T: Element> DependentElement<A> for Independent<T> {
     }
 }
 
-/// A field that is due behind these, by itself: what stands behind it is looked at by `ahead`.
+/// A field that is due after these, by itself: what stands after it is looked at by `ahead`.
 ///
 /// Faults: `Missing` at the end of the container, `WrongTag` at another element; those of the field.
 #[inline(always)]
@@ -170,10 +170,10 @@ pub(crate) fn take_dependent<R: Source, A: FieldsText, F: DependentElement<A>>(
     F::read(alloc, pull, earlier)
 }
 
-/// A field that is due behind these.
+/// A field that is due after these.
 ///
 /// Faults: `Missing` at the end of the container, `WrongTag` at another element; those of the field, and of
-/// `Pull::next_tag` behind it.
+/// `Pull::next_tag` after it.
 #[inline(always)]
 pub fn due_dependent<R: Source, A: FieldsText, F: DependentElement<A>>(
     alloc: Global,
@@ -198,9 +198,9 @@ pub fn due_dependent<R: Source, A: FieldsText, F: DependentElement<A>>(
     Ok(field)
 }
 
-/// A field behind these that may be absent.
+/// A field after these that may be absent.
 ///
-/// Faults: those of the field where it stands here, and of `Pull::next_tag` behind it.
+/// Faults: those of the field where it stands here, and of `Pull::next_tag` after it.
 #[inline(always)]
 pub fn optional_dependent<R: Source, A: FieldsText, F: DependentElement<A>>(
     alloc: Global,
@@ -234,7 +234,7 @@ pub fn optional_dependent<R: Source, A: FieldsText, F: DependentElement<A>>(
     Ok(Some(field))
 }
 
-/// The fields `A`, and one behind them that is due and depends on them.
+/// The fields `A`, and one after them that is due and depends on them.
 #[derive(Drop)]
 pub struct Dependent<A: FieldsText, F: DependentElement<A>> {
     earlier: A,

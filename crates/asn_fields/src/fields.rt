@@ -4,7 +4,7 @@
 //! then `end`. Its proof is a list of the rules of `proofs/BegunSequence.antt` in the same order: `after_` each call
 //! that gave a value, which keep in a record what was read so far and what is left, and `answered`, or `stopped_at_`
 //! the call that failed, where it returns. A rule on a field is tested between `take` and `ahead`, which `due` is put
-//! together from; one on the whole value behind `end`. `take`, `due` and `optional` also tell that the text of a field
+//! together from; one on the whole value after `end`. `take`, `due` and `optional` also tell that the text of a field
 //! is short; they are the calls of `dependent`, where no field stands before.
 ghost use Rattle.std.specs.Prelude.{◌≡◌, ◌<◌, ◌^◌, IfOk, IfSome, IsSome, None, Ok, OnOk, false, length};
 ghost use Rattle.x690.specs.DerTexts.{der};
@@ -34,7 +34,7 @@ pub struct Next {
     pub tag: Option<(Tag, bool)>,
 }
 
-/// What stands behind the element that was read, or first in the container that was entered.
+/// What stands after the element that was read, or first in the container that was entered.
 #[inline(always)]
 pub fn ahead<R: Source>(pull: &mut Pull<'_, R>) -> Result<Next, ReadError>
     requires fine { (standing pull.old).error ≡ None }
@@ -67,7 +67,7 @@ pub fn begin<R: Source>(pull: &mut Pull<'_, R>, tag: Tag) -> Result<Next, ReadEr
     Ok(next)
 }
 
-/// A field that is due, by itself: what stands behind it is looked at by `ahead`. A rule on the field is tested between
+/// A field that is due, by itself: what stands after it is looked at by `ahead`. A rule on the field is tested between
 /// the two.
 ///
 /// Faults: `Missing` at the end of the container, `WrongTag` at another element; those of the field.
@@ -91,7 +91,7 @@ pub fn take<R: Source, T: Element>(
 
 /// A field that is due.
 ///
-/// Faults: those of `take`, and of `Pull::next_tag` behind it.
+/// Faults: those of `take`, and of `Pull::next_tag` after it.
 pub fn due<R: Source, T: Element>(
     alloc: Global,
     pull: &mut Pull<'_, R>,
@@ -112,7 +112,7 @@ pub fn due<R: Source, T: Element>(
 
 /// A field that may be absent.
 ///
-/// Faults: those of the field where it stands here, and of `Pull::next_tag` behind it.
+/// Faults: those of the field where it stands here, and of `Pull::next_tag` after it.
 pub fn optional<R: Source, T: Element>(
     alloc: Global,
     pull: &mut Pull<'_, R>,

@@ -11,7 +11,7 @@
 //! - `Optional<refused::Refused<K>>`, a field that may not stand at all.
 //!
 //! `ruled::Ruled` is a value of any type with a rule on it, `ruled_sequence::RuledSequence` a SEQUENCE with one on its
-//! fields together, `tagged::Tagged` one behind an explicit tag. `sequence`
+//! fields together, `tagged::Tagged` one after an explicit tag. `sequence`
 //! reads a SEQUENCE by its list, `parts` writes one, and `fields` has the calls beneath: they begin a SEQUENCE, read
 //! its fields and end it.
 //!

@@ -18,7 +18,7 @@ use tlv_core::sink::{Sink, WriteError};
 use tlv_core::source::Source;
 use tlv_core::target::Target;
 
-/// The fields `A`, and one behind them that may be absent and depends on them.
+/// The fields `A`, and one after them that may be absent and depends on them.
 #[derive(Drop)]
 pub struct OptionalDependent<A: FieldsText, F: DependentElement<A>> {
     earlier: A,

@@ -18,7 +18,7 @@ use tlv_core::source::Source;
 use tlv_core::tag::Tag;
 use tlv_core::target::Target;
 
-/// A rule on an element of the type `T` behind the fields `A`.
+/// A rule on an element of the type `T` after the fields `A`.
 pub trait FieldRules<A: FieldsText, T: DerText>: Drop {
     /// The rule.
     ghost rule: { Rule };
@@ -34,7 +34,7 @@ pub trait FieldRules<A: FieldsText, T: DerText>: Drop {
     ghost honest: { HonestRule rule };
 }
 
-/// An element that the rule lets pass behind the fields before it.
+/// An element that the rule lets pass after the fields before it.
 #[derive(Drop)]
 pub struct RuledBehind<T: Drop, K: Drop> {
     value: T,

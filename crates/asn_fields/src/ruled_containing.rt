@@ -23,7 +23,7 @@ use tlv_core::source::Source;
 use tlv_core::tag::Tag;
 use tlv_core::target::Target;
 
-/// An OCTET STRING that contains one element and nothing else; the rule lets the element pass behind the fields before
+/// An OCTET STRING that contains one element and nothing else; the rule lets the element pass after the fields before
 /// the OCTET STRING.
 #[derive(Drop)]
 pub struct RuledContaining<T: DerText, K: Drop> {
@@ -84,5 +84,5 @@ impl<A: FieldsText, T: Element, K: FieldRules<A, T>> DependentElement<A> for Rul
     }
 }
 
-/// The fields `A`, and behind them an OCTET STRING that is due and contains one element, with a rule on it.
+/// The fields `A`, and after them an OCTET STRING that is due and contains one element, with a rule on it.
 pub type JudgedInside<A, T, K> = Dependent<A, RuledContaining<T, K>>;

@@ -22,7 +22,7 @@ use tlv_core::source::Source;
 use tlv_core::tag::Tag;
 use tlv_core::target::Target;
 
-/// A value behind the explicit tag [N].
+/// A value after the explicit tag [N].
 #[derive(Drop)]
 pub struct Tagged<const N: u8, T: DerText> {
     inner: T,
@@ -30,7 +30,7 @@ pub struct Tagged<const N: u8, T: DerText> {
 }
 
 impl<const N: u8, T: DerText> Tagged<N, T> {
-    /// The value behind the tag.
+    /// The value after the tag.
     pub fn value(&self) -> &T
         ensures { result.now ≡ self.now.inner }
     {

@@ -1,4 +1,4 @@
--- Where the texts behind the first begin.
+-- Where the texts after the first begin.
 use Rattle.std.proofs.Common.{◌≡◌, ap, refl, ◌-◌, ◌<◌, ℕ, zero, suc, List, [], ◌∷◌, drop, get_or, length, arith}
 use Rattle.x690.specs.DerTexts.{texts_of}
 use Rattle.x690.specs.Values.{Value}

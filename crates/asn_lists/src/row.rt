@@ -32,7 +32,7 @@ pub fn starts_of<T: DerText>(
     Ok((starts, end))
 }
 
-/// Where the text of each item behind the first begins, and the length of all.
+/// Where the text of each item after the first begins, and the length of all.
 fn later_starts<T: DerText>(alloc: Global, items: &[T]) -> Result<(Vec<u64>, u64), AllocError>
     requires { length (texts_of (map T.value items.now)) < 2 ^ 63 }
     ensures starts { IfOk result (λ r. r.0.items ≡ drop 1 (starts_from 0 (map T.value items.now))) }
@@ -121,7 +121,7 @@ pub fn find(starts: &[u64], at: u64) -> usize
     low
 }
 
-/// Members, with where the text of each behind the first begins and the length of all.
+/// Members, with where the text of each after the first begins and the length of all.
 #[derive(Drop)]
 pub struct Row<T: DerText> {
     pub items: Vec<T>,

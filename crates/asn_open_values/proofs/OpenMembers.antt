@@ -74,7 +74,7 @@ module _ {R : Type 0} {s : Ghosts R} (deep : ℕ) (start now mid new : Pull R s)
       inside_more (member deep start) _ start now vs i mid new
       (place now.state) tag form v next same stands moves y same' uses fine on short most
 
--- one text more behind the others
+-- one text more after the others
 pub behind_more : (is_set : Bool) (before text starts text' starts' : List ℕ) (vs : List Value) (v : Value) (start : ℕ)
     → StandBehind is_set vs before text starts → text' ≡ text ++ der v
     → (is_set ≡ true → starts' ≡ starts ++ start ∷ []) → start ≡ length text
@@ -98,7 +98,7 @@ pub stand_first : (values : List Value) (before after starts : List ℕ) → bef
 stand_first values before after starts none are =
     (are.0 ∙ ap (λ b. b ++ texts_of values) none, are.1 refl ∙ ap (λ b. starts_from (length b) values) none)
 
--- behind room for a header
+-- after room for a header
 pub behind_header : (values : List Value) (is_set : Bool) (before room text after starts : List ℕ)
     → text ≡ before ++ room → StandBehind is_set values text after starts
     → after ≡ before ++ (room ++ texts_of values)

@@ -41,7 +41,7 @@ hears_octets own p contents (Ok v) k i s u x =
     hears_then p (λ o. Done (Leaf own o)) contents _ _ _ _ _ _ _ x (hears_done _ _ _)
 hears_octets own p contents (Err e) k i s u x = hears_error p (λ o. Done (Leaf own o)) e _ _ _ _ x
 
--- Texts behind what is there.
+-- Texts after what is there.
 
 pub text_err : {R : Type 0} {s : Ghosts R} (old new : Pull R s) (p : Reading Value) (before after : List ℕ)
     (r : Result (Unit {0}) ReadError) (e : ReadError)

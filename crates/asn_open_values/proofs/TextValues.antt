@@ -150,7 +150,7 @@ identifier_none (Leaf t o) e = ap (λ b. elim b [ true ↦ Some o | false ↦ No
 identifier_none (Sequence t vs) e = refl
 identifier_none (SetOf t vs) e = refl
 
--- What is known of an open value that was read behind an identifier of this tag.
+-- What is known of an open value that was read after an identifier of this tag.
 pub record OpenRead (t : Tag) (v : Value) : Type 0 where
   pub again : SaysAgain v
   pub tagged : value_tag v ≡ t

@@ -63,19 +63,19 @@ read_given_container deep is_set own s g =
 abbrev pub read_given_open : ℕ → Standing → Given → Reading Value
 read_given_open deep s g = read_open deep s.limits (enclosing s) g.at g.tag g.constructed
 
--- The text of the value that the reading gives was put behind what stood there, or the error is what it gives.
+-- The text of the value that the reading gives was put after what stood there, or the error is what it gives.
 abbrev pub AnswersText : {R : Type 0} {s : Ghosts R} → Pull R s → Pull R s → Reading Value → List ℕ → List ℕ
     → Result (Unit {0}) ReadError → Type 0
 AnswersText old new p before after result =
     MatchResult result (λ _. (v : Value) × (after ≡ before ++ der v) × Answers old new p (Said v))
     (λ e. Answers old new p (heard_error e))
 
--- The texts of the values stand behind what stood there, and in a SET it is told where each begins.
+-- The texts of the values stand after what stood there, and in a SET it is told where each begins.
 abbrev pub StandBehind : Bool → List Value → List ℕ → List ℕ → List ℕ → Type 0
 StandBehind is_set values before after starts =
     (after ≡ before ++ texts_of values) × (is_set ≡ true → starts ≡ starts_from (length before) values)
 
--- The texts of the members that the reading gives were put behind what stood there, or the error is what it gives.
+-- The texts of the members that the reading gives were put after what stood there, or the error is what it gives.
 abbrev pub AnswersTexts : {R : Type 0} {s : Ghosts R} → Pull R s → Pull R s → Reading (Ended (List Value)) → Bool
     → List ℕ → List ℕ → List ℕ → Result (Unit {0}) ReadError → Type 0
 AnswersTexts old new p is_set before after starts result =

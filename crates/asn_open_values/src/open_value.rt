@@ -28,7 +28,7 @@ use tlv_core::reason::Reason;
 use tlv_core::source::Source;
 use tlv_core::tag::Tag;
 
-/// Header and contents behind what is there.
+/// Header and contents after what is there.
 #[inline(always)]
 fn push_element(
     text: &mut Vec<u8>,
@@ -40,7 +40,7 @@ fn push_element(
         ++ (der_header tag constructed (length contents.now) ++ contents.now)) }
 {
     let length = contents.len() as u64;
-    // (one growth for both: behind a tag below 31 stand five octets of length at most)
+    // (one growth for both: after a tag below 31 stand five octets of length at most)
     text.reserve(contents.len() + 6)?;
     match short_header(tag, constructed, length) {
         Some(octets) => text.extend_from_slice(&octets)?,
@@ -49,7 +49,7 @@ fn push_element(
     text.extend_from_slice(contents)
 }
 
-/// Header and contents behind what is there; the reader fails where it finds no memory.
+/// Header and contents after what is there; the reader fails where it finds no memory.
 #[inline(always)]
 fn append_element<R: Source>(
     pull: &mut Pull<'_, R>,
@@ -144,7 +144,7 @@ fn arranged<R: Source>(
     }
 }
 
-/// The header of a constructed element in place of the two octets at `start`, in front of the contents behind them.
+/// The header of a constructed element in place of the two octets at `start`, in front of the contents after them.
 fn set_header(text: &mut Vec<u8>, start: usize, tag: Tag) -> Result<(), AllocError>
     requires { start + 2 ≤ length text.old.items }
     ensures { OnOk result ((before room contents : List ℕ) → length before ≡ start → length room ≡ 2
@@ -228,7 +228,7 @@ fn append_set<R: Source>(
     append_element(pull, text, tag, true, &contents)
 }
 
-/// Appends the text of the container that is given, whose members stay in their order. They are put behind `text` at
+/// Appends the text of the container that is given, whose members stay in their order. They are put after `text` at
 /// once, with room for a header of two octets in front.
 #[cycle(open)]
 fn append_sequence<R: Source>(

@@ -181,7 +181,7 @@ pub clipped_halted : {R : Type 0} {s : Ghosts R} (old new : Pull R s) (p : Readi
     → r ≡ Err h → Answers old new p (heard_error (failure new.state)) → AnswersClipped old new p (answered new r)
 clipped_halted old new p r h e x = subst (λ w. AnswersClipped old new p (answered new w)) (sym e) x
 
--- what a high tag number is behind one of its octets, `n` standing before it
+-- what a high tag number is after one of its octets, `n` standing before it
 abbrev behind_octet : Limits → Option ℕ → ℕ → ℕ → ℕ → ℕ → Reading ℕ
 behind_octet l e p left n x =
     require (not ((n == 0) && (x == 128)) && nat_lt x 256) (fault p BadTag)

@@ -16,7 +16,7 @@ use Rattle.ber_pull.specs.declared.state.Given.{Given}
 use Rattle.tlv_core.specs.declared.fault.ReadError.{ReadError}
 use Rattle.ber_pull.proofs.Hearing.{hears_done, hears_error, hears_first, hears_off, hears_on, hears_second, hears_then, hears_where}
 
--- what stands behind the first octet of an identifier or of end-of-contents octets
+-- what stands after the first octet of an identifier or of end-of-contents octets
 abbrev behind_tag : Standing → ℕ → ℕ → Reading Next
 behind_tag s x n =
     require (nat_lt (length s.containers) s.limits.depth) (fault s.taken TooDeep)

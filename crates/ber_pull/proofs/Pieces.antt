@@ -40,7 +40,7 @@ octets_all (suc n) k (x ∷ o) r h =
     (octets_all n (k + 1) o r (omega arith))
     ∙ ap (λ w. Took (x ∷ o) w r) e
 
--- a fault behind some of them is a fault of all
+-- a fault after some of them is a fault of all
 halts_behind : (m n k j : ℕ) (o s : List ℕ) (f : Fault) → j ≡ k + length o → length o + m ≡ n
     → run (next_octets m) j s ≡ Halted f → run (next_octets n) k (o ++ s) ≡ Halted f
 unfolding next_octets run ◌>>=◌
@@ -71,7 +71,7 @@ fewer octets some x more e =
 needs_octets : (n k : ℕ) (octets : List ℕ) → length octets ≤ n → Needs (next_octets n) k octets
 needs_octets n k octets fit = λ some x more e. let few = fewer octets some x more e in few_octets n k some (omega arith)
 
--- what is asked for behind some of them is asked for of all
+-- what is asked for after some of them is asked for of all
 needs_behind : (m n k j : ℕ) (o more : List ℕ) → j ≡ k + length o → length o + m ≡ n → Needs (next_octets m) j more
     → Needs (next_octets n) k (o ++ more)
 needs_behind m n k j o more place all needs = λ some x rest e. ⊎_elim
@@ -84,7 +84,7 @@ needs_behind m n k j o more place all needs = λ some x rest e. ⊎_elim
     ∙ ap (λ w. Halted (fault w Truncated)) here)
     (cut_in_two o more some x rest e)
 
--- an error behind some of them is an error of all
+-- an error after some of them is an error of all
 octets_error : (m n k j i : ℕ) (e : ReadError) (o s v : List ℕ) → j ≡ k + length o → length o + m ≡ n
     → Reads (next_octets m) j s (heard_error e) i v → Reads (next_octets n) k (o ++ s) (heard_error e) i v
 unfolding Reads
@@ -144,7 +144,7 @@ octets_memory n e k i s u u' octets x y c p fit =
     subst (λ w. Hears (next_octets n) k s (heard_error w) i u') (sym x)
     (subst (λ w. Hears (next_octets n) k s NoMemory i w) (sym y) (octets_came n k i s u octets c p fit))
 
--- A room behind what came before, and what came into it.
+-- A room after what came before, and what came into it.
 
 pub came_behind : (before front room post rest : List ℕ) (m n l : ℕ) → front ≡ before → n ≤ length room
     → m ≡ length before + n → m ≤ l

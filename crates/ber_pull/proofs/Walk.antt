@@ -25,7 +25,7 @@ use Rattle.x690.proofs.Runs.{bind_assoc, bind_same}
 abbrev pub level : ℕ → ℕ → Enclosing → Level
 level deep fuel around = record { deep = deep; fuel = fuel; around = around }
 
--- what a member of the innermost open segment is, and what is still to be read behind it
+-- what a member of the innermost open segment is, and what is still to be read after it
 abbrev member : ℕ → Limits → ℕ → ℕ → Enclosing → List Level → List (List ℕ) → Next → Reading (List (List ℕ))
 member n l d f c vs s (ContainerEnds p) = read_rest n l vs s
 member n l d f c vs s (ElementStands p t form) =
@@ -293,7 +293,7 @@ pub next_fails : (s : Standing) (around : List Container) (v : Level) (vs : List
     → Hears (next_tag s.limits v.around) s.taken t (heard_error e) j u
 next_fails s around v vs e j t u g st h = hears_as _ _ _ _ _ _ _ (next_is s around v vs g st) h
 
--- the reading behind the identifier, at the point of the open segment
+-- the reading after the identifier, at the point of the open segment
 
 pub one_here : (s m : Standing) (around : List Container) (v : Level) (vs : List Level) (n p j : ℕ) (tag : Tag)
     (form : Bool) (segments : List (List ℕ))

@@ -18,7 +18,7 @@ read_next s = elim s.given [
   | None ↦ choose (is_over s) (Done (ContainerEnds s.taken)) (next_tag s.limits (enclosing s))
 ]
 
--- the end-of-contents octets of the innermost container, behind the first one
+-- the end-of-contents octets of the innermost container, after the first one
 abbrev pub read_end_of_contents : Limits → Enclosing → ℕ → Reading Next
 read_end_of_contents l c p =
     require (ends_with_zeros c.innermost) (fault p BadEnd)

@@ -13,7 +13,7 @@ abbrev pub octet_or : List ℕ → Option ℕ → List ℕ
 octet_or others (Some octet) = octet ∷ []
 octet_or others None = others
 
--- the octets that were taken stand behind those that came before: at least one, and at most so many
+-- the octets that were taken stand after those that came before: at least one, and at most so many
 pub record PieceCame {R : Type 0} {s : Ghosts R} (old new : Pull R s) (before after : List ℕ) (most : ℕ) : Type 0 where
   pub octets : List ℕ
   pub is : after ≡ before ++ octets

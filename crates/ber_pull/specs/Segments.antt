@@ -35,7 +35,7 @@ pub record Joins (joined : Joined) (segments : List (List ℕ)) : Type 0 where
   pub octets : joined.octets.items ≡ joined_octets joined.is_bits segments
   pub unused : joined.unused ≡ joined_unused joined.is_bits segments
 
--- a primitive segment behind these
+-- a primitive segment after these
 unfoldable pub read_one_segment : ℕ → Limits → Enclosing → List (List ℕ) → ℕ → Reading (List (List ℕ))
 read_one_segment n l c segments p =
     primitive_contents l c p
@@ -47,7 +47,7 @@ pub record Level : Type 0 where
   pub fuel : ℕ
   pub around : Enclosing
 
--- what is still to be read of the open segments, the innermost first, behind the primitive ones that came
+-- what is still to be read of the open segments, the innermost first, after the primitive ones that came
 unfoldable pub read_rest : ℕ → Limits → List Level → List (List ℕ) → Reading (List (List ℕ))
 read_rest n l [] segments = Done segments
 read_rest n l (v ∷ vs) segments =

@@ -75,7 +75,7 @@ pub record Onward {R : Type 0} {s : Ghosts R} (old new : Pull R s) : Type 0 wher
   pub same_limits : new.state.limits ≡ old.state.limits
   pub forward : old.state.taken ≤ new.state.taken
 
--- The frame of a reader: what its call leaves as it was, whatever was read, and how it stands behind an error.
+-- The frame of a reader: what its call leaves as it was, whatever was read, and how it stands after an error.
 pub record Frame {R : Type 0} {s : Ghosts R} {A : Type 0} (old new : Pull R s) (result : Result A ReadError) : Type 0
   where
     pub same_source : SameSource old new

@@ -183,7 +183,7 @@ impl<R: Source> Pull<'_, R> {
         Ok(())
     }
 
-    /// Some of the next `most` octets, at least one, behind those that came before.
+    /// Some of the next `most` octets, at least one, after those that came before.
     fn piece(&mut self, octets: &mut Vec<u8>, most: usize) -> Result<(), Halted>
         requires live { (standing self.old).error ≡ None }
         requires some { 0 < most }
@@ -243,7 +243,7 @@ impl<R: Source> Pull<'_, R> {
         Ok(())
     }
 
-    /// Some of the next octets, at least one and at most as many as the room, behind those that came before.
+    /// Some of the next octets, at least one and at most as many as the room, after those that came before.
     #[inline(always)]
     fn fill(&mut self, octets: &mut Vec<u8>, room: &mut [u8]) -> Result<(), Halted>
         requires live { (standing self.old).error ≡ None }

@@ -111,7 +111,7 @@ impl<R: Source> Pull<'_, R> {
         self.halt(at, Reason::Truncated)
     }
 
-    /// Ends the innermost container, behind the first of its end-of-contents octets.
+    /// Ends the innermost container, after the first of its end-of-contents octets.
     #[inline(never)]
     pub(crate) fn end_of_contents(&mut self, start: u32) -> Result<(), Halted>
         requires { (standing self.old).error ≡ None }
@@ -245,7 +245,7 @@ impl<R: Source> Pull<'_, R> {
         self.number(start, first)
     }
 
-    /// The number of contents octets, behind the first length octet.
+    /// The number of contents octets, after the first length octet.
     #[inline(always)]
     fn number(&mut self, start: u32, first: u8) -> Result<u32, Halted>
         requires { (standing self.old).error ≡ None }

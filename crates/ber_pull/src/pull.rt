@@ -161,7 +161,7 @@ impl<'a, R: Source> Pull<'a, R> {
         Ok(Some((tag, constructed)))
     }
 
-    /// Opens the constructed element that `next_tag` gave, behind its length.
+    /// Opens the constructed element that `next_tag` gave, after its length.
     ///
     /// Faults, at the identifier: `WrongForm` of a primitive element, `BadLength`, `PastEnd`, `TooLong`, `Truncated`.
     #[inline(always)]

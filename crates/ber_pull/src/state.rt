@@ -7,7 +7,7 @@ use tlv_core::tag::Tag;
 /// An open container.
 #[derive(Clone, Copy)]
 pub enum Container {
-    /// Its length is definite: the place behind its contents.
+    /// Its length is definite: the place after its contents.
     Definite(u32),
     /// Its length is indefinite, and its end is still to come: the end of the nearest container of definite length
     /// around it.
@@ -224,7 +224,7 @@ impl State {
         nearest_end(self.innermost())
     }
 
-    /// A place is behind the end of the nearest container of definite length.
+    /// A place is after the end of the nearest container of definite length.
     pub fn is_past_nearest_end(&self, place: u64) -> bool
         ensures value { result ≡ past_end (enclosing self.now).nearest_end place }
         ensures small { IfSome (enclosing self.now).nearest_end (λ end. end < 2 ^ 32) }

@@ -75,7 +75,7 @@ impl Joined {
         Ok(())
     }
 
-    /// More octets behind those that came.
+    /// More octets after those that came.
     fn append(&mut self, octets: Vec<u8>) -> Result<(), AllocError>
         ensures kind { self.new.is_bits ≡ self.old.is_bits }
         ensures unused { self.new.unused ≡ self.old.unused }

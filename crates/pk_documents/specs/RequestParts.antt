@@ -20,7 +20,7 @@ part_of Algorithm request = text_at (1 ∷ []) request
 part_of Key request = text_at (0 ∷ 2 ∷ []) request
 part_of Signature request = drop 1 (leaf_at (2 ∷ []) (sequence_members request))
 
--- These octets stand in the text, one behind another.
+-- These octets stand in the text, one after another.
 abbrev pub StandsIn : List ℕ → List ℕ → Type 0
 StandsIn part text = (before : List ℕ) × (after : List ℕ) × (text ≡ before ++ (part ++ after))
 

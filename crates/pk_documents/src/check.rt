@@ -55,7 +55,7 @@ pub fn check<R: Source>(
 
 /// `check` where the document has to be all of the input: one octet more is asked for.
 ///
-/// Faults: those of `check`; `Trailing` at the first octet behind the document, whether it is in DER or not.
+/// Faults: those of `check`; `Trailing` at the first octet after the document, whether it is in DER or not.
 #[tactic(auto, using(crate::proofs::LawfulKinds::lawful_types))]
 pub fn check_whole_document<R: Source>(
     alloc: Global,

@@ -238,7 +238,7 @@ pub fn read_document<R: Source>(
 
 /// `read_document` where the document has to be all of the input: one octet more is asked for.
 ///
-/// Faults: those of `read_document`; `Trailing` at the first octet behind the document.
+/// Faults: those of `read_document`; `Trailing` at the first octet after the document.
 pub fn read_whole_document<R: Source>(
     alloc: Global,
     src: &mut R,

@@ -34,7 +34,7 @@ pub fn kinds_are_apart()
     ensures { KindsAreApart }
 {}
 
-/// What `write_part` writes of a request stands in the request's own DER text, octet behind octet.
+/// What `write_part` writes of a request stands in the request's own DER text, octet after octet.
 pub fn parts_stand_in_the_text()
     ensures { PartsStandInTheText }
 {}

@@ -5,7 +5,7 @@ use Rattle.std.specs.Option.{option_map}
 use Rattle.std.proofs.lemmas.List.{flat_map_more, length-map, take_all, take_more}
 use Rattle.std.proofs.lemmas.Option.{get_or_from_slice_get, none-some, slice_get-get_or, slice_get-map, slice_get_within}
 
--- the lines of the first members, and those of the next one behind them
+-- the lines of the first members, and those of the next one after them
 pub next_member : {A : Type 0} (lines : A → List ℕ) (old : List ℕ) (members : List A) (i : ℕ) (member : A)
     → Some member ≡ slice_get members i
     → (old ++ flat_map lines (take i members)) ++ lines member ≡ old ++ flat_map lines (take (i + 1) members)

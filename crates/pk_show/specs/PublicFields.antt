@@ -40,7 +40,7 @@ abbrev mutual
   blanks NoMembers = NoMembers
   blanks (FirstMember value values) = FirstMember (blank value) (blanks values)
 
--- an RSAPrivateKey: all behind modulus and publicExponent is private
+-- an RSAPrivateKey: all after modulus and publicExponent is private
 abbrev pub RsaFieldsAre : RsaPrivateKey → RsaPrivateKey → Type 0
 RsaFieldsAre one other =
     (rsa_version_of one.value.fields ≡ rsa_version_of other.value.fields)

@@ -55,7 +55,7 @@ fn push_kind(text: &mut String, kind: Kind) -> Result<(), AllocError>
     text.push_str("\n")
 }
 
-/// The lines behind that one.
+/// The lines after that one.
 fn push_parts(alloc: Global, text: &mut String, document: &Document) -> Result<(), AllocError>
     ensures { OnOk result (string_bytes text.new ≡ string_bytes text.old
         ++ part_lines document.now) }

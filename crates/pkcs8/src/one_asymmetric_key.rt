@@ -37,7 +37,7 @@ use tlv_core::source::Source;
 use tlv_core::tag::Tag;
 use tlv_core::target::Target;
 
-/// The head, and privateKey behind it; attributes, under the implicit tag [0].
+/// The head, and privateKey after it; attributes, under the implicit tag [0].
 type BodyListed = (
     Dependent<KeyHead, ContainedKey>,
     Optional<Implicit<0, SetOf<Attribute>>>,
@@ -86,7 +86,7 @@ impl FirstFields for KeyBody {
     }
 }
 
-/// The body, and publicKey behind it, which is there under version 1 alone.
+/// The body, and publicKey after it, which is there under version 1 alone.
 type Listed = OptionalDependent<KeyBody, PublicKey>;
 
 /// version, privateKeyAlgorithm, privateKey, attributes, publicKey.

@@ -36,8 +36,7 @@ use tlv_core::source::Source;
 use tlv_core::tag::Tag;
 use tlv_core::target::Target;
 
-/// Under id-ecPublicKey an ECPrivateKey, which names no other curve than the container; where it names none, it has the
-/// length that goes with the container's.
+/// Under id-ecPublicKey an ECPrivateKey, of the container's curve by its name, or without one by its length.
 #[derive(Drop)]
 pub struct UnderEc;
 
@@ -148,8 +147,7 @@ impl<A: NamesKey> Defines<A> for UnderRsa {
     }
 }
 
-/// What stands under the algorithm: under all others than these the octets are carried. An RSA key is great, and takes
-/// room in no other.
+/// What stands under the algorithm; under all others octets are carried. An RSA key is large: it has room of its own.
 type ByAlgorithm = DefinedBy<
     RuledContaining<EcPrivateKey, UnderEc>,
     DefinedBy<
@@ -160,7 +158,7 @@ type ByAlgorithm = DefinedBy<
     UnderEc,
 >;
 
-/// The private key behind the fields before it.
+/// The private key after the fields before it.
 #[derive(Drop)]
 pub struct ContainedKey(pub ByAlgorithm);
 

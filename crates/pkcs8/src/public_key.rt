@@ -67,7 +67,7 @@ impl<A: NamesKey> FieldRules<A, Implicit<1, Bits>> for KeyBits {
     }
 }
 
-/// The public key behind the fields before it: none under version 0, else the key.
+/// The public key after the fields before it: none under version 0, else the key.
 pub type PublicKey = DefinedBy<
     Independent<Refused<PublicKeyUnderVersion0>>,
     RuledBehind<Implicit<1, Bits>, KeyBits>,

@@ -24,7 +24,7 @@ Say what a request is, and what a reason means:
 
 pub const CHECK: &str = "\
 It says 'DER', 'not DER at PLACE' (status 1) or 'fault at PLACE: REASON'
-(status 2), of a file behind its name. Kinds and statuses: pkder help.
+(status 2), of a file after its name. Kinds and statuses: pkder help.
 
   pkder check --kind request request.der";
 
@@ -96,7 +96,7 @@ begin (Missing), or where the octets or the document end (Truncated, Trailing).
   TextTooLong  a DER text of more octets than --octets
   TooDeep      more nesting than --depth
   TooLong      more octets than --octets
-  Trailing     octets behind the document
+  Trailing     octets after the document
   Truncated    the end of the input within the document
   Version      a version that the kind doesn't have
   VersionRule  a version that doesn't go with the fields

@@ -50,7 +50,7 @@ module _ {A : Type 0} (f : A → Value) (algorithm : List ℕ) (o : Option A) wh
       go true (Some x) e h = cc
       go false o e h = cc
 
--- A key behind its algorithm.
+-- A key after its algorithm.
 module _ (algorithm bits : List ℕ) (more : List Value) where
   key_rule_is : key_bits_rule (0 ∷ 0 ∷ [])
       (Sequence (universal 16) (values_of (Leaf (universal 6) algorithm ∷ more)) ∷ []) (Leaf (universal 3) bits)

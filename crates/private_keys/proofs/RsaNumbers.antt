@@ -1,4 +1,4 @@
--- Numbers in one text: those that stand there, and one more behind them.
+-- Numbers in one text: those that stand there, and one more after them.
 use Rattle.std.proofs.Common.{◌≡◌, ◌∙◌, ◌+◌, ◌-◌, ◌*◌, ◌^◌, ◌++◌, ◌<◌, ◌≤◌, ◌∷◌, List, [], Option, ℕ, add-one, ap, ap₂, append-nil, arith, below_more, drop, get_or, get_or-set_other, get_or-set_same, length, length-append, map, refl, set, slice_index, slice_range, subst, suc, sym, take, zero, ⊎_elim}
 use Rattle.std.proofs.Math.Seq.{get_or-append_seam}
 use Rattle.std.proofs.lemmas.Bool.{cases_lt}
@@ -51,7 +51,7 @@ leaf_get (x ∷ contents) (suc i) h = leaf_get contents i (omega (arith, h))
 pub first_leaf : (at : ℕ → List ℕ) (n i : ℕ) → i < n → leaf_at (i ∷ []) (map integer_value (first_of at n)) ≡ at i
 first_leaf at n i h = leaf_get (first_of at n) i (omega (arith, h, first_length at n)) ∙ first_at at n i h
 
--- One more behind them.
+-- One more after them.
 module _ (text contents begins ends : List ℕ) (i begin end : ℕ) (text' : List ℕ)
     (room : i < length begins) (room' : i < length ends)
     (inside : (j : ℕ) → j < i → (slice_index begins j ≤ slice_index ends j) × (slice_index ends j ≤ length text))

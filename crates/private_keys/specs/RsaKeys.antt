@@ -14,7 +14,7 @@ abbrev pub infos : {A B C : Type 0} → (B → List C) → Either A B → List C
 infos items (First never) = []
 infos items (Second list) = items list
 
--- the primes behind the first two
+-- the primes after the first two
 abbrev pub other_primes : {A B C : Type 0} → (B → List C) → Option (Either A B) → List C
 other_primes items None = []
 other_primes items (Some either) = infos items either

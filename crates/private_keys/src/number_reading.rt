@@ -1,5 +1,5 @@
-//! One INTEGER of many that are due, read behind those before it: the contents of each stand in a vector that is used
-//! again, and its DER encoding goes behind the others.
+//! One INTEGER of many that are due, read after those before it: the contents of each stand in a vector that is used
+//! again, and its DER encoding goes after the others.
 ghost use Rattle.std.specs.Prelude.{◌≡◌, ◌++◌, ◌<◌, ◌≤◌, ◌^◌, ◌∷◌, [], None, IfOk, OnOk, false, length, slice_range};
 ghost use Rattle.std.specs.Prelude.{true};
 ghost use Rattle.tlv_core.specs.Header.{der_header};
@@ -53,7 +53,7 @@ fn take_integer<R: Source>(
     read_leaf_into(alloc, pull, SimpleType::Integer, contents)
 }
 
-/// The same, and what stands behind it.
+/// The same, and what stands after it.
 fn due_integer<R: Source>(
     alloc: Global,
     pull: &mut Pull<'_, R>,
@@ -74,7 +74,7 @@ fn due_integer<R: Source>(
     Ok(())
 }
 
-/// The DER encoding of the INTEGER with these contents behind the text, and the place where the contents begin in it.
+/// The DER encoding of the INTEGER with these contents after the text, and the place where the contents begin in it.
 fn push_integer(text: &mut Vec<u8>, contents: &[u8]) -> Result<usize, AllocError>
     ensures put { OnOk result (text.new.items ≡ text.old.items
         ++ (der_header (universal 2) false (length contents.now) ++ contents.now)) }
@@ -84,7 +84,7 @@ fn push_integer(text: &mut Vec<u8>, contents: &[u8]) -> Result<usize, AllocError
 {
     let tag = universal_tag(2);
     let length = contents.len();
-    // (the modulus of a key stands first; the numbers behind it take less than four times as much)
+    // (the modulus of a key stands first; the numbers after it take less than four times as much)
     let others = if text.is_empty() {
         4 * length.min(LONGEST)
     } else {
@@ -100,7 +100,7 @@ fn push_integer(text: &mut Vec<u8>, contents: &[u8]) -> Result<usize, AllocError
     Ok(begin)
 }
 
-/// An INTEGER that is due: its contents in place of what `room` holds, and its DER encoding behind the text. The place
+/// An INTEGER that is due: its contents in place of what `room` holds, and its DER encoding after the text. The place
 /// where the contents begin in the text, which they end.
 pub(crate) fn append_integer<R: Source>(
     alloc: Global,

@@ -99,6 +99,6 @@ impl SequenceFields for OtherPrimeFields {
     ghost few = { ltb-true _ _ refl };
 }
 
-/// A prime of an RSA key behind the first two, with its exponent and coefficient. Whether they are what they should be
+/// A prime of an RSA key after the first two, with its exponent and coefficient. Whether they are what they should be
 /// isn't looked at.
 pub type OtherPrimeInfo = Sequence<OtherPrimeFields>;

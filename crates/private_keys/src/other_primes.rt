@@ -1,4 +1,4 @@
-//! otherPrimeInfos of an RSAPrivateKey (RFC 8017 A.1.2), behind its version and the numbers of two primes.
+//! otherPrimeInfos of an RSAPrivateKey (RFC 8017 A.1.2), after its version and the numbers of two primes.
 ghost use Rattle.std.specs.Prelude.{◌≡◌, ◌∷◌, [], length};
 ghost use Rattle.tlv_core.specs.declared.reason.Reason.TheVariants as why;
 ghost use Rattle.pkix_definitions.specs.DocumentTypes.{other_prime_infos};
@@ -29,7 +29,7 @@ use tlv_core::target::Target;
 /// What stands before otherPrimeInfos.
 pub type VersionAndNumbers = (Required<Version<0, 1>>, Numbers);
 
-/// Nothing may stand behind the numbers of a key of version 0.
+/// Nothing may stand after the numbers of a key of version 0.
 #[derive(Drop)]
 pub struct PrimesUnderVersion0;
 
@@ -60,14 +60,14 @@ impl Defines<VersionAndNumbers> for PrimesUnderVersion0 {
     }
 }
 
-/// What may stand behind the numbers: nothing under version 0, else at least one prime.
+/// What may stand after the numbers: nothing under version 0, else at least one prime.
 type Infos = DefinedBy<
     Independent<Refused<PrimesUnderVersion0>>,
     Independent<ListOfSome<OtherPrimeInfo>>,
     PrimesUnderVersion0,
 >;
 
-/// The primes behind the first two, at least one, under version 1.
+/// The primes after the first two, at least one, under version 1.
 #[derive(Drop)]
 pub struct OtherPrimes(Infos);
 

@@ -21,7 +21,7 @@ use tlv_core::source::Source;
 use tlv_core::target::Target;
 
 /// modulus, publicExponent, privateExponent, prime1, prime2, exponent1, exponent2, coefficient: the DER encodings one
-/// behind another, and the places where the contents of each begin and end.
+/// after another, and the places where the contents of each begin and end.
 #[derive(Drop)]
 pub struct Numbers {
     text: Vec<u8>,

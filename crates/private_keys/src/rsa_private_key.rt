@@ -49,7 +49,7 @@ impl RsaFields {
         self.0.earlier().1.get(i)
     }
 
-    /// The number of primes behind the first two.
+    /// The number of primes after the first two.
     pub fn others(&self) -> usize
         ensures { result ≡ length (other_primes_of self.now) }
     {

@@ -1,5 +1,5 @@
 //! Allowed ::= SEQUENCE { number INTEGER, sealed [0], octets OCTET STRING OPTIONAL }, where nothing may stand as
-//! sealed, no octets behind 0, and as many as the number has behind another one.
+//! sealed, no octets after 0, and as many as the number has after another one.
 ghost use Rattle.std.proofs.lemmas.Bool.{ltb-true};
 ghost use Rattle.std.specs.Prelude.{◌∷◌, [], refl};
 ghost use Rattle.tlv_core.specs.declared.reason.Reason.TheVariants as why;
@@ -101,7 +101,7 @@ impl RefusedTag for Sealed {
     }
 }
 
-/// No octets may stand behind 0.
+/// No octets may stand after 0.
 #[derive(Drop)]
 pub struct BehindZero;
 

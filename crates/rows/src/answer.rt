@@ -12,11 +12,11 @@ pub enum Answer {
     Written(Vec<u8>),
     /// No value was read.
     Stopped(ReadError),
-    /// A reader wanted memory behind so many octets.
+    /// A reader wanted memory after so many octets.
     Wanted(usize),
     /// No value was made.
     NotMade(BuildError),
-    /// The target failed behind these octets.
+    /// The target failed after these octets.
     Cut(Vec<u8>),
     /// Two answers don't agree, or one isn't as promised.
     Wrong(&'static str),

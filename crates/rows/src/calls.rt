@@ -84,7 +84,7 @@ fn call_of(word: &str) -> Option<Call> {
     })
 }
 
-/// In pieces, from a source that ends and from one that fails behind the last octet, the replies are those from the
+/// In pieces, from a source that ends and from one that fails after the last octet, the replies are those from the
 /// slice.
 fn agree_in_pieces(
     alloc: Global,
@@ -109,7 +109,7 @@ fn agree_in_pieces(
     Ok(())
 }
 
-/// From a source that fails behind its first octets, however many, the replies are those from the slice as far as those
+/// From a source that fails after its first octets, however many, the replies are those from the slice as far as those
 /// octets go.
 fn agree_in_failures(
     alloc: Global,

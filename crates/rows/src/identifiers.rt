@@ -66,7 +66,7 @@ fn arcs_of(alloc: Global, words: &mut SplitWhitespace<'_>) -> Result<Vec<u128>, 
     Ok(arcs)
 }
 
-/// The object identifier has these arcs, one by one and in one walk, and no arc behind them.
+/// The object identifier has these arcs, one by one and in one walk, and no arc after them.
 fn check_arcs(oid: &Oid, arcs: &[u128]) -> Result<(), Answer> {
     let count = oid.arc_count();
     if count != arcs.len() {

@@ -34,21 +34,21 @@ impl Line {
         self.words(words)
     }
 
-    /// A number behind its name.
+    /// A number after its name.
     pub fn number(&mut self, name: &str, number: usize) -> Result<(), AllocError> {
         self.part(name)?;
         self.words(" ")?;
         self.digits(number)
     }
 
-    /// Octets behind their name, in hex.
+    /// Octets after their name, in hex.
     pub fn octets(&mut self, name: &str, octets: &[u8]) -> Result<(), AllocError> {
         self.part(name)?;
         self.words(" ")?;
         self.hex(octets)
     }
 
-    /// The text of a value behind its name, in hex.
+    /// The text of a value after its name, in hex.
     pub fn value<T: DerText>(&mut self, name: &str, value: &T) -> Result<(), AllocError> {
         self.part(name)?;
         self.words(" ")?;

@@ -2,7 +2,7 @@
 //! pkder does. `tests/harness/rows.py` hands it the rows of `tests/rows`, and `tests/harness/growths.py` refuses each
 //! growth of memory in turn meanwhile. Not part of pkder.
 //!
-//! Standard input is a line of words, below, and the octets behind it. Of `tlv_core` and `ber_pull`:
+//! Standard input is a line of words, below, and the octets after it. Of `tlv_core` and `ber_pull`:
 //!
 //! - `calls [depth N] [limit N] [needs N] CALL ..`: what calls of a `Pull` reply, also in pieces and cut at each octet
 //! - `arcs ARC ..`, `contents`, `compare ARC ..`: object identifiers
@@ -10,7 +10,7 @@
 //!
 //! Of the crates above, for a type that `tasks.rt` names:
 //!
-//! - `read TYPE`: a value, in pieces, cut at each octet and with octets behind it: its text, or the fault
+//! - `read TYPE`: a value, in pieces, cut at each octet and with octets after it: its text, or the fault
 //! - `document TYPE`, `element TYPE`: the same by `read_value`, by `read_element`
 //! - `normalise TYPE`, `check TYPE`: the same by `normalise_value`, by `check_value`
 //! - `whole TYPE`, `normalise-whole TYPE`: a value that has to be all of the octets, for a type of the rows' own in
@@ -20,9 +20,9 @@
 //! - `fields TYPE`: what each field reader answers
 //! - `signed request`: what the signature covers, to a target of `room` octets; `written request`: the whole, to it
 //! - `make TYPE`: a value made of the octets
-//! - `compare integer-set`: two values made of two parts, each behind its length in two octets
+//! - `compare integer-set`: two values made of two parts, each after its length in two octets
 //!
-//! Behind them may stand `depth N`, `limit N`, `room N` and `piece N`. Before a task that reads or makes `once` does it
+//! After them may stand `depth N`, `limit N`, `room N` and `piece N`. Before a task that reads or makes `once` does it
 //! once, so that no memory is asked for but by the libraries, and `read` tells of a reader that wanted memory how many
 //! octets it took; `again` asks that reader further, too.
 //!
@@ -70,14 +70,14 @@ fn main(rt: HostRuntime) -> ExitCode {
     if count > ROOM - 2 {
         return ExitCode::from(4);
     }
-    // octets behind those that are given, which are to stay
+    // octets after those that are given, which are to stay
     room[count] = 0x05;
     room[count + 1] = 0x00;
     let answer = answered(&rt, &room[..count], &room[..count + 2]);
     ExitCode::from(printing::print(&mut rt.stdout(), &mut rt.stderr(), &answer))
 }
 
-/// The answer to the line and the octets behind it; `followed` goes on behind them.
+/// The answer to the line and the octets after it; `followed` goes on after them.
 fn answered(rt: &HostRuntime, given: &[u8], followed: &[u8]) -> Answer {
     let Some(end) = given.iter().position(|octet| *octet == b'\n') else {
         return Answer::Unknown;

@@ -50,7 +50,7 @@ fn strings(alloc: Global, octets: &[u8]) -> Result<SetOf<Octets>, BuildError> {
     SetOf::from_items(alloc, items)
 }
 
-/// The first part, behind its length in two octets, and what follows it.
+/// The first part, after its length in two octets, and what follows it.
 fn next_part(octets: &[u8]) -> Option<(&[u8], &[u8])> {
     let [high, low, rest @ ..] = octets else {
         return None;

@@ -42,7 +42,7 @@ impl<T: Document> Reading for NormalisedOf<T> {
     }
 }
 
-/// What is told of a normalised value whose text went behind an octet 07.
+/// What is told of a normalised value whose text went after an octet 07.
 pub fn normalised_behind<T: Document>(
     alloc: Global,
     counts: Result<(u64, u64), NormaliseError>,
@@ -103,7 +103,7 @@ fn again<T: Document>(alloc: Global, text: &[u8], limits: Limits) -> Answer {
     }
 }
 
-/// A value normalised into a target that fails behind some octets.
+/// A value normalised into a target that fails after some octets.
 pub fn normalised_into<T: Document>(
     alloc: Global,
     octets: &[u8],

@@ -1,4 +1,4 @@
-//! Values read in pieces, from octets that end or fail at each place, and with octets behind.
+//! Values read in pieces, from octets that end or fail at each place, and with octets after.
 ghost use Rattle.std.specs.Prelude.{◌≡◌, ◌<◌, None, Some, IsSome, false};
 ghost use Rattle.tlv_core.specs.declared.fault.ReadError.TheVariants.{Memory};
 ghost use Rattle.ber_pull.specs.View.{standing, Keeps, Repeats};
@@ -130,7 +130,7 @@ pub fn checked<K: Reading>(
     whole.answer
 }
 
-/// Whether the same is told of the octets in pieces of this size, from a source that fails behind them.
+/// Whether the same is told of the octets in pieces of this size, from a source that fails after them.
 fn is_told_in_pieces<K: Reading>(
     alloc: Global,
     octets: &[u8],
@@ -157,7 +157,7 @@ pub fn is_stopped<R: Source, K: Reading>(
     K::told(alloc, source, limits).answer.is_error(error)
 }
 
-/// Whether octets that are too few are answered so, where the source ends behind them and where it fails there.
+/// Whether octets that are too few are answered so, where the source ends after them and where it fails there.
 pub fn is_cut_short<K: Reading>(alloc: Global, octets: &[u8], limits: Limits) -> bool {
     let at = octets.len() as u64;
     let mut ends = Pieces::new(octets, 7, false);

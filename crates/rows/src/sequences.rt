@@ -1,4 +1,4 @@
-//! SEQUENCE { INTEGER, BOOLEAN }, with OPTIONAL behind it, and with DEFAULT FALSE, by the list of its fields.
+//! SEQUENCE { INTEGER, BOOLEAN }, with OPTIONAL after it, and with DEFAULT FALSE, by the list of its fields.
 use crate::answer::Answer;
 use crate::line::Line;
 use crate::reading::{Reading, Told};

@@ -28,7 +28,7 @@ impl Read for Breaks<'_> {
 }
 
 /// What a source of the octets gives, at most `ROOM` of them per read: `pieces SIZE ROOM ends|fails`, `slice ROOM
-/// READS`, `reader ROOM READS`, or `breaking FIRST ROOM`, a reader that breaks behind its first octets.
+/// READS`, `reader ROOM READS`, or `breaking FIRST ROOM`, a reader that breaks after its first octets.
 pub fn answered(
     alloc: Global,
     words: &mut SplitWhitespace<'_>,

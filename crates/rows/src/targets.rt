@@ -39,8 +39,8 @@ impl Write for Halts {
     }
 }
 
-/// What becomes of the octets, handed out in order by `write COUNT ..` and then `put COUNT ..`, behind `stops ROOM
-/// SIZE`, `vector`, or `zero MOST` and `error MOST`, a writer that answers 0 or an error behind so many.
+/// What becomes of the octets, handed out in order by `write COUNT ..` and then `put COUNT ..`, after `stops ROOM
+/// SIZE`, `vector`, or `zero MOST` and `error MOST`, a writer that answers 0 or an error after so many.
 pub fn answered(
     alloc: Global,
     words: &mut SplitWhitespace<'_>,

@@ -45,7 +45,7 @@ use private_keys::rsa_private_key::RsaPrivateKey;
 use std::alloc::Global;
 use tlv_core::oid::Oid;
 
-/// A task on a type and its octets; `followed` goes on behind them.
+/// A task on a type and its octets; `followed` goes on after them.
 #[derive(Clone, Copy)]
 pub struct Task<'a> {
     pub words: Words<'a>,
@@ -53,7 +53,7 @@ pub struct Task<'a> {
     pub followed: &'a [u8],
 }
 
-/// The answer to a line and the octets behind it; `followed` goes on behind them.
+/// The answer to a line and the octets after it; `followed` goes on after them.
 pub fn answered(alloc: Global, line: &str, octets: &[u8], followed: &[u8]) -> Answer {
     let mut words = line.split_whitespace();
     Answer::either(match words.next() {
@@ -217,7 +217,7 @@ fn on_sample(alloc: Global, task: &Task<'_>) -> Answer {
     }
 }
 
-/// What a reading tells, of octets with others behind them or of all of its input.
+/// What a reading tells, of octets with others after them or of all of its input.
 fn told_of<K: Reading>(alloc: Global, task: &Task<'_>, is_whole: bool) -> Answer {
     let limits = task.words.limits;
     match task.words.way {

@@ -43,7 +43,7 @@ impl<T: Document> Reading for NormalisedWholeOf<T> {
 }
 
 /// The answer of a reading to octets that have to be all of its input: the same in all pieces. Where they are one
-/// value, each octet less is too few, an octet more is a fault, and so is a source that fails behind them.
+/// value, each octet less is too few, an octet more is a fault, and so is a source that fails after them.
 pub fn checked_whole<K: Reading>(
     alloc: Global,
     octets: &[u8],
@@ -81,7 +81,7 @@ pub fn checked_whole<K: Reading>(
     whole.answer
 }
 
-/// Whether octets behind a value are a fault, and a source that fails there a failed read.
+/// Whether octets after a value are a fault, and a source that fails there a failed read.
 fn is_end_looked_for<K: Reading>(
     alloc: Global,
     octets: &[u8],

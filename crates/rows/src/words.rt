@@ -81,7 +81,7 @@ pub fn words_of(line: &str) -> Option<Words<'_>> {
     })
 }
 
-/// The numbers that are named, each behind its name.
+/// The numbers that are named, each after its name.
 fn numbers_of(words: &mut SplitWhitespace<'_>) -> Option<Numbers> {
     let mut numbers = Numbers {
         depth: 32,

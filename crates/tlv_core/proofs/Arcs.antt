@@ -50,16 +50,16 @@ arcs_told (x ∷ y ∷ more) octets h =
 pub arcs_fit : (octets : List ℕ) → IsObjectIdentifier octets → ObjectIdentifierOctets (arcs_of octets) octets
 arcs_fit octets (arcs, h) = subst (λ xs. ObjectIdentifierOctets xs octets) (sym (arcs_told arcs octets h)) h
 
--- the text of arcs that stand behind another one
+-- the text of arcs that stand after another one
 abbrev pub behind_stops : List ℕ → List ℕ
 behind_stops arcs = flat_map (λ next. codes "." ++ decimal next) arcs
 
--- the text so far, and the next arc behind it
+-- the text so far, and the next arc after it
 pub next_arc_text : (old arcs : List ℕ) (n : ℕ)
     → (old ++ (codes "." ++ decimal n)) ++ behind_stops arcs ≡ old ++ behind_stops (n ∷ arcs)
 next_arc_text old arcs n = append_assoc old (codes "." ++ decimal n) (behind_stops arcs)
 
--- the first two arcs and those behind them
+-- the first two arcs and those after them
 pub first_arcs_text : (old arcs : List ℕ) (x y : ℕ)
     → ((old ++ decimal x) ++ (codes "." ++ decimal y)) ++ behind_stops arcs ≡ old ++ dotted (x ∷ y ∷ arcs)
 first_arcs_text old arcs x y =

@@ -31,7 +31,7 @@ run_longer : (x : ℕ) (s : List ℕ) → 128 ≤ x → x < 256 → IsRun s → 
 run_longer x [] l m h = absurd h
 run_longer x (y ∷ s) l m h = (l, m, h)
 
--- a run that begins with the octets before the last of another one goes on behind them with a run
+-- a run that begins with the octets before the last of another one goes on after them with a run
 pub run_beyond : (h s d r : List ℕ) → IsRun (h ++ 0 ∷ []) → IsRun d → h ++ s ≡ d ++ r
     → (e : List ℕ) × (d ≡ h ++ e) × IsRun e × (s ≡ e ++ r)
 run_beyond [] s d r g k q = (d, refl, k, q)
@@ -46,13 +46,13 @@ run_beyond (a ∷ a' ∷ h) s (b ∷ b' ∷ d) r g k q =
     let longer : b' ∷ d ≡ (a' ∷ h) ++ i.0 = i.1 in
     (i.0, cc, i.2, i.3)
 
--- behind a number there is at least one digit more
+-- after a number there is at least one digit more
 pub run_value_more : (high : ℕ) (s : List ℕ) → IsRun s → high * 128 ≤ run_value high s
 run_value_more high [] h = absurd h
 run_value_more high (x ∷ []) h = omega arith
 run_value_more high (x ∷ y ∷ s) h = let i = run_value_more (high * 128 + x % 128) (y ∷ s) h.2 in omega (arith, i)
 
--- the leading digits, and a run behind them
+-- the leading digits, and a run after them
 leading_run : (k n : ℕ) (s : List ℕ) → IsRun s → IsRun (leading_base128 k n ++ s)
 unfolding leading_base128
 leading_run zero n s h = h

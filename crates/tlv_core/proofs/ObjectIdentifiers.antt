@@ -20,7 +20,7 @@ run_some (x ∷ s) t h e = cc
 base128_some : (n : ℕ) (s : List ℕ) → base128 n ++ s ≢ []
 base128_some n s e = run_some (base128 n) s (base128_run n) e
 
--- what begins with numbers goes on with the numbers behind them
+-- what begins with numbers goes on with the numbers after them
 pub numbers_beyond : (ns ms rest : List ℕ) → flat_map base128 ns ++ rest ≡ flat_map base128 ms
     → (later : List ℕ) × (ms ≡ ns ++ later) × (rest ≡ flat_map base128 later)
 numbers_beyond [] ms rest e = (ms, refl, e)
@@ -92,7 +92,7 @@ no_more_arcs (x ∷ y ∷ xs) o rest octets h e z none (ys, g) = go ys g
         numbers_beyond ((40 * x + y) ∷ xs) ((40 * a + b) ∷ ys) rest (ap (λ s. s ++ rest) (sym h.3) ∙ sym e ∙ g.3) in
         ends i.0 (below_later (2 ^ 128) ((40 * x + y) ∷ xs) i.0 (subst (λ l. AllBelow (2 ^ 128) l) i.1 g.2)) i.2
 
--- behind the leading digits of a number that the octets begin with stand its other digits
+-- after the leading digits of a number that the octets begin with stand its other digits
 record Begun (octets : List ℕ) (i v n : ℕ) (rest : List ℕ) : Type 0 where
   digits : List ℕ
   run : IsRun digits
@@ -157,7 +157,7 @@ pub all_below : (bound : ℕ) (xs : List ℕ) → ((i : ℕ) → get_or xs i 0 <
 all_below bound [] h = tt
 all_below bound (x ∷ xs) h = (h 0, all_below bound xs (λ i. h (suc i)))
 
--- what is left behind the first octets
+-- what is left after the first octets
 pub rest_is : (octets first : List ℕ) (used : ℕ) → take used octets ≡ first
     → octets ≡ first ++ take (length octets - used) (drop used octets)
 rest_is octets first used h =
@@ -217,7 +217,7 @@ rest_length octets used =
     ap length (take_all (length octets - used) (drop used octets) (omega (arith, length-drop used octets)))
     ∙ length-drop used octets
 
--- The first subidentifier tells the first two arcs, and behind it stand those of the later ones.
+-- The first subidentifier tells the first two arcs, and after it stand those of the later ones.
 pub leading_are : (arcs octets : List ℕ) (n used lead : ℕ) → ObjectIdentifierOctets arcs octets
     → take used octets ≡ base128 n → lead ≡ min (n / 40) 2
     → (arcs ≡ lead ∷ (n - 40 * lead) ∷ drop 2 arcs)
@@ -274,7 +274,7 @@ all_passed [] k rest h none = omega arith
 all_passed (m ∷ ms) zero rest h none = absurd (none m (flat_map base128 ms) h.0.0 h.1)
 all_passed (m ∷ ms) (suc k) rest h none = let i : length ms ≤ k = all_passed ms k rest h none in omega arith
 
--- the arc behind those that are passed
+-- the arc after those that are passed
 passed_get : (arcs : List ℕ) (i k : ℕ) → k ≡ min i (length arcs) → slice_get (drop k arcs) 0 ≡ slice_get arcs i
 passed_get [] i zero e = refl
 passed_get [] i (suc k) e = absurd (omega arith)

@@ -23,6 +23,6 @@ ObjectIdentifierOctets (first ∷ second ∷ more) octets =
 abbrev pub IsObjectIdentifier : List ℕ → Type 0
 IsObjectIdentifier octets = (arcs : List ℕ) × ObjectIdentifierOctets arcs octets
 
--- The octets are those of these arcs behind the first two: a subidentifier for each (8.19.3).
+-- The octets are those of these arcs after the first two: a subidentifier for each (8.19.3).
 abbrev pub LaterOctets : List ℕ → List ℕ → Type 0
 LaterOctets arcs octets = AllBelow (2 ^ 128) arcs × (octets ≡ flat_map base128 arcs)

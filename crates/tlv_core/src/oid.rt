@@ -54,7 +54,7 @@ impl Model for Oid {
     ghost invariant = { λ oid. IsObjectIdentifier oid.contents.items };
 }
 
-/// The arcs of an object identifier behind the first two: a place to go on from, so that all are told in one walk.
+/// The arcs of an object identifier after the first two: a place to go on from, so that all are told in one walk.
 #[derive(Drop)]
 pub struct LaterArcs<'a> {
     rest: &'a [u8],
@@ -63,7 +63,7 @@ pub struct LaterArcs<'a> {
 impl LaterArcs<'_> {
     ghost use Rattle.tlv_core.specs.LaterArcs.{StillToCome, octets_left};
 
-    /// The next arc, which the place is then behind; `None` where there is no other one, now or later.
+    /// The next arc, which the place is then after; `None` where there is no other one, now or later.
     pub fn next(&mut self) -> Option<u128>
         ensures arc { (arcs : List ℕ) → StillToCome arcs self.old
             → (result ≡ slice_get arcs 0) × StillToCome (drop 1 arcs) self.new }
@@ -224,7 +224,7 @@ fn leading_arcs(octets: &[u8]) -> (u128, u128, &[u8])
     (lead, first - 40 * lead, &octets[used..])
 }
 
-/// Passes as many of the later arcs as are asked for, or all: their number, and the octets behind them.
+/// Passes as many of the later arcs as are asked for, or all: their number, and the octets after them.
 fn pass_arcs(octets: &[u8], most: usize) -> (usize, &[u8])
     ensures arcs { (arcs : List ℕ) → LaterOctets arcs octets.now
         → (result.0 ≡ min most (length arcs)) × LaterOctets (drop result.0 arcs) result.1.now }

@@ -79,7 +79,7 @@ pub(crate) fn subidentifier_size(octets: &[u8]) -> usize
     }
 }
 
-/// Puts the base-128 digits of the number behind the octets, each with bit 8 set.
+/// Puts the base-128 digits of the number after the octets, each with bit 8 set.
 fn push_leading_base128(octets: &mut Vec<u8>, number: u128) -> Result<(), AllocError>
     ensures { IfOk result (λ _. octets.new.items ≡ octets.old.items
         ++ leading_base128 number number) }
@@ -91,7 +91,7 @@ fn push_leading_base128(octets: &mut Vec<u8>, number: u128) -> Result<(), AllocE
     Ok(())
 }
 
-/// Puts the base-128 digits of the number behind the octets.
+/// Puts the base-128 digits of the number after the octets.
 pub(crate) fn push_subidentifier(octets: &mut Vec<u8>, number: u128) -> Result<(), AllocError>
     ensures { IfOk result (λ _. octets.new.items ≡ octets.old.items ++ base128 number) }
 {

@@ -6,7 +6,7 @@ use crate::oid::Oid;
 use itoa::Buffer;
 use std::alloc::AllocError;
 
-/// Puts a number in decimal digits behind the text.
+/// Puts a number in decimal digits after the text.
 pub fn push_number(text: &mut String, number: u128) -> Result<(), AllocError>
     ensures { OnOk result (string_bytes text.new ≡ string_bytes text.old ++ decimal number) }
 {
@@ -14,7 +14,7 @@ pub fn push_number(text: &mut String, number: u128) -> Result<(), AllocError>
     text.push_str(buffer.format(number))
 }
 
-/// Puts the arcs of an object identifier behind the text, a full stop between each two.
+/// Puts the arcs of an object identifier after the text, a full stop between each two.
 pub fn push_oid(text: &mut String, id: &Oid) -> Result<(), AllocError>
     ensures { OnOk result (string_bytes text.new ≡ string_bytes text.old ++ oid_text id.now) }
 {

@@ -37,7 +37,7 @@ bind_first {A} {B} p q f e k s = go (run q k s) refl
     go (Took a j r) x = run_bind p f k s a j r (e k s ∙ x) ∙ sym (run_bind q f k s a j r x)
     go (Halted g) x = halt_bind p f k s g (e k s ∙ x) ∙ sym (halt_bind q f k s g x)
 
--- one reading behind another, and then the rest
+-- one reading after another, and then the rest
 pub behind : {A B X Z : Type 0} (p : Reading A) (q : A → Reading B) (w : A → B → Reading X) (f : X → Reading Z)
     → Alike ((p >>= λ a. q a >>= λ b. w a b) >>= f) (p >>= λ a. q a >>= λ b. w a b >>= f)
 behind p q w f k s =

@@ -12,7 +12,7 @@ pub none_there : (some : List ℕ) (x : ℕ) (more : List ℕ) → [] ≡ some +
 none_there [] x more e = cc
 none_there (y ∷ some) x more e = cc
 
--- One that stands in two lists stands in the first, or in the second behind all of the first.
+-- One that stands in two lists stands in the first, or in the second after all of the first.
 pub cut_in_two : (first second some : List ℕ) (x : ℕ) (more : List ℕ) → first ++ second ≡ some ++ (x ∷ more)
     → ((rest : List ℕ) × (first ≡ some ++ (x ∷ rest)))
     ⊎ ((behind : List ℕ) × (some ≡ first ++ behind) × (second ≡ behind ++ (x ∷ more)))
@@ -24,7 +24,7 @@ cut_in_two (y ∷ first) second (z ∷ some) x more e =
     ⊎_elim (λ a. inl (a.0, ap₂ (λ v w. v ∷ w) same a.1)) (λ b. inr (b.0, ap₂ (λ v w. v ∷ w) (sym same) b.1, b.2))
     (cut_in_two first second some x more others)
 
--- One that stands in the longer of two lists with which others begin stands behind all of the shorter.
+-- One that stands in the longer of two lists with which others begin stands after all of the shorter.
 pub longer : (xs ys us vs : List ℕ) → xs ++ us ≡ ys ++ vs → length ys < length xs
     → (x : ℕ) × (more : List ℕ) × (xs ≡ ys ++ (x ∷ more))
 longer [] ys us vs e more = absurd (omega arith)
@@ -64,7 +64,7 @@ pub needs_first : {A B : Type 0} (p : Reading A) (f : A → Reading B) (k : ℕ)
     → Needs (p >>= f) k octets
 needs_first p f k octets n = λ some x more e. halt_bind p f k some (fault (k + length some) Truncated) (n some x more e)
 
--- and behind what it takes what the second asks for
+-- and after what it takes what the second asks for
 pub needs_then : {A B : Type 0} (p : Reading A) (f : A → Reading B) (a : A) (k j : ℕ) (first second : List ℕ)
     → ((y : List ℕ) → run p k (first ++ y) ≡ Took a j y) → j ≡ k + length first → Needs (f a) j second
     → Needs (p >>= f) k (first ++ second)

@@ -97,7 +97,7 @@ halt_more (Ask g) k (y ∷ s) f h = ⊎_elim
     inr
     (halt_more (g y) (k + 1) s f h)
 
--- What was taken, and that what stands behind it doesn't matter.
+-- What was taken, and that what stands after it doesn't matter.
 pub record Taken {A : Type 0} (p : Reading A) (k : ℕ) (s : List ℕ) (a : A) (q : ℕ) (r : List ℕ) : Type 0 where
   pub octets : List ℕ
   pub is : s ≡ octets ++ r

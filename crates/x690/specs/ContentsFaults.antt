@@ -27,14 +27,14 @@ After {State} Stand Then (suc number) state place octets =
     × Stand state place octets state' taken rest
     × After Stand Then number state' (place + taken) rest
 
--- What stands at the place stops in its identifier, or behind it.
+-- What stands at the place stops in its identifier, or after it.
 abbrev pub StopsHere : Limits → Enclosing → (ℕ → Tag → Bool → ℕ → List ℕ → Fault → Type 0) → ℕ → List ℕ → Fault → Type 0
 StopsHere limits enclosing Behind place octets found =
     StopsInTag limits enclosing place octets found
     ⊎ StandsThen limits enclosing place octets
     (λ tag constructed behind rest. Behind place tag constructed behind rest found)
 
--- A primitive element stops behind its identifier: in its length, where the octets end in its contents, or where all
+-- A primitive element stops after its identifier: in its length, where the octets end in its contents, or where all
 -- its contents stand and are bad.
 abbrev pub PrimitiveStops : Limits → Enclosing → ℕ → ℕ → List ℕ → (List ℕ → Type 0) → Fault → Type 0
 PrimitiveStops limits enclosing place here octets Bad found =
@@ -45,7 +45,7 @@ PrimitiveStops limits enclosing place here octets Bad found =
     ⊎ ((contents : List ℕ) × (behind : ℕ) × (rest : List ℕ)
     × LengthStands limits enclosing.nearest_end here octets (length contents) behind (contents ++ rest) × Bad contents)
 
--- A segment of a string stands: an element of the universal tag of this number, whose primitive segments come behind
+-- A segment of a string stands: an element of the universal tag of this number, whose primitive segments come after
 -- those `before`, BIT STRINGs without unused bits but in the last.
 pub record SegmentStands (limits : Limits) (enclosing : Enclosing) (number : ℕ) (before : List (List ℕ)) (place : ℕ)
     (stand : List ℕ) (after : List (List ℕ)) (taken : ℕ) (rest : List ℕ) : Type 0 where
@@ -62,7 +62,7 @@ pub record SegmentStands (limits : Limits) (enclosing : Enclosing) (number : ℕ
   pub after_is : after ≡ before ++ segments tree
   pub bits : (number ≡ 3) → AreBitSegments after
 
--- A constructed string or segment stops: in its length, or behind some of its segments, where the next one stops.
+-- A constructed string or segment stops: in its length, or after some of its segments, where the next one stops.
 abbrev pub SegmentsStop : (Enclosing → List (List ℕ) → ℕ → Tag → Bool → ℕ → List ℕ → Fault → Type 0) → Limits → ℕ
     → Enclosing → List (List ℕ) → ℕ → ℕ → List ℕ → Fault → Type 0
 SegmentsStop Segment limits number enclosing before place here octets found =
@@ -73,7 +73,7 @@ SegmentsStop Segment limits number enclosing before place here octets found =
     (λ before' place' octets'. StopsHere limits inside (Segment inside before') place' octets' found)
     many before behind rest)
 
--- A segment whose identifier is taken stops behind it: it has another tag, its contents are bad behind those `before`,
+-- A segment whose identifier is taken stops after it: it has another tag, its contents are bad after those `before`,
 -- or a segment in it stops. It is nested at most `deep` deep, as the limit of depth has it.
 unfoldable pub SegmentStops : ℕ → Limits → ℕ → Enclosing → List (List ℕ) → ℕ → Tag → Bool → ℕ → List ℕ → Fault → Type 0
 SegmentStops zero limits number enclosing before place tag constructed here octets found = ⊥
@@ -86,7 +86,7 @@ SegmentStops (suc deep) limits number enclosing before place tag constructed her
     × SegmentsStop (λ inside before'. SegmentStops deep limits number inside before')
     limits number enclosing before place here octets found)
 
--- A leaf whose identifier is taken stops behind it: it is primitive, and its contents are none of the kind; or
+-- A leaf whose identifier is taken stops after it: it is primitive, and its contents are none of the kind; or
 -- constructed, where the kind is always primitive; or a constructed string that stops, or that stands whole while its
 -- joined octets aren't UTF-8.
 abbrev pub LeafStops : Limits → Enclosing → LeafKind → ℕ → Tag → Bool → ℕ → List ℕ → Fault → Type 0
@@ -110,7 +110,7 @@ abbrev pub MemberStands : Limits → TypeTerm → Enclosing → Unit {0} → ℕ
 MemberStands limits type enclosing before place octets after taken rest =
     (value : Value) × Takes limits type [] enclosing place octets value taken rest
 
--- An open value whose identifier is taken stops behind it: its tag is left out, it stops as the leaf that its tag says,
+-- An open value whose identifier is taken stops after it: its tag is left out, it stops as the leaf that its tag says,
 -- or an open value in it stops. It is nested at most `deep` deep, as the limit of depth has it.
 unfoldable pub OpenStops : ℕ → Limits → Enclosing → ℕ → Tag → Bool → ℕ → List ℕ → Fault → Type 0
 OpenStops zero limits enclosing place tag constructed here octets found = ⊥

@@ -23,7 +23,7 @@ unfoldable pub arrange : List (List ℕ) → List (List ℕ)
 arrange [] = []
 arrange (text ∷ texts) = insert_text text (arrange texts)
 
--- No text is greater than the one behind it.
+-- No text is greater than the one after it.
 abbrev pub Ascends : List (List ℕ) → Type 0
 Ascends [] = Unit {0}
 Ascends (text ∷ []) = Unit {0}

@@ -14,7 +14,7 @@ pub record MayStand (limits : Limits) (end : Option ℕ) (here : ℕ) : Type 0 w
   pub in_bound : at_end end here ≡ false
   pub in_limit : here < limits.octets
 
--- each of these octets may, one behind the other
+-- each of these octets may, one after the other
 abbrev pub AllMayStand : Limits → Option ℕ → ℕ → List ℕ → Type 0
 AllMayStand limits end here [] = Unit {0}
 AllMayStand limits end here (octet ∷ octets) = MayStand limits end here × AllMayStand limits end (here + 1) octets
@@ -36,7 +36,7 @@ NoOctet limits end place here octets found =
     ⊎ ((at_end end here ≡ false) × (limits.octets ≤ here) × (found ≡ fault place TooLong))
     ⊎ (MayStand limits end here × (octets ≡ []) × (found ≡ fault here Truncated))
 
--- End-of-contents octets stop: behind their first octet, where they may not stand, or their
+-- End-of-contents octets stop: after their first octet, where they may not stand, or their
 -- second is missing or isn't 00.
 abbrev pub EndStops : Limits → Enclosing → ℕ → List ℕ → Fault → Type 0
 EndStops limits enclosing place rest found =
@@ -61,7 +61,7 @@ abbrev pub NoLeadingZero : List ℕ → Type 0
 NoLeadingZero [] = Unit {0}
 NoLeadingZero (octet ∷ octets) = octet ≢ 128
 
--- An octet that is bad behind these ones of a tag number: a leading zero, the fourth with bit 8 set, or the last of a
+-- An octet that is bad after these ones of a tag number: a leading zero, the fourth with bit 8 set, or the last of a
 -- number that the low form has.
 abbrev pub BadTagOctet : List ℕ → ℕ → Type 0
 BadTagOctet before octet =
@@ -70,7 +70,7 @@ BadTagOctet before octet =
     ⊎ ((octet < 128) × (base128_number 0 before * 128 + octet < 31))
     ⊎ (256 ≤ octet)
 
--- A tag number in the high form stops behind some of its octets.
+-- A tag number in the high form stops after some of its octets.
 abbrev pub HighNumberStops : Limits → Option ℕ → ℕ → ℕ → List ℕ → Fault → Type 0
 HighNumberStops limits end place here octets found =
     (before : List ℕ)
@@ -83,7 +83,7 @@ HighNumberStops limits end place here octets found =
     ⊎ OctetThen limits end (here + length before) rest
     (λ octet rest'. BadTagOctet before octet × (found ≡ fault place BadTag)))
 
--- An identifier stops behind its first octet, which isn't 00: the octet is 20, which would be universal 0, or no octet;
+-- An identifier stops after its first octet, which isn't 00: the octet is 20, which would be universal 0, or no octet;
 -- its high form stops; or all of it stands, and is nested too deep.
 abbrev pub IdentifierStops : Limits → Enclosing → ℕ → List ℕ → ℕ → List ℕ → Fault → Type 0
 IdentifierStops limits enclosing place octets first rest found =
@@ -111,7 +111,7 @@ pub record Stands (limits : Limits) (enclosing : Enclosing) (place : ℕ) (octet
   pub behind_is : behind ≡ place + length (identifier tag constructed)
   pub depth_fits : enclosing.open_containers < limits.depth
 
--- An element stands at the place, and this holds of its tag and form, and of what is behind its identifier.
+-- An element stands at the place, and this holds of its tag and form, and of what is after its identifier.
 abbrev pub StandsThen : Limits → Enclosing → ℕ → List ℕ → (Tag → Bool → ℕ → List ℕ → Type 0) → Type 0
 StandsThen limits enclosing place octets Holds =
     (tag : Tag)

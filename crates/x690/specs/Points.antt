@@ -30,7 +30,7 @@ abbrev pub at_end : Option ℕ → ℕ → Bool
 at_end None place = false
 at_end (Some end) place = nat_le end place
 
--- contents may not end at the place: it is behind the end
+-- contents may not end at the place: it is after the end
 abbrev pub past_end : Option ℕ → ℕ → Bool
 past_end None place = false
 past_end (Some end) place = nat_lt end place

@@ -79,7 +79,7 @@ is_joined_contents BitString segments = true
 is_joined_contents OctetString segments = true
 is_joined_contents Utf8String segments = is_utf8 (join segments)
 
--- The contents of a primitive segment behind those before it: in a BIT STRING these have no unused bits.
+-- The contents of a primitive segment after those before it: in a BIT STRING these have no unused bits.
 abbrev pub is_next_segment : ℕ → List (List ℕ) → List ℕ → Bool
 is_next_segment number before contents = not (number == 3) || (is_bit_segment contents && (unused_bits before == 0))
 
@@ -119,7 +119,7 @@ read_leaf limits enclosing kind place tag constructed =
       ]
     ]
 
--- one more value behind those before, by the reading of a member
+-- one more value after those before, by the reading of a member
 unfoldable pub add_member : (ℕ → Tag → Bool → Reading Value) → List Value → ℕ → Tag → Bool → Reading (List Value)
 add_member one values place tag constructed = one place tag constructed >>= λ value. Done (values ++ (value ∷ []))
 

@@ -23,7 +23,7 @@ pub data Next : Type 0 where
   ContainerEnds : ℕ → Next
   ElementStands : ℕ → Tag → Bool → Next
 
--- the octets of a tag number of 31 or more behind the first identifier octet, at most `left` of them (8.1.2.4);
+-- the octets of a tag number of 31 or more after the first identifier octet, at most `left` of them (8.1.2.4);
 -- `number` is what stands before the next
 unfoldable pub read_high_number : Limits → Option ℕ → ℕ → ℕ → ℕ → Reading ℕ
 read_high_number limits end place zero number = Fail (fault place BadTag)
@@ -34,7 +34,7 @@ read_high_number limits end place (suc left) number =
     (require (nat_le 31 (number * 128 + octet)) (fault place BadTag) (Done (number * 128 + octet)))
     (read_high_number limits end place left (number * 128 + (octet - 128))))
 
--- the tag number, behind the first identifier octet
+-- the tag number, after the first identifier octet
 unfoldable pub read_tag_number : Limits → Option ℕ → ℕ → ℕ → Reading ℕ
 read_tag_number limits end place octet =
     choose (nat_lt (octet % 32) 31) (Done (octet % 32)) (read_high_number limits end place 4 0)
@@ -67,7 +67,7 @@ read_big_endian limits end place zero number = Done number
 read_big_endian limits end place (suc left) number =
     header_octet limits end place >>= λ octet. read_big_endian limits end place left (number * 256 + octet)
 
--- the number of contents octets, behind the first length octet: the octet itself, or so many octets as
+-- the number of contents octets, after the first length octet: the octet itself, or so many octets as
 -- it says (8.1.3.4, 8.1.3.5)
 unfoldable pub read_number : Limits → Option ℕ → ℕ → ℕ → Reading ℕ
 read_number limits end place octet =

@@ -1,4 +1,4 @@
--- The plain reading of a type: the value that octets say, and the place behind it, or the first fault (profile).
+-- The plain reading of a type: the value that octets say, and the place after it, or the first fault (profile).
 -- Faults of an element as a whole stand at `place`, where its identifier begins.
 use Rattle.std.specs.Prelude.{Bool, List, None, Option, Some, [], false, length, nat_le, ℕ, ◌&&◌, ◌++◌, ◌∷◌, ◌≡◌}
 use Rattle.tlv_core.specs.Identifier.{Tag}
@@ -21,7 +21,7 @@ unfoldable pub apply_rule : ℕ → Option Reason → Value → Reading Value
 apply_rule place refused value = elim refused [ None ↦ Done value | Some why ↦ Fail (fault place why) ]
 
 -- What the octets that an OCTET STRING contains gave, read as a document of their own: its fault is inside, and so
--- are octets behind the value.
+-- are octets after the value.
 unfoldable pub from_inside : ℕ → Outcome Value → Reading Value
 from_inside place (Halted inner) = Fail (record { at = place; why = Inner; inside = Some (inner.at, inner.why) })
 from_inside place (Took value taken []) = Done value
@@ -120,7 +120,7 @@ read_element limits type earlier enclosing = due_element limits enclosing (read_
 unfoldable pub read_document : Limits → TypeTerm → List ℕ → Outcome Value
 read_document limits type octets = run (read_element limits type [] outermost) 0 octets
 
--- a type that doesn't look at the earlier fields of its container reads the same behind any
+-- a type that doesn't look at the earlier fields of its container reads the same after any
 abbrev pub IsClosed : TypeTerm → Type 0
 IsClosed type =
     (limits : Limits) (earlier : List Value) (enclosing : Enclosing) (place : ℕ) (tag : Tag) (constructed : Bool)

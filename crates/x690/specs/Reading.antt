@@ -31,7 +31,7 @@ unfoldable pub choose : {A : Type 0} → Bool → Reading A → Reading A → Re
 choose test first second = elim test [ true ↦ first | false ↦ second ]
 
 pub data Outcome (A : Type 0) : Type 0 where
-  -- the value, the place behind what was taken, and the octets from there on
+  -- the value, the place after what was taken, and the octets from there on
   Took : A → ℕ → List ℕ → Outcome A
   Halted : Fault → Outcome A
 

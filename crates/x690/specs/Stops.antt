@@ -15,7 +15,7 @@ use Rattle.x690.specs.Takes.{Takes, TakesThen}
 use Rattle.x690.specs.TypeTerms.{ChoiceType, Chosen, ContainingType, Default, DefinedByType, EndOfFields, Fields, LeafType, OpenType, Optional, RefusedType, Required, RuledType, SequenceOfType, SequenceType, SetOfType, TypeTerm, fits_tag}
 use Rattle.x690.specs.Values.{Leaf, Same, Value, leaf_at}
 
--- A container of members stops: it is primitive, its length stops, or behind some of its members the next one stops, or
+-- A container of members stops: it is primitive, its length stops, or after some of its members the next one stops, or
 -- the container ends with too few.
 abbrev pub MembersStop : Limits → TypeTerm → ℕ → Enclosing → ℕ → Bool → ℕ → List ℕ
     → (Enclosing → ℕ → Tag → Bool → ℕ → List ℕ → Fault → Type 0) → (ℕ → Fault) → Fault → Type 0
@@ -30,7 +30,7 @@ MembersStop limits type least enclosing place constructed here octets Member too
     (λ before place' octets'. EndsHere limits inside place' octets' × (found ≡ too_few place')) many tt behind rest))
 
 -- What stands in an OCTET STRING, its octets taken, is at fault: as a document of its own it stops, or octets are left
--- behind it, or the rule refuses it.
+-- after it, or the rule refuses it.
 abbrev pub ContainedStops : Limits → TypeTerm → List Value → (Value → Option Reason) → ℕ → List ℕ → (Fault → Type 0)
     → Fault → Type 0
 ContainedStops limits type earlier rule place octets Inside found =
@@ -42,7 +42,7 @@ ContainedStops limits type earlier rule place octets Inside found =
     × (rule value ≡ Some why) × (found ≡ fault place why))
 
 -- An optional field stops, or what follows it: it isn't there, as the container ends or another tag stands here; it is,
--- and stops; or it is taken, and the fields behind it stop.
+-- and stops; or it is taken, and the fields after it stop.
 abbrev pub FieldStops : Limits → TypeTerm → List Value → Enclosing → ℕ → List ℕ
     → (ℕ → Tag → Bool → ℕ → List ℕ → Fault → Type 0) → Type 0 → (Value → ℕ → List ℕ → Type 0) → Fault → Type 0
 FieldStops limits type earlier enclosing place octets Behind Without With found =
@@ -59,7 +59,7 @@ UnderTag own tag place found Then =
     ((same_tag own tag ≡ false) × (found ≡ fault place WrongTag)) ⊎ ((same_tag own tag ≡ true) × Then)
 
 unfoldable mutual
-  -- An element whose identifier is taken stops behind it, as one of the type; `earlier` are the values of the
+  -- An element whose identifier is taken stops after it, as one of the type; `earlier` are the values of the
   -- earlier fields of its container.
   pub StopsBehind : Limits → TypeTerm → List Value → Enclosing → ℕ → Tag → Bool → ℕ → List ℕ → Fault → Type 0
   StopsBehind limits (LeafType own kind) earlier enclosing place tag constructed here octets found =

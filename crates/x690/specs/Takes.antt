@@ -8,7 +8,7 @@ use Rattle.x690.specs.TypeTerms.{TypeTerm}
 use Rattle.x690.specs.Values.{Value}
 
 -- The first `taken` of the octets that stand from `place` on lay out an element of the type that says the value, within
--- its containers and the limits; `rest` stands behind them.
+-- its containers and the limits; `rest` stands after them.
 pub record Takes (limits : Limits) (type : TypeTerm) (earlier : List Value) (enclosing : Enclosing) (place : ℕ)
     (stand : List ℕ) (value : Value) (taken : ℕ) (rest : List ℕ) : Type 0 where
   pub tree : RawTree

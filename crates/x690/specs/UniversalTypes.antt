@@ -5,7 +5,7 @@ use Rattle.x690.specs.Layouts.{context_specific, universal}
 use Rattle.x690.specs.TypeTerms.{EndOfFields, Fields, LeafType, Required, SequenceOfType, SequenceType, SetOfType, TypeTerm}
 
 infixr 5 ◌⨾◌
--- a field, and those behind it
+-- a field, and those after it
 abbrev pub ◌⨾◌ : (Fields → Fields) → Fields → Fields
 field ⨾ fields = field fields
 

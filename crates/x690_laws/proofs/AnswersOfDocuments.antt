@@ -64,7 +64,7 @@ long_only l v n r f h = go (nat_le (length (der v)) l.octets) h
     go true e = cc
     go false e = cc
 
--- of what is spelled the place behind what was taken is told
+-- of what is spelled the place after what was taken is told
 pub spelled_place : (l : Limits) (v : Value) (n : ℕ) (r text : List ℕ) (m : ℕ) → judged l (Took v n r) ≡ Spelled text m
     → n ≡ m
 unfolding judged

@@ -40,7 +40,7 @@ use Rattle.x690_laws.proofs.FaultsOfReading.{Counted, behind_stops, stands_later
 use Rattle.x690_laws.specs.FaultLaws.{BehindStops, OneFault, StopIsFault}
 use Rattle.x690_laws.specs.ReadingLaws.{BehindIsTaken, TakenIsBehind}
 
--- an element that is taken: its identifier, and what is behind
+-- an element that is taken: its identifier, and what is after
 record Both (l : Limits) (T : TypeTerm) (earlier : List Value) (c : Enclosing) (k : ℕ) (s : List ℕ) (w : Value) (q : ℕ)
     (r : List ℕ) : Type 0 where
   tag : Tag
@@ -205,7 +205,7 @@ inside_good p (Halted a) w n k s e = cc
 inside_good p (Took v m []) w n k s e = let e' : v ≡ w = cc in done_on v k s ∙ ap (λ a. Took a k s) e'
 inside_good p (Took v m (b ∷ bs)) w n k s e = cc
 
--- the fields behind an element, and the element in front of theirs
+-- the fields after an element, and the element in front of theirs
 front_halts : (l : Limits) (fs : Fields) (earlier : List Value) (c : Enclosing) (w : Value) (k : ℕ) (s : List ℕ)
     (f : Fault)
     → run (next_tag l c >>= λ d. read_fields l fs earlier c d) k s ≡ Halted f
@@ -519,7 +519,7 @@ one_fault = record {
       exclusive l T earlier c k s f fr pr (exact l T earlier c k s f fr pr a) v n rest b;
 }
 
--- behind an identifier that stands
+-- after an identifier that stands
 
 pub behind_is_taken : BehindIsTaken
 behind_is_taken l T earlier c k s t form j u v q r st h =

@@ -137,7 +137,7 @@ differ_tags t u n = go (same_tag t u) refl
     go true h = absurd (n (same_tag_is t u h))
     go false h = h
 
--- what is taken behind an identifier, with the identifier
+-- what is taken after an identifier, with the identifier
 pub laid_whole : (l : Limits) (c : Enclosing) (k : ℕ) (s : List ℕ) (t : Tag) (form : Bool) (j : ℕ) (u : List ℕ)
     (P : RawTree → Type 0) (q : ℕ) (r : List ℕ)
     → Stands l c k s t form j u → (m : Laid l c j u t form P q r)

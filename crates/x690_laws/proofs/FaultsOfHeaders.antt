@@ -286,7 +286,7 @@ high_halts l e p (suc left) n k s f z h = ⊎_elim
               i.stops;
         }
 
--- behind one octet of a high tag number, where the two tests go on
+-- after one octet of a high tag number, where the two tests go on
 high_next : (l : Limits) (e : Option ℕ) (p left n k : ℕ) (s : List ℕ) (x : ℕ) (r : List ℕ) → Begin l e k s (x ∷ []) r
     → not ((n == 0) && (x == 128)) && nat_lt x 256 ≡ true
     → run (read_high_number l e p (suc left) n) k s

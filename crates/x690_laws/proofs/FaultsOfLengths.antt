@@ -103,7 +103,7 @@ fit_stops l e p n k s f (inl (a, g)) = where_on _ k s ∙ require_off _ _ _ k s 
 fit_stops l e p n k s f (inr (a, b, g)) =
     where_on _ k s ∙ require_on _ _ _ k s (not_false _ a) ∙ require_off _ _ _ k s f (grind (arith, nat_tests)) g
 
--- the number behind the first octet of a length stops
+-- the number after the first octet of a length stops
 abbrev LateStop : Limits → Option ℕ → ℕ → ℕ → List ℕ → Fault → Type 0
 LateStop l e p k s f =
     ((first : ℕ) × (before : List ℕ) × (rest : List ℕ) × Begin l e k s (first ∷ before) rest × (first < 255)
@@ -239,7 +239,7 @@ number_far l e p k m header r g f w h =
     run_bind _ _ (k + 1) (f.rest ++ r) m (k + 1 + length f.rest) r (prefix_on l e p m (k + 1) header f r w)
     ∙ fit_stops l e p m (k + 1 + length f.rest) r g h
 
--- a length, behind its first octet
+-- a length, after its first octet
 length_next : (l : Limits) (e : Option ℕ) (p k : ℕ) (s : List ℕ) (x : ℕ) (r : List ℕ) (f : Fault)
     → Begin l e k s (x ∷ []) r → x < 255 → x ≢ 128 → run (read_number l e p x) (k + 1) r ≡ Halted f
     → run (read_length l e p) k s ≡ Halted f

@@ -147,7 +147,7 @@ paired_grow q R f (r ∷ rs) vs c a h k =
     more_grow q k.0 k.1 vs h.0 h.1 c (picked_length k.0 vs k.1 k.2) h.4 a (λ m. f r k.0 h.0 m h.2 k.3)
     (λ m. paired_grow q R f rs k.1 h.1 m h.3 k.4)
 
--- a field that is there, and those behind it
+-- a field that is there, and those after it
 field_grows : {Q : List ℕ → Type 0} {G : ℕ → ℕ → Type 0} → Growing Q G
     → (r : RawTree) (rs' rs : List RawTree) (v : Value) (rest vs : List Value) (c : List ℕ) → rs ≡ r ∷ rs'
     → vs ≡ v ∷ rest → Q c → InOrder rs c

@@ -25,7 +25,7 @@ definite_alone t u f g o p b c x y h k d e q =
     let s = split_alone o p x y l.0 l.2 in
     record { tags = i.0; forms = i.1; contents = s.0; texts = cc; rests = s.1 }
 
--- what stands behind the members of a container: nothing, or the octets of its end
+-- what stands after the members of a container: nothing, or the octets of its end
 pub ContainerEnds : List ℕ → Type 0
 ContainerEnds [] = Unit {0}
 ContainerEnds (x ∷ s) = x ≡ 0

@@ -66,7 +66,7 @@ read_texts = record {
 
 -- for readers that answer what a plain reading gives
 
--- one more value behind those that were read: with `ShortText`, what a loop over members keeps
+-- one more value after those that were read: with `ShortText`, what a loop over members keeps
 pub texts_pushed : (vs : List Value) (v : Value)
     → length (texts_of (vs ++ (v ∷ []))) ≡ length (texts_of vs) + length (der v)
 texts_pushed [] v = omega (arith, length-append (der v) [])

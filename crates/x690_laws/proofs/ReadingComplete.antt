@@ -388,7 +388,7 @@ same_took : {A : Type 0} (o : Outcome A) (a b : A) (j i : ℕ) (u v : List ℕ) 
     → (a ≡ b) × (j ≡ i) × (u ≡ v)
 same_took o a b j i u v h g = let e : Took a j u ≡ Took b i v = sym h ∙ g in (cc, cc, cc)
 
--- an element read, and then the fields behind it
+-- an element read, and then the fields after it
 took_field : (l : Limits) (c : Enclosing) (T : TypeTerm) (fs : Fields) (earlier : List Value) (x : RawTree)
     (xs : RawTrees) (w : Value) (ws : List Value)
     → ((c : Enclosing) → Gives l c (read_type l T earlier c) x w) → FieldsGive l fs (earlier ++ (w ∷ [])) xs ws

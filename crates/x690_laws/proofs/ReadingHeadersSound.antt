@@ -23,7 +23,7 @@ pub not_true : (a : Bool) → not a ≡ true → a ≡ false
 not_true true h = cc
 not_true false h = refl
 
--- an octet lies within the bound and the limit, and so does the place behind it
+-- an octet lies within the bound and the limit, and so does the place after it
 pub record Within (l : Limits) (e : Option ℕ) (q : ℕ) : Type 0 where
   pub nearest_end : past_end e q ≡ false
   pub limit : q ≤ l.octets
@@ -247,7 +247,7 @@ long_identifier t f h =
     (λ b. cond b ((t.class * 64 + cond f 32 0 + t.number) ∷ []) ((t.class * 64 + cond f 32 0 + 31) ∷ base128 t.number))
     e
 
--- the identifier that an octet and the number behind it are
+-- the identifier that an octet and the number after it are
 pub identifier_is : (l : Limits) (e : Option ℕ) (x k : ℕ) (s : List ℕ) (n q : ℕ) (r : List ℕ) → x < 256
     → (i : TagNumber l e x k s n q r)
     → identifier (record { class = x / 64; number = n }) (nat_le 32 (x % 64)) ≡ x ∷ i.octets
@@ -401,7 +401,7 @@ fitting_took l e p n k s m q r h =
     let w : Within l e (k + n) = record { nearest_end = not_true _ a.0; limit = grind (arith, nat_tests) } in
     (d.0, d.1, d.2, subst (λ x. Within l e (q + x)) d0 (subst (λ x. Within l e (x + n)) d1 w))
 
--- the number behind the first octet `x` of a length
+-- the number after the first octet `x` of a length
 pub number_of_took : (l : Limits) (e : Option ℕ) (p x k : ℕ) (s : List ℕ) (m q : ℕ) (r : List ℕ) → x < 255 → x ≢ 128
     → run (read_number l e p x) k s ≡ Took m q r
     → (o : List ℕ) × (s ≡ o ++ r) × (q ≡ k + length o) × SpellsLength m (x ∷ o) × Within l e (q + m)

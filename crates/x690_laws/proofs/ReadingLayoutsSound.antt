@@ -19,7 +19,7 @@ use Rattle.x690.specs.ReadHeaders.{ContainerEnds, DefiniteLength, ElementStands,
 use Rattle.x690.specs.Reading.{Done, Fail, Reading, Took, require, run, ◌>>=◌}
 use Rattle.x690.specs.Values.{Leaf, Value}
 
--- An element behind its identifier: its tree, the octets behind the identifier, and a fact about the tree.
+-- An element after its identifier: its tree, the octets after the identifier, and a fact about the tree.
 pub record Laid (l : Limits) (c : Enclosing) (k : ℕ) (s : List ℕ) (t : Tag) (form : Bool) (P : RawTree → Type 0) (q : ℕ)
     (r : List ℕ) : Type 0 where
   pub tree : RawTree

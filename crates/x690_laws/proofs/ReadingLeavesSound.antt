@@ -48,7 +48,7 @@ not_lead n x h t z =
     let t'' = subst (λ w. not ((0 == 0) && (w == 128)) ≡ true) b t' in
     cc
 
--- numbers whose texts are the octets, behind those of what stands before
+-- numbers whose texts are the octets, after those of what stands before
 pub record Arcs (n : ℕ) (s : List ℕ) : Type 0 where
   pub all : List ℕ
   pub below : AllBelow Big all

@@ -204,7 +204,7 @@ thirty_one : (t : Tag) (f : Bool) → lead_of t f 31 ≢ 32
 thirty_one t true z = absurd (omega arith)
 thirty_one t false z = absurd (omega arith)
 
--- behind the first octet of an identifier
+-- after the first octet of an identifier
 pub lead_on : (l : Limits) (c : Enclosing) (k j n m : ℕ) (t : Tag) (f : Bool) (s r : List ℕ)
     → stands_at_end c.innermost k ≡ false → IsTag t → c.open_containers < l.depth → Lead t f n → lead_of t f n ≢ 0
     → lead_of t f n ≢ 32 → Within l c.nearest_end (k + 1)

@@ -26,7 +26,7 @@ abbrev pub form_of : RawTree → Bool
 form_of (Primitive t o) = false
 form_of (Constructed t rs) = true
 
--- the octets of a tree behind its identifier
+-- the octets of a tree after its identifier
 unfoldable pub Behind : RawTree → List ℕ → Type 0
 Behind (Primitive t o) y = (length_octets : List ℕ) × SpellsLength (length o) length_octets × (y ≡ length_octets ++ o)
 Behind (Constructed t rs) y =
@@ -55,7 +55,7 @@ split_lay (Constructed t rs) b h = ⊎_elim
     (λ a. record { tag = h.0; octets = 128 ∷ (h.1.0 ++ (0 ∷ 0 ∷ [])); is = a.is; behind = (h.1.0, h.1.1, inr refl) })
     h.1.2
 
--- the reading, behind an identifier, of the tree
+-- the reading, after an identifier, of the tree
 abbrev pub Gives : {A : Type 0} → Limits → Enclosing → (ℕ → Tag → Bool → Reading A) → RawTree → A → Type 0
 Gives l c one x a =
     (p k : ℕ) (y r : List ℕ) → Behind x y → c.open_containers + tree_depth x ≤ l.depth
@@ -156,7 +156,7 @@ not_at_end c k q o tail h e = ⊎_elim
     (λ a. ap (λ v. stands_at_end v k) a.0)
     e
 
--- behind a first member
+-- after a first member
 ends_on_rest : (c : Enclosing) (k j q : ℕ) (o d tail : List ℕ) → k + length o ≡ j + length d → EndsSo c k o tail q
     → EndsSo c j d tail q
 ends_on_rest c k j q o d tail h e = ⊎_elim
@@ -175,7 +175,7 @@ id_some t f g =
     let n : length (identifier t f) ≡ length (s.first ∷ s.rest) = ap length s.is in
     omega arith
 
--- a member: its identifier is taken, and what is behind it stands before what is left
+-- a member: its identifier is taken, and what is after it stands before what is left
 pub record MemberStands (l : Limits) (c : Enclosing) (k q : ℕ) (x : RawTree) (b d tail r : List ℕ) : Type 0 where
   pub behind : ℕ
   pub octets : List ℕ

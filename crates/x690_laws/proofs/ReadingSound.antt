@@ -92,7 +92,7 @@ chosen_laid l c k s t form test P Q q r = ⊎_elim
     fact_along l c k s t form Q (λ x. Chosen (test (tree_tag x)) (P x) (Q x)) q r
     (λ x e f. inr (ap test e ∙ h.0, f)) h.1)
 
--- what is done behind a reading of an element
+-- what is done after a reading of an element
 then_done : (l : Limits) (c : Enclosing) (k : ℕ) (s : List ℕ) (t : Tag) (form : Bool) (P : RawTree → Type 0)
     (Q : RawTree → Value → Type 0) (w v : Value) (j : ℕ) (u : List ℕ) (q : ℕ) (r : List ℕ)
     → run (Done w) j u ≡ Took v q r → Laid l c k s t form P j u → ((x : RawTree) → tree_tag x ≡ t → P x → Q x w)

@@ -332,7 +332,7 @@ paired_canon R f (r ∷ rs) vs h k =
       tagged = λ x. (a.tagged x.0, b.tagged x.1);
     }
 
--- a field and those behind it
+-- a field and those after it
 taken_canon : (P : RawTree → Value → Type 0) (F G : List RawTree → List Value → Type 0) (r : RawTree) (v : Value)
     (rs' : List RawTree) (vs' : List Value) (rs : List RawTree) (vs : List Value)
     → rs ≡ r ∷ rs' → vs ≡ v ∷ vs' → (a : Canon P r v) (b : Canons F rs' vs') → G (a.tree ∷ b.trees) vs → Canons G rs vs

@@ -37,7 +37,7 @@ pub record OneFault : Type 0 where
       → Fair type → Proper enclosing → Stops limits type earlier enclosing place octets found
       → Takes limits type earlier enclosing place octets value taken rest → ⊥
 
--- Behind an identifier that stands, as a reader of a type is called.
+-- After an identifier that stands, as a reader of a type is called.
 pub record BehindStops : Type 0 where
   pub fault_stops : (limits : Limits) (type : TypeTerm) (earlier : List Value) (enclosing : Enclosing) (place : ℕ)
       (octets : List ℕ) (tag : Tag) (constructed : Bool) (behind : ℕ) (rest : List ℕ) (found : Fault)

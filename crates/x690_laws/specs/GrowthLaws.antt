@@ -67,7 +67,7 @@ pub record ReadTexts : Type 0 where
       → ShortText value place stop
   pub document : (limits : Limits) (type : TypeTerm) (octets : List ℕ) (value : Value) (stop : ℕ) (rest : List ℕ)
       → limits.octets < 2147483648 → read_document limits type octets ≡ Took value stop rest → ShortText value 0 stop
-  -- from behind the identifier, which began at `start`
+  -- from after the identifier, which began at `start`
   pub behind : (limits : Limits) (type : TypeTerm) (earlier : List Value) (enclosing : Enclosing) (start : ℕ)
       (tag : Tag) (constructed : Bool) (place : ℕ) (octets : List ℕ) (value : Value) (stop : ℕ) (rest : List ℕ)
       → limits.octets < 2147483648 → IsTag tag → enclosing.open_containers < limits.depth

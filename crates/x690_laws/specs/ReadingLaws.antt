@@ -70,7 +70,7 @@ InsideOfFaults =
     (found : Fault)
     → Honest type → run (read_element limits type earlier enclosing) place octets ≡ Halted found → InsideMatches found
 
--- Behind an identifier that stands, as a reader of a type is called.
+-- After an identifier that stands, as a reader of a type is called.
 abbrev pub BehindIsTaken : Type 0
 BehindIsTaken =
     (limits : Limits) (type : TypeTerm) (earlier : List Value) (enclosing : Enclosing) (place : ℕ) (octets : List ℕ)

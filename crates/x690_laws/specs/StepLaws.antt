@@ -35,7 +35,7 @@ pub record NextSteps : Type 0 where
   pub stops_so : (limits : Limits) (enclosing : Enclosing) (place : ℕ) (octets : List ℕ) (found : Fault)
       → StopsInTag limits enclosing place octets found → run (next_tag limits enclosing) place octets ≡ Halted found
 
--- A container, behind its identifier, which begins at `place`: it opens, or stops in its form or length.
+-- A container, after its identifier, which begins at `place`: it opens, or stops in its form or length.
 pub record ContainerSteps : Type 0 where
   pub opens : (limits : Limits) (enclosing : Enclosing) (place : ℕ) (constructed : Bool) (here : ℕ) (octets : List ℕ)
       (inside : Enclosing) (behind : ℕ) (rest : List ℕ)
@@ -54,7 +54,7 @@ pub record ContainerSteps : Type 0 where
       → StopsInForm limits enclosing place constructed here octets found
       → run (in_container limits enclosing place constructed Done) here octets ≡ Halted found
 
--- A primitive element, behind its identifier: its length stands at `here` and its contents from
+-- A primitive element, after its identifier: its length stands at `here` and its contents from
 -- `start` on, or it stops.
 pub record PrimitiveSteps : Type 0 where
   pub stands : (limits : Limits) (enclosing : Enclosing) (place here : ℕ) (octets contents : List ℕ) (behind : ℕ)
@@ -91,7 +91,7 @@ abbrev pub BadSegment : ℕ → ℕ → Fault → List ℕ → Type 0
 BadSegment number place found contents =
     (number ≡ 3) × (AreBitSegments (contents ∷ []) → ⊥) × (found ≡ fault place BadBits)
 
--- A string of the universal tag of this number, behind its identifier: its segments stand one behind another up to the
+-- A string of the universal tag of this number, after its identifier: its segments stand one after another up to the
 -- end of the string, or it stops.
 pub record StringSteps : Type 0 where
   pub one_stands : (number : ℕ) (limits : Limits) (enclosing : Enclosing) (place here : ℕ) (octets : List ℕ)

@@ -16,7 +16,7 @@ pub fn there_is_one_fault()
     ensures { OneFault }
 {}
 
-/// Behind an identifier that stands, the plain reading of a type finds exactly the fault that stops the element by the
+/// After an identifier that stands, the plain reading of a type finds exactly the fault that stops the element by the
 /// fault grammar.
 pub fn faults_behind_an_identifier_are_those_of_the_grammar()
     ensures { BehindStops }

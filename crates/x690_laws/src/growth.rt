@@ -35,7 +35,7 @@ pub fn what_is_taken_has_a_short_text()
 {}
 
 /// So has what the plain reading gives: an element, a document (before its text is held against the limit), and what
-/// stands behind an identifier.
+/// stands after an identifier.
 pub fn what_is_read_has_a_short_text()
     ensures { ReadTexts }
 {}

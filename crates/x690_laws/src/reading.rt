@@ -23,7 +23,7 @@ pub fn one_element_is_taken()
     ensures { OneTaken }
 {}
 
-/// Octets behind those that were needed change no value and no fault; the one fault that they may change is that the
+/// Octets after those that were needed change no value and no fault; the one fault that they may change is that the
 /// octets end, where they end.
 pub fn more_octets_change_nothing()
     ensures { MoreOctets }
@@ -39,13 +39,13 @@ pub fn inside_is_there_for_inner()
     ensures { InsideOfFaults }
 {}
 
-/// Where an identifier stands and the plain reading of a type takes what is behind it, the element takes these octets,
+/// Where an identifier stands and the plain reading of a type takes what is after it, the element takes these octets,
 /// from its identifier on, and says this value.
 pub fn what_is_read_behind_an_identifier_is_taken()
     ensures { BehindIsTaken }
 {}
 
-/// Where an identifier stands and its element takes octets by the definitions, the plain reading takes as many behind
+/// Where an identifier stands and its element takes octets by the definitions, the plain reading takes as many after
 /// the identifier, and gives a value that is the same.
 pub fn what_is_taken_is_read_behind_its_identifier()
     ensures { TakenIsBehind }

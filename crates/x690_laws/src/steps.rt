@@ -18,7 +18,7 @@ pub fn what_is_read_of_a_primitive_element_stands()
     ensures { PrimitiveSteps }
 {}
 
-/// The segments of a string are read exactly where they stand one behind another up to its end, and a string stops
+/// The segments of a string are read exactly where they stand one after another up to its end, and a string stops
 /// where the definitions say so.
 pub fn what_is_read_of_a_string_are_its_segments()
     ensures { StringSteps }

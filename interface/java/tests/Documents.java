@@ -32,7 +32,7 @@ final class Documents {
         return Arrays.copyOf(key(), 20);
     }
 
-    /** A request with a subject of 400 names that ends behind the algorithm of its public key. */
+    /** A request with a subject of 400 names that ends after the algorithm of its public key. */
     static byte[] cutRequest() {
         return Claims.octets("30827fff30827ff002010030821450"
             + "310b300906035504030c026161".repeat(400) + "302a300506032b6570");

@@ -189,7 +189,7 @@ class Reports(unittest.TestCase):
 
     def test_more_room_than_there_was_at_first(self):
         names = bytes.fromhex("31 0b 30 09 06 03 55 04 03 0c 02 61 61") * 400
-        # (the octets end behind the algorithm of the public key, without which no subject is listed)
+        # (the octets end after the algorithm of the public key, without which no subject is listed)
         start = bytes.fromhex("30 82 7f ff 30 82 7f f0 02 01 00 30 82") + len(names).to_bytes(2, "big")
         request = start + names + ALGORITHM
         report = pkder.explain(pkder.Kind.REQUEST, request, all=True, json=True)

@@ -221,7 +221,7 @@ pub struct Fault {
 }
 
 impl fmt::Display for Fault {
-    /// The line that the program prints; of `same` behind the words `first: ` or `second: `.
+    /// The line that the program prints; of `same` after the words `first: ` or `second: `.
     fn fmt(&self, f: &mut fmt::Formatter<'_>) -> fmt::Result {
         f.write_str(match self.which {
             1 => "first: ",

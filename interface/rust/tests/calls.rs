@@ -204,7 +204,7 @@ fn the_field_of_a_report() {
 #[test]
 fn a_long_report_is_whole() {
     let names = octets("310b300906035504030c026161").repeat(400);
-    // (the octets end behind the algorithm of the public key, without which no subject is listed)
+    // (the octets end after the algorithm of the public key, without which no subject is listed)
     let algorithm = octets("302a300506032b6570");
     let request = [octets("30827fff30827ff0020100308214").as_slice(), &[0x50], &names, &algorithm].concat();
     let report = explain(Kind::Request, &request, ReportForm { all: true, json: true }).unwrap();

@@ -2,8 +2,8 @@
  * numbers of 128 bits. Not proved: what the library's proofs assume of rattle_alloc, rattle_realloc and rattle_dealloc
  * has to be read here.
  *
- * The library keeps nothing from call to call, so each call begins with an empty heap behind the caller's room. A block
- * has 16, 32, 64 .. octets behind a header; one that is freed is wiped, and goes on the list of its size, from which
+ * The library keeps nothing from call to call, so each call begins with an empty heap after the caller's room. A block
+ * has 16, 32, 64 .. octets after a header; one that is freed is wiped, and goes on the list of its size, from which
  * the next of that size is taken. */
 typedef __UINT64_TYPE__ uint64_t; /* (the toolchain's clang has no headers) */
 typedef __UINT8_TYPE__ uint8_t;
@@ -14,7 +14,7 @@ typedef struct {
 } tried;
 
 typedef struct block {
-    uint64_t size; /* of what stands behind the header */
+    uint64_t size; /* of what stands after the header */
     struct block *next;
 } block;
 
@@ -51,7 +51,7 @@ static void empty_heap(uint64_t from) {
     }
 }
 
-/* Room for n octets of the caller's, with an empty heap behind it; 0 where there is none. To be asked for before each
+/* Room for n octets of the caller's, with an empty heap after it; 0 where there is none. To be asked for before each
  * call of the library. */
 uint64_t pkder_page_room(uint64_t n) {
     uint64_t from = rounded((uint64_t)__heap_base);
@@ -62,7 +62,7 @@ uint64_t pkder_page_room(uint64_t n) {
     return from;
 }
 
-/* Wipes the stack, the caller's room, and all behind it. It has no frame of its own there. */
+/* Wipes the stack, the caller's room, and all after it. It has no frame of its own there. */
 void pkder_page_wipe(void) {
     uint64_t from = rounded((uint64_t)__heap_base);
     __builtin_memset(__stack_low, 0, (uint64_t)(__stack_high - __stack_low));

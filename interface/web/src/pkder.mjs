@@ -18,7 +18,7 @@ export const FORMS = Object.freeze({ALL: 1, JSON: 2});
 export const USUAL = Object.freeze({depth: 32, octets: 1048576});
 export const INTERFACE = 1;
 
-// The numbers of a pkder_outcome in their order: those of 32 bits, and behind them those of 64.
+// The numbers of a pkder_outcome in their order: those of 32 bits, and after them those of 64.
 export const NUMBERS = Object.freeze(["status", "reason", "insideReason", "which"]);
 export const PLACES = Object.freeze(["at", "insideAt", "taken", "size"]);
 const OUTCOME = 4 * NUMBERS.length + 8 * PLACES.length;

@@ -102,7 +102,7 @@ class Firefox(Browser):
     def press(self, key):
         """Presses a key of KEYS."""
         self.type(KEYS[key])
-        # (behind the last element the focus is the browser's own, from where keys of this protocol don't bring it back)
+        # (after the last element the focus is the browser's own, from where keys of this protocol don't bring it back)
         self.value("document.hasFocus() || window.focus()")
 
     def press_with_control(self, letter):

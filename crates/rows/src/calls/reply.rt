@@ -76,8 +76,8 @@ pub fn are_same(found: &[Reply], whole: &[Reply]) -> bool {
     found.len() == whole.len() && found.iter().zip(whole).all(|(reply, due)| *reply == *due)
 }
 
-/// Whether the replies are those that are due from a source which fails behind so many octets, where `whole` are those
-/// from a slice, and need so many. The first call that needs an octet behind replies that reading failed there, and so
+/// Whether the replies are those that are due from a source which fails after so many octets, where `whole` are those
+/// from a slice, and need so many. The first call that needs an octet after replies that reading failed there, and so
 /// does each later one; what is truncated at the end of the octets fails there too.
 pub fn are_failing(found: &[Reply], whole: &[Reply], told: usize, needs: usize) -> bool {
     let unread = ReadError::Read { at: told as u64 };

@@ -78,7 +78,7 @@ public final class Fault implements Serializable {
         return Objects.hash(which, at, reasonName, inside);
     }
 
-    /** The line that the program prints; where {@link #which} isn't 0, behind "first: " or "second: ". */
+    /** The line that the program prints; where {@link #which} isn't 0, after "first: " or "second: ". */
     @Override
     public String toString() {
         String document = which == 1 ? "first: " : which == 2 ? "second: " : "";

@@ -3,7 +3,7 @@ package pkder;
 /**
  * A document is refused: it has a fault ({@link FaultException}), or, of {@link Pkder#requireDer(Kind, byte[])} alone,
  * it is sound and isn't in DER ({@link NotDerException}). The message is the line that the program prints, of
- * {@link Pkder#same(Kind, byte[], byte[])} behind "first: " or "second: "; no octets of a document are in it.
+ * {@link Pkder#same(Kind, byte[], byte[])} after "first: " or "second: "; no octets of a document are in it.
  */
 public abstract class PkderException extends Exception {
     private static final long serialVersionUID = 1;
