@@ -13,7 +13,7 @@ from pathlib import Path
 sys.path[0] = str(Path(__file__).resolve().parents[2])
 from tests.oracle import reader
 from tests.oracle.document_types import (
-    BIT_STRING, BOOLEAN, EC, IDENTIFIER, INSIDE, INTEGER, NO_BOUND, NULL, SEQUENCE, TYPES, Walk, header_at,
+    BIT_STRING, BOOLEAN, EC, IDENTIFIER, INSIDE, INTEGER, NO_BOUND, NULL, OPEN, SEQUENCE, SET, TYPES, Walk, header_at,
     joined)
 from tests.oracle.parts import Part, arcs
 from tests.oracle.reader import DEPTH, ENUMERATED, OCTETS, OUTERMOST, Container, Reader, leaf
@@ -50,7 +50,12 @@ def is_usual(element, octets):
     return element.tag == NULL.tag and not contents
 
 
-def has_key_behind(octets, at):
+def is_container(element):
+    """Whether it is told as a container: of open values SEQUENCE and SET are, since others may be octets of a key."""
+    return element.is_container() and (element.form != OPEN or element.tag in (SEQUENCE, SET))
+
+
+def has_key_after(octets, at):
     """Whether a public key begins at a place, with lengths that are told, that of its identifier a single octet."""
     for _ in range(2):
         header = header_at(octets, at)
@@ -69,17 +74,17 @@ class Front:
         self.is_of_request, self.subject_end = kind == "request", 0
 
     def take(self, element):
-        """Takes an element; answers whether to go on behind it."""
+        """Takes an element; answers whether to go on after it."""
         is_last = element.type is None
         if is_last:
             pass
         elif self.is_of_request and element.path == SUBJECT:
             is_last = not self.take_subject(element)
         elif element.at < self.subject_end:
-            is_sound = element.is_container() or element.is_of_segments() or not element.is_constructed
+            is_sound = is_container(element) or element.is_of_segments() or not element.is_constructed
             is_last = not is_sound or element.is_too_long or not element.is_constructed and not element.is_whole
             self.size = element.begin if is_last or element.is_constructed else element.end
-        elif element.is_container():
+        elif is_container(element):
             is_last = element.is_too_long
             is_of_attributes = self.is_of_request and element.path == ATTRIBUTES
             self.size = element.at if is_of_attributes else self.size
@@ -88,7 +93,7 @@ class Front:
         return not is_last
 
     def take_subject(self, element):
-        if not element.is_constructed or element.length is None or not has_key_behind(self.octets, element.end):
+        if not element.is_constructed or element.length is None or not has_key_after(self.octets, element.end):
             return False
         self.subject_end, self.size = element.end, element.begin
         return True
@@ -336,7 +341,7 @@ class Report:
         return CLASSES.get(self.octets[fault.place])
 
     def numbers(self):
-        """How many octets are missing, too many or behind."""
+        """How many octets are missing, too many or after."""
         fault, size = self.fault, len(self.octets)
         announced = self.elements[0].end if self.elements and is_header_told(self.elements[0]) else None
         found = {}

@@ -50,10 +50,10 @@ is_in_place (Field name) = true
 is_in_place (Member number) = true
 is_in_place (Segment number) = true
 
--- elements of the type and tag hold others, and aren't strings; an open value does by its tag: SEQUENCE, SET, and any
--- of another class than the universal one
+-- elements of the type and tag hold others, and aren't strings; an open value does where it is a SEQUENCE or a SET:
+-- what is of another class may be octets that were copied there
 abbrev pub is_container_tag : Tag → Bool
-is_container_tag tag = not (tag.class == 0) || ((tag.number == 16) || (tag.number == 17))
+is_container_tag tag = (tag.class == 0) && ((tag.number == 16) || (tag.number == 17))
 
 abbrev pub is_container_type : Tag → Shape → Bool
 is_container_type tag (Sequence' own p fields) = true

@@ -270,11 +270,11 @@ fn is_container(element: &NamedElement) -> bool
     }
 }
 
-/// SEQUENCE, SET, and any of another class than the universal one.
+/// SEQUENCE and SET.
 fn is_container_tag(tag: Tag) -> bool
     ensures { result ≡ is_container_tag tag }
 {
-    tag.class() != Class::Universal || tag.number() == 16 || tag.number() == 17
+    tag.class() == Class::Universal && (tag.number() == 16 || tag.number() == 17)
 }
 
 fn mark_of_leaf(element: &NamedElement, contents: Option<&[u8]>) -> Mark
