@@ -33,7 +33,7 @@ OWN_NAMES = ("Listed",)
 # As many of each count as there may be.
 LIMITS = {"handing": 49, "handing_lines": 799, "wrapping": 55, "wrapping_lines": 909, "same": 2, "frames": 0,
           "request": 204, "key": 767, "newtypes": 3, "forms": 0, "crates": 26, "names": 0,
-          "types": 1, "equal": 0, "parameters": 0, "tools": 8, "identifiers": 0, "retold": 37, "columns": 62}
+          "types": 0, "equal": 0, "parameters": 0, "tools": 8, "identifiers": 0, "retold": 37, "columns": 4}
 # A function has so many parameters, at most; a line so many columns.
 PARAMETERS, COLUMNS = 6, 120
 # The table of the names of object identifiers, by their contents.
@@ -55,7 +55,7 @@ def sources(crate):
 
 
 def block_at(text, place):
-    """The text between the brace that opens at or behind a place and the one that closes it."""
+    """The text between the brace that opens at or after a place and the one that closes it."""
     begin = text.index("{", place)
     depth = 0
     for at in range(begin, len(text)):

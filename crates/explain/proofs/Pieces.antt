@@ -3,10 +3,8 @@ use Rattle.std.proofs.Common.{List, Option, ap, arith, cond, drop, false, get_or
 use Rattle.std.proofs.Math.Nat.{zero-add}
 use Rattle.std.proofs.lemmas.List.{length-drop, take_all}
 use Rattle.std.proofs.lemmas.Bool.Decides.{nat_tests}
-use Rattle.asn_names.specs.declared.element.NamedElement.{NamedElement}
-use Rattle.explain.specs.Places.{ListedDocument, Skips, place_of, sum_of}
+use Rattle.explain.specs.Places.{Skips, place_of, sum_of}
 use Rattle.explain.specs.declared.document.places.Piece.{Piece}
-use Rattle.reports.specs.declared.report.Cause.{Cause}
 
 pub skip_none : (pieces : List Piece) → Skips pieces 0 pieces
 skip_none pieces = λ number. ap (place_of pieces) (sym (zero-add number))
@@ -14,18 +12,6 @@ skip_none pieces = λ number. ap (place_of pieces) (sym (zero-add number))
 -- the one piece in which a file stands
 abbrev pub whole : ℕ → List Piece
 whole octets = record { at = 0; octets = octets } ∷ []
-
--- a file with these causes
-abbrev pub file_with : List ℕ → List NamedElement → List (Option Cause) → ListedDocument
-file_with document elements causes = record {
-  octets = document;
-  elements = elements;
-  causes = causes;
-  pieces = whole (length document);
-  is_inside = false;
-  depth = 0;
-  around = 0;
-}
 
 not_in_first : (octets number : ℕ) → nat_lt (octets + number) octets ≡ false
 not_in_first octets number = grind (arith, nat_tests)

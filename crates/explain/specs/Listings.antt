@@ -77,17 +77,22 @@ abbrev pub causes_inside : List (Option Cause) → Inside → List (Option Cause
 causes_inside [] inside = []
 causes_inside (cause ∷ causes) inside = causes_of inside.octets.items inside.named.elements.items
 
--- a document inside an element of a file that is so deep, which has the line of this number
-abbrev pub inside_document : List (Option Cause) → Inside → ℕ → ℕ → ListedDocument
-inside_document causes inside depth number = record {
+-- a document inside an OCTET STRING of a file, so deep, around which the line of this number is
+abbrev pub document_in : Inside → List (Option Cause) → ℕ → ℕ → ListedDocument
+document_in inside causes depth around = record {
   octets = inside.octets.items;
   elements = inside.named.elements.items;
-  causes = causes_inside causes inside;
+  causes = causes;
   pieces = inside.pieces.items;
   is_inside = true;
-  depth = min (depth + 1) (2 ^ 64 - 1);
-  around = number;
+  depth = depth;
+  around = around;
 }
+
+-- a document inside an element of a file that is so deep, which has the line of this number
+abbrev pub inside_document : List (Option Cause) → Inside → ℕ → ℕ → ListedDocument
+inside_document causes inside depth number =
+    document_in inside (causes_inside causes inside) (min (depth + 1) (2 ^ 64 - 1)) number
 
 -- the lines of the document inside
 pub record ListsInside (document : ListedDocument) (before after : ListingState) : Type 0 where

@@ -1,6 +1,6 @@
 -- Where the elements of a document are in the file. A document's octets are there in pieces: those of the file in
 -- one, those inside an OCTET STRING in one for each of its segments.
-use Rattle.std.specs.Prelude.{Bool, List, None, Option, Some, [], cond, min, nat_le, nat_lt, true, unwrap_or, ℕ, ◌+◌, ◌-◌, ◌^◌, ◌∷◌, ◌==◌, ◌≡◌}
+use Rattle.std.specs.Prelude.{Bool, List, None, Option, Some, [], cond, false, length, min, nat_le, nat_lt, true, unwrap_or, ℕ, ◌+◌, ◌-◌, ◌^◌, ◌∷◌, ◌==◌, ◌≡◌}
 use Rattle.asn_names.specs.declared.element.NamedElement.{NamedElement}
 use Rattle.ber_outline.specs.declared.event.ElementHeader.{ElementHeader}
 use Rattle.explain.specs.Lines.{end_after, listed_length}
@@ -23,6 +23,18 @@ pub record ListedDocument : Type 0 where
   pub depth : ℕ
   -- the number of the line around it
   pub around : ℕ
+
+-- a file of which these octets are shown
+abbrev pub file_with : List ℕ → List NamedElement → List (Option Cause) → ListedDocument
+file_with octets elements causes = record {
+  octets = octets;
+  elements = elements;
+  causes = causes;
+  pieces = record { at = 0; octets = length octets } ∷ [];
+  is_inside = false;
+  depth = 0;
+  around = 0;
+}
 
 abbrev pub listed_document : DocumentCursor → ListedDocument
 listed_document cursor = record {

@@ -11,8 +11,8 @@ use Rattle.explain.specs.FaultLines.{IsPlaceAlone}
 use Rattle.explain.specs.Fronts.{is_deeper}
 use Rattle.explain.specs.Insides.{HasInsides, IsNamed}
 use Rattle.explain.specs.Lines.{IsHeaderLine, IsListedValue}
-use Rattle.explain.specs.Listings.{after_inside, first_inside, hidden_after}
-use Rattle.explain.specs.Places.{ListedDocument, placed_in}
+use Rattle.explain.specs.Listings.{after_inside, document_in, first_inside, hidden_after}
+use Rattle.explain.specs.Places.{ListedDocument, file_with, placed_in}
 use Rattle.explain.specs.Shapes.{IsShapeOf}
 use Rattle.explain.specs.declared.document.inside.Inside.{Inside}
 use Rattle.reports.specs.declared.report.Answer.{Answer}
@@ -46,30 +46,6 @@ abbrev pub in_no_private : Option ℕ → List NamedElement → List NamedElemen
 in_no_private private [] = []
 in_no_private private (element ∷ elements) =
     cond (is_deeper private element) [] (element ∷ []) ++ in_no_private (hidden_after private element) elements
-
--- a file of which these octets are shown
-abbrev pub file_with : List ℕ → List NamedElement → List (Option Cause) → ListedDocument
-file_with octets elements causes = record {
-  octets = octets;
-  elements = elements;
-  causes = causes;
-  pieces = record { at = 0; octets = length octets } ∷ [];
-  is_inside = false;
-  depth = 0;
-  around = 0;
-}
-
--- a document inside an OCTET STRING of it, so deep, after so many lines
-abbrev pub document_in : Inside → List (Option Cause) → ℕ → ℕ → ListedDocument
-document_in inside causes depth around = record {
-  octets = inside.octets.items;
-  elements = inside.named.elements.items;
-  causes = causes;
-  pieces = inside.pieces.items;
-  is_inside = true;
-  depth = depth;
-  around = around;
-}
 
 -- the lines of what is in an element, where that contains a document: one for each element in no private one
 abbrev pub HasInner : Option Inside → List Line → Type 0

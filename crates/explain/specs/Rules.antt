@@ -1,8 +1,8 @@
 -- The front of a document, by the answer to it.
-use Rattle.std.specs.Prelude.{Bool, List, Option, [], false, length, true, ℕ, ◌∷◌}
+use Rattle.std.specs.Prelude.{Bool, List, Option, [], false, true, ℕ}
 use Rattle.asn_names.specs.declared.element.NamedElement.{NamedElement}
 use Rattle.explain.specs.Causes.{causes_of}
-use Rattle.explain.specs.Places.{ListedDocument}
+use Rattle.explain.specs.Places.{ListedDocument, file_with}
 use Rattle.reports.specs.declared.report.Answer.{Answer}
 use Rattle.reports.specs.declared.report.Answer.TheVariants.{Der, NotDer, Refused}
 use Rattle.reports.specs.declared.report.Cause.{Cause}
@@ -20,12 +20,4 @@ causes_by (Refused fault) front elements = []
 
 -- the front itself, by the answer to the document and the elements of the front
 abbrev pub front_document : Answer → List ℕ → List NamedElement → ListedDocument
-front_document answer front elements = record {
-  octets = front;
-  elements = elements;
-  causes = causes_by answer front elements;
-  pieces = record { at = 0; octets = length front } ∷ [];
-  is_inside = false;
-  depth = 0;
-  around = 0;
-}
+front_document answer front elements = file_with front elements (causes_by answer front elements)

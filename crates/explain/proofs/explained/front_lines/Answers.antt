@@ -1,7 +1,8 @@
 use Rattle.std.proofs.Common.{length, subst, ◌∙◌}
 use Rattle.explain.specs.Listings.{IsListed}
+use Rattle.explain.specs.Places.{file_with}
 use Rattle.explain.specs.Rules.{front_document}
-use Rattle.explain.proofs.Pieces.{file_with, skip_none, whole}
+use Rattle.explain.proofs.Pieces.{skip_none, whole}
 use Rattle.explain.proofs.explained.front_lines.Goals as goal
 
 pub returns : goal.returns
