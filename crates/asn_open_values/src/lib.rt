@@ -10,5 +10,5 @@
 
 pub mod any;
 mod open_form;
-mod open_value;
+pub mod open_value;
 mod texts;

@@ -1,4 +1,5 @@
-// Reading open values (X.690; profile): elements that stand where any type may, kept as their text in DER.
+//! Reading open values (X.690; profile): elements that stand where any type may, kept as their text in DER. What it is
+//! made of serves readers of other types whose values are kept so.
 ghost use Rattle.std.specs.Prelude.{◌≡◌, ◌++◌, ◌+◌, ◌<◌, ◌≤◌, List, [], ℕ, None, Ok, Some, IfErr, IfOk, IsSome, OnOk};
 ghost use Rattle.std.specs.Prelude.{false, true, length, suc};
 ghost use Rattle.tlv_core.specs.Header.{der_header};
@@ -51,7 +52,7 @@ fn push_element(
 
 /// Header and contents after what is there; the reader fails where it finds no memory.
 #[inline(always)]
-fn append_element<R: Source>(
+pub fn append_element<R: Source>(
     pull: &mut Pull<'_, R>,
     text: &mut Vec<u8>,
     tag: Tag,
@@ -122,7 +123,7 @@ fn append_leaf<R: Source>(
 }
 
 /// The texts of the members of a SET, in the order of SET OF (X.690 11.6).
-fn arranged<R: Source>(
+pub fn arranged<R: Source>(
     alloc: Global,
     pull: &mut Pull<'_, R>,
     octets: Vec<u8>,
@@ -145,7 +146,7 @@ fn arranged<R: Source>(
 }
 
 /// The header of a constructed element in place of the two octets at `start`, in front of the contents after them.
-fn set_header(text: &mut Vec<u8>, start: usize, tag: Tag) -> Result<(), AllocError>
+pub fn set_header(text: &mut Vec<u8>, start: usize, tag: Tag) -> Result<(), AllocError>
     requires { start + 2 ≤ length text.old.items }
     ensures { OnOk result ((before room contents : List ℕ) → length before ≡ start → length room ≡ 2
         → text.old.items ≡ before ++ (room ++ contents)
