@@ -30,8 +30,18 @@ SUBJECT, ATTRIBUTES = "certificationRequestInfo.subject", "certificationRequestI
 OF_NO_ELEMENT = ("Missing", "Truncated", "Trailing")
 NEVER_NEAR = ("KeyLength", "VersionRule")
 # The reasons of which it is looked what else the file may be.
-LOOKED = ("WrongTag", "Version", "Missing", "PastEnd", "BadTag", "LeftOut", "Truncated")
-HEXADECIMAL, BASE_64 = rb"[0-9A-Fa-f: \t\r\n]+", rb"M[0-9A-Za-z+/= \t\r\n]*"
+LOOKED = ("WrongTag", "Version", "Missing", "PastEnd", "BadTag", "LeftOut", "Extra", "Truncated", "TooLong")
+HEXADECIMAL, BASE_64 = rb"[0-9A-Fa-f: \t\r\n]+", rb"M[0-9A-Za-z+/=_ \t\r\n-]*"
+# What begins so is this, whatever comes after it.
+BEGINNINGS = {
+    "utf16": rb"(?s)(?=.{8})(\xff\xfe(.\0){0,6}(.\0|.?\Z)|\xfe\xff(\0.){0,6}(\0.|\0?\Z))",
+    "java_key_store": rb"\xfe\xed\xfe\xed|\xce\xce\xce\xce",
+    "openssh_key": rb"openssh-key-v1",
+    "ssh_public_key": rb"(ssh-rsa|ssh-ed25519) AAAA|ecdsa-sha2-nistp",
+    "recoded": rb"0\xc2[\x81-\x83]",
+    "replaced": rb"0\xef\xbf\xbd",
+}
+TEXTS = {"markup": rb"<[ -~\t\r\n]{0,15}", "json": rb"{[ -~\t\r\n]{0,15}"}
 MOST_TOLD = 6
 
 
@@ -287,16 +297,25 @@ OTHERS = {
 
 def look_of(octets, kind, fault, limits):
     """What else the file may be."""
+    if kind in ("request", "public") and octets.count(b"\n") == octets.count(b"\r\n") > 1:
+        return "text_lines"
     if fault.inner_reason or fault.reason not in LOOKED or fault.place >= 64:
         return None
+    text = re.sub(rb"\A(\xef\xbb\xbf)?[ \t\r\n]*", b"", octets)
+    if text.startswith(b"-----BEGIN "):
+        return "encrypted_pem" if text.partition(b"\n")[2].startswith(b"Proc-Type:") else "pem"
     if not octets:
         return "empty"
-    if octets.startswith(b"-----BEGIN "):
-        return "pem"
     if re.fullmatch(HEXADECIMAL, octets[:16]):
         return "hexadecimal"
     if re.fullmatch(BASE_64, octets[:16]):
         return "base64"
+    for word, beginning in BEGINNINGS.items():
+        if re.match(beginning, octets[:16]):
+            return word
+    for word, whole in TEXTS.items():
+        if re.fullmatch(whole, text[:16]):
+            return word
     others = (it for it in TYPES if it != kind and goes_on_as(it, octets, limits))
     return next(others, None) or next((name for name, members in OTHERS.items() if begins_as(octets, 0, members)), None)
 

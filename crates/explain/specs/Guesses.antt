@@ -1,8 +1,6 @@
 -- What a file is instead of a document of the kind asked for. A guess is made where it is refused near its start.
-use Rattle.std.specs.Prelude.{Bool, List, None, Option, Some, [], codes, cond, drop, false, length, nat_le, nat_lt, take, true, ℕ, ◌&&◌, ◌==◌, ◌||◌, ◌∷◌, ◌≡◌, ◌≢◌, ◌⊎◌}
+use Rattle.std.specs.Prelude.{Bool, List, None, Option, Some, [], codes, cond, drop, false, length, nat_le, nat_lt, not, take, true, ℕ, ◌&&◌, ◌+◌, ◌==◌, ◌||◌, ◌∷◌, ◌≡◌, ◌≢◌, ◌⊎◌}
 use Rattle.std.specs.Borrow.{Bor}
-use Rattle.std.specs.List.{list_all}
-use Rattle.std.specs.Str.{bytes_eq}
 use Rattle.tlv_core.specs.Limits.{Limits}
 use Rattle.tlv_core.specs.declared.reason.Reason.{Reason}
 use Rattle.tlv_core.specs.declared.reason.Reason.TheVariants as reasons
@@ -12,14 +10,17 @@ use Rattle.ber_outline.specs.Outlines.{IsOutline}
 use Rattle.ber_outline.specs.declared.event.Event.{Event}
 use Rattle.ber_outline.specs.declared.event.Stop.{Stop}
 use Rattle.pkix_shapes.specs.declared.shape.Shape.{Shape}
-use Rattle.pk_documents.specs.KindRows.{kinds, labels_of, type_name_of, word_of}
+use Rattle.pk_documents.specs.KindRows.{kinds, private_keys_of, type_name_of, word_of}
 use Rattle.pk_documents.specs.declared.kind.Kind.{Kind}
 use Rattle.pk_documents.specs.declared.kind.Kind.TheVariants as kinds_of
+use Rattle.pk_documents.specs.declared.kind.PrivateKeys.{PrivateKeys}
+use Rattle.pk_documents.specs.declared.kind.PrivateKeys.TheVariants as private
 use Rattle.explain.specs.Fronts.{is_usual_mark, mark_of}
 use Rattle.explain.specs.Heads.{guess_by_outline}
 use Rattle.explain.specs.Insides.{IsNamed}
 use Rattle.explain.specs.Public.{is_field}
 use Rattle.explain.specs.Shapes.{IsShapeOf}
+use Rattle.explain.specs.TextGuesses.{guess_by_text, has_lines, pem_guess, pem_label, text_in}
 use Rattle.reports.specs.declared.report.Answer.{Answer}
 use Rattle.reports.specs.declared.report.Answer.TheVariants.{Der, NotDer, Refused}
 use Rattle.reports.specs.declared.report.KindWords.{KindWords}
@@ -36,6 +37,7 @@ is_kind_like reasons.Extra = true
 is_kind_like reasons.Missing = true
 is_kind_like reasons.LeftOut = true
 is_kind_like reasons.Truncated = true
+is_kind_like reasons.TooLong = true
 is_kind_like _ = false
 
 -- the file is refused so at one of its first 64 octets
@@ -44,66 +46,19 @@ is_guessed Der = false
 is_guessed (NotDer place) = false
 is_guessed (Refused fault) = is_kind_like fault.why && nat_lt fault.at 64
 
--- octets begin with these
-abbrev pub begin_with : List ℕ → List ℕ → Bool
-begin_with prefix octets = bytes_eq (take (length prefix) octets) prefix
+-- no document of a kind has a private key in it
+abbrev pub is_without_key : PrivateKeys → Bool
+is_without_key private.None = true
+is_without_key private.One = false
+is_without_key private.Several = false
+is_without_key private.Encrypted = false
 
--- labels of what is of no kind (RFC 7468, and common tools)
-abbrev pub other_labels : List (List ℕ)
-other_labels =
-    codes "RSA PRIVATE KEY" ∷ codes "DSA PRIVATE KEY" ∷ codes "OPENSSH PRIVATE KEY" ∷ codes "RSA PUBLIC KEY"
-    ∷ codes "CERTIFICATE" ∷ codes "X509 CRL" ∷ codes "EC PARAMETERS" ∷ []
+-- a file is refused, and was taken for text on its way
+abbrev pub is_of_lines : Kind → List ℕ → Answer → Bool
+is_of_lines kind octets Der = false
+is_of_lines kind octets (NotDer place) = false
+is_of_lines kind octets (Refused fault) = is_without_key (private_keys_of kind) && has_lines octets
 
--- the text begins with the label, and five hyphens follow it
-abbrev pub is_labelled : List ℕ → List ℕ → Bool
-is_labelled label text = begin_with label text && begin_with (codes "-----") (drop (length label) text)
-
--- the first of these labels with which the text begins, empty where it begins with none
-abbrev pub label_among : List (List ℕ) → List ℕ → List ℕ
-label_among [] text = []
-label_among (label ∷ later) text = cond (is_labelled label text) label (label_among later text)
-
--- a label that was found, or else another one
-abbrev pub or_label : List ℕ → List ℕ → List ℕ
-or_label [] other = other
-or_label (octet ∷ octets) other = octet ∷ octets
-
--- the label with which the text begins, of these kinds or else of what is of no kind
-abbrev pub label_of : List Kind → List ℕ → List ℕ
-label_of [] text = label_among other_labels text
-label_of (kind ∷ later) text = or_label (label_among (labels_of kind) text) (label_of later text)
-
--- the label of a PEM text, which comes after 11 octets (RFC 7468 section 3)
-abbrev pub pem_label : List ℕ → Option (List ℕ)
-pem_label octets = cond (begin_with (codes "-----BEGIN ") octets) (Some (label_of kinds (drop 11 octets))) None
-
--- the octet is one of these two or between them
-abbrev pub is_within : ℕ → ℕ → ℕ → Bool
-is_within first last octet = nat_le first octet && nat_le octet last
-
--- a space, tab, carriage return or line feed
-abbrev pub is_blank : ℕ → Bool
-is_blank octet = (octet == 32) || (octet == 9) || (octet == 13) || (octet == 10)
-
--- 0 to 9, A to F, a to f; a colon or a blank between them
-abbrev pub is_hexadecimal : ℕ → Bool
-is_hexadecimal octet =
-    is_within 48 57 octet || is_within 65 70 octet || is_within 97 102 octet || (octet == 58) || is_blank octet
-
--- A to Z, a to z, 0 to 9, + and /, the padding = (RFC 4648 section 4); a blank between them
-abbrev pub is_base64 : ℕ → Bool
-is_base64 octet =
-    is_within 65 90 octet || is_within 97 122 octet || is_within 48 57 octet || (octet == 43) || (octet == 47)
-    || (octet == 61) || is_blank octet
-
--- A file that isn't PEM, by its first 16 octets; the base64 of a SEQUENCE begins with M.
-abbrev pub guess_by_text : List ℕ → Guess
-guess_by_text octets =
-    cond (length octets == 0) guesses.Empty
-    (cond (list_all is_hexadecimal (take 16 octets)) guesses.Hexadecimal
-    (cond (begin_with (codes "M") octets && list_all is_base64 (take 16 octets)) guesses.Base64 guesses.Unknown))
-
--- Where octets are refused as a document of a kind, a later kind is found, or none; else this one is.
 -- the field up to which the first elements of a kind's documents decides the kind
 abbrev pub deciding_field : Kind → List ℕ
 deciding_field kinds_of.Key = codes "privateKey"
@@ -155,17 +110,30 @@ abbrev pub IsOtherDocument : Limits → Kind → List ℕ → Guess → Type 0
 IsOtherDocument limits wanted octets guess =
     (found : Option Kind) × IsFirst limits octets wanted kinds found × IsDocument limits octets found guess
 
+abbrev pub is_unknown : Guess → Bool
+is_unknown guesses.Unknown = true
+is_unknown guess = false
+
+-- what a text is; where it is none, which document the file is
+abbrev pub IsTextOr : Bool → Limits → Kind → List ℕ → Guess → Guess → Type 0
+IsTextOr true limits wanted octets text guess = IsOtherDocument limits wanted octets guess
+IsTextOr false limits wanted octets text guess = guess ≡ text
+
 -- PEM is shown with its label, another text as what it is, and else which document it is.
 abbrev pub IsGuessOf : Limits → Kind → List ℕ → Option (List ℕ) → Guess → Guess → Type 0
 IsGuessOf limits wanted octets (Some label) text guess =
-    (own : Bor (List ℕ)) × (own.now ≡ label) × (guess ≡ guesses.Pem own)
-IsGuessOf limits wanted octets None guesses.Unknown guess = IsOtherDocument limits wanted octets guess
-IsGuessOf limits wanted octets None text guess = guess ≡ text
+    (own : Bor (List ℕ)) × (own.now ≡ label) × (guess ≡ pem_guess own (text_in octets))
+IsGuessOf limits wanted octets None text guess = IsTextOr (is_unknown text) limits wanted octets text guess
+
+abbrev pub IsGuessBy : Bool → Limits → Kind → List ℕ → Guess → Type 0
+IsGuessBy false limits wanted octets guess = guess ≡ guesses.Unknown
+IsGuessBy true limits wanted octets guess =
+    IsGuessOf limits wanted octets (pem_label (text_in octets)) (guess_by_text octets) guess
 
 -- What the file looks like, by the answer to it as a document of the kind asked for.
 abbrev pub IsGuess : Limits → Kind → List ℕ → Answer → Guess → Type 0
 IsGuess limits wanted octets answer guess =
-    elim (is_guessed answer) [
-      | false ↦ guess ≡ guesses.Unknown
-      | true ↦ IsGuessOf limits wanted octets (pem_label octets) (guess_by_text octets) guess
+    elim (is_of_lines wanted octets answer) [
+      | true ↦ guess ≡ guesses.TextLines
+      | false ↦ IsGuessBy (is_guessed answer) limits wanted octets guess
     ]

@@ -21,6 +21,7 @@ pub mod ReportLaws
 pub mod Reports
 pub mod Rules
 pub mod Shapes
+pub mod TextGuesses
 pub mod FaultLocations
 pub mod Wordings
 pub mod Written

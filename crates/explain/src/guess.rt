@@ -1,22 +1,23 @@
-//! A guess at what a file is that is refused near its start.
+//! A guess at what a file is that is refused near its start, or was taken for a text on its way.
 mod heads;
+mod texts;
 
-ghost use Rattle.std.specs.Prelude.{IfOk, None, false, map, ◌≡◌};
-ghost use Rattle.std.specs.List.{list_all};
-ghost use Rattle.std.specs.Option.{option_map};
-ghost use Rattle.pk_documents.specs.KindRows.{kinds};
+ghost use Rattle.std.specs.Prelude.{IfOk, None, false, ◌≡◌};
+ghost use Rattle.pk_documents.specs.KindRows.{kinds, private_keys_of};
 ghost use Rattle.explain.specs.Guesses.{BeginsAs, IsDocument, IsFirst, IsGuessOf, IsOtherDocument, IsGuess};
-ghost use Rattle.explain.specs.Guesses.{has_beginning, is_base64, is_hexadecimal, is_kind_like, is_labelled};
-ghost use Rattle.explain.specs.Guesses.{is_guessed, label_among, label_of, pem_label, guess_by_text};
+ghost use Rattle.explain.specs.Guesses.{has_beginning, is_guessed, is_kind_like, is_of_lines, is_unknown};
+ghost use Rattle.explain.specs.Guesses.{is_without_key};
+ghost use Rattle.explain.specs.TextGuesses.{guess_by_text, pem_label, text_in};
 
 use crate::document::inside::named_elements;
 use crate::document::kinds::{deciding_field, shape_of, words_of};
 use crate::document::values::is_field;
 use crate::guess::heads::guess_by_outline;
+use crate::guess::texts::{guess_by_text, has_lines, pem_guess, pem_label, text_in};
 use crate::listing::front::{is_usual_mark, mark_of};
 use asn_names::element::NamedElement;
 use ber_outline::outline::outline;
-use pk_documents::kind::{KINDS, Kind};
+use pk_documents::kind::{KINDS, Kind, PrivateKeys};
 use reports::report::{Answer, Guess};
 use std::alloc::{AllocError, Global};
 use tlv_core::limits::Limits;
@@ -32,10 +33,32 @@ pub(crate) fn guess_of(
 ) -> Result<Guess, AllocError>
     ensures { IfOk result (λ guess. IsGuess limits kind octets.now answer guess) }
 {
-    if is_guessed(answer) {
+    if is_of_lines(kind, octets, answer) {
+        Ok(Guess::TextLines)
+    } else if is_guessed(answer) {
         guess(alloc, octets, kind, limits)
     } else {
         Ok(Guess::Unknown)
+    }
+}
+
+/// Whether a file is refused, and was taken for a text on its way. Of what may have private keys this isn't said.
+fn is_of_lines(kind: Kind, octets: &[u8], answer: Answer) -> bool
+    ensures { result ≡ is_of_lines kind octets.now answer }
+{
+    match answer {
+        Answer::Refused(_) => is_without_key(kind) && has_lines(octets),
+        _ => false,
+    }
+}
+
+/// Whether no document of the kind has a private key in it.
+fn is_without_key(kind: Kind) -> bool
+    ensures { result ≡ is_without_key (private_keys_of kind) }
+{
+    match kind.row().private_keys {
+        PrivateKeys::None => true,
+        PrivateKeys::One | PrivateKeys::Several | PrivateKeys::Encrypted => false,
     }
 }
 
@@ -61,134 +84,33 @@ fn is_kind_like(why: Reason) -> bool
         | Reason::Extra
         | Reason::Missing
         | Reason::LeftOut
-        | Reason::Truncated => true,
+        | Reason::Truncated
+        | Reason::TooLong => true,
         _ => false,
     }
 }
 
 fn guess(alloc: Global, octets: &[u8], kind: Kind, limits: Limits) -> Result<Guess, AllocError>
     ensures { IfOk result (λ guess.
-        IsGuessOf limits kind octets.now (pem_label octets.now) (guess_by_text octets.now) guess) }
+        IsGuessOf limits kind octets.now (pem_label (text_in octets.now)) (guess_by_text octets.now) guess) }
 {
-    if let Some(label) = pem_label(octets) {
-        return Ok(Guess::Pem(label));
+    let text = text_in(octets);
+    if let Some(label) = pem_label(text) {
+        return Ok(pem_guess(text, label));
     }
-    match guess_by_text(octets) {
-        Guess::Unknown => guess_document(alloc, octets, kind, limits),
-        text => Ok(text),
-    }
-}
-
-/// The label of a PEM text (RFC 7468 section 3), empty where it isn't a known one.
-fn pem_label(octets: &[u8]) -> Option<&'static str>
-    ensures { option_map (λ r. r.now) result ≡ pem_label octets.now }
-{
-    match octets.strip_prefix(b"-----BEGIN ") {
-        Some(text) => Some(label_of(text, &KINDS)),
-        None => None,
+    let seen = guess_by_text(octets);
+    if is_unknown(seen) {
+        guess_document(alloc, octets, kind, limits)
+    } else {
+        Ok(seen)
     }
 }
 
-/// Labels of what is of no kind (RFC 7468, and common tools).
-static OTHER_LABELS: [&str; 7] = [
-    "RSA PRIVATE KEY",
-    "DSA PRIVATE KEY",
-    "OPENSSH PRIVATE KEY",
-    "RSA PUBLIC KEY",
-    "CERTIFICATE",
-    "X509 CRL",
-    "EC PARAMETERS",
-];
-
-/// The label with which the text begins, of these kinds or else of what is of no kind.
-fn label_of(text: &[u8], kinds: &[Kind]) -> &'static str
-    ensures { result.now ≡ label_of kinds.now text.now }
+fn is_unknown(guess: Guess) -> bool
+    ensures { result ≡ is_unknown guess }
 {
-    match kinds {
-        [] => label_among(text, &OTHER_LABELS),
-        [kind, later @ ..] => {
-            let label = label_among(text, kind.row().labels);
-            if label.is_empty() {
-                label_of(text, later)
-            } else {
-                label
-            }
-        }
-    }
-}
-
-/// The first of the labels with which the text begins.
-fn label_among(text: &[u8], labels: &'static [&'static str]) -> &'static str
-    ensures { result.now ≡ label_among (map (λ r. r.now) labels.now) text.now }
-{
-    match labels {
-        [] => "",
-        [label, later @ ..] => {
-            if is_labelled(text, label) {
-                label
-            } else {
-                label_among(text, later)
-            }
-        }
-    }
-}
-
-/// Whether the text begins with the label, and five hyphens follow it.
-fn is_labelled(text: &[u8], label: &str) -> bool
-    ensures { result ≡ is_labelled label.now text.now }
-{
-    match text.strip_prefix(label.as_bytes()) {
-        Some(rest) => rest.strip_prefix(b"-----").is_some(),
-        None => false,
-    }
-}
-
-/// What a text is that isn't PEM, by its first 16 octets: what comes after them may be private.
-fn guess_by_text(octets: &[u8]) -> Guess
-    ensures { result ≡ guess_by_text octets.now }
-{
-    if octets.is_empty() {
-        return Guess::Empty;
-    }
-    let first = &octets[..octets.len().min(16)];
-    if are_all_hexadecimal(first) {
-        return Guess::Hexadecimal;
-    }
-    if first[0] == b'M' && are_all_base64(first) {
-        return Guess::Base64;
-    }
-    Guess::Unknown
-}
-
-/// Whether all octets are hexadecimal figures, or are between such.
-fn are_all_hexadecimal(octets: &[u8]) -> bool
-    ensures { result ≡ list_all is_hexadecimal octets.now }
-{
-    octets.iter().all(|octet| is_hexadecimal(*octet))
-}
-
-fn is_hexadecimal(octet: u8) -> bool
-    ensures { result ≡ is_hexadecimal octet }
-{
-    match octet {
-        b'0'..=b'9' | b'A'..=b'F' | b'a'..=b'f' | b':' | b' ' | b'\t' | b'\r' | b'\n' => true,
-        _ => false,
-    }
-}
-
-/// Whether all octets are of base64 (RFC 4648 section 4) or white space.
-fn are_all_base64(octets: &[u8]) -> bool
-    ensures { result ≡ list_all is_base64 octets.now }
-{
-    octets.iter().all(|octet| is_base64(*octet))
-}
-
-fn is_base64(octet: u8) -> bool
-    ensures { result ≡ is_base64 octet }
-{
-    match octet {
-        b'A'..=b'Z' | b'a'..=b'z' | b'0'..=b'9' | b'+' | b'/' | b'=' => true,
-        b' ' | b'\t' | b'\r' | b'\n' => true,
+    match guess {
+        Guess::Unknown => true,
         _ => false,
     }
 }

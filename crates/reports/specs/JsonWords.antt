@@ -31,6 +31,7 @@ abbrev pub guess_word : Guess → List ℕ
 guess_word guesses.Unknown = []
 guess_word guesses.Empty = codes "empty"
 guess_word (guesses.Pem label) = codes "pem"
+guess_word (guesses.EncryptedPem label) = codes "encrypted_pem"
 guess_word (guesses.Kind kind) = kind.word.now
 guess_word guesses.RsaPrivateKey = codes "rsa_private_key"
 guess_word guesses.RsaPublicKey = codes "rsa_public_key"
@@ -38,6 +39,15 @@ guess_word guesses.Certificate = codes "certificate"
 guess_word guesses.Pkcs12 = codes "pkcs12"
 guess_word guesses.Hexadecimal = codes "hexadecimal"
 guess_word guesses.Base64 = codes "base64"
+guess_word guesses.Utf16 = codes "utf16"
+guess_word guesses.Markup = codes "markup"
+guess_word guesses.Json = codes "json"
+guess_word guesses.JavaKeyStore = codes "java_key_store"
+guess_word guesses.OpenSshKey = codes "openssh_key"
+guess_word guesses.SshPublicKey = codes "ssh_public_key"
+guess_word guesses.Recoded = codes "recoded"
+guess_word guesses.Replaced = codes "replaced"
+guess_word guesses.TextLines = codes "text_lines"
 
 -- what is remarked
 abbrev pub remark_word : Remark → List ℕ

@@ -1,5 +1,6 @@
 pub mod Advice
 pub mod Field
+pub mod Guesses
 pub mod Hints
 pub mod Json
 pub mod JsonLists

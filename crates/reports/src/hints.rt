@@ -1,9 +1,9 @@
 //! What is likely, and what to do: by what the file looks like, else by the reason.
 ghost use Rattle.std.specs.Prelude.{◌≡◌, ◌++◌, IfOk, OnOk, string_bytes};
-ghost use Rattle.reports.specs.Hints.{cause_said, do_said, guess_act, guess_name, guess_said, guess_words, is_lines};
-ghost use Rattle.reports.specs.Hints.{likely_said, line_said, reason_act, reason_likely, remark_said, signed_words};
-ghost use Rattle.reports.specs.Hints.{sound_said};
+ghost use Rattle.reports.specs.Hints.{cause_said, do_said, is_lines, likely_said, line_said, reason_act};
+ghost use Rattle.reports.specs.Hints.{reason_likely, remark_said, signed_words, sound_said};
 
+use crate::guesses::{push_guess, push_guess_act};
 use crate::placed_advice::{push_fault_act, push_fault_likely};
 use crate::report::{Answer, Cause, Guess, Remark, Report};
 use crate::text::push_number;
@@ -31,7 +31,7 @@ fn push_likely(text: &mut String, report: &Report, fault: Fault) -> Result<(), A
         Guess::Unknown => {
             let line = line_words(report.octets, report.announced);
             if line.is_empty() {
-                push_fault_likely(text, fault)
+                push_fault_likely(text, report.kind.word, fault)
             } else {
                 text.push_str(line)
             }
@@ -64,46 +64,6 @@ fn is_lines(octets: u64) -> bool
     octets % 48 == 0 || octets % 57 == 0
 }
 
-/// What the file looks like.
-#[tactic(auto, unfolding(crate::specs::Hints::guess_said))]
-fn push_guess(text: &mut String, guess: Guess) -> Result<(), AllocError>
-    ensures { OnOk result (string_bytes text.new ≡ string_bytes text.old ++ guess_said guess) }
-{
-    text.push_str(guess_words(guess))?;
-    text.push_str(guess_name(guess))
-}
-
-/// What the file looks like, but for the label or the kind.
-#[tactic(auto, unfolding(crate::specs::Hints::guess_words))]
-fn guess_words(guess: Guess) -> &'static str
-    ensures { result.now ≡ guess_words guess }
-{
-    match guess {
-        Guess::Unknown => "",
-        Guess::Empty => "the file is empty",
-        Guess::Pem(_) => "this is PEM, labelled ",
-        Guess::Kind(_) => "this is a document of kind ",
-        Guess::RsaPrivateKey => "this is an RSAPrivateKey (PKCS #1)",
-        Guess::RsaPublicKey => "this is an RSAPublicKey (PKCS #1)",
-        Guess::Certificate => "this is a certificate",
-        Guess::Pkcs12 => "this is a PKCS #12 file",
-        Guess::Hexadecimal => "this is hexadecimal",
-        Guess::Base64 => "this is base64",
-    }
-}
-
-/// The label of PEM, or the word of a kind.
-#[tactic(auto, unfolding(crate::specs::Hints::guess_name))]
-fn guess_name(guess: Guess) -> &'static str
-    ensures { result.now ≡ guess_name guess }
-{
-    match guess {
-        Guess::Pem(label) => label,
-        Guess::Kind(kind) => kind.word,
-        _ => "",
-    }
-}
-
 /// What to do.
 pub(crate) fn do_text(alloc: Global, report: &Report) -> Result<String, AllocError>
     ensures { IfOk result (λ text. string_bytes text ≡ do_said report.now) }
@@ -112,7 +72,7 @@ pub(crate) fn do_text(alloc: Global, report: &Report) -> Result<String, AllocErr
     match report.answer {
         Answer::Der => {}
         Answer::NotDer(_) => push_sound(&mut text, report.kind.word)?,
-        Answer::Refused(fault) => push_act(&mut text, report.guess, fault)?,
+        Answer::Refused(fault) => push_act(&mut text, report, fault)?,
     }
     Ok(text)
 }
@@ -135,51 +95,20 @@ fn signed_words(kind: &str) -> &'static str
     ensures { result.now ≡ signed_words kind.now }
 {
     if kind == "request" {
-        return ", and verify the signature over what pkder signed writes";
+        return ", and verify the signature over the octets as they came; where that fails, over what \
+            pkder signed writes";
     }
     ""
 }
 
 #[tactic(auto, unfolding(crate::specs::Hints::reason_act))]
-fn push_act(text: &mut String, guess: Guess, fault: Fault) -> Result<(), AllocError>
+fn push_act(text: &mut String, report: &Report, fault: Fault) -> Result<(), AllocError>
     ensures { OnOk result (string_bytes text.new ≡ string_bytes text.old
-        ++ reason_act guess fault) }
+        ++ reason_act report.now fault) }
 {
-    match guess {
-        Guess::Unknown => push_fault_act(text, fault),
-        guess => push_guess_act(text, guess),
-    }
-}
-
-/// What to do with a file that looks so.
-#[tactic(auto, unfolding(crate::specs::Hints::guess_act))]
-fn push_guess_act(text: &mut String, guess: Guess) -> Result<(), AllocError>
-    ensures { OnOk result (string_bytes text.new ≡ string_bytes text.old ++ guess_act guess) }
-{
-    match guess {
-        Guess::Unknown => Ok(()),
-        Guess::Empty => text.push_str("fetch it again"),
-        Guess::Pem(_) => text.push_str(
-            "decode its base64, as the manual says under Getting the octets",
-        ),
-        Guess::Kind(kind) => {
-            text.push_str("read it with --kind ")?;
-            text.push_str(kind.word)
-        }
-        Guess::RsaPrivateKey => text.push_str(
-            "openssl pkcs8 -topk8 -nocrypt -inform DER -in FILE -outform DER makes it PKCS #8",
-        ),
-        Guess::RsaPublicKey => text.push_str(
-            "openssl rsa -RSAPublicKey_in -inform DER -in FILE -pubout -outform DER makes it kind public",
-        ),
-        Guess::Certificate => text.push_str(
-            "openssl x509 -inform DER -in FILE -pubkey -noout writes its public key",
-        ),
-        Guess::Pkcs12 => text.push_str(
-            "openssl pkcs12 -nodes -nocerts -in FILE writes its private key",
-        ),
-        Guess::Hexadecimal => text.push_str("xxd -r -p FILE writes its octets"),
-        Guess::Base64 => text.push_str("base64 -d FILE writes its octets"),
+    match report.guess {
+        Guess::Unknown => push_fault_act(text, report.kind.word, fault),
+        guess => push_guess_act(text, report.kind.word, guess),
     }
 }
 

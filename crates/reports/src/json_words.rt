@@ -38,6 +38,7 @@ pub(crate) fn word_of_guess(guess: Guess) -> &'static str
         Guess::Unknown => "",
         Guess::Empty => "empty",
         Guess::Pem(_) => "pem",
+        Guess::EncryptedPem(_) => "encrypted_pem",
         Guess::Kind(kind) => kind.word,
         Guess::RsaPrivateKey => "rsa_private_key",
         Guess::RsaPublicKey => "rsa_public_key",
@@ -45,6 +46,15 @@ pub(crate) fn word_of_guess(guess: Guess) -> &'static str
         Guess::Pkcs12 => "pkcs12",
         Guess::Hexadecimal => "hexadecimal",
         Guess::Base64 => "base64",
+        Guess::Utf16 => "utf16",
+        Guess::Markup => "markup",
+        Guess::Json => "json",
+        Guess::JavaKeyStore => "java_key_store",
+        Guess::OpenSshKey => "openssh_key",
+        Guess::SshPublicKey => "ssh_public_key",
+        Guess::Recoded => "recoded",
+        Guess::Replaced => "replaced",
+        Guess::TextLines => "text_lines",
     }
 }
 

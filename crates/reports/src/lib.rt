@@ -14,6 +14,7 @@ ghost use Rattle.reports.specs.Reports.{report_lines};
 
 mod advice;
 pub mod field;
+pub mod guesses;
 mod hints;
 mod json_lists;
 pub mod json_report;

@@ -153,8 +153,10 @@ pub struct Diagnosis {
 pub enum Guess {
     Unknown,
     Empty,
-    /// PEM with this label; the kind that it is of, where there is one.
+    /// PEM with this label, empty where it isn't a usual one (RFC 7468).
     Pem(&'static str),
+    /// The same, encrypted as RFC 1421 section 4.6 has it.
+    EncryptedPem(&'static str),
     /// A document of this kind, sound.
     Kind(KindWords),
     /// RSAPrivateKey, RSAPublicKey (RFC 8017 A.1.1, A.1.2).
@@ -164,9 +166,22 @@ pub enum Guess {
     Certificate,
     /// PFX (RFC 7292 section 4).
     Pkcs12,
-    /// Hexadecimal figures; base64 without a label.
+    /// Hexadecimal figures; base64 or base64url without a label (RFC 4648).
     Hexadecimal,
     Base64,
+    /// A text in UTF-16; HTML or XML; JSON.
+    Utf16,
+    Markup,
+    Json,
+    /// A key store of Java, of its own formats.
+    JavaKeyStore,
+    /// OpenSSH's own format of private keys, decoded; a public key in a line, as SSH has it.
+    OpenSshKey,
+    SshPublicKey,
+    /// Octets that were taken for text: each from 80 on written as UTF-8; each of these lost; 0d before each 0a.
+    Recoded,
+    Replaced,
+    TextLines,
 }
 
 /// What other standards forbid and pkder carries.

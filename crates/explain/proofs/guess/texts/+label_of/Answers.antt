@@ -2,11 +2,11 @@ use Rattle.std.proofs.Common.{List, ap, arith, false, length, slice_index_or, �
 use Rattle.pk_documents.specs.KindRows.{labels_of}
 use Rattle.pk_documents.specs.declared.kind.Kind.{Kind}
 use Rattle.pk_documents.specs.declared.kind.Kind.TheVariants.{Key}
-use Rattle.explain.specs.Guesses.{label_among, label_of, or_label, other_labels}
-use Rattle.explain.proofs.guess.+label_of.Goals as goal
+use Rattle.explain.specs.TextGuesses.{label_among, label_of, or_label, other_label}
+use Rattle.explain.proofs.guess.texts.+label_of.Goals as goal
 
 -- of no kind
-of_none : (kinds : List Kind) (text label : List ℕ) → length kinds < 1 → label ≡ label_among other_labels text
+of_none : (kinds : List Kind) (text label : List ℕ) → length kinds < 1 → label ≡ other_label text
     → label ≡ label_of kinds text
 of_none [] text label none is = is
 of_none (kind ∷ later) text label none is = absurd (omega (arith, none))
@@ -22,7 +22,7 @@ of_first (kind ∷ later) text (octet ∷ octets) labels some of_kind is full =
 
 pub returns-in-empty : goal.returns-in-empty
 returns-in-empty t c =
-    of_none c.args.kinds.now c.args.text.now c.label_among.result.now c.in-empty.len_below c.label_among.ensures
+    of_none c.args.kinds.now c.args.text.now c.other_label.result.now c.in-empty.len_below c.other_label.ensures
 
 pub returns-else-is_empty : goal.returns-else-is_empty
 returns-else-is_empty t c =
