@@ -6,10 +6,12 @@ shows it as that. So it is for few of the values that this octet may have, where
 import json
 from collections import Counter
 
-from tests.explained.report_differences import differences
+from tests.explained.report_differences import differences, runs_told
 
 # Of so many values at most one may have a report other than most have.
 ONE_OF = 4
+# So many documents show whether a report has octets among its words.
+ASKED = 16
 
 
 def is_by_chance(asked, kind, texts, is_looked_at):
@@ -28,6 +30,30 @@ def few_are_shown(asked, kind, text, at, is_looked_at):
     usual = reports.most_common(1)[0][0]
     others = sum(count for it, count in reports.items() if differences(usual, it, False, is_looked_at)[1])
     return others <= max(1, len(alike) // ONE_OF)
+
+
+def are_in_words(asked, kind, text, run, name):
+    """Whether the report of this name has a run of octets among its words: also of documents that haven't the run, its
+    last octet being another one wherever it stands, and of which `check` has the same line."""
+    last = {at + len(run) - 1 for at in range(len(text)) if text.startswith(run, at)}
+    documents = [bytes(octet ^ (step if at in last else 0) for at, octet in enumerate(text)) for step in range(1, 256)]
+    documents = [it for it in documents if run not in it]
+    line, *lines = asked.lines(kind, [text, *documents])
+    alike = [it for it, own in zip(documents, lines) if own == line][:ASKED]
+    return bool(alike) and all(run in runs_told(it[name].decode()) for it in asked.texts(kind, alike))
+
+
+class Worded:
+    """Reports of these words and what a function makes of a document."""
+
+    def __init__(self, words, told):
+        self.words, self.told = words, told
+
+    def lines(self, _, documents):
+        return [len(it) for it in documents]
+
+    def texts(self, _, documents):
+        return [{"a report": f"{self.words} {self.told(it)}".encode()} for it in documents]
 
 
 class Shown:
@@ -53,5 +79,9 @@ def chances_that_fail():
     chances = {"the last arc": lambda one, _: one if one in range(1, 15) else -1,
                "a NULL": lambda one, other: (one, other) == (5, 0), "nothing": lambda *_: 0}
     texts = [b"\x01\x02\x30\x40\x05", b"\x01\x02\x05\x00\x05"]
-    return [f"what is shown by chance isn't told from a leak: {name}" for those in (leaks, chances)
-            for name, shown in those.items() if is_by_chance(Shown(shown), "key", texts, False) != (those is chances)]
+    wrong = [f"what is shown by chance isn't told from a leak: {name}" for those in (leaks, chances)
+             for name, shown in those.items() if is_by_chance(Shown(shown), "key", texts, False) != (those is chances)]
+    reports = [(Worded("the words", lambda _: ""), True),
+               (Worded("a report", lambda it: it[1:5].decode("latin-1")), False)]
+    return wrong + ["what is worded so isn't told from a leak" for asked, are_words in reports
+                    if are_in_words(asked, "key", b"\0the \1", b"the ", "a report") != are_words]

@@ -5,7 +5,7 @@ A pair is a document of tests/oracle/secret_documents.py whose private octets ar
 alike, in none to three steps, and read alike, some under another kind. Wherever `check` has one line of both, all
 reports of the two have to be one text, but for what tests/explained/report_differences.py lets them tell of a refused
 document; and so what `same` says of each and a third filling. Where the lines differ, no four private octets stand in a
-row in any text.
+row in any text, but among words that it also has of other octets.
 
 The pairs are new ones in each run: the first line has the seed. SEED=N in the environment takes that one, PAIRS=N tries
 so many, and JOBS=N does so in so many processes. LIBRARY is a libpkder.so.0, which makes most of the reports where it
@@ -24,7 +24,7 @@ from pathlib import Path
 
 sys.path[0] = str(Path(__file__).resolve().parents[2])
 from tests.explained.asked_reports import WHOLE, Library, Program
-from tests.explained.chance import chances_that_fail, is_by_chance
+from tests.explained.chance import are_in_words, chances_that_fail, is_by_chance
 from tests.explained.report_differences import (
     LOOKED_AT, differences, private_runs, rules_that_fail, runs_told_alone, untold_forms)
 from tests.oracle import reader
@@ -187,12 +187,13 @@ def compare(found, asked, pair, texts, is_accepted):
     return True
 
 
-def look_through(found, pair, texts, are_accepted):
-    """Whether no text has private octets in a row, in pieces that the other one hasn't."""
+def look_through(found, asked, pair, texts, are_accepted):
+    """Whether no text has private octets in a row, in pieces that the other one hasn't, but among its words."""
     for at, is_accepted in enumerate(are_accepted):
         runs = private_runs(pair.texts[at], pair.marks_of(at) if is_accepted else pair.marks)
         for name in ("explain --all", "explain --json --all"):
             told = runs & runs_told_alone(texts[at][name].decode(), texts[1 - at][name].decode())
+            told = {it for it in told if not are_in_words(asked, pair.kind, pair.texts[at], it, name)}
             if told:
                 found.wrong(f"octets in a row, {pair.kind}", pair, f"{name} has {min(told).hex(' ')}")
                 return False
@@ -219,7 +220,7 @@ def try_kind(found, asked, kind, pairs):
         found.count["failed"] += not compare(found, asked, pair, [next(texts), next(texts)], asked.is_accepted(lines[0]))
     for pair, lines in apart:
         are_accepted = [*map(asked.is_accepted, lines)]
-        found.count["failed"] += not look_through(found, pair, [next(texts), next(texts)], are_accepted)
+        found.count["failed"] += not look_through(found, asked, pair, [next(texts), next(texts)], are_accepted)
     found.count["pairs"] += len(pairs)
     found.count["pairs of one line"] += len(likes)
     found.count["accepted pairs of one line"] += len(accepted)
