@@ -6,7 +6,7 @@ use Rattle.tlv_core.specs.declared.reason.Reason.TheVariants.{Curve, KeyLength}
 use Rattle.tlv_core.specs.declared.reason.Reason.{Reason}
 use Rattle.x690.specs.Lists.{same_octets}
 use Rattle.x690.specs.Values.{Value, leaf_at}
-use Rattle.pkix_definitions.specs.Identifiers.{curve_lengths, length_under}
+use Rattle.pkix_definitions.specs.Identifiers.{curve_lengths, entry_under}
 use Rattle.pkix_definitions.specs.Rules.{container_curve, else_refused, has_length, inner_ec_rule}
 use Rattle.private_keys.proofs.Rules.{ec_key}
 use Rattle.pkcs8.specs.Keys.{curve_octets}
@@ -16,7 +16,7 @@ abbrev ruled_by : List ℕ → List ℕ → List ℕ → Option Reason
 ruled_by own due key =
     elim (length own == 0) [
       | false ↦ else_refused (same_octets own due) Curve
-      | true ↦ else_refused (has_length (length_under curve_lengths due) (length key)) KeyLength
+      | true ↦ else_refused (has_length (entry_under curve_lengths due) (length key)) KeyLength
     ]
 
 -- a reason where a test fails
@@ -46,18 +46,18 @@ module _ {A B : Type 0} (f : A → List ℕ) (g : B → List ℕ) (number key : 
       inner_rule_by o p own due h k
       ∙ ap (λ z. elim z [
         | false ↦ else_refused (same_octets own due) Curve
-        | true ↦ else_refused (has_length (length_under curve_lengths due) (length key)) KeyLength
+        | true ↦ else_refused (has_length (entry_under curve_lengths due) (length key)) KeyLength
       ]) e
       ∙ ap (λ z. else_refused z Curve) x
 
   pub of_no_curve : (o : Option A) (p : Option B) (own due : List ℕ) (b : Bool) → own ≡ curve_octets (option_map f o)
       → container_curve earlier ≡ due → (length own == 0) ≡ true
-      → has_length (length_under curve_lengths due) (length key) ≡ b
+      → has_length (entry_under curve_lengths due) (length key) ≡ b
       → inner_ec_rule earlier (ec_key f g number key o p) ≡ else_refused b KeyLength
   of_no_curve o p own due b h k e x =
       inner_rule_by o p own due h k
       ∙ ap (λ z. elim z [
         | false ↦ else_refused (same_octets own due) Curve
-        | true ↦ else_refused (has_length (length_under curve_lengths due) (length key)) KeyLength
+        | true ↦ else_refused (has_length (entry_under curve_lengths due) (length key)) KeyLength
       ]) e
       ∙ ap (λ z. else_refused z KeyLength) x

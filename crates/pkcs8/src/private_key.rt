@@ -6,7 +6,7 @@ ghost use Rattle.asn_elements.specs.Leaves.{octets_of};
 ghost use Rattle.pkix_definitions.proofs.Fairs.{fair_inner_curve, fair_inner_ec};
 ghost use Rattle.pkix_definitions.proofs.LawfulTypes.{honest_inner_curve, honest_inner_ec};
 ghost use Rattle.pkix_definitions.specs.DocumentTypes.{private_key};
-ghost use Rattle.pkix_definitions.specs.Identifiers.{curve_lengths, ec_public_key, length_under, rfc8410_algorithms};
+ghost use Rattle.pkix_definitions.specs.Identifiers.{curve_lengths, ec_public_key, entry_under, rfc8410_algorithms};
 ghost use Rattle.pkix_definitions.specs.Identifiers.{rfc8410_lengths, rsa_encryption};
 ghost use Rattle.pkix_definitions.specs.Rules.{has_length, inner_curve_rule, inner_ec_rule};
 ghost use Rattle.pkcs8.specs.Keys.{curve_octets};
@@ -83,7 +83,7 @@ fn contents_of<'a>(curve: Option<&'a Oid>) -> &'a [u8]
 
 /// Whether the key has the length that goes with the curve, if one is named and it has one.
 fn has_length_on(curve: Option<&Oid>, key: &Octets) -> bool
-    ensures { result ≡ has_length (length_under curve_lengths
+    ensures { result ≡ has_length (entry_under curve_lengths
         (curve_octets (option_map (λ r. r.now) curve.entry))) (length (octets_of key.now)) }
 {
     let Some(curve) = curve else {
@@ -124,7 +124,7 @@ impl<A: NamesKey> FieldRules<A, CurveKey> for UnderCurve {
 /// Whether the key has the length that goes with the algorithm, if it is one of RFC 8410's; a private key has as many
 /// octets as the public one.
 fn has_length_under(algorithm: &Oid, key: &Octets) -> bool
-    ensures { result ≡ has_length (length_under rfc8410_lengths algorithm.now)
+    ensures { result ≡ has_length (entry_under rfc8410_lengths algorithm.now)
         (length (octets_of key.now)) }
 {
     match public_key_length(algorithm) {

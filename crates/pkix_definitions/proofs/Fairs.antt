@@ -9,7 +9,7 @@ use Rattle.x690.specs.Premises.{FairRule}
 use Rattle.x690.specs.Values.{Leaf, Same, Sequence, SetOf, Value, sequence_members, value_tag}
 use Rattle.x690_laws.proofs.ReadingComplete.{each_length}
 use Rattle.x690_laws.proofs.ValuesOfTrees.{leaf_at_same, members_same, octets_same}
-use Rattle.pkix_definitions.specs.Identifiers.{curve_lengths, ec_public_key, length_under, rfc8410_algorithms, rfc8410_lengths}
+use Rattle.pkix_definitions.specs.Identifiers.{curve_lengths, ec_public_key, entry_under, rfc8410_algorithms, rfc8410_lengths}
 use Rattle.pkix_definitions.specs.Rules.{container_curve, ec_length, ec_parameters_rule, ec_rule, else_refused, has_length, inner_curve_rule, inner_ec_rule, is_identifier, key_bits_rule, key_version_rule, no_unused, nth_is_identifier, own_curve, parameters_rule, rsa_version_rule, version_rule, with_tag}
 
 tag_same : (v w : Value) → Same v w → value_tag v ≡ value_tag w
@@ -81,7 +81,7 @@ pub fair_key_bits : (path : List ℕ) → FairRule (key_bits_rule path)
 fair_key_bits path earlier earlier' v w es s =
     ap₂ (λ (p : List ℕ) (o : List ℕ).
     else_refused
-    (not (one_of p rfc8410_algorithms) || (has_length (length_under rfc8410_lengths p) (length o - 1) && no_unused o))
+    (not (one_of p rfc8410_algorithms) || (has_length (entry_under rfc8410_lengths p) (length o - 1) && no_unused o))
     KeyLength)
     (leaf_at_same path earlier earlier' es) (octets_same v w s)
 
@@ -97,7 +97,7 @@ ec_length_same c c' v w e s =
     (leaf_at_same (1 ∷ []) (sequence_members v) (sequence_members w) (members_same v w s))
   where
     ec_length_of : List ℕ → List ℕ → Bool
-    ec_length_of a o = has_length (length_under curve_lengths a) (length o)
+    ec_length_of a o = has_length (entry_under curve_lengths a) (length o)
 
 pub fair_ec : FairRule ec_rule
 fair_ec earlier earlier' v w es s =
@@ -105,7 +105,7 @@ fair_ec earlier earlier' v w es s =
 
 pub fair_inner_curve : FairRule inner_curve_rule
 fair_inner_curve earlier earlier' v w es s =
-    ap₂ (λ (p : List ℕ) (o : List ℕ). else_refused (has_length (length_under rfc8410_lengths p) (length o)) KeyLength)
+    ap₂ (λ (p : List ℕ) (o : List ℕ). else_refused (has_length (entry_under rfc8410_lengths p) (length o)) KeyLength)
     (leaf_at_same (1 ∷ 0 ∷ []) earlier earlier' es) (octets_same v w s)
 
 container_curve_same : (vs ws : List Value) → Each Same vs ws → container_curve vs ≡ container_curve ws

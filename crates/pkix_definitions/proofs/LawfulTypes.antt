@@ -71,10 +71,10 @@ pub honest_rsa_version : HonestRule rsa_version_rule
 honest_rsa_version earlier v why e = tested _ VersionRule why rule_honest e
 
 -- two tags that differ
-apart : (t v u : Tag) → same_tag t v ≡ false → same_tag t u ≡ true → same_tag v u ≡ false
+pub apart : (t v u : Tag) → same_tag t v ≡ false → same_tag t u ≡ true → same_tag v u ≡ false
 apart t v u d h = grind (arith, nat_tests)
 
-neither : (a b : Bool) → a ≡ false → b ≡ false → (a || b) ≡ false
+pub neither : (a b : Bool) → a ≡ false → b ≡ false → (a || b) ≡ false
 neither true b e f = cc
 neither false b e f = f
 

@@ -1,6 +1,7 @@
 pub mod ClosedTypes
 pub mod Computed
 pub mod Fairs
+pub mod LawfulExtensions
 pub mod LawfulTypes
 pub mod RowsFaults
 pub mod RowsKeys

@@ -50,14 +50,26 @@ extension_request = 0x2A ∷ 0x86 ∷ 0x48 ∷ 0x86 ∷ 0xF7 ∷ 0x0D ∷ 0x01 �
 abbrev pub rsa_encryption : List ℕ
 rsa_encryption = 0x2A ∷ 0x86 ∷ 0x48 ∷ 0x86 ∷ 0xF7 ∷ 0x0D ∷ 0x01 ∷ 0x01 ∷ 0x01 ∷ []
 
+-- 2.5.29.NUMBER (RFC 5280 section 4.2.1)
+abbrev pub certificate_extension : ℕ → List ℕ
+certificate_extension number = 0x55 ∷ 0x1D ∷ number ∷ []
+
+-- 1.3.6.1.5.5.7.1.NUMBER (RFC 5280 section 4.2.2)
+abbrev pub private_extension : ℕ → List ℕ
+private_extension number = 0x2B ∷ 0x06 ∷ 0x01 ∷ 0x05 ∷ 0x05 ∷ 0x07 ∷ 0x01 ∷ number ∷ []
+
+-- 1.3.6.1.4.1.311.NUMBER.NUMBER, of Microsoft
+abbrev pub enrolment : ℕ → ℕ → List ℕ
+enrolment first second = 0x2B ∷ 0x06 ∷ 0x01 ∷ 0x04 ∷ 0x01 ∷ 0x82 ∷ 0x37 ∷ first ∷ second ∷ []
+
 abbrev pub rfc8410_algorithms : List (List ℕ)
 rfc8410_algorithms = x25519 ∷ x448 ∷ ed25519 ∷ ed448 ∷ []
 
--- the number of octets of a key under an identifier, by a table
-abbrev pub length_under : List (List ℕ × ℕ) → List ℕ → Option ℕ
-length_under [] identifier = None
-length_under (row ∷ rows) identifier =
-    elim (same_octets identifier row.0) [ true ↦ Some row.1 | false ↦ length_under rows identifier ]
+-- what a table has under an identifier
+abbrev pub entry_under : {Entry : Type 0} → List (List ℕ × Entry) → List ℕ → Option Entry
+entry_under [] identifier = None
+entry_under (row ∷ rows) identifier =
+    elim (same_octets identifier row.0) [ true ↦ Some row.1 | false ↦ entry_under rows identifier ]
 
 -- private and public keys (RFC 7748 section 5, RFC 8032 sections 5.1.5, 5.2.5)
 abbrev pub rfc8410_lengths : List (List ℕ × ℕ)

@@ -8,7 +8,7 @@ use Rattle.x690.specs.Layouts.{context_specific, same_tag, universal}
 use Rattle.x690.specs.Lists.{one_of, same_octets}
 use Rattle.x690.specs.TypeTerms.{Rule}
 use Rattle.x690.specs.Values.{Leaf, Sequence, SetOf, Value, leaf_at, leaf_contents, sequence_members, value_tag}
-use Rattle.pkix_definitions.specs.Identifiers.{curve_lengths, ec_public_key, length_under, rfc8410_algorithms, rfc8410_lengths}
+use Rattle.pkix_definitions.specs.Identifiers.{curve_lengths, ec_public_key, entry_under, rfc8410_algorithms, rfc8410_lengths}
 use Rattle.pkix_definitions.specs.Paths.{algorithm_of_key, curve_of_key, first_field, second_field, under_tag, version_0}
 
 -- a length that a table gives, if it gives one
@@ -66,14 +66,14 @@ no_unused (unused ∷ octets) = unused == 0
 abbrev pub key_bits_rule : List ℕ → Rule
 key_bits_rule path earlier value =
     else_refused (not (leaf_is_one_of path rfc8410_algorithms earlier)
-    || (has_length (length_under rfc8410_lengths (leaf_at path earlier)) (length (leaf_contents value) - 1)
+    || (has_length (entry_under rfc8410_lengths (leaf_at path earlier)) (length (leaf_contents value) - 1)
     && no_unused (leaf_contents value))) KeyLength
 
 -- Under an algorithm of RFC 8410, a private key has the table's length.
 abbrev pub inner_curve_rule : Rule
 inner_curve_rule earlier value =
     else_refused
-    (has_length (length_under rfc8410_lengths (leaf_at algorithm_of_key earlier)) (length (leaf_contents value)))
+    (has_length (entry_under rfc8410_lengths (leaf_at algorithm_of_key earlier)) (length (leaf_contents value)))
     KeyLength
 
 -- the curve that an ECPrivateKey names, no octets where it names none
@@ -83,7 +83,7 @@ own_curve value = leaf_at under_tag (with_tag (context_specific 0) (sequence_mem
 -- On a curve of the table the private key has its length.
 abbrev pub ec_length : List ℕ → Value → Bool
 ec_length curve value =
-    has_length (length_under curve_lengths curve) (length (leaf_at second_field (sequence_members value)))
+    has_length (entry_under curve_lengths curve) (length (leaf_at second_field (sequence_members value)))
 
 -- An ECPrivateKey has the length of the curve that it names.
 abbrev pub ec_rule : Rule

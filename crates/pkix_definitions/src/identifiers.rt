@@ -2,7 +2,7 @@
 //! under them.
 ghost use Rattle.std.specs.Prelude.{◌≡◌};
 ghost use Rattle.std.specs.Option.{is_some};
-ghost use Rattle.pkix_definitions.specs.Identifiers.{curve_lengths, length_under, rfc8410_algorithms, rfc8410_lengths};
+ghost use Rattle.pkix_definitions.specs.Identifiers.{curve_lengths, entry_under, rfc8410_algorithms, rfc8410_lengths};
 ghost use Rattle.x690.specs.Lists.{one_of, same_octets};
 
 /// id-ecPublicKey, 1.2.840.10045.2.1 (RFC 5480 section 2.1.1).
@@ -53,7 +53,7 @@ pub fn are_same_octets(identifier: &[u8], contents: &[u8]) -> bool
 /// sections 5.1.5, 5.2.5).
 #[inline(always)]
 pub fn rfc8410_length(algorithm: &[u8]) -> Option<usize>
-    ensures length { result ≡ length_under rfc8410_lengths algorithm.now }
+    ensures length { result ≡ entry_under rfc8410_lengths algorithm.now }
     ensures listed { is_some result ≡ one_of algorithm.now rfc8410_algorithms }
 {
     if are_same_octets(algorithm, X25519) {
@@ -72,7 +72,7 @@ pub fn rfc8410_length(algorithm: &[u8]) -> Option<usize>
 /// The number of octets of a private key on a curve (RFC 5915 section 3, SEC 2).
 #[inline(always)]
 pub fn curve_length(curve: &[u8]) -> Option<usize>
-    ensures { result ≡ length_under curve_lengths curve.now }
+    ensures { result ≡ entry_under curve_lengths curve.now }
 {
     if are_same_octets(curve, SECP224R1) {
         Some(28)

@@ -1,6 +1,6 @@
 -- What clauses see of public keys.
 use Rattle.std.specs.Prelude.{Bool, List, length, not, ℕ, ◌&&◌, ◌-◌, ◌||◌}
-use Rattle.pkix_definitions.specs.Identifiers.{length_under, rfc8410_algorithms, rfc8410_lengths}
+use Rattle.pkix_definitions.specs.Identifiers.{entry_under, rfc8410_algorithms, rfc8410_lengths}
 use Rattle.x690.specs.Lists.{one_of}
 use Rattle.pkix_definitions.specs.Rules.{has_length, no_unused}
 
@@ -9,4 +9,4 @@ use Rattle.pkix_definitions.specs.Rules.{has_length, no_unused}
 abbrev pub key_fits : List ℕ → List ℕ → Bool
 key_fits algorithm contents =
     not (one_of algorithm rfc8410_algorithms)
-    || (has_length (length_under rfc8410_lengths algorithm) (length contents - 1) && no_unused contents)
+    || (has_length (entry_under rfc8410_lengths algorithm) (length contents - 1) && no_unused contents)

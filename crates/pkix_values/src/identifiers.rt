@@ -1,7 +1,7 @@
 //! The object identifiers that the types name, as values of X.690 8.19.
 ghost use Rattle.std.specs.Prelude.{◌≡◌, ◌∷◌, []};
 ghost use Rattle.std.specs.Option.{is_some};
-ghost use Rattle.pkix_definitions.specs.Identifiers.{extension_request, length_under, rfc8410_algorithms};
+ghost use Rattle.pkix_definitions.specs.Identifiers.{entry_under, extension_request, rfc8410_algorithms};
 ghost use Rattle.pkix_definitions.specs.Identifiers.{rfc8410_lengths};
 ghost use Rattle.x690.specs.Lists.{one_of, same_octets};
 
@@ -19,7 +19,7 @@ pub fn has_contents(id: &Oid, contents: &[u8]) -> bool
 /// The number of octets of a public key under an algorithm of RFC 8410 (RFC 7748 section 5, RFC 8032 sections 5.1.5,
 /// 5.2.5).
 pub fn public_key_length(algorithm: &Oid) -> Option<usize>
-    ensures length { result ≡ length_under rfc8410_lengths algorithm.now }
+    ensures length { result ≡ entry_under rfc8410_lengths algorithm.now }
     ensures listed { is_some result ≡ one_of algorithm.now rfc8410_algorithms }
 {
     rfc8410_length(algorithm.contents())
