@@ -5,7 +5,7 @@ use Rattle.x690.specs.TypeTerms as types
 use Rattle.x690.specs.TypeTerms.{TypeTerm, fits_tag}
 use Rattle.pkix_shapes.specs.declared.due.FieldMatch.{FieldMatch}
 use Rattle.pkix_shapes.specs.declared.due.FieldMatch.TheVariants as code
-use Rattle.pkix_shapes.specs.declared.shape.Fields.{Required', End, Fields, Optional'}
+use Rattle.pkix_shapes.specs.declared.shape.Fields.{Default', Required', End, Fields, Optional'}
 use Rattle.pkix_shapes.specs.Terms.{fields_of, term_of}
 
 pub data Due : Type 0 where
@@ -49,6 +49,12 @@ match_in (Optional' name p shape q fields) tag =
           code.Field name (record { ref_ptr = p.ref_ptr; now = shape }) (record { ref_ptr = q.ref_ptr; now = fields })
       | false ↦ match_in fields tag
     ]
+match_in (Default' name contents p shape q fields) tag =
+    elim (fits_tag (term_of shape) tag) [
+      | true ↦
+          code.Field name (record { ref_ptr = p.ref_ptr; now = shape }) (record { ref_ptr = q.ref_ptr; now = fields })
+      | false ↦ match_in fields tag
+    ]
 
 abbrev pub match_of : FieldMatch → Due
 match_of (code.Field name shape fields) = IsField (term_of shape.now) (fields_of fields.now)
@@ -60,6 +66,8 @@ abbrev pub name_due_in : Fields → Tag → Option (List ℕ)
 name_due_in End tag = None
 name_due_in (Required' name p shape q fields) tag = Some name.now
 name_due_in (Optional' name p shape q fields) tag =
+    elim (fits_tag (term_of shape) tag) [ true ↦ Some name.now | false ↦ name_due_in fields tag ]
+name_due_in (Default' name contents p shape q fields) tag =
     elim (fits_tag (term_of shape) tag) [ true ↦ Some name.now | false ↦ name_due_in fields tag ]
 
 abbrev pub name_of : FieldMatch → Option (List ℕ)

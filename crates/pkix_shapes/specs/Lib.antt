@@ -1,9 +1,11 @@
 pub mod FaultPaths
 pub mod DueLaws
 pub mod Dues
+pub mod Extensions
 pub mod Identifiers
 pub mod Names
 pub mod PlaceLaws
+pub mod Plain
 pub mod Secrets
 pub mod Terms
 pub mod PathLaws

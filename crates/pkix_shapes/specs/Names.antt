@@ -1,6 +1,6 @@
 -- The names of the fields in a type, and those in the documents of each kind.
 use Rattle.std.specs.Prelude.{List, [], codes, ℕ, ◌++◌, ◌∷◌}
-use Rattle.pkix_shapes.specs.declared.shape.Fields.{Required', End, Fields, Optional'}
+use Rattle.pkix_shapes.specs.declared.shape.Fields.{Default', Required', End, Fields, Optional'}
 use Rattle.pkix_shapes.specs.declared.shape.Shape.{Choice', Containing', DefinedBy', Leaf, ListOf', Named', Open, Private', Refused, Sequence', SetOf', Shape}
 
 abbrev mutual
@@ -22,6 +22,7 @@ abbrev mutual
   names_of End = []
   names_of (Required' name p shape q fields) = name.now ∷ names_in shape ++ names_of fields
   names_of (Optional' name p shape q fields) = name.now ∷ names_in shape ++ names_of fields
+  names_of (Default' name contents p shape q fields) = name.now ∷ names_in shape ++ names_of fields
 
 -- of AlgorithmIdentifier (RFC 5280 section 4.1.1.2)
 abbrev pub in_algorithm : List (List ℕ)

@@ -1,6 +1,6 @@
 -- What is private in a type, and where that is in the documents of each kind.
 use Rattle.std.specs.Prelude.{List, [], map, suc, ℕ, ◌++◌, ◌∷◌}
-use Rattle.pkix_shapes.specs.declared.shape.Fields.{Required', End, Fields, Optional'}
+use Rattle.pkix_shapes.specs.declared.shape.Fields.{Default', Required', End, Fields, Optional'}
 use Rattle.pkix_shapes.specs.declared.shape.Shape.{Choice', Containing', DefinedBy', Leaf, ListOf', Named', Open, Private', Refused, Sequence', SetOf', Shape}
 use Rattle.pkix_shapes.specs.Paths.{Path}
 
@@ -29,6 +29,8 @@ abbrev mutual
   private_fields number (Required' name p shape q fields) =
       after_step number (private_paths shape) ++ private_fields (suc number) fields
   private_fields number (Optional' name p shape q fields) =
+      after_step number (private_paths shape) ++ private_fields (suc number) fields
+  private_fields number (Default' name contents p shape q fields) =
       after_step number (private_paths shape) ++ private_fields (suc number) fields
 
 -- privateKey (RFC 5915 section 3)

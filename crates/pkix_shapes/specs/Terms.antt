@@ -12,7 +12,7 @@ use Rattle.pkix_shapes.specs.declared.shape.Contents.TheVariants as leaves
 use Rattle.pkix_shapes.specs.declared.shape.ShapeTag.{ShapeTag}
 use Rattle.pkix_shapes.specs.declared.shape.ShapeTag.TheVariants.{Universal, Context}
 use Rattle.pkix_shapes.specs.declared.shape.Shape.{Shape, Leaf, Open, ListOf', SetOf', Sequence', Containing', Refused, DefinedBy', Choice', Named', Private'}
-use Rattle.pkix_shapes.specs.declared.shape.Fields.{Fields, End, Required', Optional'}
+use Rattle.pkix_shapes.specs.declared.shape.Fields.{Default', Fields, End, Required', Optional'}
 
 abbrev pub tag_of : ShapeTag → Tag
 tag_of (Universal number) = universal number
@@ -26,6 +26,21 @@ kind_of leaves.ObjectIdentifier = kinds.ObjectIdentifier
 kind_of leaves.BitString = kinds.BitString
 kind_of leaves.OctetString = kinds.OctetString
 kind_of leaves.Utf8String = kinds.Utf8String
+kind_of leaves.Text = kinds.OctetString
+
+-- the tag of a leaf; no other type has a default here
+abbrev pub leaf_tag : Shape → Tag
+leaf_tag (Leaf tag contents) = tag_of tag
+leaf_tag Open = universal 0
+leaf_tag (ListOf' tag least p shape) = universal 0
+leaf_tag (SetOf' tag least p shape) = universal 0
+leaf_tag (Sequence' tag p fields) = universal 0
+leaf_tag (Containing' tag p shape) = universal 0
+leaf_tag (Refused tag) = universal 0
+leaf_tag (DefinedBy' path identifiers p first q second) = universal 0
+leaf_tag (Choice' p first q second) = universal 0
+leaf_tag (Named' name p shape) = leaf_tag shape
+leaf_tag (Private' p shape) = leaf_tag shape
 
 abbrev mutual
   -- the type that a shape is; its names, and what is private, say nothing of it
@@ -47,6 +62,8 @@ abbrev mutual
   fields_of End = types.EndOfFields
   fields_of (Required' name p shape q fields) = types.Required (term_of shape) (fields_of fields)
   fields_of (Optional' name p shape q fields) = types.Optional (term_of shape) (fields_of fields)
+  fields_of (Default' name contents p shape q fields) =
+      types.Default (leaf_tag shape) contents.now (term_of shape) (fields_of fields)
 
 abbrev mutual
   -- the type with its rules left out, and a field with a default as an optional one: which tags stand where is the same

@@ -32,7 +32,7 @@ pub fn match_field(fields: &'static Fields, tag: Tag) -> FieldMatch
                 FieldMatch::Wrong(name, shape)
             }
         }
-        Fields::Optional(name, shape, after) => {
+        Fields::Optional(name, shape, after) | Fields::Default(name, _, shape, after) => {
             if shape.fits(tag) {
                 FieldMatch::Field(name, shape, after)
             } else {

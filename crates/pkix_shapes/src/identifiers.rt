@@ -108,7 +108,7 @@ fn names() -> &'static [Identifier]
     NAMES
 }
 
-/// Of attributes of requests and keys, and of extensions.
+/// Of attributes of requests and keys, of extensions, and of what stands in these.
 #[tactic(auto, unfolding(crate::specs::Identifiers::others_rows))]
 fn others() -> &'static [Identifier]
     ensures { map row_of result.now ≡ others_rows }
@@ -136,7 +136,7 @@ macro_rules! row {
 }
 
 /// All of them by groups: the name, the arcs, the standard and the contents of each one. The names are those of the
-/// standards, and of curves the usual ones.
+/// standards, and of curves and of two of Microsoft's the usual ones.
 macro_rules! identifiers_of {
     (keys, $make:ident) => {
         &[
@@ -411,6 +411,41 @@ macro_rules! identifiers_of {
                 [0x2B, 0x06, 0x01, 0x05, 0x05, 0x07, 0x01, 0x0B]),
             $make!("tlsfeature", "1.3.6.1.5.5.7.1.24", "RFC 7633 appendix A",
                 [0x2B, 0x06, 0x01, 0x05, 0x05, 0x07, 0x01, 0x18]),
+            $make!("szOID_ENROLL_CERTTYPE_EXTENSION", "1.3.6.1.4.1.311.20.2", "MS-WCCE",
+                [0x2B, 0x06, 0x01, 0x04, 0x01, 0x82, 0x37, 0x14, 0x02]),
+            $make!("szOID_CERTIFICATE_TEMPLATE", "1.3.6.1.4.1.311.21.7", "MS-WCCE",
+                [0x2B, 0x06, 0x01, 0x04, 0x01, 0x82, 0x37, 0x15, 0x07]),
+            $make!("szOID_APPLICATION_CERT_POLICIES", "1.3.6.1.4.1.311.21.10", "MS-WCCE",
+                [0x2B, 0x06, 0x01, 0x04, 0x01, 0x82, 0x37, 0x15, 0x0A]),
+            $make!("szOID_NTDS_CA_SECURITY_EXT", "1.3.6.1.4.1.311.25.2", "MS-WCCE",
+                [0x2B, 0x06, 0x01, 0x04, 0x01, 0x82, 0x37, 0x19, 0x02]),
+            // Of extended key usages, and in names, policies and accesses of extensions.
+            $make!("anyExtendedKeyUsage", "2.5.29.37.0", "RFC 5280 section 4.2.1.12",
+                [0x55, 0x1D, 0x25, 0x00]),
+            $make!("id-kp-serverAuth", "1.3.6.1.5.5.7.3.1", "RFC 5280 section 4.2.1.12",
+                [0x2B, 0x06, 0x01, 0x05, 0x05, 0x07, 0x03, 0x01]),
+            $make!("id-kp-clientAuth", "1.3.6.1.5.5.7.3.2", "RFC 5280 section 4.2.1.12",
+                [0x2B, 0x06, 0x01, 0x05, 0x05, 0x07, 0x03, 0x02]),
+            $make!("id-kp-codeSigning", "1.3.6.1.5.5.7.3.3", "RFC 5280 section 4.2.1.12",
+                [0x2B, 0x06, 0x01, 0x05, 0x05, 0x07, 0x03, 0x03]),
+            $make!("id-kp-emailProtection", "1.3.6.1.5.5.7.3.4", "RFC 5280 section 4.2.1.12",
+                [0x2B, 0x06, 0x01, 0x05, 0x05, 0x07, 0x03, 0x04]),
+            $make!("id-kp-timeStamping", "1.3.6.1.5.5.7.3.8", "RFC 5280 section 4.2.1.12",
+                [0x2B, 0x06, 0x01, 0x05, 0x05, 0x07, 0x03, 0x08]),
+            $make!("id-kp-OCSPSigning", "1.3.6.1.5.5.7.3.9", "RFC 5280 section 4.2.1.12",
+                [0x2B, 0x06, 0x01, 0x05, 0x05, 0x07, 0x03, 0x09]),
+            $make!("msSmartcardLogin", "1.3.6.1.4.1.311.20.2.2", "RFC 4556 appendix C (id-ms-kp-sc-logon)",
+                [0x2B, 0x06, 0x01, 0x04, 0x01, 0x82, 0x37, 0x14, 0x02, 0x02]),
+            $make!("msUPN", "1.3.6.1.4.1.311.20.2.3", "RFC 4556 appendix C (id-ms-san-sc-logon-upn)",
+                [0x2B, 0x06, 0x01, 0x04, 0x01, 0x82, 0x37, 0x14, 0x02, 0x03]),
+            $make!("id-qt-cps", "1.3.6.1.5.5.7.2.1", "RFC 5280 section 4.2.1.4",
+                [0x2B, 0x06, 0x01, 0x05, 0x05, 0x07, 0x02, 0x01]),
+            $make!("id-qt-unotice", "1.3.6.1.5.5.7.2.2", "RFC 5280 section 4.2.1.4",
+                [0x2B, 0x06, 0x01, 0x05, 0x05, 0x07, 0x02, 0x02]),
+            $make!("id-ad-ocsp", "1.3.6.1.5.5.7.48.1", "RFC 5280 section 4.2.2.1",
+                [0x2B, 0x06, 0x01, 0x05, 0x05, 0x07, 0x30, 0x01]),
+            $make!("id-ad-caIssuers", "1.3.6.1.5.5.7.48.2", "RFC 5280 section 4.2.2.1",
+                [0x2B, 0x06, 0x01, 0x05, 0x05, 0x07, 0x30, 0x02]),
         ]
     };
 }

@@ -3,7 +3,7 @@
 //!
 //! `shape` says what a type is, `documents` has the type of each kind of document, made of `keys`, `requests` and
 //! `shared`: there a kind's types and names stand once, in the order of their ASN.1 (`docs/formats.md`). `due` says
-//! which field an element belongs to.
+//! which field an element belongs to, `extensions` of which type what stands in an extension is.
 //!
 //! Proved: each type is the type term of `pkix_definitions`, its rules apart; exactly its private parts are marked; the
 //! field that an element belongs to is the one that the fault grammar of `x690` has there, and its name the one that
@@ -13,6 +13,7 @@
 
 pub mod documents;
 pub mod due;
+pub mod extensions;
 pub mod identifiers;
 mod keys;
 pub mod laws;

@@ -37,6 +37,8 @@ pub enum Contents {
     BitString,
     OctetString,
     Utf8String,
+    /// Those of another character string, whose characters aren't looked at.
+    Text,
 }
 
 /// A type, its rules apart, with the names of its fields.
@@ -76,11 +78,17 @@ pub enum Fields {
     Required(&'static str, &'static Shape, &'static Fields),
     /// One that may be absent, as OPTIONAL or by its DEFAULT.
     Optional(&'static str, &'static Shape, &'static Fields),
+    /// One that is left out where it has its DEFAULT, a leaf with these contents (X.690 11.5).
+    Default(&'static str, &'static [u8], &'static Shape, &'static Fields),
 }
 
-/// The fields of a SEQUENCE in their order, a line each: `"name": TYPE,`, or `optional "name": TYPE,`.
+/// The fields of a SEQUENCE in their order, a line each: `"name": TYPE,`, `optional "name": TYPE,`, or of a leaf
+/// `default [CONTENTS] "name": TYPE,`.
 macro_rules! fields {
     () => { Fields::End };
+    (default [$($octet:literal),*] $name:literal: $shape:expr, $($after:tt)*) => {
+        Fields::Default($name, &[$($octet),*], &$shape, &fields!($($after)*))
+    };
     (optional $name:literal: $shape:expr, $($after:tt)*) => {
         Fields::Optional($name, &$shape, &fields!($($after)*))
     };

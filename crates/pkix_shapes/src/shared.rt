@@ -16,7 +16,7 @@ pub const ALGORITHM_IDENTIFIER: Shape = Shape::Named(
     ),
 );
 
-const ATTRIBUTE_TYPE_AND_VALUE: Shape = Shape::Named(
+pub const ATTRIBUTE_TYPE_AND_VALUE: Shape = Shape::Named(
     "AttributeTypeAndValue",
     &Shape::Sequence(
         SEQUENCE,
