@@ -1,3 +1,9 @@
 pub mod Beginnings
 pub mod Lists
 pub mod Mismatches
+pub mod ShapeSizes
+pub mod ShapeReadings
+pub mod ShapeFields
+pub mod ShapeMembers
+pub mod Judging
+pub mod ShapeDefaults

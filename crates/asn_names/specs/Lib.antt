@@ -2,3 +2,5 @@ pub mod Levels
 pub mod Naming
 pub mod Resolving
 pub mod NamingSteps
+pub mod Shaped
+pub mod Judged

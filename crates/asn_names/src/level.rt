@@ -115,6 +115,6 @@ fn fields_may_end(fields: &'static Fields) -> bool
     match fields {
         Fields::End => true,
         Fields::Required(..) => false,
-        Fields::Optional(_, _, after) => fields_may_end(after),
+        Fields::Optional(_, _, after) | Fields::Default(_, _, _, after) => fields_may_end(after),
     }
 }
