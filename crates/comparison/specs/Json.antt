@@ -2,7 +2,8 @@
 use Rattle.std.specs.Prelude.{List, None, Option, Some, [], codes, flat_map, ℕ, ◌++◌}
 use Rattle.json.specs.Token.{Token}
 use Rattle.tlv_core.specs.declared.fault.Fault.{Fault}
-use Rattle.reports.specs.Json.{inside_members, place_members}
+use Rattle.reports.specs.Json.{inside_members}
+use Rattle.reports.specs.JsonLists.{place_members}
 use Rattle.reports.specs.JsonMembers.{list_member, number_member, object, object_member, text_member}
 use Rattle.comparison.specs.DifferenceWords.{DifferenceWords}
 

@@ -87,6 +87,7 @@ line_said line (values.Named identifier) =
     identifier.now.name.now ++ codes " (" ++ identifier.now.arcs.now ++ codes ")"
 line_said line (values.Arcs arcs) = arcs_said (string_bytes arcs) line.length
 line_said line (values.Characters octets) = characters_said line.tag octets.items
+line_said line (values.Octets octets) = sized (length octets.items)
 
 -- an element is an explicit tag: what is in it has no name of its own
 abbrev pub wraps : Line → List Line → Bool

@@ -1,7 +1,8 @@
 -- What two documents are to each other, in lines.
 use Rattle.std.specs.Prelude.{List, None, Option, Some, [], codes, cond, decimal, flat_map, ℕ, ◌++◌, ◌==◌, ◌∷◌}
 use Rattle.tlv_core.specs.declared.fault.Fault.{Fault}
-use Rattle.reports.specs.Reports.{inside_said, place_said}
+use Rattle.reports.specs.Reports.{inside_said}
+use Rattle.reports.specs.Words.{place_said}
 use Rattle.reports.specs.Texts.{line_feed}
 use Rattle.comparison.specs.DifferenceWords.{DifferenceWords}
 

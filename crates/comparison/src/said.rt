@@ -168,6 +168,7 @@ fn push_line_value(alloc: Global, text: &mut String, line: &Line) -> Result<(), 
         }
         Value::Arcs(arcs) => push_arcs(text, arcs.as_str(), line.length),
         Value::Characters(octets) => push_characters(alloc, text, line.tag, octets),
+        Value::Octets(octets) => push_size(text, octets.len() as u64),
     }
 }
 

@@ -177,7 +177,7 @@ static ROWS: [(Kind, &str, &str, &str); 17] = [
         "another document: certificationRequestInfo.attributes[0].values[0][0].extnID (subjectAltName), \
         certificationRequestInfo.attributes[0].values[0][0].extnValue (subjectAltName), signature\n\
         \x20 a.der: subjectAltName (2.5.29.17)\n  b.der: keyUsage (2.5.29.15)\n\
-        \x20 a.der: 5 octets\n  b.der: 4 octets\n  a.der: 64 octets\n  b.der: 64 octets\n",
+        \x20 a.der: 3 octets\n  b.der: 2 octets\n  a.der: 64 octets\n  b.der: 64 octets\n",
     ),
     // Private values of an attribute are shown all at once: which of them differ in DER order says which is the larger.
     (
@@ -224,7 +224,7 @@ static ROWS: [(Kind, &str, &str, &str); 17] = [
         certificationRequestInfo.attributes[0].values[0][0].extnValue (subjectAltName), \
         certificationRequestInfo.attributes[0].values[1] (extensionRequest)\n\
         \x20 a.der: subjectAltName (2.5.29.17)\n  b.der: keyUsage (2.5.29.15)\n\
-        \x20 a.der: 5 octets\n  b.der: 4 octets\n  a.der: absent\n  b.der: 14 octets\n",
+        \x20 a.der: 3 octets\n  b.der: 2 octets\n  a.der: absent\n  b.der: 14 octets\n",
     ),
     // Of 18 names and a signature that differ 16 are shown.
     (

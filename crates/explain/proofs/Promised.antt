@@ -16,6 +16,7 @@ use Rattle.explain.specs.Causes.{line_cause}
 use Rattle.explain.specs.Disclosures.{IsShown}
 use Rattle.explain.specs.FaultLines.{AddsFault, AddsPlace, IsPlaceAlone, is_between, line_at}
 use Rattle.explain.specs.Fronts.{is_deeper}
+use Rattle.explain.specs.Insides.{carried_by}
 use Rattle.explain.specs.Lines.{AddsLine}
 use Rattle.explain.specs.Listings.{AddsAfter, AddsDocument, AddsOne, IsNext, ListingState, Lists, ListsFile, after_inside, first_inside, hidden_after, inside_document, number_around, start_of}
 use Rattle.explain.specs.Places.{ListedDocument, placed_in}
@@ -81,18 +82,18 @@ first_none (element ∷ elements) (suc number) e = ap (λ some. element ∷ some
 record Adds (document : ListedDocument) (hidden : Bool) (element : NamedElement) (old new : List Line) : Type 0 where
   more : List Line
   are : new ≡ old ++ more
-  lines : Each (IsLineOf document) (cond hidden [] (element ∷ [])) more
+  lines : Each (IsLineOf document None) (cond hidden [] (element ∷ [])) more
 
 adds_line : (document : ListedDocument) (element : NamedElement) (around : ℕ) (hidden : Bool) (cause : Option Cause)
     (old new : List Line)
-    → AddsLine hidden document.octets (placed_in document element around) element cause old new
+    → AddsLine hidden document.is_carried document.octets (placed_in document element around) element cause None old new
     → Adds document hidden element old new
 adds_line document element around true cause old new h =
     record { more = []; are = h ∙ sym (append-nil old); lines = tt }
 adds_line document element around false cause old new h = record {
   more = h.0 ∷ [];
   are = h.1;
-  lines = (record { around = around; header = h.2; value = h.3 }, tt);
+  lines = (record { around = around; header = h.2; value = h.3; carries_is = h.5 }, tt);
 }
 
 -- The lines of the first elements of a document, so many, after others.
@@ -100,18 +101,18 @@ record Run (document : ListedDocument) (start : List Line) (number : ℕ) (state
   hidden : state.hidden ≡ hidden_all None (take number document.elements)
   run : List Line
   are : state.lines ≡ start ++ run
-  own : Each (IsLineOf document) (in_no_private None (take number document.elements)) run
+  own : Each (IsLineOf document None) (in_no_private None (take number document.elements)) run
 
 run_more : (document : ListedDocument) (start : List Line) (number : ℕ) (found : Option NamedElement)
     (cause : Option Cause) (before after : ListingState) → slice_get document.elements number ≡ found
-    → AddsOne document cause found before after → Run document start number before
+    → AddsOne document cause None found before after → Run document start number before
     → Run document start (suc number) after
 run_more document start number None cause before after listed h state =
     let first = first_none document.elements number listed in record {
       hidden = ap (λ (it : ListingState). it.hidden) h ∙ (state.hidden ∙ ap (hidden_all None) (sym first));
       run = state.run;
       are = ap (λ (it : ListingState). it.lines) h ∙ state.are;
-      own = subst (λ some. Each (IsLineOf document) (in_no_private None some) state.run) (sym first) state.own;
+      own = subst (λ some. Each (IsLineOf document None) (in_no_private None some) state.run) (sym first) state.own;
     }
 run_more document start number (Some element) cause before after listed h state =
     let elements = take number document.elements in
@@ -129,8 +130,8 @@ run_more document start number (Some element) cause before after listed h state 
           ∙ (sym (hidden_both None elements element) ∙ ap (hidden_all None) (sym first)));
       run = state.run ++ adds.more;
       are = adds.are ∙ (ap (λ some. some ++ adds.more) state.are ∙ append_assoc start state.run adds.more);
-      own = subst (λ some. Each (IsLineOf document) some (state.run ++ adds.more)) (sym shown)
-          (each_both (IsLineOf document) (in_no_private None elements)
+      own = subst (λ some. Each (IsLineOf document None) some (state.run ++ adds.more)) (sym shown)
+          (each_both (IsLineOf document None) (in_no_private None elements)
           (cond (is_deeper before.hidden element) [] (element ∷ [])) state.run adds.more state.own adds.lines);
     }
 
@@ -166,7 +167,7 @@ holds_after causes inside number line (Some other) before after e h =
         document.causes,
         document.depth,
         number,
-        subst (λ some. Each (IsLineOf document) (in_no_private None some) run.run) (take-length document.elements)
+        subst (λ some. Each (IsLineOf document None) (in_no_private None some) run.run) (take-length document.elements)
             run.own,
       );
       hidden = h.hidden;
@@ -263,12 +264,14 @@ record One (file : ListedDocument) (others : List Inside) (number : ℕ) (hidden
   are : end ≡ before ++ more
   lines : Case hidden (HasLines file (after_inside others number) after (suc number) [] more)
       ((line : Line) × (inner : List Line) × (rest : List Line) × (more ≡ line ∷ (inner ++ rest))
-      × IsLineOf file element line × HasInner (first_inside others number) inner
+      × IsLineOf file (carried_by (first_inside others number)) element line
+      × HasInner (first_inside others number) inner
       × HasLines file (after_inside others number) after (suc number) [] rest)
 
 one_by : (file : ListedDocument) (others : List Inside) (number around : ℕ) (hidden : Bool) (after : Option ℕ)
     (element : NamedElement) (cause : Option Cause) (before mid end : ListingState)
-    → AddsLine hidden file.octets (placed_in file element around) element cause before.lines mid.lines
+    → AddsLine hidden file.is_carried file.octets (placed_in file element around) element cause
+    (carried_by (first_inside others number)) before.lines mid.lines
     → AddsDocument file.causes (first_inside others number) (length before.lines) mid end
     → (end.hidden ≡ mid.hidden) × One file others number hidden after element before.lines end.lines
 one_by file others number around true after element cause before mid end line document =
@@ -286,8 +289,8 @@ one_by file others number around true after element cause before mid end line do
 one_by file others number around false after element cause before mid end line document =
     let last : slice_get mid.lines (length before.lines) ≡ Some line.0 =
     ap (λ some. slice_get some (length before.lines)) line.1 ∙ last_line before.lines line.0 in
-    let holds = holds_document file.causes (first_inside others number) (length before.lines) line.0 mid end last
-    document in (
+    let holds = holds_document file.causes (first_inside others number) (length before.lines) line.0 mid
+    end last document in (
       holds.hidden,
       record {
         more = line.0 ∷ holds.inner;
@@ -298,7 +301,7 @@ one_by file others number around false after element cause before mid end line d
           holds.inner,
           [],
           ap (λ some. line.0 ∷ some) (sym (append-nil holds.inner)),
-          record { around = around; header = line.2; value = line.3 },
+          record { around = around; header = line.2; value = line.3; carries_is = line.5 },
           holds.holds,
           refl,
         );
@@ -321,7 +324,8 @@ record State (file : ListedDocument) (insides : List Inside) (number : ℕ) (lef
 state_more : (file : ListedDocument) (insides others left : List Inside) (number : ℕ) (element : NamedElement)
     (before mid end : ListingState) → number < length file.elements
     → slice_get file.elements number ≡ Some element
-    → IsNext file (line_cause file.elements file.causes number) element before mid
+    → IsNext file (line_cause file.elements file.causes number) (carried_by (first_inside others number)) element before
+    mid
     → AddsDocument file.causes (first_inside others number) (length before.lines) mid end
     → left ≡ after_inside others number → State file insides number others before
     → State file insides (suc number) left end
@@ -366,7 +370,10 @@ whole_file file insides (suc number) left end few h =
     let less : number < length file.elements = omega (arith, few) in
     let listed = listed_at file.elements number less in
     state_more file insides h.0 left number listed.0 h.1 h.2 end less listed.1
-    (subst (λ found. AddsOne file (line_cause file.elements file.causes number) found h.1 h.2) listed.1 h.4) h.5 h.6
+    (subst
+    (λ found.
+    AddsOne file (line_cause file.elements file.causes number) (carried_by (first_inside h.0 number)) found h.1 h.2)
+    listed.1 h.4) h.5 h.6
     (whole_file file insides number h.0 h.1 (omega (arith, few)) h.3)
 
 is_front : (limits : Limits) (of : Kind) (document : List ℕ) (answer : Answer) (front : List ℕ) (path : List Step)
@@ -387,7 +394,7 @@ ends_in (Refused fault) depth old new h =
     ends_place (is_between fault.why || is_some (line_at old fault.at)) fault.at depth old new h
 
 is_listing : (limits : Limits) (of : Kind) (disclosed : Disclosed) (lines : List Line)
-    → IsListingBy limits of disclosed lines → IsListing limits of disclosed.front.now lines
+    → IsListingBy limits of disclosed lines → IsListing limits of disclosed.answer disclosed.front.now lines
 is_listing limits of disclosed lines is =
     let file = front_document disclosed.answer disclosed.front.now is.elements in
     let state = whole_file file is.insides (length is.elements) is.listed.left is.listed.end (omega arith)
@@ -419,7 +426,8 @@ promised limits of document report h =
           (is_front limits of document disclosed.answer disclosed.front.now disclosed.path.items disclosed.class
           h.is_disclosed.shown);
       listing = h.made_of.listing;
-      is_listing = is_listing limits of disclosed h.made_of.listing h.made_of.is_listing;
+      is_listing = subst (λ it. IsListing limits of it disclosed.front.now h.made_of.listing) same
+          (is_listing limits of disclosed h.made_of.listing h.made_of.is_listing);
       lines = subst (λ it. EndsIn it h.made_of.listing report.lines.items) same
           (ends_in disclosed.answer (length disclosed.path.items) h.made_of.listing report.lines.items h.made_of.lines);
       worded = h;

@@ -16,7 +16,7 @@ use Rattle.explain.specs.Answers.{IsAnswer}
 use Rattle.explain.specs.Classes.{class_at}
 use Rattle.explain.specs.FaultLines.{is_between}
 use Rattle.explain.specs.Fronts.{front_size}
-use Rattle.explain.specs.Insides.{HasInsides, IsNamed, inside_at}
+use Rattle.explain.specs.Insides.{HasInsides, IsNamed, inside_at, search_alone}
 use Rattle.explain.specs.Guesses.{IsGuess}
 use Rattle.explain.specs.Shapes.{IsShapeOf}
 use Rattle.explain.specs.FaultLocations.{IsPath, IsPathTo, location_at}
@@ -104,7 +104,7 @@ pub record IsRefused (limits : Limits) (of : Kind) (document : List ℕ) (fault 
   pub mismatch : Mismatch
   pub is_named : IsNamed limits document root (elements, mismatch)
   pub insides : List Inside
-  pub has_insides : HasInsides limits document elements (length elements) insides
+  pub has_insides : HasInsides (search_alone limits) document elements (length elements) insides
   pub front_is : front ≡ take (front_size document elements mismatch fault.at) document
   pub path_is : IsDisclosedPath elements mismatch insides fault (length front) path
   pub class_is : class ≡ disclosed_class document fault

@@ -43,6 +43,7 @@ pub record IsPlaceAlone (place depth : ℕ) (line : Line) : Type 0 where
   pub end : line.end ≡ None
   pub value : line.value ≡ NotShown
   pub cause : line.cause ≡ None
+  pub carries : line.carries ≡ None
 
 abbrev pub AddsPlace : Bool → ℕ → ℕ → List Line → List Line → Type 0
 AddsPlace true place depth old new = new ≡ old

@@ -1,16 +1,25 @@
--- The elements of a document by its outline, and the documents inside its OCTET STRINGs.
-use Rattle.std.specs.Prelude.{Bool, List, None, Option, Some, [], cond, drop, false, length, nat_lt, slice_get, suc, unwrap_or, zero, ℕ, ◌++◌, ◌==◌, ◌∷◌, ◌≡◌}
+-- The elements of a document by its outline, and the documents inside its OCTET STRINGs: in a key by its type, in the
+-- value of a known extension by the identifier of that.
+use Rattle.std.specs.Prelude.{Bool, List, None, Option, Some, [], codes, cond, drop, false, length, nat_lt, option_and_then, slice_get, suc, true, unwrap_or, zero, ℕ, ◌+◌, ◌++◌, ◌==◌, ◌∷◌, ◌≡◌}
 use Rattle.std.specs.Borrow.{Bor}
 use Rattle.tlv_core.specs.Limits.{Limits}
+use Rattle.x690.specs.TypeTerms.{TypeTerm}
+use Rattle.asn_names.specs.Judged.{judged}
 use Rattle.asn_names.specs.Naming.{named_by}
 use Rattle.asn_names.specs.declared.element.NamedElement.{NamedElement}
 use Rattle.asn_names.specs.declared.element.Mismatch.{Mismatch}
+use Rattle.asn_names.specs.declared.judgement.Judgement.{Judgement}
+use Rattle.asn_names.specs.declared.judgement.Judgement.TheVariants.{Der, NotDer, Refused}
 use Rattle.ber_outline.specs.Outlines.{IsOutline}
 use Rattle.ber_outline.specs.declared.event.Event.{Event}
 use Rattle.ber_outline.specs.declared.event.Stop.{Stop}
-use Rattle.pkix_shapes.specs.declared.shape.Shape.{Choice', Containing', DefinedBy', Leaf, ListOf', Named', Open, Private', Refused, Sequence', SetOf', Shape}
+use Rattle.pkix_shapes.specs.Extensions.{type_of_extension}
+use Rattle.pkix_shapes.specs.Terms.{term_of}
+use Rattle.pkix_shapes.specs.declared.shape.Shape.{Choice', Containing', DefinedBy', Leaf, ListOf', Named', Open, Private', Refused as RefusedType, Sequence', SetOf', Shape}
 use Rattle.explain.specs.Contents.{contents_in}
+use Rattle.explain.specs.Public.{is_field}
 use Rattle.explain.specs.declared.document.inside.Inside.{Inside}
+use Rattle.explain.specs.declared.document.inside.InsideSearch.{InsideSearch}
 use Rattle.explain.specs.declared.document.places.Piece.{Piece}
 
 -- The elements of a document by their names in this type, and where they stop matching it.
@@ -21,6 +30,10 @@ pub record IsNamed (limits : Limits) (document : List ℕ) (root : Bor Shape) (n
   pub outline : IsOutline limits document events stop
   pub names : named ≡ named_by document events stop root
 
+-- what is known of where documents inside are looked for: under these limits, in values of extensions or not
+abbrev pub search_alone : Limits → InsideSearch
+search_alone limits = record { limits = limits; in_extensions = false }
+
 -- what a value of the type contains
 abbrev pub contained_in : Shape → Option (Bor Shape)
 contained_in (Containing' own p shape) = Some (record { ref_ptr = p.ref_ptr; now = shape })
@@ -29,7 +42,7 @@ contained_in Open = None
 contained_in (ListOf' own least p member) = None
 contained_in (SetOf' own least p member) = None
 contained_in (Sequence' own p fields) = None
-contained_in (Refused own) = None
+contained_in (RefusedType own) = None
 contained_in (DefinedBy' path identifiers p first q second) = None
 contained_in (Choice' p first q second) = None
 contained_in (Named' name p shape) = None
@@ -104,18 +117,67 @@ abbrev pub AddsContained : Limits → List ℕ → List NamedElement → ℕ →
 AddsContained limits file elements number None before after = after ≡ before
 AddsContained limits file elements number (Some shape) before after =
     (inside : Inside) × IsDocumentIn limits file (drop number elements) number shape inside
-    × (after ≡ before ++ (inside ∷ []))
+    × (inside.carried ≡ None) × (after ≡ before ++ (inside ∷ []))
 
-abbrev pub AddsInside : Limits → List ℕ → List NamedElement → ℕ → List Inside → List Inside → Type 0
-AddsInside limits file elements number before after =
-    AddsContained limits file elements number (contained_at (slice_get elements number)) before after
+-- the type of what the value of a known extension contains, by the identifier of that: the first field of the extension
+abbrev pub carried_type : List ℕ → List NamedElement → Option NamedElement → Option TypeTerm
+carried_type file elements None = None
+carried_type file elements (Some element) =
+    cond (is_field element.step (codes "extnValue"))
+    (option_and_then type_of_extension
+    (option_and_then (contents_in file) (slice_get elements (element.around + 1)))) None
+
+-- where it is looked for
+abbrev pub looked_for : Bool → List ℕ → List NamedElement → Option NamedElement → Option TypeTerm
+looked_for false file elements found = None
+looked_for true file elements found = carried_type file elements found
+
+-- the elements of what a value of an extension contains, which is told where it is in DER
+abbrev pub AreCarried : Limits → List ℕ → Bor Shape → Judgement → List NamedElement × Mismatch → Type 0
+AreCarried limits octets shape Der named = IsNamed limits octets shape named
+AreCarried limits octets shape NotDer named = named.0 ≡ []
+AreCarried limits octets shape (Refused fault) named = named.0 ≡ []
+
+-- The value of an extension, as one of this type: what it is, and its elements.
+pub record IsValueOf (limits : Limits) (file : List ℕ) (elements : List NamedElement) (container : ℕ)
+    (type : TypeTerm)
+    (inside : Inside) : Type 0 where
+  pub container_is : inside.container ≡ container
+  pub type_is : term_of inside.shape.now ≡ type
+  pub octets : inside.octets.items ≡ contents_within file elements
+  pub pieces : inside.pieces.items ≡ pieces_within file elements
+  pub carried : inside.carried ≡ Some (judged limits type inside.octets.items)
+  pub named : AreCarried limits inside.octets.items inside.shape (judged limits type inside.octets.items)
+      (inside.named.elements.items, inside.named.mismatch)
+
+-- The value that the element of this number is of an extension is one more, where it has a type.
+abbrev pub AddsCarried : Limits → List ℕ → List NamedElement → ℕ → Option TypeTerm → List Inside → List Inside → Type 0
+AddsCarried limits file elements number None before after = after ≡ before
+AddsCarried limits file elements number (Some type) before after =
+    (inside : Inside) × IsValueOf limits file (drop number elements) number type inside × (after ≡ before ++ (inside ∷ []))
+
+abbrev pub AddsBy : InsideSearch → List ℕ → List NamedElement → ℕ → Option (Bor Shape) → List Inside → List Inside
+    → Type 0
+AddsBy search file elements number (Some shape) before after =
+    AddsContained search.limits file elements number (Some shape) before after
+AddsBy search file elements number None before after =
+    AddsCarried search.limits file elements number
+    (looked_for search.in_extensions file elements (slice_get elements number)) before after
+
+abbrev pub AddsInside : InsideSearch → List ℕ → List NamedElement → ℕ → List Inside → List Inside → Type 0
+AddsInside search file elements number before after =
+    AddsBy search file elements number (contained_at (slice_get elements number)) before after
 
 -- They are the documents inside the first elements, so many, in their order: none is left out.
-abbrev pub HasInsides : Limits → List ℕ → List NamedElement → ℕ → List Inside → Type 0
-HasInsides limits file elements zero insides = insides ≡ []
-HasInsides limits file elements (suc number) insides =
-    (before : List Inside) × HasInsides limits file elements number before
-    × AddsInside limits file elements number before insides
+abbrev pub HasInsides : InsideSearch → List ℕ → List NamedElement → ℕ → List Inside → Type 0
+HasInsides search file elements zero insides = insides ≡ []
+HasInsides search file elements (suc number) insides =
+    (before : List Inside) × HasInsides search file elements number before
+    × AddsInside search file elements number before insides
+
+-- what the value of an extension is as one of its type
+abbrev pub carried_by : Option Inside → Option Judgement
+carried_by inside = option_and_then (λ it. it.carried) inside
 
 -- the document inside the element at this place
 abbrev pub is_at_place : ℕ → Option NamedElement → Bool

@@ -2,6 +2,7 @@
 use Rattle.std.specs.Prelude.{Bool, List, None, Option, Some, [], cond, false, length, min, nat_lt, true, unwrap_or, ℕ, ◌+◌, ◌++◌, ◌-◌, ◌^◌, ◌∷◌, ◌≡◌}
 use Rattle.std.specs.Option.{option_map}
 use Rattle.asn_names.specs.declared.element.NamedElement.{NamedElement}
+use Rattle.asn_names.specs.declared.judgement.Judgement.{Judgement}
 use Rattle.ber_outline.specs.declared.announced.Announced.{Announced}
 use Rattle.ber_outline.specs.declared.event.ElementHeader.{ElementHeader}
 use Rattle.explain.specs.Contents.{contents_in}
@@ -57,20 +58,23 @@ size_between private None end = Nothing
 size_between private (Some begin) None = Nothing
 size_between private (Some begin) (Some end) = cond private (Size (end - begin)) Nothing
 
-abbrev pub IsListedValueOf : NamedElement → Option (List ℕ) → Value → Type 0
-IsListedValueOf element None value = value ≡ size_between element.private element.begin element.end
-IsListedValueOf element (Some contents) value = ShowsContents element contents value
+abbrev pub IsListedValueOf : Bool → NamedElement → Option (List ℕ) → Value → Type 0
+IsListedValueOf carried element None value = value ≡ size_between element.private element.begin element.end
+IsListedValueOf carried element (Some contents) value = ShowsContents carried element contents value
 
--- What the line of an element says of its contents.
-abbrev pub IsListedValue : List ℕ → NamedElement → Value → Type 0
-IsListedValue octets element value = IsListedValueOf element (contents_in octets element) value
+-- What the line of an element says of its contents, in the value of an extension or not.
+abbrev pub IsListedValue : Bool → List ℕ → NamedElement → Value → Type 0
+IsListedValue carried octets element value = IsListedValueOf carried element (contents_in octets element) value
 
--- What an element with a cause adds to the lines before: nothing where it is hidden, else its own.
-abbrev pub AddsLine : Bool → List ℕ → Placed → NamedElement → Option Cause → List Line → List Line → Type 0
-AddsLine true octets placed element cause old new = new ≡ old
-AddsLine false octets placed element cause old new =
+-- What an element with a cause, and with what the value of an extension is, adds to the lines before: nothing where it is
+-- hidden, else its own.
+abbrev pub AddsLine : Bool → Bool → List ℕ → Placed → NamedElement → Option Cause → Option Judgement → List Line
+    → List Line → Type 0
+AddsLine true carried octets placed element cause carries old new = new ≡ old
+AddsLine false carried octets placed element cause carries old new =
     (line : Line)
     × (new ≡ old ++ (line ∷ []))
     × IsHeaderLine placed element line
-    × IsListedValue octets element line.value
+    × IsListedValue carried octets element line.value
     × (line.cause ≡ cause)
+    × (line.carries ≡ carries)

@@ -2,10 +2,13 @@
 -- of the document inside it. What is inside a private element has none.
 use Rattle.std.specs.Prelude.{Bool, List, None, Option, Some, [], cond, length, min, suc, true, unwrap_or, zero, ℕ, ◌+◌, ◌-◌, ◌^◌, ◌++◌, ◌∷◌, ◌≡◌, ◌==◌}
 use Rattle.std.specs.List.{slice_get}
+use Rattle.std.specs.Option.{is_some}
 use Rattle.asn_names.specs.declared.element.NamedElement.{NamedElement}
+use Rattle.asn_names.specs.declared.judgement.Judgement.{Judgement}
 use Rattle.explain.specs.FaultContainers.{saturating_sum}
 use Rattle.explain.specs.Causes.{causes_of, line_cause}
 use Rattle.explain.specs.Fronts.{is_deeper}
+use Rattle.explain.specs.Insides.{carried_by}
 use Rattle.explain.specs.Lines.{AddsLine}
 use Rattle.explain.specs.Places.{ListedDocument, placed_in}
 use Rattle.explain.specs.declared.document.inside.Inside.{Inside}
@@ -40,42 +43,47 @@ abbrev pub hidden_after : Option ℕ → NamedElement → Option ℕ
 hidden_after hidden element =
     cond (is_deeper hidden element) hidden (cond element.private (Some element.header.depth) None)
 
--- One element more, with a cause or none: its line is added, unless it is hidden.
-pub record IsNext (document : ListedDocument) (cause : Option Cause) (element : NamedElement)
+-- One element more, with a cause or none, and with what the value of an extension is: its line is added, unless it is
+-- hidden.
+pub record IsNext (document : ListedDocument) (cause : Option Cause) (carries : Option Judgement)
+    (element : NamedElement)
     (before after : ListingState) : Type 0 where
-  pub line : AddsLine (is_deeper before.hidden element) document.octets
+  pub line : AddsLine (is_deeper before.hidden element) document.is_carried document.octets
       (placed_in document element (number_around before.numbers document.around element))
-      element cause before.lines after.lines
+      element cause carries before.lines after.lines
   pub numbers : after.numbers ≡ before.numbers
       ++ (own_number (is_deeper before.hidden element) (length before.lines)
       (number_around before.numbers document.around element) ∷ [])
   pub hidden : after.hidden ≡ hidden_after before.hidden element
 
-abbrev pub AddsOne : ListedDocument → Option Cause → Option NamedElement → ListingState → ListingState → Type 0
-AddsOne document cause None before after = after ≡ before
-AddsOne document cause (Some element) before after = IsNext document cause element before after
+abbrev pub AddsOne : ListedDocument → Option Cause → Option Judgement → Option NamedElement → ListingState
+    → ListingState → Type 0
+AddsOne document cause carries None before after = after ≡ before
+AddsOne document cause carries (Some element) before after = IsNext document cause carries element before after
 
 -- the same of the element of this number, with the cause that its line shows
-abbrev pub AddsElement : ListedDocument → ℕ → ListingState → ListingState → Type 0
-AddsElement document number before after =
-    AddsOne document (line_cause document.elements document.causes number)
+abbrev pub AddsElement : ListedDocument → Option Judgement → ℕ → ListingState → ListingState → Type 0
+AddsElement document carries number before after =
+    AddsOne document (line_cause document.elements document.causes number) carries
     (slice_get document.elements number) before after
 
 -- the first elements of a document, so many, one after another
 abbrev pub Lists : ListedDocument → ℕ → ListingState → ListingState → Type 0
 Lists document zero start end = end ≡ start
 Lists document (suc number) start end =
-    (before : ListingState) × Lists document number start before × AddsElement document number before end
+    (before : ListingState) × Lists document number start before × AddsElement document None number before end
 
 -- the place of an element in its document; 0 of none
 abbrev pub own_place : Option NamedElement → ℕ
 own_place None = 0
 own_place (Some element) = element.header.at
 
--- the causes of the elements of a document inside, where those of the file have any
+-- the causes of the elements of a document inside, where those of the file have any; the value of an extension stays as
+-- it is
 abbrev pub causes_inside : List (Option Cause) → Inside → List (Option Cause)
 causes_inside [] inside = []
-causes_inside (cause ∷ causes) inside = causes_of inside.octets.items inside.named.elements.items
+causes_inside (cause ∷ causes) inside =
+    cond (is_some inside.carried) [] (causes_of inside.octets.items inside.named.elements.items)
 
 -- a document inside an OCTET STRING of a file, so deep, around which the line of this number is
 abbrev pub document_in : Inside → List (Option Cause) → ℕ → ℕ → ListedDocument
@@ -85,6 +93,7 @@ document_in inside causes depth around = record {
   causes = causes;
   pieces = inside.pieces.items;
   is_inside = true;
+  is_carried = is_some inside.carried;
   depth = depth;
   around = around;
 }
@@ -131,7 +140,7 @@ ListsFile document insides (suc number) left end =
     × (before : ListingState)
     × (mid : ListingState)
     × ListsFile document insides number others before
-    × AddsElement document number before mid
+    × AddsElement document (carried_by (first_inside others number)) number before mid
     × AddsDocument document.causes (first_inside others number) (length before.lines) mid end
     × (left ≡ after_inside others number)
 

@@ -1,10 +1,15 @@
 -- What other standards forbid in an accepted document, by its lines.
-use Rattle.std.specs.Prelude.{Bool, List, None, Option, Some, [], codes, cond, false, filter, length, nat_lt, not, option_and_then, reverse, slice_get, string_bytes, take, true, ℕ, ◌*◌, ◌+◌, ◌++◌, ◌-◌, ◌==◌, ◌&&◌, ◌||◌, ◌∷◌}
+use Rattle.std.specs.Prelude.{Bool, List, None, Option, Some, [], codes, cond, false, filter, length, nat_lt, not, option_and_then, reverse, slice_get, string_bytes, take, true, ℕ, ◌%◌, ◌*◌, ◌+◌, ◌++◌, ◌-◌, ◌/◌, ◌==◌, ◌&&◌, ◌||◌, ◌∷◌}
+use Rattle.std.specs.Borrow.{Bor}
 use Rattle.std.specs.List.{list_any}
 use Rattle.std.specs.Option.{is_some, option_or}
 use Rattle.x690.specs.Lists.{one_of, same_octets}
 use Rattle.asn_names.specs.declared.element.Step.{Step}
-use Rattle.pkix_definitions.specs.Identifiers.{curve_lengths, ec_public_key, extension_request, length_under}
+use Rattle.asn_names.specs.declared.judgement.Judgement.{Judgement}
+use Rattle.asn_names.specs.declared.judgement.Judgement.TheVariants as judgements
+use Rattle.pkix_definitions.specs.Identifiers.{curve_lengths, ec_public_key, entry_under, extension_request}
+use Rattle.pkix_shapes.specs.declared.identifiers.Identifier.{Identifier}
+use Rattle.explain.specs.Causes.{unit_of}
 use Rattle.explain.specs.Public.{is_field}
 use Rattle.explain.specs.declared.notes.Context.{Context}
 use Rattle.reports.specs.declared.report.Answer.{Answer}
@@ -12,9 +17,9 @@ use Rattle.reports.specs.declared.report.Answer.TheVariants.{Der, NotDer, Refuse
 use Rattle.reports.specs.declared.report.Line.{Line}
 use Rattle.reports.specs.declared.report.Note.{Note}
 use Rattle.reports.specs.declared.report.Remark.{Remark}
-use Rattle.reports.specs.declared.report.Remark.TheVariants.{AttributeTwice, ExtensionTwice, KeySize, NeedlessParameters, NoNamedCurve, PointBits, PointSize, SeveralValues}
+use Rattle.reports.specs.declared.report.Remark.TheVariants.{AttributeTwice, ExtensionNotDer, ExtensionRefused, ExtensionTwice, ExtensionZeroBits, KeySize, NeedlessParameters, NoNamedCurve, PointBits, PointSize, SeveralValues}
 use Rattle.reports.specs.declared.report.Value.{Value}
-use Rattle.reports.specs.declared.report.Value.TheVariants.{Arcs, Bits, Named}
+use Rattle.reports.specs.declared.report.Value.TheVariants.{Arcs, Bits, Named, Octets}
 
 -- 1.2.840.113549.1.9.7
 abbrev pub challenge_password : List ℕ
@@ -52,9 +57,9 @@ slh_dsa_shake_lengths =
 -- the octets of a public key, under an algorithm of which all have the same number
 abbrev pub public_octets : List ℕ → Option ℕ
 public_octets algorithm =
-    option_or (length_under ml_dsa_lengths algorithm)
-    (option_or (length_under ml_kem_lengths algorithm)
-    (option_or (length_under slh_dsa_sha2_lengths algorithm) (length_under slh_dsa_shake_lengths algorithm)))
+    option_or (entry_under ml_dsa_lengths algorithm)
+    (option_or (entry_under ml_kem_lengths algorithm)
+    (option_or (entry_under slh_dsa_sha2_lengths algorithm) (entry_under slh_dsa_shake_lengths algorithm)))
 
 -- the contents octets of an object identifier that has a usual name
 abbrev pub named : Value → Option (List ℕ)
@@ -76,11 +81,16 @@ is_single_valued type = is_one_of (challenge_password ∷ extension_request ∷ 
 
 -- how many octets a coordinate has, after another identifier
 abbrev pub curve_after : Option ℕ → Option (List ℕ) → Option ℕ
-curve_after curve name = option_or (option_and_then (length_under curve_lengths) name) curve
+curve_after curve name = option_or (option_and_then (entry_under curve_lengths) name) curve
 
 -- before the first line
 abbrev pub context_start : Context
-context_start = record { curve = None; public = None; is_single = false }
+context_start = record { curve = None; public = None; is_single = false; extension = None }
+
+-- an object identifier that has a usual name
+abbrev pub identifier_in : Value → Option (Bor Identifier)
+identifier_in (Named identifier) = Some identifier
+identifier_in _ = None
 
 -- What the lines before say of the next one: an algorithm how many octets its public keys have; a curve after it how
 -- many a coordinate has, which are as many as a private key has; the type of an attribute whether it has one value.
@@ -89,7 +99,8 @@ context_after context line =
     cond (is_field line.step (codes "algorithm"))
     (record context { public = option_and_then public_octets (named line.value); curve = None })
     (cond (is_field line.step (codes "type")) (record context { is_single = is_single_valued (named line.value) })
-    (record context { curve = curve_after context.curve (named line.value) }))
+    (cond (is_field line.step (codes "extnID")) (record context { extension = identifier_in line.value })
+    (record context { curve = curve_after context.curve (named line.value) })))
 
 abbrev pub remark_if : Bool → Remark → Option Remark
 remark_if true remark = Some remark
@@ -144,12 +155,40 @@ abbrev pub remark_on_key : Context → Value → Option Remark
 remark_on_key context (Bits octets unused) = remark_on_bits context.public context.curve octets unused
 remark_on_key context _ = None
 
+abbrev pub last_is_one : ℕ → Option ℕ → Bool
+last_is_one unused None = true
+last_is_one unused (Some last) = ((last / unit_of unused) % 2) == 1
+
+-- the last bit of a BIT STRING is 1, or it has none
+abbrev pub ends_in_one : List ℕ → Bool
+ends_in_one [] = true
+ends_in_one (unused ∷ octets) = last_is_one unused (slice_get octets (length octets - 1))
+
+abbrev pub remark_on_octets : Option (Bor Identifier) → Value → Option Remark
+remark_on_octets extension (Octets octets) = remark_if (not (ends_in_one octets.items)) (ExtensionZeroBits extension)
+remark_on_octets extension _ = None
+
+-- The bits of a keyUsage, which have names, end in a 1 in DER (X.690 11.2.2).
+abbrev pub remark_on_usage : Option (Bor Identifier) → Line → Option Remark
+remark_on_usage extension line =
+    cond (same_octets line.type_name.now (codes "KeyUsage")) (remark_on_octets extension line.value) None
+
+abbrev pub remark_by : Option (Bor Identifier) → Line → Option Judgement → Option Remark
+remark_by extension line None = remark_on_usage extension line
+remark_by extension line (Some judgements.Der) = None
+remark_by extension line (Some judgements.NotDer) = Some (ExtensionNotDer extension)
+remark_by extension line (Some (judgements.Refused fault)) = Some (ExtensionRefused extension fault.at fault.why)
+
+-- The value of an extension is in DER (RFC 5280 section 4.2).
+abbrev pub remark_on_value : Option (Bor Identifier) → Line → Option Remark
+remark_on_value extension line = remark_by extension line line.carries
+
 -- What is remarked on a line, by what the lines before say and by the lines after.
 abbrev pub remark_on : Context → Line → List Line → Option Remark
 remark_on context line after =
     cond (is_field line.step (codes "algorithm")) (remark_on_algorithm (named line.value) (parameters after))
     (cond (is_field line.step (codes "values") && context.is_single) (remark_on_values (members_of line.depth after))
-    (cond (is_public_key line.step) (remark_on_key context line.value) None))
+    (cond (is_public_key line.step) (remark_on_key context line.value) (remark_on_value context.extension line)))
 
 -- the line is the same field of a member as another one
 abbrev pub is_same_step : Step → Step → Bool

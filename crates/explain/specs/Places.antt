@@ -19,6 +19,8 @@ pub record ListedDocument : Type 0 where
   -- where its octets are in the file
   pub pieces : List Piece
   pub is_inside : Bool
+  -- it is the value of an extension
+  pub is_carried : Bool
   -- how deep its outermost element is
   pub depth : ℕ
   -- the number of the line around it
@@ -32,6 +34,7 @@ file_with octets elements causes = record {
   causes = causes;
   pieces = record { at = 0; octets = length octets } ∷ [];
   is_inside = false;
+  is_carried = false;
   depth = 0;
   around = 0;
 }
@@ -43,6 +46,7 @@ listed_document cursor = record {
   causes = cursor.causes.now;
   pieces = cursor.pieces.now;
   is_inside = cursor.is_inside;
+  is_carried = cursor.is_carried;
   depth = cursor.depth;
   around = cursor.around;
 }

@@ -5,14 +5,16 @@ use Rattle.tlv_core.specs.Limits.{Limits}
 use Rattle.x690.specs.Lists.{Each}
 use Rattle.asn_names.specs.declared.element.NamedElement.{NamedElement}
 use Rattle.asn_names.specs.declared.element.Mismatch.{Mismatch}
+use Rattle.asn_names.specs.declared.judgement.Judgement.{Judgement}
 use Rattle.pkix_shapes.specs.declared.shape.Shape.{Shape}
 use Rattle.pk_documents.specs.declared.kind.Kind.{Kind}
 use Rattle.explain.specs.FaultLines.{IsPlaceAlone}
 use Rattle.explain.specs.Fronts.{is_deeper}
-use Rattle.explain.specs.Insides.{HasInsides, IsNamed}
+use Rattle.explain.specs.Insides.{HasInsides, IsNamed, carried_by}
 use Rattle.explain.specs.Lines.{IsHeaderLine, IsListedValue}
 use Rattle.explain.specs.Listings.{after_inside, document_in, first_inside, hidden_after}
 use Rattle.explain.specs.Places.{ListedDocument, file_with, placed_in}
+use Rattle.explain.specs.Rules.{search_by}
 use Rattle.explain.specs.Shapes.{IsShapeOf}
 use Rattle.explain.specs.declared.document.inside.Inside.{Inside}
 use Rattle.reports.specs.declared.report.Answer.{Answer}
@@ -35,11 +37,14 @@ EndsIn (Refused fault) listing lines =
     ⊎ ((line : Line) × (depth : ℕ) × (lines ≡ listing ++ (line ∷ [])) × IsPlaceAlone fault.at depth line)
 
 -- A line is of an element of a document: it has the element's header and name, stands where that is in the file, and
--- says what its contents are; of a private one how many octets.
-pub record IsLineOf (document : ListedDocument) (element : NamedElement) (line : Line) : Type 0 where
+-- says what its contents are; of a private one how many octets; and of the value of a known extension what it is as one
+-- of its type.
+pub record IsLineOf (document : ListedDocument) (carries : Option Judgement) (element : NamedElement)
+    (line : Line) : Type 0 where
   pub around : ℕ
   pub header : IsHeaderLine (placed_in document element around) element line
-  pub value : IsListedValue document.octets element line.value
+  pub value : IsListedValue document.is_carried document.octets element line.value
+  pub carries_is : line.carries ≡ carries
 
 -- the elements that are in no private one, after others of which one is private and so deep, if it is known
 abbrev pub in_no_private : Option ℕ → List NamedElement → List NamedElement
@@ -54,7 +59,7 @@ HasInner (Some inside) lines =
     (causes : List (Option Cause))
     × (depth : ℕ)
     × (around : ℕ)
-    × Each (IsLineOf (document_in inside causes depth around)) (in_no_private None inside.named.elements.items) lines
+    × Each (IsLineOf (document_in inside causes depth around) None) (in_no_private None inside.named.elements.items) lines
 
 -- The lines of elements of a file, the first of which has this number, where these documents are inside of them: each
 -- one in no private one has its line, and after that those of what it contains.
@@ -64,18 +69,20 @@ HasLines file insides private number (element ∷ elements) lines =
     elim (is_deeper private element) [
       | true ↦ HasLines file (after_inside insides number) (hidden_after private element) (suc number) elements lines
       | false ↦ (line : Line) × (inner : List Line) × (rest : List Line) × (lines ≡ line ∷ (inner ++ rest))
-          × IsLineOf file element line × HasInner (first_inside insides number) inner
+          × IsLineOf file (carried_by (first_inside insides number)) element line
+          × HasInner (first_inside insides number) inner
           × HasLines file (after_inside insides number) (hidden_after private element) (suc number) elements rest
     ]
 
--- The lines of the first octets of a document, by the names of the kind's type.
-pub record IsListing (limits : Limits) (of : Kind) (front : List ℕ) (lines : List Line) : Type 0 where
+-- The lines of the first octets of a document that is answered so, by the names of the kind's type.
+pub record IsListing (limits : Limits) (of : Kind) (answer : Answer) (front : List ℕ) (lines : List Line)
+    : Type 0 where
   pub root : Bor Shape
   pub is_shape : IsShapeOf of root
   pub elements : List NamedElement
   pub mismatch : Mismatch
   pub is_named : IsNamed limits front root (elements, mismatch)
   pub insides : List Inside
-  pub has_insides : HasInsides limits front elements (length elements) insides
+  pub has_insides : HasInsides (search_by limits answer) front elements (length elements) insides
   pub causes : List (Option Cause)
   pub are : HasLines (file_with front elements causes) insides None 0 elements lines

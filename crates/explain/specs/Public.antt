@@ -1,5 +1,5 @@
 -- What a report shows of contents: the number of the octets of what is private, of keys and signatures, and of strings
--- that aren't a subject's; of others what they say.
+-- that aren't a subject's; of others what they say, and all of what is in the value of a known extension.
 use Rattle.std.specs.Prelude.{Bool, List, None, Option, Some, [], cond, false, length, nat_le, nat_lt, not, string_bytes, true, ℕ, ◌&&◌, ◌==◌, ◌||◌, ◌∷◌, ◌<◌, ◌≡◌, codes}
 use Rattle.std.specs.Option.{option_map}
 use Rattle.tlv_core.specs.Identifier.{Tag}
@@ -34,6 +34,7 @@ sort_of_leaf leaves.ObjectIdentifier = IdentifierSort
 sort_of_leaf leaves.BitString = Bits
 sort_of_leaf leaves.OctetString = Octets
 sort_of_leaf leaves.Utf8String = Characters
+sort_of_leaf leaves.Text = Characters
 
 -- The contents are shown, in an element that isn't private.
 abbrev pub is_public : Sort → Step → Bool
@@ -118,11 +119,33 @@ Says sort contents (values.Arcs text) =
     × IsObjectIdentifier contents
     × (string_bytes text ≡ oid_text contents)
 Says sort contents (values.Characters octets) = (sort ≡ Characters) × (octets.items ≡ contents)
+Says sort contents (values.Octets octets) = ⊥
 
--- What is shown of the contents of an element: their number alone where it is private, or where they aren't public.
-abbrev pub ShowsContents : NamedElement → List ℕ → Value → Type 0
-ShowsContents element contents value =
+-- What is shown of the contents of an element of a document: their number alone where it is private, or where they
+-- aren't public.
+abbrev pub ShowsOwn : NamedElement → List ℕ → Value → Type 0
+ShowsOwn element contents value =
     elim (element.private || not (is_public (sort_of element) element.step)) [
       | true ↦ value ≡ values.Size (length contents)
       | false ↦ Says (sort_of element) contents value
     ]
+
+abbrev pub AreOctets : List ℕ → Value → Type 0
+AreOctets contents (values.Octets octets) = octets.items ≡ contents
+AreOctets contents _ = ⊥
+
+-- all that is in the value of an extension, by its octets where no words have it
+abbrev pub ShowsAll : Sort → List ℕ → Value → Type 0
+ShowsAll Null contents value = Says Null contents value
+ShowsAll Boolean contents value = Says Boolean contents value
+ShowsAll Integer contents value =
+    elim (is_small contents) [ true ↦ Says Integer contents value | false ↦ AreOctets contents value ]
+ShowsAll Bits contents value = AreOctets contents value
+ShowsAll Characters contents value = Says Characters contents value
+ShowsAll Octets contents value = AreOctets contents value
+ShowsAll IdentifierSort contents value = Says IdentifierSort contents value
+
+-- What is shown of the contents of an element: in the value of an extension all.
+abbrev pub ShowsContents : Bool → NamedElement → List ℕ → Value → Type 0
+ShowsContents false element contents value = ShowsOwn element contents value
+ShowsContents true element contents value = ShowsAll (sort_of element) contents value

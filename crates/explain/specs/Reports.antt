@@ -17,6 +17,6 @@ pub record IsReportOf (limits : Limits) (of : Kind) (document : List ℕ) (repor
   pub front : List ℕ
   pub is_front : IsFront report.answer document front
   pub listing : List Line
-  pub is_listing : IsListing limits of front listing
+  pub is_listing : IsListing limits of report.answer front listing
   pub lines : EndsIn report.answer listing report.lines.items
   pub worded : IsWordedReport limits of document report

@@ -15,7 +15,7 @@ use Rattle.explain.specs.Insides.{HasInsides, IsNamed}
 use Rattle.explain.specs.Listings.{IsListed}
 use Rattle.explain.specs.Notes.{most_notes, notes_by}
 use Rattle.explain.specs.Places.{end_by_listed}
-use Rattle.explain.specs.Rules.{front_document}
+use Rattle.explain.specs.Rules.{front_document, search_by}
 use Rattle.explain.specs.Shapes.{IsShapeOf}
 use Rattle.explain.specs.declared.disclosed.Disclosed.{Disclosed}
 use Rattle.explain.specs.declared.document.inside.Inside.{Inside}
@@ -36,7 +36,7 @@ pub record IsListingBy (limits : Limits) (of : Kind) (disclosed : Disclosed) (li
   pub mismatch : Mismatch
   pub is_named : IsNamed limits disclosed.front.now root (elements, mismatch)
   pub insides : List Inside
-  pub has_insides : HasInsides limits disclosed.front.now elements (length elements) insides
+  pub has_insides : HasInsides (search_by limits disclosed.answer) disclosed.front.now elements (length elements) insides
   pub listed : IsListed (front_document disclosed.answer disclosed.front.now elements) insides lines
 
 -- a document that is refused for a fault, by its front and these lines

@@ -4,7 +4,7 @@ ghost use Rattle.explain.specs.Disclosures.{AddsFaultPath, AddsInnerPath, IsDisc
 ghost use Rattle.explain.specs.Disclosures.{disclosed_class, is_near, names_in, says_field};
 ghost use Rattle.reports.specs.declared.report.Answer.TheVariants.{Refused};
 
-use crate::document::inside::{Inside, documents_inside, inside_at, named_elements};
+use crate::document::inside::{Inside, InsideSearch, documents_inside, inside_at, named_elements};
 use crate::document::kinds::shape_of;
 use crate::fault::answer::answer_of;
 use crate::fault::class::class_at;
@@ -90,7 +90,11 @@ fn of_refused(
 {
     let named = named_elements(alloc, octets, shape_of(kind), limits)?;
     let elements = named.elements.as_slice();
-    let insides = documents_inside(alloc, octets, elements, limits)?;
+    let search = InsideSearch {
+        limits,
+        in_extensions: false,
+    };
+    let insides = documents_inside(alloc, octets, elements, &search)?;
     let size = front_size(octets, elements, &named.mismatch, fault.at);
     let front = first_octets(octets, size);
     let path = disclosed_path(alloc, &named, insides.as_slice(), fault, front)?;

@@ -1,14 +1,14 @@
 //! The report of a document: made of what may be shown of it, so two documents of which the same may be shown have one
 //! report.
-ghost use Rattle.std.specs.Prelude.{◌≡◌, ◌≤◌, IfOk, length};
+ghost use Rattle.std.specs.Prelude.{◌≡◌, ◌≤◌, IfOk, length, not};
 ghost use Rattle.explain.specs.Listings.{IsListed};
 ghost use Rattle.explain.specs.Notes.{most_notes, notes_by};
 ghost use Rattle.explain.specs.Reports.{IsReportOf};
-ghost use Rattle.explain.specs.Rules.{causes_by, front_document};
+ghost use Rattle.explain.specs.Rules.{causes_by, front_document, is_refusal};
 ghost use Rattle.explain.specs.Wordings.{IsReportBy, announced_end};
 
 use crate::disclosed::{Disclosed, disclose};
-use crate::document::inside::{Inside, documents_inside, named_elements};
+use crate::document::inside::{Inside, InsideSearch, documents_inside, named_elements};
 use crate::document::kinds::{shape_of, words_of};
 use crate::document::places::{DocumentCursor, Piece, sum_of};
 use crate::fault::diagnosis::{RefusedFront, diagnose};
@@ -56,7 +56,11 @@ fn report_of(
     } = disclosed;
     let root = shape_of(kind);
     let named = named_elements(alloc, front, root, limits)?;
-    let insides = documents_inside(alloc, front, named.elements.as_slice(), limits)?;
+    let search = InsideSearch {
+        limits,
+        in_extensions: is_accepted(answer),
+    };
+    let insides = documents_inside(alloc, front, named.elements.as_slice(), &search)?;
     let mut lines = front_lines(alloc, front, answer, &named, insides.as_slice())?;
     push_fault_line(&mut lines, answer, path.as_slice().len() as u64)?;
     let shown = RefusedFront {
@@ -80,6 +84,15 @@ fn report_of(
         guess,
         notes,
     })
+}
+
+fn is_accepted(answer: Answer) -> bool
+    ensures { result ≡ not (is_refusal answer) }
+{
+    match answer {
+        Answer::Refused(_) => false,
+        Answer::Der | Answer::NotDer(_) => true,
+    }
 }
 
 /// The lines of the elements of the front.
@@ -107,8 +120,10 @@ fn front_lines(
         rest: &whole,
         before: 0,
         is_inside: false,
+        is_carried: false,
         depth: 0,
         around: 0,
+        carries: None,
     };
     let lines = lines_of(alloc, cursor, insides)?;
     Ok(lines)

@@ -5,10 +5,11 @@ pub(crate) mod front;
 
 ghost use Rattle.std.specs.Prelude.{List, Option, Some, ℕ, [], ◌≡◌, IfOk, OnOk, length, min, slice_get, true};
 ghost use Rattle.std.specs.Prelude.{unwrap_or, ◌+◌, ◌-◌, ◌^◌};
-ghost use Rattle.std.specs.Option.{option_map};
+ghost use Rattle.std.specs.Option.{is_some, option_map};
 ghost use Rattle.asn_names.specs.declared.element.NamedElement.{NamedElement};
 ghost use Rattle.explain.specs.Causes.{line_cause};
 ghost use Rattle.explain.specs.Fronts.{is_deeper};
+ghost use Rattle.explain.specs.Insides.{carried_by};
 ghost use Rattle.explain.specs.Lines.{AddsLine, IsHeaderLine, IsListedValue, inside_of, size_between};
 ghost use Rattle.explain.specs.Listings.{AddsDocument, AddsElement, IsListed, ListingState, Lists, after_inside};
 ghost use Rattle.explain.specs.Listings.{causes_inside, first_inside, hidden_after, listing_state, most_lines};
@@ -21,14 +22,22 @@ use crate::document::values::{contents_of, listed_value};
 use crate::listing::causes::{cause_within, causes_of};
 use crate::listing::front::is_deeper;
 use asn_names::element::NamedElement;
+use asn_names::judgement::Judgement;
 use reports::report::{Cause, Line, Value};
 use std::alloc::{AllocError, Global};
 
 /// The line of an element.
-fn header_line(placed: Placed, element: &NamedElement, value: Value, cause: Option<Cause>) -> Line
+fn header_line(
+    placed: Placed,
+    element: &NamedElement,
+    value: Value,
+    cause: Option<Cause>,
+    carries: Option<Judgement>,
+) -> Line
     ensures line { IsHeaderLine placed element.now result }
     ensures value { result.value ≡ value }
     ensures cause { result.cause ≡ cause }
+    ensures carries { result.carries ≡ carries }
 {
     Line {
         at: placed.at,
@@ -43,6 +52,7 @@ fn header_line(placed: Placed, element: &NamedElement, value: Value, cause: Opti
         end: placed.end,
         value,
         cause,
+        carries,
     }
 }
 
@@ -61,12 +71,17 @@ fn inside_of(is_inside: bool, at: u64) -> Option<u64>
     if is_inside { Some(at) } else { None }
 }
 
-/// What is shown of the contents of an element.
-fn line_value(alloc: Global, octets: &[u8], element: &NamedElement) -> Result<Value, AllocError>
-    ensures { IfOk result (λ value. IsListedValue octets.now element.now value) }
+/// What is shown of the contents of an element, in the value of an extension or not.
+fn line_value(
+    alloc: Global,
+    is_carried: bool,
+    octets: &[u8],
+    element: &NamedElement,
+) -> Result<Value, AllocError>
+    ensures { IfOk result (λ value. IsListedValue is_carried octets.now element.now value) }
 {
     match contents_of(octets, element) {
-        Some(contents) => listed_value(alloc, element, contents),
+        Some(contents) => listed_value(alloc, is_carried, element, contents),
         None => Ok(size_in_private(element)),
     }
 }
@@ -153,7 +168,7 @@ fn push_element(
     number: usize,
 ) -> Result<Option<u64>, AllocError>
     ensures { IfOk result (λ after. SkipsIn cursor.entry
-        → AddsElement (listed_document cursor.entry) number
+        → AddsElement (listed_document cursor.entry) cursor.entry.carries number
         (listing_state hidden numbers.old.items lines.old.items)
         (listing_state after numbers.new.items lines.new.items)) }
 {
@@ -178,8 +193,8 @@ fn push_line(
     number: usize,
 ) -> Result<(), AllocError>
     ensures { OnOk result ((element : NamedElement) → slice_get cursor.entry.elements.now number ≡ Some element
-        → AddsLine is_hidden cursor.entry.octets.now placed element
-        (line_cause cursor.entry.elements.now cursor.entry.causes.now number)
+        → AddsLine is_hidden cursor.entry.is_carried cursor.entry.octets.now placed element
+        (line_cause cursor.entry.elements.now cursor.entry.causes.now number) cursor.entry.carries
         lines.old.items lines.new.items) }
 {
     let Some(element) = element_at(cursor.elements, number) else {
@@ -189,8 +204,8 @@ fn push_line(
         return Ok(());
     }
     let cause = line_cause(cursor, number);
-    let value = line_value(alloc, cursor.octets, element)?;
-    lines.push(header_line(placed, element, value, cause))?;
+    let value = line_value(alloc, cursor.is_carried, cursor.octets, element)?;
+    lines.push(header_line(placed, element, value, cause, cursor.carries))?;
     Ok(())
 }
 
@@ -216,6 +231,7 @@ fn push_inside(
         let part = DocumentCursor {
             rest,
             before,
+            carries: None,
             ..cursor
         };
         let next = push_element(alloc, lines, &mut numbers, hidden, part, i)?;
@@ -260,13 +276,27 @@ pub(crate) fn lines_of(
     let mut left = insides;
     for i in 0..cursor.elements.len() {
         let number = lines.len();
-        let next = push_element(alloc, &mut lines, &mut numbers, hidden, cursor, i)?;
         let (inside, after) = next_inside(left, i);
         left = after;
+        let part = DocumentCursor {
+            carries: judgement_of(inside),
+            ..cursor
+        };
+        let next = push_element(alloc, &mut lines, &mut numbers, hidden, part, i)?;
         push_inside_of(alloc, &mut lines, cursor, inside, number)?;
         hidden = next;
     }
     Ok(lines)
+}
+
+/// What the value of an extension is as one of its type.
+fn judgement_of(inside: Option<&Inside>) -> Option<Judgement>
+    ensures { result ≡ carried_by (option_map (λ r. r.now) inside.entry) }
+{
+    match inside {
+        Some(inside) => inside.carried,
+        None => None,
+    }
 }
 
 /// How many lines there are at most: one of each element, and one of the fault.
@@ -324,7 +354,7 @@ fn causes_inside(
 ) -> Result<Vec<Option<Cause>>, AllocError>
     ensures { IfOk result (λ all. all.items ≡ causes_inside causes.now inside.now) }
 {
-    if causes.is_empty() {
+    if causes.is_empty() || inside.carried.is_some() {
         return Ok(Vec::new(alloc));
     }
     causes_of(
@@ -349,6 +379,7 @@ fn cursor_inside<'a>(
       causes = causes.now;
       pieces = inside.now.pieces.items;
       is_inside = true;
+      is_carried = is_some inside.now.carried;
       depth = depth;
       around = around;
     } }
@@ -361,7 +392,9 @@ fn cursor_inside<'a>(
         rest: inside.pieces.as_slice(),
         before: 0,
         is_inside: true,
+        is_carried: inside.carried.is_some(),
         depth,
         around,
+        carries: None,
     }
 }

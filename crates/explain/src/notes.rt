@@ -1,22 +1,26 @@
 //! What other standards forbid in an accepted document, by its lines.
 ghost use Rattle.std.specs.Prelude.{◌≡◌, ◌≤◌, IfOk, OnOk, length, option_and_then, slice_get};
 ghost use Rattle.std.specs.Option.{option_map};
-ghost use Rattle.pkix_definitions.specs.Identifiers.{ec_public_key, length_under};
+ghost use Rattle.pkix_definitions.specs.Identifiers.{ec_public_key, entry_under};
 ghost use Rattle.x690.specs.Lists.{same_octets};
 ghost use Rattle.explain.specs.Notes.{add_note, arcs_of, are_same, context_after, context_start, curve_after};
 ghost use Rattle.explain.specs.Notes.{is_attribute, is_curve_named, is_point, is_public_key, is_repeated};
 ghost use Rattle.explain.specs.Notes.{is_same_field, is_same_identifier, is_same_step, is_single_valued, members_of};
 ghost use Rattle.explain.specs.Notes.{ml_dsa_lengths, ml_kem_lengths, most_notes, named, nist_encapsulation};
 ghost use Rattle.explain.specs.Notes.{nist_signature, notes_on, parameters, public_octets, remark_if, remark_on};
-ghost use Rattle.explain.specs.Notes.{remark_on_algorithm, remark_on_bits, remark_on_key, remark_on_repeat};
+ghost use Rattle.explain.specs.Notes.{ends_in_one, identifier_in, remark_on_algorithm, remark_on_bits};
+ghost use Rattle.explain.specs.Notes.{remark_on_key, remark_on_repeat, remark_on_usage, remark_on_value};
 ghost use Rattle.explain.specs.Notes.{remark_on_values, remark_once_more, slh_dsa_sha2_lengths};
 ghost use Rattle.explain.specs.Notes.{slh_dsa_shake_lengths};
 
 use crate::document::values::is_field;
+use crate::listing::causes::unit_of;
 use asn_names::element::Step;
+use asn_names::judgement::Judgement;
 use pkix_definitions::identifiers::{
     EC_PUBLIC_KEY, EXTENSION_REQUEST, are_same_octets, curve_length,
 };
+use pkix_shapes::identifiers::Identifier;
 use reports::report::{Line, Note, Remark, Value};
 use std::alloc::{AllocError, Global};
 
@@ -29,6 +33,8 @@ struct Context {
     public: Option<u64>,
     /// The last attribute is of a type that has a single value.
     is_single: bool,
+    /// The last extension, where it has a usual name.
+    extension: Option<&'static Identifier>,
 }
 
 /// There are at most so many notes: a document may have an extension many thousand times.
@@ -74,6 +80,7 @@ fn start() -> Context
         curve: None,
         public: None,
         is_single: false,
+        extension: None,
     }
 }
 
@@ -94,9 +101,25 @@ fn context_after(context: Context, line: &Line) -> Context
             ..context
         };
     }
+    if is_field(line.step, "extnID") {
+        return Context {
+            extension: identifier_in(&line.value),
+            ..context
+        };
+    }
     Context {
         curve: curve_after(context.curve, name),
         ..context
+    }
+}
+
+/// An object identifier that has a usual name.
+fn identifier_in(value: &Value) -> Option<&'static Identifier>
+    ensures { result ≡ identifier_in value.now }
+{
+    match value {
+        Value::Named(identifier) => Some(identifier),
+        _ => None,
     }
 }
 
@@ -173,7 +196,7 @@ fn public_octets(algorithm: &[u8]) -> Option<u64>
 
 /// Of ML-DSA-44, ML-DSA-65, ML-DSA-87 (RFC 9881).
 fn ml_dsa_octets(algorithm: &[u8]) -> Option<u64>
-    ensures { result ≡ length_under ml_dsa_lengths algorithm.now }
+    ensures { result ≡ entry_under ml_dsa_lengths algorithm.now }
 {
     if is_signature(algorithm, 17) {
         Some(1312)
@@ -188,7 +211,7 @@ fn ml_dsa_octets(algorithm: &[u8]) -> Option<u64>
 
 /// Of ML-KEM-512, ML-KEM-768, ML-KEM-1024 (RFC 9935).
 fn ml_kem_octets(algorithm: &[u8]) -> Option<u64>
-    ensures { result ≡ length_under ml_kem_lengths algorithm.now }
+    ensures { result ≡ entry_under ml_kem_lengths algorithm.now }
 {
     if is_encapsulation(algorithm, 1) {
         Some(800)
@@ -203,7 +226,7 @@ fn ml_kem_octets(algorithm: &[u8]) -> Option<u64>
 
 /// Of SLH-DSA with SHA2: 128s, 128f, 192s, 192f, 256s, 256f (RFC 9909).
 fn slh_dsa_sha2_octets(algorithm: &[u8]) -> Option<u64>
-    ensures { result ≡ length_under slh_dsa_sha2_lengths algorithm.now }
+    ensures { result ≡ entry_under slh_dsa_sha2_lengths algorithm.now }
 {
     if is_signature(algorithm, 20) {
         Some(32)
@@ -224,7 +247,7 @@ fn slh_dsa_sha2_octets(algorithm: &[u8]) -> Option<u64>
 
 /// Of SLH-DSA with SHAKE, in the same order.
 fn slh_dsa_shake_octets(algorithm: &[u8]) -> Option<u64>
-    ensures { result ≡ length_under slh_dsa_shake_lengths algorithm.now }
+    ensures { result ≡ entry_under slh_dsa_shake_lengths algorithm.now }
 {
     if is_signature(algorithm, 26) {
         Some(32)
@@ -283,7 +306,49 @@ fn remark_on(context: Context, line: &Line, after: &[Line]) -> Option<Remark>
     if is_public_key(line.step) {
         return remark_on_key(context, &line.value);
     }
-    None
+    remark_on_value(context.extension, line)
+}
+
+/// The value of an extension is in DER (RFC 5280 section 4.2).
+fn remark_on_value(extension: Option<&'static Identifier>, line: &Line) -> Option<Remark>
+    ensures { result ≡ remark_on_value extension.entry line.now }
+{
+    match line.carries {
+        None => remark_on_usage(extension, line),
+        Some(Judgement::Der) => None,
+        Some(Judgement::NotDer) => Some(Remark::ExtensionNotDer(extension)),
+        Some(Judgement::Refused(fault)) => Some(Remark::ExtensionRefused(
+            extension, fault.at, fault.why,
+        )),
+    }
+}
+
+/// The bits of a keyUsage, which have names, end in a 1 in DER (X.690 11.2.2).
+fn remark_on_usage(extension: Option<&'static Identifier>, line: &Line) -> Option<Remark>
+    ensures { result ≡ remark_on_usage extension.entry line.now }
+{
+    if !is_name(line.type_name, "KeyUsage") {
+        return None;
+    }
+    match &line.value {
+        Value::Octets(contents) => {
+            remark_if(!ends_in_one(contents), Remark::ExtensionZeroBits(extension))
+        }
+        _ => None,
+    }
+}
+
+/// Whether the last bit of a BIT STRING is 1, or it has none.
+fn ends_in_one(contents: &[u8]) -> bool
+    ensures { result ≡ ends_in_one contents.now }
+{
+    let [unused, rest @ ..] = contents else {
+        return true;
+    };
+    match rest.last() {
+        Some(last) => *last / unit_of(*unused) % 2 == 1,
+        None => true,
+    }
 }
 
 /// A remark, where this is so.

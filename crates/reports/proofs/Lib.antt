@@ -2,3 +2,4 @@ pub mod Appends
 pub mod Characters
 pub mod Steps
 pub mod Tags
+pub mod Utf8

@@ -1,10 +1,12 @@
 -- What is likely, and what to do.
 use Rattle.std.specs.Prelude.{Bool, List, None, Option, Some, [], codes, cond, decimal, length, nat_lt, ℕ, ◌%◌, ◌&&◌, ◌++◌, ◌-◌, ◌==◌, ◌||◌}
+use Rattle.std.specs.Option.{option_map}
 use Rattle.std.specs.Str.{bytes_eq}
 use Rattle.tlv_core.specs.declared.fault.Fault.{Fault}
 use Rattle.reports.specs.Guesses.{guess_act, guess_said}
 use Rattle.reports.specs.PlacedAdvice.{fault_act, fault_likely}
-use Rattle.reports.specs.Words.{sized}
+use Rattle.pkix_shapes.specs.declared.identifiers.Identifier.{Identifier}
+use Rattle.reports.specs.Words.{place_said, sized}
 use Rattle.reports.specs.declared.report.Answer.{Answer}
 use Rattle.reports.specs.declared.report.Answer.TheVariants.{Der, NotDer, Refused}
 use Rattle.reports.specs.declared.report.Cause.{Cause}
@@ -86,6 +88,11 @@ cause_said causes.UnusedBits = codes "unused bits that aren't 0"
 cause_said causes.Default = codes "a default value written out, which DER leaves out"
 cause_said causes.Order = codes "members of a SET OF that aren't in the order of their octets"
 
+-- an extension by its usual name, where it has one
+abbrev pub extension_said : Option Identifier → List ℕ
+extension_said None = codes "the extension"
+extension_said (Some identifier) = identifier.name.now
+
 -- what other standards say to what is there
 unfoldable pub remark_said : Remark → List ℕ
 remark_said (remarks.PointSize octets) =
@@ -101,3 +108,10 @@ remark_said (remarks.KeySize octets due) =
     ++ codes " (RFC 9881, RFC 9935, RFC 9909)"
 remark_said remarks.NeedlessParameters =
     codes "parameters beside an algorithm that has none (RFC 9881, RFC 9935, RFC 9909)"
+remark_said (remarks.ExtensionNotDer name) =
+    extension_said (option_map (λ r. r.now) name) ++ codes " isn't in DER inside (RFC 5280 section 4.2)"
+remark_said (remarks.ExtensionZeroBits name) =
+    extension_said (option_map (λ r. r.now) name) ++ codes " has bits 0 at its end, which DER leaves out (X.690 11.2.2)"
+remark_said (remarks.ExtensionRefused name at why) =
+    extension_said (option_map (λ r. r.now) name) ++ codes " isn't of its type inside: fault at " ++ place_said at why
+    ++ codes ", counted from the first octet of its value (RFC 5280 section 4.2)"

@@ -1,7 +1,6 @@
 -- A report as tokens of JSON: one object, whose members are in this order, and are absent where they say nothing.
 use Rattle.std.specs.Prelude.{Bool, List, None, Option, Some, [], codes, cond, flat_map, length, nat_lt, ℕ, ◌++◌, ◌-◌, ◌==◌}
 use Rattle.json.specs.Token.{Token}
-use Rattle.tlv_core.specs.Reasons.{name_of}
 use Rattle.tlv_core.specs.declared.reason.Reason.{Reason}
 use Rattle.reports.specs.declared.report.Answer.{Answer}
 use Rattle.reports.specs.declared.report.Answer.TheVariants.{Der, NotDer, Refused}
@@ -11,14 +10,11 @@ use Rattle.reports.specs.declared.report.Note.{Note}
 use Rattle.reports.specs.declared.report.Report.{Report}
 use Rattle.reports.specs.Field.{field_said}
 use Rattle.reports.specs.Hints.{do_said, likely_said}
-use Rattle.reports.specs.JsonLists.{line_object, not_der_members, note_object}
+use Rattle.reports.specs.JsonAsks.{asks_member}
+use Rattle.reports.specs.JsonLists.{line_object, not_der_members, note_object, place_members}
 use Rattle.reports.specs.JsonMembers.{list_member, number_member, object, object_member, optional, said_member, text_member}
 use Rattle.reports.specs.JsonWords.{guess_word}
 use Rattle.reports.specs.Words.{due_said, found_said}
-
--- a place and a reason
-unfoldable pub place_members : ℕ → Reason → List Token
-place_members at why = number_member (codes "at") at ++ text_member (codes "reason") (name_of why)
 
 -- those of a fault inside privateKey, where there is one
 unfoldable pub inside_members : Option (ℕ × Reason) → List Token
@@ -91,9 +87,13 @@ places_members places Der report = []
 places_members places (NotDer at) report = not_der_members places report report.lines.items
 places_members places (Refused fault) report = []
 
--- all its elements, where they are asked for
+-- all its elements, where they are wanted
 unfoldable pub lines_member : Bool → List Line → List Token
 lines_member all lines = cond all (list_member (codes "lines") (flat_map line_object lines)) []
+
+-- what it asks for, and all its elements, where they are wanted
+unfoldable pub contents_members : Report → Bool → List Token
+contents_members report all = asks_member report ++ lines_member all report.lines.items
 
 unfoldable pub notes_member : Report → List Note → List Token
 notes_member report notes =
@@ -112,5 +112,5 @@ report_object report version file all places =
     object (head_members report version file ++ about_members report
     ++ due_members report ++ optional (number_members report) report.diagnosis
     ++ said_member (codes "looks_like") (guess_word report.guess) ++ advice_members report
-    ++ places_members places report.answer report ++ lines_member all report.lines.items
+    ++ places_members places report.answer report ++ contents_members report all
     ++ notes_member report report.notes.items)

@@ -1,12 +1,18 @@
 -- The elements of a report, and what is said of some, as tokens of JSON.
 use Rattle.std.specs.Prelude.{Bool, List, None, Some, [], codes, cond, false, flat_map, nat_lt, length, string_bytes, take, true, ℕ, ◌++◌, ◌∷◌}
 use Rattle.std.specs.List.{slice_get}
+use Rattle.std.specs.Option.{option_map}
 use Rattle.std.specs.Str.{is_utf8}
 use Rattle.hex.specs.Hex.{encode_lower}
 use Rattle.json.specs.Token.{Token}
 use Rattle.tlv_core.specs.Classes.{class_of}
 use Rattle.tlv_core.specs.Identifier.{Tag}
+use Rattle.tlv_core.specs.Reasons.{name_of}
+use Rattle.tlv_core.specs.declared.reason.Reason.{Reason}
 use Rattle.asn_names.specs.declared.element.Step.{Step}
+use Rattle.asn_names.specs.declared.judgement.Judgement.{Judgement}
+use Rattle.asn_names.specs.declared.judgement.Judgement.TheVariants as judgements
+use Rattle.pkix_shapes.specs.declared.identifiers.Identifier.{Identifier}
 use Rattle.reports.specs.declared.json_lists.Marked.{Marked}
 use Rattle.reports.specs.declared.report.Cause.{Cause}
 use Rattle.reports.specs.declared.report.Length.{Length}
@@ -51,6 +57,11 @@ characters_member octets =
     cond (is_utf8 octets) (text_member (codes "characters") octets)
     (text_member (codes "hexadecimal") (encode_lower octets))
 
+-- octets by their number, and in hexadecimal digits
+unfoldable pub octets_members : List ℕ → List Token
+octets_members octets =
+    number_member (codes "octets") (length octets) ++ text_member (codes "hexadecimal") (encode_lower octets)
+
 -- what is shown of contents
 unfoldable pub value_members : Value → List Token
 value_members values.Nothing = []
@@ -65,6 +76,7 @@ value_members (values.Named id) =
     text_member (codes "identifier") id.now.arcs.now ++ text_member (codes "name") id.now.name.now
 value_members (values.Arcs arcs) = text_member (codes "identifier") (string_bytes arcs)
 value_members (values.Characters octets) = characters_member octets.items
+value_members (values.Octets octets) = octets_members octets.items
 
 -- nothing is shown
 abbrev pub is_nothing : Value → Bool
@@ -78,6 +90,7 @@ is_nothing (values.Number number) = false
 is_nothing (values.Named id) = false
 is_nothing (values.Arcs arcs) = false
 is_nothing (values.Characters octets) = false
+is_nothing (values.Octets octets) = false
 
 unfoldable pub value_member : Value → List Token
 value_member value = cond (is_nothing value) [] (object_member (codes "value") (value_members value))
@@ -88,6 +101,20 @@ form_members line =
     cond (is_place_alone line.step line.value) []
     (tag_member line.tag ++ boolean_member (codes "constructed") line.constructed)
 
+-- a place and a reason
+unfoldable pub place_members : ℕ → Reason → List Token
+place_members at why = number_member (codes "at") at ++ text_member (codes "reason") (name_of why)
+
+-- what the contents of an extension are as a value of its type
+unfoldable pub judgement_members : Judgement → List Token
+judgement_members judgements.Der = text_member (codes "verdict") (codes "der")
+judgement_members judgements.NotDer = text_member (codes "verdict") (codes "not_der")
+judgement_members (judgements.Refused fault) =
+    text_member (codes "verdict") (codes "refused") ++ place_members fault.at fault.why
+
+abbrev pub carried_member : Judgement → List Token
+carried_member judgement = object_member (codes "carries") (judgement_members judgement)
+
 -- an element
 unfoldable pub line_members : Line → List Token
 line_members line =
@@ -95,6 +122,7 @@ line_members line =
     ++ number_member (codes "depth") line.depth ++ said_member (codes "name") (with_step [] line.step)
     ++ said_member (codes "type") line.type_name.now ++ form_members line
     ++ optional (number_member (codes "end")) line.end ++ value_member line.value
+    ++ optional carried_member line.carries
 
 abbrev pub line_object : Line → List Token
 line_object line = object (line_members line)
@@ -127,6 +155,10 @@ some_members report places marked =
 abbrev pub not_der_members : ℕ → Report → List Line → List Token
 not_der_members places report lines = some_members report places (marked_in lines)
 
+-- an extension by its usual name
+abbrev pub extension_member : Identifier → List Token
+extension_member identifier = text_member (codes "extension") identifier.name.now
+
 -- the numbers that a remark has
 unfoldable pub remark_members : Remark → List Token
 remark_members (remarks.PointSize octets) = number_member (codes "octets") octets
@@ -138,6 +170,11 @@ remark_members (remarks.SeveralValues count) = number_member (codes "values") co
 remark_members (remarks.KeySize octets due) =
     number_member (codes "octets") octets ++ number_member (codes "due_octets") due
 remark_members remarks.NeedlessParameters = []
+remark_members (remarks.ExtensionNotDer name) = optional extension_member (option_map (λ r. r.now) name)
+remark_members (remarks.ExtensionZeroBits name) = optional extension_member (option_map (λ r. r.now) name)
+remark_members (remarks.ExtensionRefused name at why) =
+    optional extension_member (option_map (λ r. r.now) name)
+    ++ object_member (codes "fault") (place_members at why)
 
 abbrev pub field_of_line : Report → Line → List Token
 field_of_line report line = field_members report line.around line.step line.at

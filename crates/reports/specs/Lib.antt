@@ -1,11 +1,14 @@
 pub mod Advice
+pub mod Asks
 pub mod Field
 pub mod Guesses
 pub mod Hints
 pub mod Json
+pub mod JsonAsks
 pub mod JsonLists
 pub mod JsonMembers
 pub mod JsonWords
+pub mod Letters
 pub mod Lines
 pub mod Listings
 pub mod Paths

@@ -106,6 +106,7 @@ shown line (values.Named identifier) =
     codes ": " ++ identifier.now.name.now ++ codes " (" ++ identifier.now.arcs.now ++ codes ")"
 shown line (values.Arcs arcs) = codes ": " ++ string_bytes arcs
 shown line (values.Characters octets) = codes ": " ++ tag_said line.tag ++ codes " " ++ quoted octets.items
+shown line (values.Octets octets) = sized_part line (length octets.items)
 
 unfoldable pub value_part : Line → List ℕ
 value_part line = shown line line.value

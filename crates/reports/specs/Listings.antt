@@ -1,5 +1,6 @@
 -- The listing: which lines of the elements are shown.
-use Rattle.std.specs.Prelude.{Bool, List, None, Option, Some, [], codes, cond, decimal, length, max, min, nat_le, not, slice_get, true, false, ℕ, ◌*◌, ◌+◌, ◌++◌, ◌-◌, ◌==◌, ◌||◌, ◌∷◌}
+use Rattle.std.specs.Prelude.{Bool, List, None, Option, Some, [], codes, cond, decimal, length, max, min, nat_le, not, slice_get, true, false, ℕ, ◌*◌, ◌+◌, ◌++◌, ◌-◌, ◌&&◌, ◌==◌, ◌||◌, ◌∷◌}
+use Rattle.reports.specs.Asks.{is_asking}
 use Rattle.reports.specs.Picks.{causes, numbers_from, start_of}
 use Rattle.reports.specs.Lines.{blanks, line_lines}
 use Rattle.reports.specs.Texts.{line_feed}
@@ -102,7 +103,18 @@ lines_listing answer all places layout lines =
     cond (length lines == 0) []
     (line_feed ++ cond all (all_lines layout 0 lines) (answer_listing answer places layout lines))
 
+abbrev pub is_in_der : Answer → Bool
+is_in_der Der = true
+is_in_der (NotDer at) = false
+is_in_der (Refused fault) = false
+
+-- Of a document in DER of which is said what it asks for, and nothing is noted, no line is shown but where all are wanted.
+abbrev pub is_left_out : Report → Bool → Bool
+is_left_out report all =
+    not all && is_in_der report.answer && is_asking report && (length report.notes.items == 0)
+
 -- The listing of a report.
 abbrev pub listing : Report → Bool → ℕ → List ℕ
 listing report all places =
-    lines_listing report.answer all places (layout_of report report.lines.items) report.lines.items
+    cond (is_left_out report all) []
+    (lines_listing report.answer all places (layout_of report report.lines.items) report.lines.items)

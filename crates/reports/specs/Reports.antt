@@ -1,14 +1,14 @@
 -- The text of a report.
 use Rattle.std.specs.Prelude.{Bool, List, None, Option, Some, [], codes, cond, decimal, flat_map, length, ℕ, ◌++◌, ◌==◌}
-use Rattle.tlv_core.specs.Reasons.{name_of}
 use Rattle.tlv_core.specs.declared.reason.Reason.{Reason}
+use Rattle.reports.specs.Asks.{asks_lines}
 use Rattle.reports.specs.Field.{field_said}
 use Rattle.reports.specs.Hints.{do_said, likely_said, remark_said}
 use Rattle.reports.specs.Picks.{path_to_line}
 use Rattle.reports.specs.Listings.{listing}
 use Rattle.reports.specs.Paths.{path_text}
 use Rattle.reports.specs.Texts.{line_feed}
-use Rattle.reports.specs.Words.{due_said, found_said, sized}
+use Rattle.reports.specs.Words.{due_said, found_said, place_said, sized}
 use Rattle.reports.specs.Wraps.{labelled_line}
 use Rattle.reports.specs.declared.report.Answer.{Answer}
 use Rattle.reports.specs.declared.report.Answer.TheVariants.{Der, NotDer, Refused}
@@ -18,10 +18,6 @@ use Rattle.reports.specs.declared.report.Report.{Report}
 -- the kind, and the number of octets
 unfoldable pub head_line : Report → List ℕ
 head_line report = report.kind.word.now ++ codes ", " ++ sized report.octets ++ line_feed
-
--- a place and a reason
-unfoldable pub place_said : ℕ → Reason → List ℕ
-place_said at why = decimal at ++ codes ": " ++ name_of why
 
 -- the place and reason of a fault inside, where there is one
 abbrev pub inside_said : Option (ℕ × Reason) → List ℕ
@@ -61,5 +57,5 @@ note_lines report notes = cond (length notes == 0) [] (line_feed ++ flat_map (no
 -- The text of a report, with all lines of the listing or some: of those that aren't in DER so many.
 abbrev pub report_lines : Report → Bool → ℕ → List ℕ
 report_lines report all places =
-    head_line report ++ answer_line report.answer ++ listing report all places ++ answer_lines report.answer report
-    ++ note_lines report report.notes.items
+    head_line report ++ answer_line report.answer ++ asks_lines report ++ listing report all places
+    ++ answer_lines report.answer report ++ note_lines report report.notes.items

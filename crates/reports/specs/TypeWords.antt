@@ -1,7 +1,7 @@
 -- Tags and types in words.
 use Rattle.std.specs.Prelude.{List, [], codes, cond, decimal, length, ℕ, ◌++◌, ◌==◌}
 use Rattle.tlv_core.specs.Identifier.{Tag}
-use Rattle.pkix_shapes.specs.declared.shape.Fields.{Required', End, Fields, Optional'}
+use Rattle.pkix_shapes.specs.declared.shape.Fields.{Default', Required', End, Fields, Optional'}
 use Rattle.pkix_shapes.specs.declared.shape.Shape.{Choice', Containing', DefinedBy', Leaf, ListOf', Named', Open, Private', Refused, Sequence', SetOf', Shape}
 use Rattle.pkix_shapes.specs.declared.shape.ShapeTag.{ShapeTag}
 use Rattle.pkix_shapes.specs.declared.shape.ShapeTag.TheVariants.{Context, Universal}
@@ -75,3 +75,4 @@ abbrev pub fields_said : Fields → List ℕ
 fields_said End = codes "nothing more"
 fields_said (Required' name p shape q fields) = field_said name.now shape
 fields_said (Optional' name p shape q fields) = field_said name.now shape ++ codes " or " ++ fields_said fields
+fields_said (Default' name contents p shape q fields) = field_said name.now shape ++ codes " or " ++ fields_said fields

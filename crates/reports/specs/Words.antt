@@ -1,5 +1,6 @@
 -- What is said of the element that is refused, and of what is due in its place.
 use Rattle.std.specs.Prelude.{Bool, List, None, Option, Some, [], codes, cond, decimal, false, is_some, length, nat_lt, not, true, ℕ, ◌&&◌, ◌+◌, ◌++◌, ◌-◌, ◌==◌}
+use Rattle.tlv_core.specs.Reasons.{name_of}
 use Rattle.tlv_core.specs.declared.fault.Fault.{Fault}
 use Rattle.tlv_core.specs.declared.reason.Reason.{Reason}
 use Rattle.tlv_core.specs.declared.reason.Reason.TheVariants as reasons
@@ -19,6 +20,10 @@ use Rattle.reports.specs.TypeWords.{fields_said, shape_said, tag_said}
 -- a number of octets
 abbrev pub sized : ℕ → List ℕ
 sized octets = decimal octets ++ cond (octets == 1) (codes " octet") (codes " octets")
+
+-- a place and a reason
+unfoldable pub place_said : ℕ → Reason → List ℕ
+place_said at why = decimal at ++ codes ": " ++ name_of why
 
 -- two texts with a semicolon between them, where both say something
 abbrev pub joined : List ℕ → List ℕ → List ℕ

@@ -1,13 +1,16 @@
 //! What is likely, and what to do: by what the file looks like, else by the reason.
 ghost use Rattle.std.specs.Prelude.{◌≡◌, ◌++◌, IfOk, OnOk, string_bytes};
-ghost use Rattle.reports.specs.Hints.{cause_said, do_said, is_lines, likely_said, line_said, reason_act};
-ghost use Rattle.reports.specs.Hints.{reason_likely, remark_said, signed_words, sound_said};
+ghost use Rattle.std.specs.Option.{option_map};
+ghost use Rattle.reports.specs.Hints.{cause_said, do_said, extension_said, is_lines, likely_said, line_said};
+ghost use Rattle.reports.specs.Hints.{reason_act, reason_likely, remark_said, signed_words, sound_said};
 
 use crate::guesses::{push_guess, push_guess_act};
 use crate::placed_advice::{push_fault_act, push_fault_likely};
 use crate::report::{Answer, Cause, Guess, Remark, Report};
 use crate::text::push_number;
+use crate::text_report::push_reason;
 use crate::words::push_size;
+use pkix_shapes::identifiers::Identifier;
 use std::alloc::{AllocError, Global};
 use tlv_core::fault::Fault;
 
@@ -171,5 +174,30 @@ fn push_remark(text: &mut String, remark: Remark) -> Result<(), AllocError>
         Remark::NeedlessParameters => text.push_str(
             "parameters beside an algorithm that has none (RFC 9881, RFC 9935, RFC 9909)",
         ),
+        Remark::ExtensionNotDer(name) => {
+            push_extension(text, name)?;
+            text.push_str(" isn't in DER inside (RFC 5280 section 4.2)")
+        }
+        Remark::ExtensionZeroBits(name) => {
+            push_extension(text, name)?;
+            text.push_str(" has bits 0 at its end, which DER leaves out (X.690 11.2.2)")
+        }
+        Remark::ExtensionRefused(name, at, why) => {
+            push_extension(text, name)?;
+            text.push_str(" isn't of its type inside: fault at ")?;
+            push_reason(text, at, why)?;
+            text.push_str(", counted from the first octet of its value (RFC 5280 section 4.2)")
+        }
+    }
+}
+
+/// An extension by its usual name, where it has one.
+fn push_extension(text: &mut String, name: Option<&'static Identifier>) -> Result<(), AllocError>
+    ensures { OnOk result (string_bytes text.new ≡ string_bytes text.old
+        ++ extension_said (option_map (λ r. r.now) name.entry)) }
+{
+    match name {
+        Some(identifier) => text.push_str(identifier.name),
+        None => text.push_str("the extension"),
     }
 }

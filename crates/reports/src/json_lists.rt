@@ -1,23 +1,29 @@
 //! The elements of a report, and what is said of some, as JSON.
 ghost use Rattle.std.specs.Prelude.{[], ◌≡◌, ◌++◌, IfOk, OnOk, codes, flat_map, length, string_bytes};
 ghost use Rattle.std.specs.Option.{option_map};
-ghost use Rattle.reports.specs.JsonLists.{characters_member, field_members, field_of_line, first_ones, form_members};
+ghost use Rattle.reports.specs.JsonLists.{carried_member, characters_member, extension_member};
+ghost use Rattle.reports.specs.JsonLists.{field_members, field_of_line, first_ones, form_members, judgement_members};
 ghost use Rattle.reports.specs.JsonLists.{is_nothing, length_members, line_members, line_object, marked_in};
-ghost use Rattle.reports.specs.JsonLists.{marked_object, not_der_members, note_members, note_object, path_of};
+ghost use Rattle.reports.specs.JsonLists.{marked_object, not_der_members, note_members, note_object, octets_members};
+ghost use Rattle.reports.specs.JsonLists.{path_of, place_members};
 ghost use Rattle.reports.specs.JsonLists.{remark_members, some_members, tag_member, tag_members, value_member};
 ghost use Rattle.reports.specs.JsonLists.{value_members};
-ghost use Rattle.reports.specs.JsonMembers.{list_member, number_member, optional};
+ghost use Rattle.reports.specs.JsonMembers.{list_member, number_member, object_member, optional};
 ghost use Rattle.reports.specs.JsonWords.{class_word};
 ghost use Rattle.reports.specs.Paths.{with_step};
 ghost use Rattle.tlv_core.specs.Classes.{class_of};
 
+use crate::json_report::push_place;
 use crate::json_text::JsonText;
 use crate::json_words::{word_of_cause, word_of_class, word_of_remark};
 use crate::paths::{push_path, push_root, push_step};
 use crate::picks::{is_place_alone, line_of, path_to_line};
 use crate::report::{Cause, Length, Line, Note, Remark, Report, Value};
 use asn_names::element::Step;
+use asn_names::judgement::Judgement;
+use pkix_shapes::identifiers::Identifier;
 use std::alloc::{AllocError, Global};
+use tlv_core::reason::Reason;
 use tlv_core::tag::Tag;
 
 /// An element that isn't in DER.
@@ -187,7 +193,34 @@ fn push_remark(json: &mut JsonText, remark: Remark) -> Result<(), AllocError>
         | Remark::ExtensionTwice
         | Remark::AttributeTwice
         | Remark::NeedlessParameters => Ok(()),
+        Remark::ExtensionNotDer(name) | Remark::ExtensionZeroBits(name) => {
+            push_extension(json, name)
+        }
+        Remark::ExtensionRefused(name, at, why) => {
+            push_extension(json, name)?;
+            push_fault(json, at, why)
+        }
     }
+}
+
+/// The usual name of an extension, where it has one.
+fn push_extension(json: &mut JsonText, name: Option<&'static Identifier>) -> Result<(), AllocError>
+    ensures { OnOk result (json.new ≡ json.old
+        ++ optional extension_member (option_map (λ r. r.now) name.entry)) }
+{
+    match name {
+        Some(identifier) => json.text("extension", identifier.name),
+        None => Ok(()),
+    }
+}
+
+/// A fault by its place and its reason.
+fn push_fault(json: &mut JsonText, at: u64, why: Reason) -> Result<(), AllocError>
+    ensures { OnOk result (json.new ≡ json.old ++ object_member (codes "fault") (place_members at why)) }
+{
+    json.begin_object_at("fault")?;
+    push_place(json, at, why)?;
+    json.end_object()
 }
 
 /// The members that show an element that is listed, where it is.
@@ -317,7 +350,8 @@ fn is_nothing(value: &Value) -> bool
         | Value::Number(_)
         | Value::Named(_)
         | Value::Arcs(_)
-        | Value::Characters(_) => false,
+        | Value::Characters(_)
+        | Value::Octets(_) => false,
     }
 }
 
@@ -329,8 +363,22 @@ fn push_bits(json: &mut JsonText, octets: u64, unused: u64) -> Result<(), AllocE
     json.number("unused_bits", unused)
 }
 
+/// The number of octets, and they themselves in hexadecimal digits.
+#[tactic(auto, unfolding(crate::specs::JsonLists::octets_members))]
+fn push_octets(alloc: Global, json: &mut JsonText, octets: &[u8]) -> Result<(), AllocError>
+    ensures { OnOk result (json.new ≡ json.old ++ octets_members octets.now) }
+{
+    let digits = hex::encode(alloc, octets)?;
+    json.number("octets", octets.len() as u64)?;
+    json.text("hexadecimal", digits.as_str())
+}
+
 #[tactic(auto, unfolding(crate::specs::JsonLists::value_members))]
-fn push_value_members(alloc: Global, json: &mut JsonText, value: &Value) -> Result<(), AllocError>
+pub(crate) fn push_value_members(
+    alloc: Global,
+    json: &mut JsonText,
+    value: &Value,
+) -> Result<(), AllocError>
     ensures { OnOk result (json.new ≡ json.old ++ value_members value.now) }
 {
     match value {
@@ -347,11 +395,16 @@ fn push_value_members(alloc: Global, json: &mut JsonText, value: &Value) -> Resu
         }
         Value::Arcs(arcs) => json.text("identifier", arcs.as_str()),
         Value::Characters(octets) => push_characters(alloc, json, octets),
+        Value::Octets(octets) => push_octets(alloc, json, octets),
     }
 }
 
 #[tactic(auto, unfolding(crate::specs::JsonLists::value_member))]
-fn push_value(alloc: Global, json: &mut JsonText, value: &Value) -> Result<(), AllocError>
+pub(crate) fn push_value(
+    alloc: Global,
+    json: &mut JsonText,
+    value: &Value,
+) -> Result<(), AllocError>
     ensures { OnOk result (json.new ≡ json.old ++ value_member value.now) }
 {
     if is_nothing(value) {
@@ -395,7 +448,39 @@ fn push_line_members(alloc: Global, json: &mut JsonText, line: &Line) -> Result<
     json.said("type", line.type_name)?;
     push_form(json, line)?;
     json.optional_number("end", line.end)?;
-    push_value(alloc, json, &line.value)
+    push_value(alloc, json, &line.value)?;
+    push_carried(json, line.carries)
+}
+
+/// What the contents of an extension are as a value of its type.
+pub(crate) fn push_carried(
+    json: &mut JsonText,
+    carries: Option<Judgement>,
+) -> Result<(), AllocError>
+    ensures { OnOk result (json.new ≡ json.old ++ optional carried_member carries) }
+{
+    match carries {
+        Some(judgement) => {
+            json.begin_object_at("carries")?;
+            push_judgement(json, judgement)?;
+            json.end_object()
+        }
+        None => Ok(()),
+    }
+}
+
+#[tactic(auto, unfolding(crate::specs::JsonLists::judgement_members))]
+fn push_judgement(json: &mut JsonText, judgement: Judgement) -> Result<(), AllocError>
+    ensures { OnOk result (json.new ≡ json.old ++ judgement_members judgement) }
+{
+    match judgement {
+        Judgement::Der => json.text("verdict", "der"),
+        Judgement::NotDer => json.text("verdict", "not_der"),
+        Judgement::Refused(fault) => {
+            json.text("verdict", "refused")?;
+            push_place(json, fault.at, fault.why)
+        }
+    }
 }
 
 fn push_line(alloc: Global, json: &mut JsonText, line: &Line) -> Result<(), AllocError>

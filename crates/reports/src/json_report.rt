@@ -2,15 +2,17 @@
 ghost use Rattle.std.specs.Prelude.{◌≡◌, ◌++◌, IfOk, OnOk, codes, string_bytes};
 ghost use Rattle.std.specs.Option.{option_map};
 ghost use Rattle.json.specs.Print.{print};
-ghost use Rattle.reports.specs.Json.{advice_members, answer_members, check_object, due_members, about_members};
-ghost use Rattle.reports.specs.Json.{file_place, follow_by, head_members, inside_members, lines_member};
+ghost use Rattle.reports.specs.Json.{about_members, advice_members, answer_members, check_object, contents_members};
+ghost use Rattle.reports.specs.Json.{due_members, file_place, follow_by, head_members, inside_members, lines_member};
 ghost use Rattle.reports.specs.Json.{missing_members, more_members, more_than, notes_member, number_members};
-ghost use Rattle.reports.specs.Json.{place_members, places_members, report_object, verdict_members};
+ghost use Rattle.reports.specs.Json.{places_members, report_object, verdict_members};
+ghost use Rattle.reports.specs.JsonLists.{place_members};
 ghost use Rattle.reports.specs.JsonMembers.{optional, text_member};
 ghost use Rattle.reports.specs.Texts.{line_feed};
 
 use crate::field::field_text;
 use crate::hints::{do_text, likely_text};
+use crate::json_asks::push_asks;
 use crate::json_lists::{push_lines, push_not_der, push_notes};
 use crate::json_text::JsonText;
 use crate::json_words::word_of_guess;
@@ -68,13 +70,14 @@ pub fn report_json(
     json.said("looks_like", word_of_guess(report.guess))?;
     push_advice(alloc, &mut json, report)?;
     push_places(alloc, &mut json, places, report)?;
-    push_all(alloc, &mut json, all, &report.lines)?;
+    push_contents(alloc, &mut json, report, all, &report.lines)?;
     push_remarks(alloc, &mut json, report, &report.notes)?;
     json.end_object()?;
     json.into_line()
 }
 
-#[tactic(auto, unfolding(crate::specs::Json::place_members))]
+/// A place and a reason.
+#[tactic(auto, unfolding(crate::specs::JsonLists::place_members))]
 pub fn push_place(json: &mut JsonText, at: u64, why: Reason) -> Result<(), AllocError>
     ensures { OnOk result (json.new ≡ json.old ++ place_members at why) }
 {
@@ -270,7 +273,23 @@ fn push_places(
     }
 }
 
-/// All elements, where they are asked for.
+/// What it asks for, and all elements, where they are wanted.
+#[tactic(auto, unfolding(crate::specs::Json::contents_members))]
+fn push_contents(
+    alloc: Global,
+    json: &mut JsonText,
+    report: &Report,
+    all: bool,
+    lines: &[Line],
+) -> Result<(), AllocError>
+    requires { lines.now ≡ report.now.lines.items }
+    ensures { OnOk result (json.new ≡ json.old ++ contents_members report.now all) }
+{
+    push_asks(alloc, json, report, lines)?;
+    push_all(alloc, json, all, lines)
+}
+
+/// All elements, where they are wanted.
 #[tactic(auto, unfolding(crate::specs::Json::lines_member))]
 fn push_all(alloc: Global, json: &mut JsonText, all: bool, lines: &[Line]) -> Result<(), AllocError>
     ensures { OnOk result (json.new ≡ json.old ++ lines_member all lines.now) }

@@ -1,7 +1,7 @@
 //! A text of JSON (RFC 8259), written token after token.
 ghost use Rattle.std.specs.Prelude.{[], ◌≡◌, ◌∷◌, ◌++◌, IfOk, OnOk, string_bytes};
 ghost use Rattle.json.specs.Print.{print};
-ghost use Rattle.json.specs.Token.{begin_array, begin_object, end_array, end_object, key};
+ghost use Rattle.json.specs.Token.{begin_array, begin_object, end_array, end_object, key, string};
 ghost use Rattle.reports.specs.JsonMembers.{boolean_member, number_member, optional, said_member, text_member};
 ghost use Rattle.reports.specs.Texts.{line_feed};
 
@@ -65,6 +65,13 @@ impl JsonText {
         self.writer.begin_array()
     }
 
+    /// An item that is a list, up to its first item.
+    pub fn begin_list(&mut self) -> Result<(), AllocError>
+        ensures { OnOk result (self.new ≡ self.old ++ begin_array ∷ []) }
+    {
+        self.writer.begin_array()
+    }
+
     pub fn end_list(&mut self) -> Result<(), AllocError>
         ensures { OnOk result (self.new ≡ self.old ++ end_array ∷ []) }
     {
@@ -79,7 +86,14 @@ impl JsonText {
         self.writer.string(text)
     }
 
-    /// The same where there is something to say.
+    /// An item that is a string.
+    pub fn item(&mut self, text: &str) -> Result<(), AllocError>
+        ensures { OnOk result (self.new ≡ self.old ++ string text.now ∷ []) }
+    {
+        self.writer.string(text)
+    }
+
+    /// A member that is a string, where there is something to say.
     pub fn said(&mut self, name: &str, text: &str) -> Result<(), AllocError>
         ensures { OnOk result (self.new ≡ self.old ++ said_member name.now text.now) }
     {

@@ -70,5 +70,8 @@ pub(crate) fn word_of_remark(remark: Remark) -> &'static str
         Remark::SeveralValues(_) => "several_values",
         Remark::KeySize(_, _) => "key_size",
         Remark::NeedlessParameters => "needless_parameters",
+        Remark::ExtensionNotDer(_)
+        | Remark::ExtensionZeroBits(_)
+        | Remark::ExtensionRefused(_, _, _) => "extension_not_der",
     }
 }

@@ -13,13 +13,16 @@ ghost use Rattle.std.specs.Prelude.{◌≡◌, IfOk, string_bytes};
 ghost use Rattle.reports.specs.Reports.{report_lines};
 
 mod advice;
+mod asks;
 pub mod field;
 pub mod guesses;
 mod hints;
+mod json_asks;
 mod json_lists;
 pub mod json_report;
 pub mod json_text;
 mod json_words;
+mod letters;
 pub mod paths;
 pub mod picks;
 mod placed_advice;
@@ -31,8 +34,10 @@ mod text_listing;
 pub mod text_report;
 mod text_wrap;
 pub mod type_words;
+mod usages;
 pub mod words;
 
+use crate::asks::push_asks;
 use crate::report::Report;
 use crate::text_listing::push_listing;
 use crate::text_report::{push_answer, push_answer_lines, push_head, push_notes};
@@ -51,6 +56,7 @@ pub fn report_text(
     let mut text = String::new(alloc);
     push_head(&mut text, report)?;
     push_answer(&mut text, report.answer)?;
+    push_asks(alloc, &mut text, report, &report.lines)?;
     push_listing(alloc, &mut text, report, all, places)?;
     push_answer_lines(alloc, &mut text, report)?;
     push_notes(alloc, &mut text, report, &report.notes)?;

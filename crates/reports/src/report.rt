@@ -1,9 +1,11 @@
 //! What a report says of a document. Its texts are made of this and of nothing else, so what isn't here no text shows.
 //! A place is a number of octets from the start of the file, but where it is said to be inside `privateKey`.
 use asn_names::element::Step;
+use asn_names::judgement::Judgement;
 use pkix_shapes::identifiers::Identifier;
 use pkix_shapes::shape::{Fields, Shape};
 use tlv_core::fault::Fault;
+use tlv_core::reason::Reason;
 use tlv_core::tag::Tag;
 
 /// The kind of a document, by the words of the program and of the standard.
@@ -54,6 +56,8 @@ pub enum Value {
     Arcs(String),
     /// A character string, by its octets.
     Characters(Vec<u8>),
+    /// The contents octets of what is in an extension.
+    Octets(Vec<u8>),
 }
 
 /// Why an element isn't in DER (X.690 clauses 10 and 11).
@@ -96,6 +100,8 @@ pub struct Line {
     pub value: Value,
     /// The first cause why it isn't in DER.
     pub cause: Option<Cause>,
+    /// Of the value of an extension whose type is known: what its contents are as one of that type.
+    pub carries: Option<Judgement>,
 }
 
 /// What is due where a document is refused.
@@ -195,6 +201,12 @@ pub enum Remark {
     NoNamedCurve,
     /// An extension that is there before (RFC 5280 section 4.2).
     ExtensionTwice,
+    /// What the extension of this name contains is a value of its type, and not in DER (RFC 5280 section 4.2).
+    ExtensionNotDer(Option<&'static Identifier>),
+    /// It is a keyUsage whose last bits are 0, which DER leaves out (X.690 11.2.2).
+    ExtensionZeroBits(Option<&'static Identifier>),
+    /// It is no value of its type, by the fault at this place in it.
+    ExtensionRefused(Option<&'static Identifier>, u64, Reason),
     /// An attribute that is there before (RFC 2986 section 4.1).
     AttributeTwice,
     /// An attribute of a single value that has so many (RFC 2985 section 5.4).

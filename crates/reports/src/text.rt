@@ -93,7 +93,11 @@ pub fn push_quoted(alloc: Global, text: &mut String, octets: &[u8]) -> Result<()
 }
 
 /// The octets of a character string.
-fn push_characters(alloc: Global, text: &mut String, octets: &[u8]) -> Result<(), AllocError>
+pub(crate) fn push_characters(
+    alloc: Global,
+    text: &mut String,
+    octets: &[u8],
+) -> Result<(), AllocError>
     ensures { OnOk result (string_bytes text.new ≡ string_bytes text.old
         ++ flat_map escaped octets.now) }
 {

@@ -340,6 +340,7 @@ fn push_value(alloc: Global, text: &mut String, line: &Line) -> Result<(), Alloc
             text.push_str(" ")?;
             push_quoted(alloc, text, octets)
         }
+        Value::Octets(octets) => push_sized(text, line, octets.len() as u64),
     }
 }
 

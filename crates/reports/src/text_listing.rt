@@ -1,8 +1,10 @@
 //! The listing: which lines of the elements are shown.
 ghost use Rattle.std.specs.Prelude.{◌≡◌, ◌++◌, OnOk, reverse, string_bytes};
-ghost use Rattle.reports.specs.Listings.{all_lines, causes_listing, gap, header_columns, header_width, layout_of};
+ghost use Rattle.reports.specs.Listings.{all_lines, causes_listing, gap, header_columns, header_width, is_in_der};
+ghost use Rattle.reports.specs.Listings.{is_left_out, layout_of};
 ghost use Rattle.reports.specs.Listings.{line_at, listed, listing, others_said, place_columns, some_listing};
 
+use crate::asks::is_asking;
 use crate::picks::{Pick, causes, line_of, picked};
 use crate::report::{Answer, Line, Report};
 use crate::text::{push_marks, push_number};
@@ -25,7 +27,7 @@ pub(crate) fn push_listing(
 {
     let lines = report.lines.as_slice();
     let layout = layout_of(report, lines);
-    if lines.is_empty() {
+    if is_left_out(report, all) || lines.is_empty() {
         return Ok(());
     }
     text.push_str("\n")?;
@@ -35,6 +37,23 @@ pub(crate) fn push_listing(
     match report.answer {
         Answer::NotDer(_) => push_causes(alloc, text, layout, lines, places),
         Answer::Der | Answer::Refused(_) => push_some(alloc, text, layout, lines),
+    }
+}
+
+/// Whether no line is shown: of a document in DER of which is said what it asks for, and nothing is noted, where not
+/// all lines are wanted.
+fn is_left_out(report: &Report, all: bool) -> bool
+    ensures { result ≡ is_left_out report.now all }
+{
+    !all && is_in_der(report.answer) && is_asking(report) && report.notes.is_empty()
+}
+
+fn is_in_der(answer: Answer) -> bool
+    ensures { result ≡ is_in_der answer }
+{
+    match answer {
+        Answer::Der => true,
+        Answer::NotDer(_) | Answer::Refused(_) => false,
     }
 }
 

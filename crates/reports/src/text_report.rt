@@ -1,7 +1,8 @@
 //! The parts of a report around its listing.
 ghost use Rattle.std.specs.Prelude.{◌≡◌, ◌++◌, OnOk, flat_map, string_bytes};
 ghost use Rattle.reports.specs.Reports.{answer_line, answer_lines, head_line, inside_said, note_line, note_lines};
-ghost use Rattle.reports.specs.Reports.{place_said, refused_lines};
+ghost use Rattle.reports.specs.Reports.{refused_lines};
+ghost use Rattle.reports.specs.Words.{place_said};
 
 use crate::field::field_text;
 use crate::hints::{do_text, likely_text, note_text};
@@ -60,7 +61,7 @@ pub fn push_inside(text: &mut String, inside: Option<(u64, Reason)>) -> Result<(
 }
 
 /// A place and a reason.
-#[tactic(auto, unfolding(crate::specs::Reports::place_said))]
+#[tactic(auto, unfolding(crate::specs::Words::place_said))]
 pub fn push_reason(text: &mut String, at: u64, why: Reason) -> Result<(), AllocError>
     ensures { OnOk result (string_bytes text.new ≡ string_bytes text.old ++ place_said at why) }
 {

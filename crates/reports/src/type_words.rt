@@ -131,7 +131,7 @@ pub(crate) fn push_fields(text: &mut String, fields: &Fields) -> Result<(), Allo
     match fields {
         Fields::End => text.push_str("nothing more"),
         Fields::Required(name, shape, _) => push_field(text, name, shape),
-        Fields::Optional(name, shape, after) => {
+        Fields::Optional(name, shape, after) | Fields::Default(name, _, shape, after) => {
             push_field(text, name, shape)?;
             text.push_str(" or ")?;
             push_fields(text, after)

@@ -1,15 +1,20 @@
-//! Documents that OCTET STRINGs contain, and where their octets are in the file.
-ghost use Rattle.std.specs.Prelude.{◌<◌, ◌++◌, ◌≡◌, IfOk, IfSome, OnOk, length, slice_get};
+//! Documents that OCTET STRINGs contain, by their type or as the value of an extension, and where their octets are in
+//! the file.
+ghost use Rattle.std.specs.Prelude.{◌<◌, ◌++◌, ◌≡◌, IfOk, IfSome, None, OnOk, Some, length, slice_get, true};
 ghost use Rattle.std.specs.Option.{option_map};
-ghost use Rattle.explain.specs.Insides.{AddsInside, HasInsides, IsDocumentIn, IsNamed, contained, contents_within};
-ghost use Rattle.explain.specs.Insides.{deeper_contents, deeper_pieces, inside_at, is_at_place, own_contents};
-ghost use Rattle.explain.specs.Insides.{own_pieces, pieces_within};
+ghost use Rattle.pkix_shapes.specs.Plain.{is_plain};
+ghost use Rattle.pkix_shapes.specs.Terms.{term_of};
+ghost use Rattle.explain.specs.Insides.{AddsInside, AreCarried, HasInsides, IsDocumentIn, IsNamed, IsValueOf};
+ghost use Rattle.explain.specs.Insides.{contained, contents_within, deeper_contents, deeper_pieces, inside_at};
+ghost use Rattle.explain.specs.Insides.{is_at_place, looked_for, own_contents, own_pieces, pieces_within};
 
 use crate::document::places::Piece;
-use crate::document::values::contents_of;
-use asn_names::element::NamedElement;
+use crate::document::values::{contents_of, is_field};
+use asn_names::element::{Mismatch, NamedElement};
+use asn_names::judgement::{Judgement, judge};
 use asn_names::naming::{NamedElements, name_elements};
 use ber_outline::outline::outline;
+use pkix_shapes::extensions::extension_type;
 use pkix_shapes::shape::Shape;
 use std::alloc::{AllocError, Global};
 use tlv_core::limits::Limits;
@@ -26,6 +31,16 @@ pub(crate) struct Inside {
     /// The type of the document.
     pub(crate) shape: &'static Shape,
     pub(crate) named: NamedElements,
+    /// Of the value of an extension: what its contents are as one of the type.
+    pub(crate) carried: Option<Judgement>,
+}
+
+/// Where documents inside are looked for.
+#[derive(Clone, Copy)]
+pub(crate) struct InsideSearch {
+    pub(crate) limits: Limits,
+    /// In the values of extensions too, whose octets the type of the file carries.
+    pub(crate) in_extensions: bool,
 }
 
 /// The elements of a document of this type.
@@ -49,14 +64,14 @@ pub(crate) fn documents_inside(
     alloc: Global,
     file: &[u8],
     elements: &[NamedElement],
-    limits: Limits,
+    search: &InsideSearch,
 ) -> Result<Vec<Inside>, AllocError>
     ensures { IfOk result (λ insides.
-        HasInsides limits file.now elements.now (length elements.now) insides.items) }
+        HasInsides search.now file.now elements.now (length elements.now) insides.items) }
 {
     let mut all = Vec::new(alloc);
     for i in 0..elements.len() {
-        push_inside(alloc, &mut all, file, elements, i, limits)?;
+        push_inside(alloc, &mut all, file, elements, i, search)?;
     }
     Ok(all)
 }
@@ -68,20 +83,104 @@ fn push_inside(
     file: &[u8],
     elements: &[NamedElement],
     number: usize,
-    limits: Limits,
+    search: &InsideSearch,
 ) -> Result<(), AllocError>
     ensures { OnOk result
-        (AddsInside limits file.now elements.now number all.old.items all.new.items) }
+        (AddsInside search.now file.now elements.now number all.old.items all.new.items) }
 {
     let Some(element) = element_at(elements, number) else {
         return Ok(());
     };
-    let Some(shape) = contained(element) else {
+    if let Some(shape) = contained(element) {
+        let rest = &elements[number..];
+        let inside = document_inside(alloc, file, rest, number, shape, search.limits)?;
+        all.push(inside)?;
+        return Ok(());
+    }
+    let Some(shape) = carried_type(search, file, elements, element) else {
         return Ok(());
     };
-    let inside = document_inside(alloc, file, &elements[number..], number, shape, limits)?;
+    let inside = value_inside(
+        alloc,
+        file,
+        &elements[number..],
+        number,
+        shape,
+        search.limits,
+    )?;
     all.push(inside)?;
     Ok(())
+}
+
+/// The value that the first of the elements is of an extension: where it is in DER its elements have their names.
+fn value_inside(
+    alloc: Global,
+    file: &[u8],
+    elements: &[NamedElement],
+    container: usize,
+    shape: &'static Shape,
+    limits: Limits,
+) -> Result<Inside, AllocError>
+    requires plain { is_plain shape.now ≡ true }
+    ensures { IfOk result (λ inside.
+        IsValueOf limits file.now elements.now container (term_of shape.now) inside) }
+{
+    let mut octets = Vec::new(alloc);
+    let mut pieces = Vec::new(alloc);
+    push_segments(file, elements, &mut octets, &mut pieces)?;
+    let judgement = judge(alloc, octets.as_slice(), shape, limits)?;
+    let named = value_elements(alloc, octets.as_slice(), shape, judgement, limits)?;
+    Ok(Inside {
+        container,
+        octets,
+        pieces,
+        shape,
+        named,
+        carried: Some(judgement),
+    })
+}
+
+/// The elements of a value that is in DER.
+fn value_elements(
+    alloc: Global,
+    octets: &[u8],
+    shape: &'static Shape,
+    judgement: Judgement,
+    limits: Limits,
+) -> Result<NamedElements, AllocError>
+    ensures { IfOk result (λ named. AreCarried limits octets.now shape.entry judgement
+        (named.elements.items, named.mismatch)) }
+{
+    match judgement {
+        Judgement::Der => named_elements(alloc, octets, shape, limits),
+        Judgement::NotDer | Judgement::Refused(_) => Ok(NamedElements {
+            elements: Vec::new(alloc),
+            mismatch: Mismatch::Outermost,
+        }),
+    }
+}
+
+/// The type of what the value of a known extension contains, where it is looked for.
+fn carried_type(
+    search: &InsideSearch,
+    file: &[u8],
+    elements: &[NamedElement],
+    element: &NamedElement,
+) -> Option<&'static Shape>
+    ensures type_term { option_map (λ r. term_of r.now) result
+        ≡ looked_for search.now.in_extensions file.now elements.now (Some element.now) }
+    ensures plain { IfSome result (λ r. is_plain r.now ≡ true) }
+{
+    if !search.in_extensions || !is_field(element.step, "extnValue") {
+        return None;
+    }
+    let Some(first) = elements.get((element.around as usize).saturating_add(1)) else {
+        return None;
+    };
+    match contents_of(file, first) {
+        Some(identifier) => extension_type(identifier),
+        None => None,
+    }
 }
 
 /// The element of this number.
@@ -111,8 +210,9 @@ fn document_inside(
     shape: &'static Shape,
     limits: Limits,
 ) -> Result<Inside, AllocError>
-    ensures { IfOk result (λ inside.
+    ensures is { IfOk result (λ inside.
         IsDocumentIn limits file.now elements.now container shape.entry inside) }
+    ensures carried { IfOk result (λ inside. inside.carried ≡ None) }
 {
     let mut octets = Vec::new(alloc);
     let mut pieces = Vec::new(alloc);
@@ -124,6 +224,7 @@ fn document_inside(
         pieces,
         shape,
         named,
+        carried: None,
     })
 }
 

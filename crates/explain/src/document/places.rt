@@ -6,6 +6,7 @@ ghost use Rattle.explain.specs.Places.{Skips, SkipsIn, end_by_length, end_of, is
 ghost use Rattle.explain.specs.Places.{listed_end, place_in_file, place_of, placed_in, sum_of};
 
 use asn_names::element::NamedElement;
+use asn_names::judgement::Judgement;
 use ber_outline::event::ElementHeader;
 use reports::report::{Cause, Length};
 
@@ -30,10 +31,14 @@ pub(crate) struct DocumentCursor<'a> {
     pub(crate) rest: &'a [Piece],
     pub(crate) before: u64,
     pub(crate) is_inside: bool,
+    /// Whether it is the value of an extension.
+    pub(crate) is_carried: bool,
     /// How deep its outermost element is.
     pub(crate) depth: u64,
     /// The number of the line around it; of the file its own first one.
     pub(crate) around: u64,
+    /// Of the element that is next: what it is as the value of an extension.
+    pub(crate) carries: Option<Judgement>,
 }
 
 /// Where an element is: its place and its end in the file, and the line around it.

@@ -2,7 +2,8 @@
 ghost use Rattle.std.specs.Prelude.{◌≡◌, ◌==◌, IfOk, cond, length};
 ghost use Rattle.std.specs.Option.{option_map};
 ghost use Rattle.explain.specs.Contents.{between, contents_in};
-ghost use Rattle.explain.specs.Public.{Says, ShowsContents, is_field, is_public, sort_of, sort_of_leaf, sort_of_number};
+ghost use Rattle.explain.specs.Public.{Says, ShowsAll, ShowsContents, ShowsOwn, is_field, is_public, sort_of};
+ghost use Rattle.explain.specs.Public.{sort_of_leaf, sort_of_number};
 
 use asn_names::element::{NamedElement, Step};
 use pkix_shapes::identifiers::identifier_of;
@@ -46,7 +47,7 @@ fn sort_of_leaf(contents: Contents) -> Sort
         Contents::ObjectIdentifier => Sort::Identifier,
         Contents::BitString => Sort::Bits,
         Contents::OctetString => Sort::Octets,
-        Contents::Utf8String => Sort::Characters,
+        Contents::Utf8String | Contents::Text => Sort::Characters,
     }
 }
 
@@ -96,20 +97,52 @@ pub(crate) fn is_field(step: Step, name: &str) -> bool
     }
 }
 
-/// What is shown of the contents of a primitive element that is whole: their number alone, where they aren't
-/// public.
+/// What is shown of the contents of a primitive element that is whole: all of what is in the value of an extension,
+/// else their number alone, where they aren't public.
 pub(crate) fn listed_value(
     alloc: Global,
+    is_carried: bool,
     element: &NamedElement,
     contents: &[u8],
 ) -> Result<Value, AllocError>
-    ensures { IfOk result (λ value. ShowsContents element.now contents.now value) }
+    ensures { IfOk result (λ value. ShowsContents is_carried element.now contents.now value) }
+{
+    if is_carried {
+        return whole_value(alloc, sort_of(element), contents);
+    }
+    own_value(alloc, element, contents)
+}
+
+fn own_value(alloc: Global, element: &NamedElement, contents: &[u8]) -> Result<Value, AllocError>
+    ensures { IfOk result (λ value. ShowsOwn element.now contents.now value) }
 {
     let sort = sort_of(element);
     if element.private || !is_public(sort, element.step) {
         return Ok(size_alone(contents));
     }
     value_of(alloc, sort, contents)
+}
+
+/// All that contents say, by their octets where no words have it.
+fn whole_value(alloc: Global, sort: Sort, contents: &[u8]) -> Result<Value, AllocError>
+    ensures { IfOk result (λ value. ShowsAll sort contents.now value) }
+{
+    match sort {
+        Sort::Bits | Sort::Octets => Ok(Value::Octets(contents.to_vec(alloc)?)),
+        Sort::Integer => whole_integer(alloc, contents),
+        Sort::Null | Sort::Boolean | Sort::Characters | Sort::Identifier => {
+            value_of(alloc, sort, contents)
+        }
+    }
+}
+
+fn whole_integer(alloc: Global, contents: &[u8]) -> Result<Value, AllocError>
+    ensures { IfOk result (λ value. ShowsAll Sort.Integer contents.now value) }
+{
+    match contents {
+        [octet] if *octet < 128 => Ok(Value::Number(*octet)),
+        _ => Ok(Value::Octets(contents.to_vec(alloc)?)),
+    }
 }
 
 /// What public contents say: their number alone, where they aren't short, or aren't what they have to be.

@@ -258,7 +258,7 @@ fn bits_cause(contents: &[u8]) -> Option<Cause>
 }
 
 /// The value of the lowest bit that is used, so many being unused.
-fn unit_of(unused: u8) -> u8
+pub(crate) fn unit_of(unused: u8) -> u8
     ensures positive { 0 < result }
     ensures unit { result ≡ unit_of unused }
 {

@@ -53,6 +53,7 @@ fn place_alone(place: u64, depth: u64) -> Line
         end: None,
         value: Value::NotShown,
         cause: None,
+        carries: None,
     }
 }
 

@@ -27,8 +27,16 @@ returns c =
         mismatch = c.in_ok-named.named.mismatch;
         is_named = c.in_ok-named.ensures;
         insides = insides;
-        has_insides = subst (λ some. HasInsides c.args.limits front some (length some) insides)
-            c.as_slice.ensures.value c.in_ok-insides.ensures;
+        has_insides = subst
+            (λ in_extensions.
+            HasInsides (record { limits = c.args.limits; in_extensions = in_extensions }) front elements
+            (length elements) insides)
+            c.is_accepted.ensures
+            (subst
+            (λ some.
+            HasInsides (record { limits = c.args.limits; in_extensions = c.is_accepted.result }) front some
+            (length some) insides)
+            c.as_slice.ensures.value c.in_ok-insides.ensures);
         listed = subst (λ some. IsListed (front_document c.args.disclosed.answer front elements) some lines)
             c.as_slice-2.ensures.value c.in_ok-lines.ensures;
       };

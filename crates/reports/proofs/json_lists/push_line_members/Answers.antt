@@ -1,5 +1,5 @@
 use Rattle.std.proofs.Common.{[], ◌++◌, ◌∙◌, ap, codes}
-use Rattle.reports.specs.JsonLists.{form_members, length_members, line_members, value_member}
+use Rattle.reports.specs.JsonLists.{carried_member, form_members, length_members, line_members, value_member}
 use Rattle.reports.specs.JsonMembers.{number_member, optional, said_member}
 use Rattle.reports.specs.Paths.{with_step}
 use Rattle.reports.proofs.Appends.{further, past}
@@ -30,5 +30,9 @@ returns c =
     five c.in_ok-push_form.ensures in
     let seven = further c.optional_number.new.self c.push_form.new.json old
     (at ++ header ++ depth ++ name ++ type ++ form) end six c.in_ok-optional_number.ensures in
-    past c.push_value.result c.push_value.new.json c.optional_number.new.self old
-    (at ++ header ++ depth ++ name ++ type ++ form ++ end) (value_member line.value) seven c.push_value.ensures
+    let value = value_member line.value in
+    let eight = further c.push_value.new.json c.optional_number.new.self old
+    (at ++ header ++ depth ++ name ++ type ++ form ++ end) value seven c.in_ok-push_value.ensures in
+    past c.push_carried.result c.push_carried.new.json c.push_value.new.json old
+    (at ++ header ++ depth ++ name ++ type ++ form ++ end ++ value) (optional carried_member line.carries) eight
+    c.push_carried.ensures

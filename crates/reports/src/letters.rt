@@ -1,0 +1,184 @@
+//! The characters of a string: as they are where they are printable, else by their numbers.
+ghost use Rattle.std.specs.Prelude.{◌≡◌, ◌++◌, OnOk, chars, encode_utf8, flat_map, string_bytes};
+ghost use Rattle.hex.specs.Hex.{encode_lower};
+ghost use Rattle.reports.specs.Letters.{are_units, by_units, by_utf8, characters, code_digits, is_printable};
+ghost use Rattle.reports.specs.Letters.{is_special, is_string, letter, letters, unit, units};
+
+use std::alloc::{AllocError, Global};
+use tlv_core::tag::{Class, Tag};
+use ucd_category::{GeneralCategory, GeneralCategoryGroup};
+
+const UTF8_STRING: u32 = 12;
+
+const BMP_STRING: u32 = 30;
+
+/// The characters of a string as they are shown, in a distinguished name or elsewhere.
+pub(crate) fn push_letters(
+    alloc: Global,
+    text: &mut String,
+    in_name: bool,
+    tag: Tag,
+    octets: &[u8],
+) -> Result<(), AllocError>
+    ensures { OnOk result (string_bytes text.new ≡ string_bytes text.old
+        ++ letters in_name tag octets.now) }
+{
+    let mut string = String::new(alloc);
+    push_string(&mut string, tag, octets)?;
+    push_all(alloc, text, in_name, string.as_str())
+}
+
+/// The characters of a string in UTF-8.
+pub(crate) fn push_string(text: &mut String, tag: Tag, octets: &[u8]) -> Result<(), AllocError>
+    ensures { OnOk result (string_bytes text.new ≡ string_bytes text.old
+        ++ characters tag octets.now) }
+{
+    if is_string(tag, BMP_STRING) {
+        return push_by_units(text, octets);
+    }
+    if is_string(tag, UTF8_STRING) {
+        return push_utf8(text, octets);
+    }
+    push_each(text, octets)
+}
+
+/// Octets that are UTF-8 as they are, others as characters of an octet each.
+fn push_utf8(text: &mut String, octets: &[u8]) -> Result<(), AllocError>
+    ensures { OnOk result (string_bytes text.new ≡ string_bytes text.old ++ by_utf8 octets.now) }
+{
+    match str::from_utf8(octets) {
+        Ok(string) => text.push_str(string),
+        Err(_) => push_each(text, octets),
+    }
+}
+
+/// Whether it is a string of this universal tag.
+fn is_string(tag: Tag, number: u32) -> bool
+    ensures { result ≡ is_string number tag }
+{
+    tag.class() == Class::Universal && tag.number() == number
+}
+
+/// Octets that are whole characters of two each as they are, others as characters of an octet each.
+fn push_by_units(text: &mut String, octets: &[u8]) -> Result<(), AllocError>
+    ensures { OnOk result (string_bytes text.new ≡ string_bytes text.old ++ by_units octets.now) }
+{
+    if are_units(octets) {
+        push_units(text, octets)
+    } else {
+        push_each(text, octets)
+    }
+}
+
+/// Whether they are whole characters of two octets each, none of them half of a pair (X.680 41.15).
+fn are_units(octets: &[u8]) -> bool
+    ensures { result ≡ are_units octets.now }
+{
+    let mut left = octets;
+    while let [high, _, rest @ ..] = left {
+        if *high > 0xD7 && *high < 0xE0 {
+            return false;
+        }
+        left = rest;
+    }
+    left.is_empty()
+}
+
+/// Characters of two octets each.
+fn push_units(text: &mut String, octets: &[u8]) -> Result<(), AllocError>
+    ensures { OnOk result (string_bytes text.new ≡ string_bytes text.old ++ units octets.now) }
+{
+    let mut left = octets;
+    while let [high, low, rest @ ..] = left {
+        push_unit(text, *high, *low)?;
+        left = rest;
+    }
+    Ok(())
+}
+
+#[tactic(auto, unfolding(crate::specs::Letters::unit))]
+fn push_unit(text: &mut String, high: u8, low: u8) -> Result<(), AllocError>
+    ensures { OnOk result (string_bytes text.new ≡ string_bytes text.old ++ unit high low) }
+{
+    match char::from_u32(u32::from(high) * 256 + u32::from(low)) {
+        Some(c) => text.push(c),
+        None => text.push(char::REPLACEMENT_CHARACTER),
+    }
+}
+
+/// Characters of an octet each.
+fn push_each(text: &mut String, octets: &[u8]) -> Result<(), AllocError>
+    ensures { OnOk result (string_bytes text.new ≡ string_bytes text.old
+        ++ flat_map encode_utf8 octets.now) }
+{
+    let mut left = octets;
+    while let [octet, rest @ ..] = left {
+        text.push(char::from(*octet))?;
+        left = rest;
+    }
+    Ok(())
+}
+
+fn push_all(alloc: Global, text: &mut String, in_name: bool, string: &str) -> Result<(), AllocError>
+    ensures { OnOk result (string_bytes text.new ≡ string_bytes text.old
+        ++ flat_map (letter in_name) (chars string.now)) }
+{
+    for c in string.chars() {
+        push_letter(alloc, text, in_name, c)?;
+    }
+    Ok(())
+}
+
+#[tactic(auto, unfolding(crate::specs::Letters::letter))]
+fn push_letter(alloc: Global, text: &mut String, in_name: bool, c: char) -> Result<(), AllocError>
+    ensures { OnOk result (string_bytes text.new ≡ string_bytes text.old ++ letter in_name c) }
+{
+    if c == '\\' || in_name && is_special(c) {
+        text.push_str("\\")?;
+        return text.push(c);
+    }
+    if is_printable(c) {
+        return text.push(c);
+    }
+    text.push_str("\\u{")?;
+    push_code(alloc, text, c as u32)?;
+    text.push_str("}")
+}
+
+/// The characters that RFC 4514 section 2.4 has a backslash before.
+fn is_special(c: char) -> bool
+    ensures { result ≡ is_special c }
+{
+    c == '"' || c == '+' || c == ',' || c == ';' || c == '<' || c == '>'
+}
+
+/// Whether a reader sees it as it is: letters, marks, numbers, punctuation, symbols and the blank.
+fn is_printable(c: char) -> bool
+    ensures { result ≡ is_printable c }
+{
+    let category = GeneralCategory::for_char(c);
+    c == ' '
+        || !(GeneralCategoryGroup::Other.contains(category)
+            || GeneralCategoryGroup::Separator.contains(category))
+}
+
+/// The number of a character in four hexadecimal digits, or in six.
+fn push_code(alloc: Global, text: &mut String, code: u32) -> Result<(), AllocError>
+    ensures { OnOk result (string_bytes text.new ≡ string_bytes text.old ++ code_digits code) }
+{
+    let first = (code / 65536 % 256) as u8;
+    let second = (code / 256 % 256) as u8;
+    let last = (code % 256) as u8;
+    if code < 65536 {
+        push_digits(alloc, text, &[second, last])
+    } else {
+        push_digits(alloc, text, &[first, second, last])
+    }
+}
+
+fn push_digits(alloc: Global, text: &mut String, octets: &[u8]) -> Result<(), AllocError>
+    ensures { OnOk result (string_bytes text.new ≡ string_bytes text.old ++ encode_lower octets.now) }
+{
+    let digits = hex::encode(alloc, octets)?;
+    text.push_str(digits.as_str())
+}
