@@ -40,9 +40,9 @@ class Document:
         return self.due()[0] < 2
 
 
-def files():
-    """Each file of examples/, as a document of each kind."""
-    for path in sorted(glob.glob(f"{TOP}/examples/*.der")):
+def files(folder="examples"):
+    """Each file of a folder, as a document of each kind."""
+    for path in sorted(glob.glob(f"{TOP}/{folder}/*.der")):
         with open(path, "rb") as it:
             octets = it.read()
         for kind in KINDS:
@@ -60,10 +60,10 @@ def of_tables():
                 yield Document(name, asked.kind, row.input, asked.depth, asked.octets)
 
 
-def documents():
-    """All of these, each once."""
+def documents(*folders):
+    """The files of examples/ and of these folders and the documents of the tables, each once."""
     seen = set()
-    for it in [*files(), *of_tables()]:
+    for it in [*files(), *of_tables(), *(it for folder in folders for it in files(folder))]:
         if it.key() not in seen:
             seen.add(it.key())
             yield it

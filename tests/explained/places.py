@@ -2,10 +2,10 @@
 """places.py PROGRAM..: the lines that `explain --json --all` lists, beside those of `openssl asn1parse`.
 
 Of each document that is accepted, of examples/ and of the tables in tests/pkder, each line's place, size of header,
-length, end, depth, form and tag are compared with openssl's. What is inside `privateKey` openssl lists by itself, of
-the octets of its segments joined, and its places are made places in the file. Nothing inside a private element has a
-line; which elements are private is said here anew, by the types of docs/formats.md. Else no line may be missing, and
-none may be there that openssl hasn't.
+length, end, depth, form and tag are compared with openssl's. What is inside `privateKey`, and in the value of a known
+extension that is in DER by tests/oracle/extensions.py, openssl lists by itself, of the octets of its segments joined,
+and its places are made places in the file. Nothing inside a private element has a line; which elements are private is
+said here anew, by the types of docs/formats.md. Else no line may be missing, and none may be there that openssl hasn't.
 
 Documents that openssl can't list are counted. The last line is 'explained_places: N passed, M failed'; where there is
 no openssl, that is said and nothing fails."""
@@ -17,6 +17,7 @@ from pathlib import Path
 
 sys.path[0] = str(Path(__file__).resolve().parents[2])
 from tests.explained.documents import answer, documents, objects_in, try_all
+from tests.oracle.extensions import carried
 from tests.oracle.reader import EC_PUBLIC_KEY, EXTENSION_REQUEST, RFC_8410, RSA_ENCRYPTION
 
 LISTED = re.compile(r" *(\d+):d=(\d+) +hl=(\d+) l= *(\d+|inf) +(cons|prim): (\S.{17}|\S.*)")
@@ -138,31 +139,44 @@ def line_of(element, places=None, depth=0):
     return at, *size, end, element.depth + depth, element.constructed, element.tag
 
 
-def lines_inside(key, octets):
-    """The lines of what a key's privateKey contains; None where openssl can't list it."""
-    private, privates = key.members[2], inside_of(algorithm_of(key, octets))
-    if not privates:
-        return []
-    places = private.contents(octets)
+def lines_inside(element, octets, privates=lambda root: []):
+    """The lines of what an OCTET STRING contains, of which these are private; None where openssl can't list it."""
+    places = element.contents(octets)
     root = listed_by_openssl(bytes(octets[it] for it in places))
     if root is None:
         return None
-    return [line_of(it, places, private.depth + 1) for it in told(root, privates(root))]
+    return [line_of(it, places, element.depth + 1) for it in told(root, privates(root))]
+
+
+def lines_in_key(key, octets):
+    """The lines of what a key's privateKey contains; None where openssl can't list it."""
+    privates = inside_of(algorithm_of(key, octets))
+    return lines_inside(key.members[2], octets, privates) if privates else []
+
+
+def values_in_der(root, document):
+    """The values of the known extensions of a request that are in DER."""
+    octets, limits = document.octets, (document.depth, document.limit)
+    contents = lambda element: bytes(octets[it] for it in element.contents(octets))
+    for attribute in (it for last in root.members[0].members[3:] for it in last.members):
+        if contents(attribute.members[0]) == EXTENSION_REQUEST:
+            for extension in (it for asked in attribute.members[1].members for it in asked.members):
+                identifier, value = contents(extension.members[0]), extension.members[-1]
+                if (carried(identifier, contents(value), *limits) or {}).get("verdict") == "der":
+                    yield value
 
 
 def due_lines(document):
-    """The lines that are due by openssl, in their order but for those inside privateKey; None where it can't list."""
+    """The lines that are due by openssl, in their order but for those inside OCTET STRINGs; None where it can't list."""
     root = listed_by_openssl(document.octets)
     if root is None:
         return None
     octets, kind = document.octets, document.kind
     lines = [line_of(it) for it in told(root, private_elements(kind, root, octets))]
-    for key in {"key": [root], "package": root.members}.get(kind, []):
-        inside = lines_inside(key, octets)
-        if inside is None:
-            return None
-        lines += inside
-    return lines
+    keys, is_request = {"key": [root], "package": root.members}.get(kind, []), kind == "request"
+    insides = [lines_in_key(it, octets) for it in keys]
+    insides += [lines_inside(it, octets) for it in (values_in_der(root, document) if is_request else [])]
+    return None if None in insides else lines + [it for inside in insides for it in inside]
 
 
 def found_lines(program, document):

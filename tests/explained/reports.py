@@ -16,8 +16,10 @@ to stand there each, in small or capital letters:
   looks      what `looks_like` is in the JSON
   lists      the places of the lines that --all lists, each with its header in hexadecimal if that is told
   marked     the place of a line with carets under it
+  asks       the lines of what a request asks for, in their order, without the blanks in front
 What is listed without --all is of these lines: at most the first 4, those round the fault, and the last 7, or the ways
-to the elements that aren't in DER. The last line is 'explained_reports: N passed, M failed'."""
+to the elements that aren't in DER; none of a request in DER of which there is nothing to note. The last line is
+'explained_reports: N passed, M failed'."""
 import re
 import sys
 from pathlib import Path
@@ -53,8 +55,9 @@ class Report:
     def __init__(self, text):
         self.first, _, rest = text.partition("\n")
         self.line, _, rest = rest.partition("\n")
-        parts = rest.strip("\n").split("\n\n")
-        is_listing = parts and not re.match(r"[a-z]+ ", parts[0])
+        parts = re.split(r"\n\n+", rest.strip("\n"))
+        self.asks = [it.strip() for it in parts.pop(0).split("\n")[1:]] if parts[0].startswith("asks for\n") else []
+        is_listing = bool(parts) and not re.match(r"[a-z]+ ", parts[0])
         self.listing = parts[0].split("\n") if is_listing else []
         self.said = self.labels("\n".join(parts[is_listing:]))
         self.notes = re.findall(r"(?m)^note +(.*)", "\n".join(parts[is_listing:]))
@@ -126,12 +129,24 @@ def wrong_in_lines(block, report, whole):
     shown = report.lines()
     if report.line.startswith("not DER"):
         return
+    if report.line == "DER" and report.asks and not report.notes:
+        yield from [f"{len(shown)} lines are listed"] * bool(shown or report.left_out())
+        return
     if [it for it in lines if it in shown] != shown or len(shown) + report.left_out() != len(lines):
         yield f"{len(shown)} lines and {report.left_out()} left out, of {len(lines)}"
     if len(lines) > 16 and not report.left_out() or whole.left_out() or len(shown) > MOST:
         yield f"{len(shown)} lines of {len(lines)} are listed"
     if report.line.startswith("fault") and shown[:4] != lines[:4]:
         yield "not the first 4 lines"
+
+
+def wrong_in_asks(block, report, whole):
+    """What is wrong with what a request asks for, without and with --all."""
+    for it in (report, whole):
+        if it.asks != block.get("asks", it.asks):
+            yield f"asks: {it.asks}"
+    if bool(report.asks) != (block["kind"][0] == "request" and not report.line.startswith("fault")):
+        yield f"{len(report.asks)} lines of what it asks for"
 
 
 def wrong_in_object(block, found, report):
@@ -166,6 +181,7 @@ def wrong(program, block):
         yield f"{report.first!r}, {report.line!r}"
     yield from wrong_in_words(block, report)
     yield from wrong_in_lines(block, report, whole)
+    yield from wrong_in_asks(block, report, whole)
     yield from wrong_in_object(block, objects_in(answer(program, [*words, "--json"], octets)[1]), report)
     output = answer(program, ["check", "--json", "--kind", kind], octets)[1]
     # (callers of the library have `check` without reports, and its rows are of the program alone)
