@@ -25,7 +25,7 @@ INFO = f"pkder-{NUMBER}.dist-info"
 def metadata():
     """What pip is told of the package, made from its manifest."""
     project = tomllib.loads(packing.text_of(f"{PYTHON}/pyproject.toml"))["project"]
-    said = {"Metadata-Version": "2.1", "Name": project["name"], "Version": project["version"],
+    said = {"Metadata-Version": "2.1", "Name": project["name"], "Version": NUMBER,
             "Summary": project["description"], "License": project["license"]["text"],
             "Requires-Python": project["requires-python"], "Description-Content-Type": "text/markdown"}
     head = "".join(f"{name}: {text}\n" for name, text in said.items())

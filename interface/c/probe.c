@@ -109,12 +109,13 @@ static void one(const struct task *task, const uint8_t *given, size_t len) {
     }
 }
 
-/* Whether octets are lines of printable ASCII, or none; of JSON there may be other characters, and a field has no end of
- * a line. */
+/* Whether octets are lines of printable ASCII, or none; in a report there may be letters beyond ASCII, in JSON any that
+ * RFC 8259 has as they are, and a field has no end of a line. */
 static int are_lines(text_call *call, const uint8_t *text, size_t size) {
     int is_json = call == explain_json || call == explain_all_json;
+    int is_ascii = call == pkder_show || call == pkder_field;
     for (size_t i = 0; i < size; i++) {
-        if (text[i] != '\n' && (text[i] < ' ' || text[i] == 127 || (text[i] > 127 && !is_json))) {
+        if (text[i] != '\n' && (text[i] < ' ' || (text[i] == 127 && !is_json) || (text[i] > 127 && is_ascii))) {
             return 0;
         }
     }

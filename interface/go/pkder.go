@@ -10,8 +10,16 @@
 //
 // All other calls take BER, too. Of Check look at the Form, and not at err alone. Same tells whether two documents are
 // the same; of one that is refused its err is a Fault, which says which one it is. Explain has a report of any octets,
-// for people, and Field the field that it is about; of a document that is refused their err is nil, and the Report tells
-// the Fault.
+// for people, and Field the field that it is about; of a document that is refused their err is nil, and the Report
+// tells the Fault.
+//
+// Asks has what a request asks for, as types. An err of its methods says that it can't be told:
+//
+//	asked, err := pkder.Asks(pkder.Usual(), request)
+//	if err != nil {
+//		return err
+//	}
+//	names, err := asked.DNS()
 package pkder
 
 /*
@@ -238,7 +246,7 @@ func Show(kind Kind, limits Limits, document []byte) (string, error) {
 
 // Explain answers a report of the octets, whether they are a document or not: its elements with their places, and of a
 // refused one which field is at fault, what is due there, the usual cause and what to do. No octets of private keys and
-// no values of attributes are in it.
+// no values of attributes are in it, but the known extensions that an accepted request asks for.
 func Explain(kind Kind, limits Limits, document []byte, form ReportForm) (Report, error) {
 	text, outcome, err := written(firstRoom, C.PKDER_REPORTED, C.PKDER_UNREPORTED, func(room []byte) C.pkder_outcome {
 		return C.pkder_explain(C.uint32_t(kind), C.uint32_t(limits.Depth), C.uint64_t(limits.Octets), form.number(),

@@ -27,10 +27,16 @@ def reports(document):
     yield lambda: pkder.field(pkder.Kind.KEY, document)
 
 
+def told(document):
+    """The call that raises what a report tells."""
+    yield lambda: pkder.asks(document)
+
+
 def calls(document):
     """Each call on the document."""
     yield from answers(document)
     yield from reports(document)
+    yield from told(document)
 
 
 def same(document):
@@ -63,6 +69,9 @@ class Answers(unittest.TestCase):
             with self.subTest(line=line):
                 self.assertEqual((report.is_der, str(report.fault)), (False, line))
                 self.assertEqual(pkder.field(pkder.Kind.KEY, document), "")
+            with self.subTest(line=line), self.assertRaises(pkder.Fault) as raised:
+                pkder.asks(document)
+            self.assertEqual(str(raised.exception), line)
 
     def test_statuses_of_reports_are_no_answer_of_other_calls(self):
         for document in b"\6\0\0", b"\7\0\0":
@@ -72,7 +81,7 @@ class Answers(unittest.TestCase):
 
     def test_statuses_of_other_calls_are_no_answer_of_reports(self):
         for document in b"\0\0\0", b"\2\0\0", b"\5\0\0":
-            for call in reports(document):
+            for call in [*reports(document), *told(document)]:
                 with self.subTest(document=document), self.assertRaises(RuntimeError):
                     call()
 

@@ -1,6 +1,6 @@
 """The rows that PKDER_CALLS names (interface/calls.py makes them), the pairs of documents that PKDER_PAIRS names
 (interface/pairs.py), the reasons of pkder.h, which PKDER_HEADER names, reports, calls that are wrong or careless, and
-threads.
+threads; and what requests of tests/ and examples/ ask for, which stand beside the folder of that header.
 
 python3 -m unittest discover -s tests, with PKDER_LIBRARY where the library isn't installed."""
 import json
@@ -217,6 +217,109 @@ class Reports(unittest.TestCase):
             with self.subTest(document=document.hex()), self.assertRaisesRegex(TypeError, "is_der.*require_der"):
                 if pkder.explain(pkder.Kind.KEY, document):
                     pass
+
+
+def request_of(name):
+    """The octets of a request of the repository."""
+    top = os.path.dirname(os.path.dirname(os.path.abspath(os.environ["PKDER_HEADER"])))
+    with open(f"{top}/{name}.der", "rb") as it:
+        return it.read()
+
+
+def explained(name):
+    """What a request of tests/pkder/explained asks for."""
+    return pkder.asks(request_of(f"tests/pkder/explained/{name}"))
+
+
+class Asked(unittest.TestCase):
+    """What requests ask for, as `openssl req -text` and `openssl asn1parse` show it."""
+
+    def test_whole(self):
+        found = explained("extensions-sound")
+        self.assertEqual(found.subject, ((pkder.NameAttribute("2.5.4.3", "commonName", "www.example.org"),),))
+        self.assertEqual(found.key, pkder.Algorithm("Ed25519", octets=32))
+        self.assertEqual((found.signature, found.attributes), (pkder.Algorithm("Ed25519"), ()))
+        self.assertEqual(found.san, (pkder.Name("dns", "www.example.org"), pkder.Name("ip", "192.0.2.17")))
+        self.assertEqual((found.dns, found.is_ca), (("www.example.org",), False))
+        self.assertEqual(found.key_usage, ("digitalSignature", "keyEncipherment"))
+        self.assertEqual(found.extended_key_usage, ("id-kp-serverAuth",))
+        told = [(it.identifier, it.name, it.critical, it.at, it.verdict) for it in found.extensions]
+        self.assertEqual(told, [("2.5.29.17", "subjectAltName", False, 101, "der"),
+                                ("2.5.29.15", "keyUsage", True, 135, "der"),
+                                ("2.5.29.37", "extKeyUsage", False, 151, "der"),
+                                ("2.5.29.19", "basicConstraints", True, 172, "der")])
+        purpose = pkder.Value(identifier="1.3.6.1.5.5.7.3.1", name="id-kp-serverAuth")
+        self.assertEqual([it.values for it in found.extensions], [(), (), (purpose,), ()])
+        self.assertEqual(hash(found), hash(pickle.loads(pickle.dumps(found))))
+
+    def test_examples(self):
+        found = pkder.asks(request_of("examples/request-p256"))
+        names = [[(it.name, it.text, it.value) for it in relative] for relative in found.subject]
+        self.assertEqual(names, [[("countryName", "US", None)], [("organizationName", "Example", None)],
+                                 [("commonName", "www.example.com", None)]])
+        self.assertEqual(found.key, pkder.Algorithm("id-ecPublicKey", "P-256", 65))
+        self.assertEqual(found.signature, pkder.Algorithm("ecdsa-with-SHA256"))
+        self.assertEqual((found.dns, found.is_ca), (("www.example.com", "example.com"), False))
+        self.assertEqual((found.key_usage, found.extended_key_usage), ((), ()))
+        found = pkder.asks(request_of("examples/request-rsa2048"))
+        self.assertEqual(found.key, pkder.Algorithm("rsaEncryption", octets=270))
+        self.assertEqual(found.signature, pkder.Algorithm("sha256WithRSAEncryption"))
+        self.assertEqual((found.extensions, found.san, found.dns, found.is_ca), ((), (), (), False))
+
+    def test_requests_in_ber(self):
+        # (its strings are in segments, and the value of the subjectAltName, too)
+        found = pkder.asks(bytearray(request_of("examples/request-indefinite")))
+        self.assertEqual([it.text for relative in found.subject for it in relative], [None, None, None])
+        self.assertEqual(found.key, pkder.Algorithm("id-ecPublicKey", "P-256"))
+        self.assertEqual(found.dns, ("www.example.com", "example.com"))
+        found = explained("critical-false")
+        self.assertEqual(found.subject[1][0].text, "Müller und Söhne GmbH")
+        self.assertEqual([it.critical for it in found.extensions], [True, True, False])
+        self.assertEqual((found.dns, found.key_usage), (("www.example.com", "example.com"), ("digitalSignature",)))
+
+    def test_attributes_have_names_alone(self):
+        found = explained("critical-false")
+        self.assertEqual(found.attributes, ("challengePassword",))
+        self.assertNotIn("secret password", repr(found))
+
+    def test_what_cannot_be_told(self):
+        for name in "note-extension-length", "note-extension-text":
+            found = explained(name)
+            with self.subTest(name=name):
+                self.assertEqual((found.san, found.dns, found.extensions[0].names), (None, None, ()))
+        verdicts = [explained(name).extensions[0].verdict for name in ("note-extension-length", "note-extension-text")]
+        self.assertEqual(verdicts, ["not_der", "refused"])
+        self.assertIsNone(explained("note-extension-empty").extended_key_usage)
+        found = explained("note-extension-twice")
+        self.assertEqual((found.key_usage, found.dns), (None, ("a.example",)))
+
+    def test_authorities(self):
+        for name in "note-extension-true", "note-extension-false":
+            self.assertIsNone(explained(name).is_ca)
+        # (its TRUE is another octet than FF)
+        request = request_of("tests/pkder/explained/note-extension-true")
+        in_der = request.replace(bytes.fromhex("3003010101"), bytes.fromhex("30030101ff"))
+        self.assertIs(pkder.asks(in_der).is_ca, True)
+        self.assertEqual(pkder.asks(in_der).extensions[0].values, (pkder.Value(field="cA", boolean=True),))
+
+    def test_refused_requests(self):
+        for document in KEY, b"", request_of("examples/request-p256")[:-1]:
+            with self.subTest(document=document.hex()), self.assertRaises(pkder.Fault):
+                pkder.asks(document)
+        with self.assertRaises(pkder.Fault) as raised:
+            pkder.asks(request_of("examples/request-followed"))
+        self.assertEqual(str(raised.exception), "fault at 148: Trailing")
+        for limits in {"depth": 0}, {"depth": 65}, {"octets": 0}, {"octets": 2**31}:
+            with self.subTest(limits=limits), self.assertRaises(ValueError) as raised:
+                pkder.asks(KEY, **limits)
+            self.assertNotIsInstance(raised.exception, pkder.Fault)
+
+
+class Module(unittest.TestCase):
+    def test_names(self):
+        self.assertEqual([it for it in dir(pkder) if not it.startswith("__")], sorted(pkder.__all__))
+        self.assertRegex(pkder.__version__, r"^[0-9]+\.[0-9]+\.[0-9]+$")
+        self.assertIn("__version__", dir(pkder))
 
 
 class Header(unittest.TestCase):

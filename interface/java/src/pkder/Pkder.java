@@ -208,7 +208,8 @@ public final class Pkder {
     /**
      * Answers a report of the octets for people, whether they are a document or not: the elements with their places,
      * and of a refused document which field is at fault, what is due there, the usual cause and what to do. No octets
-     * of private keys and no values of attributes are in it.
+     * of private keys and no values of attributes are in it, but the known extensions that an accepted request asks
+     * for.
      *
      * @param kind what the document is
      * @param document its octets

@@ -27,7 +27,8 @@ public final class Report {
     }
 
     /**
-     * Answers the text, in which there are no octets of private keys and no values of attributes.
+     * Answers the text, in which there are no octets of private keys and no values of attributes, but the known
+     * extensions that an accepted request asks for.
      *
      * @return the text, each line of which ends in a line feed
      */

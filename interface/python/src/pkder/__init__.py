@@ -8,6 +8,7 @@
     pkder.signed(pkder.Part.INFO, octets)        what the signature of a request covers, or another part of it
     pkder.explain(pkder.Kind.KEY, octets)        a report for people: .text, and .is_der, .differs_at or .fault
     pkder.field(pkder.Kind.KEY, octets)          the field that the report is about: "" where the document is in DER
+    pkder.asks(octets)                           what a request asks for: .subject, .key, .dns, .key_usage, .extensions
 
 Each takes a whole document, and raises Fault where that is refused, but explain and field, which answer of any octets;
 same takes two, and raises Fault where one of them is refused. All but the first take BER, too. The library is the file
@@ -16,11 +17,21 @@ the one that the system's loader finds."""
 import ctypes
 import dataclasses
 import enum
+import json as _json
 import os
 from typing import Any, Dict, List, Optional, Tuple, Union
 
-__all__ = ["DEPTH", "OCTETS", "Fault", "Form", "Kind", "NotDer", "Part", "Reason", "Refused", "Report", "check",
-           "explain", "field", "normalise", "require_der", "same", "show", "signed"]
+from ._asks import Algorithm, Asks, Extension, Name, NameAttribute, Value, asks_of as _asks_of
+
+__all__ = ["DEPTH", "OCTETS", "Algorithm", "Asks", "Extension", "Fault", "Form", "Kind", "Name", "NameAttribute",
+           "NotDer", "Part", "Reason", "Refused", "Report", "Value", "asks", "check", "explain", "field", "normalise",
+           "require_der", "same", "show", "signed"]
+__version__ = "1.1.0"
+
+
+def __dir__() -> List[str]:
+    return sorted(it for it in globals() if it in __all__ or it.startswith("__"))
+
 
 # The limits unless said otherwise.
 DEPTH = 32
@@ -309,8 +320,9 @@ def signed(part: Part, document: Octets, *, depth: int = DEPTH, octets: int = OC
 def explain(kind: Kind, document: Octets, *, all: bool = False, json: bool = False, depth: int = DEPTH,
             octets: int = OCTETS) -> Report:
     """The report of a document, refused or not: the elements with their places in it, and of a refused one which field
-    is at fault, the usual cause and what to do. No octets of private keys and no values of attributes are in it. By all
-    it lists all elements, and by json it is one object of JSON."""
+    is at fault, the usual cause and what to do. No octets of private keys and no values of attributes are in it, but
+    the known extensions that an accepted request asks for. By all it lists all elements, and by json it is one object
+    of JSON."""
     _check_limits(depth, octets)
     src = _octets(document)
     form = (_ALL if all else 0) | (_JSON if json else 0)
@@ -329,3 +341,15 @@ def field(kind: Kind, document: Octets, *, depth: int = DEPTH, octets: int = OCT
     statuses = _REPORTED, _UNREPORTED
     path, _ = _written("pkder_field", (Kind(kind), depth, octets), _octets(document), _REPORT, statuses)
     return path.decode("utf-8")
+
+
+def asks(document: Octets, *, depth: int = DEPTH, octets: int = OCTETS) -> Asks:
+    """What a request asks for, by the report that explain makes of it: subject, key, names and other extensions. Fault
+    is raised where the request is refused; one in BER isn't. Its signature isn't verified, and no name is looked up."""
+    report = explain(Kind.REQUEST, document, json=True, depth=depth, octets=octets)
+    if report.fault:
+        raise report.fault
+    told = _json.loads(report.text)
+    if "asks" not in told:
+        raise RuntimeError("the report of libpkder doesn't say what the request asks for")
+    return _asks_of(told["asks"])
