@@ -28,7 +28,7 @@ ROWS = ["python3", "tests/harness/rows.py"]
 GROWTHS = ["python3", "tests/harness/growths.py"]
 TRANSCRIPTS = ["python3", "tests/harness/transcripts.py", "README.md", "docs/manual.md"]
 PAGES = ("about", "advice_words", "decisions", "identifier_names", "lists", "report_schema", "shape_names")
-EXPLAINED = ("answers", "listing", "places", "reports")
+EXPLAINED = ("answers", "asks", "extensions", "listing", "objects", "places", "reports")
 ALLOCATIONS = ["sh", "tests/harness/allocations.sh"]
 # `rt ci` (every crate, a few edits by the toolchain's own means, each program's stored run), and the library
 PROOFS = ["python3", "tools/build.py", "--again"]

@@ -10,7 +10,7 @@ from pathlib import Path
 
 TOP = str(Path(__file__).resolve().parents[2])
 SOURCE = "crates/explain/src/version.rt"
-NUMBERED = ("interface/pkder.pc.in", "interface/python/pyproject.toml", "interface/rust/Cargo.toml",
+NUMBERED = ("interface/pkder.pc.in", "interface/python/src/pkder/__init__.py", "interface/rust/Cargo.toml",
             "interface/rust/Cargo.lock")
 ANOTHER = """\
 `rt version` prints '{at_hand}', and all proofs here are for logic {logic}.
@@ -50,7 +50,8 @@ def of_toolchain():
 
 def of_file(name, due):
     """What is wrong with the version in a file, if anything is."""
-    pattern = r"\blogic ([0-9a-f]{16})\b" if name == "README.md" else r'(?m)^[Vv]ersion(?:: | = ")([^"\n]+)'
+    numbered = r'(?m)^(?:[Vv]ersion|__version__)(?:: | = ")([^"\n]+)'
+    pattern = r"\blogic ([0-9a-f]{16})\b" if name == "README.md" else numbered
     found = set(re.findall(pattern, text_of(name)))
     return None if found == {due} else f"{name}: the version is {due} in {SOURCE}, and here {sorted(found)}"
 

@@ -3,8 +3,9 @@
 
 Of each row of the table: its contents are those of its arcs (X.690 8.19), and openssl makes these octets of its name,
 or of the name that openssl has for it; no contents, no arcs and no name stand there twice. Where the machine has no
-openssl the names aren't compared, and that is said; so is which of the names of LATER its openssl hasn't yet. Each
-difference has a line; the last line is 'identifiers: N passed, M failed'."""
+openssl the names aren't compared, and that is said; so is which of the names of LATER its openssl hasn't yet. Those
+that begin with NOT_THERE aren't compared. Each difference has a line; the last line is 'identifiers: N passed, M
+failed'."""
 import functools
 import re
 import shutil
@@ -18,7 +19,7 @@ from tools.gate.logic import text_of
 from tools.gate.looks import counted
 
 TABLE = "crates/pkix_shapes/src/identifiers.rt"
-ROW = re.compile(r'\$make!\(\s*"([^"]+)",\s*"([0-9.]+)",\s*"((?:RFC|PKCS #)[^"]+)",\s*\[([^\]]*)\]')
+ROW = re.compile(r'\$make!\(\s*"([^"]+)",\s*"([0-9.]+)",\s*"((?:RFC|PKCS #|MS-WCCE)[^"]*)",\s*\[([^\]]*)\]')
 # What openssl calls those that it has under other names.
 OPENSSL = {
     "id-RSASSA-PSS": "RSASSA-PSS", "id-RSAES-OAEP": "RSAES-OAEP", "id-dsa": "dsaEncryption",
@@ -33,9 +34,14 @@ OPENSSL = {
     "aes256-CBC-PAD": "AES-256-CBC", "des-EDE3-CBC": "DES-EDE3-CBC",
     "pbeWithSHAAnd3-KeyTripleDES-CBC": "pbeWithSHA1And3-KeyTripleDES-CBC",
     "street": "streetAddress", "uid": "userId", "extensionRequest": "extReq", "localKeyId": "localKeyID",
-    "extKeyUsage": "extendedKeyUsage", "cRLDistributionPoints": "crlDistributionPoints"}
+    "extKeyUsage": "extendedKeyUsage", "cRLDistributionPoints": "crlDistributionPoints",
+    "id-kp-serverAuth": "serverAuth", "id-kp-clientAuth": "clientAuth", "id-kp-codeSigning": "codeSigning",
+    "id-kp-emailProtection": "emailProtection", "id-kp-timeStamping": "timeStamping",
+    "id-kp-OCSPSigning": "OCSPSigning", "id-ad-ocsp": "OCSP", "id-ad-caIssuers": "caIssuers"}
 # What OpenSSL has since 3.5 only, by how the names begin.
 LATER = ("id-ml-dsa-", "id-alg-ml-kem-", "id-slh-dsa-")
+# Of Microsoft's extensions OpenSSL 3.0 has no names.
+NOT_THERE = "szOID_"
 
 
 def contents_of(arcs):
@@ -86,7 +92,7 @@ def looks():
     (text, rows), has_openssl = table(), shutil.which("openssl") is not None
     if not has_openssl:
         print("left out: no openssl (Debian: openssl), so the names aren't compared")
-    names = [row[0] for row in rows]
+    names = [row[0] for row in rows if not row[0].startswith(NOT_THERE)]
     later = [it for it in names if it.startswith(LATER)]
     with ThreadPoolExecutor() as side_by_side:
         if has_openssl and not any(side_by_side.map(by_openssl, later)):
