@@ -6,6 +6,7 @@ pub mod Identifiers
 pub mod Names
 pub mod PlaceLaws
 pub mod Plain
+pub mod PublicKeys
 pub mod Secrets
 pub mod Terms
 pub mod PathLaws

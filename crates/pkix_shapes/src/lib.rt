@@ -17,6 +17,7 @@ pub mod extensions;
 pub mod identifiers;
 mod keys;
 pub mod laws;
+pub mod public_keys;
 mod requests;
 pub mod shape;
 mod shared;
