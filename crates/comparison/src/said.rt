@@ -159,7 +159,7 @@ fn push_line_value(alloc: Global, text: &mut String, line: &Line) -> Result<(), 
         }
         Value::Null => text.push_str("NULL"),
         Value::Boolean(value) => text.push_str(if *value { "TRUE" } else { "FALSE" }),
-        Value::Number(number) => push_number(text, u64::from(*number)),
+        Value::Number(number) => push_number(text, *number),
         Value::Named(identifier) => {
             text.push_str(identifier.name)?;
             text.push_str(" (")?;

@@ -1,7 +1,8 @@
 -- The elements of a document by its outline, and the documents inside its OCTET STRINGs: in a key by its type, in the
 -- value of a known extension by the identifier of that.
-use Rattle.std.specs.Prelude.{Bool, List, None, Option, Some, [], codes, cond, drop, false, length, nat_lt, option_and_then, slice_get, suc, true, unwrap_or, zero, ℕ, ◌+◌, ◌++◌, ◌==◌, ◌∷◌, ◌≡◌}
+use Rattle.std.specs.Prelude.{Bool, List, None, Option, Some, [], codes, cond, drop, false, length, nat_lt, option_and_then, slice_get, suc, true, zero, ℕ, ◌&&◌, ◌+◌, ◌++◌, ◌-◌, ◌==◌, ◌∷◌, ◌≡◌}
 use Rattle.std.specs.Borrow.{Bor}
+use Rattle.tlv_core.specs.Identifier.{Tag}
 use Rattle.tlv_core.specs.Limits.{Limits}
 use Rattle.x690.specs.TypeTerms.{TypeTerm}
 use Rattle.asn_names.specs.Judged.{judged}
@@ -14,6 +15,7 @@ use Rattle.ber_outline.specs.Outlines.{IsOutline}
 use Rattle.ber_outline.specs.declared.event.Event.{Event}
 use Rattle.ber_outline.specs.declared.event.Stop.{Stop}
 use Rattle.pkix_shapes.specs.Extensions.{type_of_extension}
+use Rattle.pkix_shapes.specs.PublicKeys.{type_of_public_key}
 use Rattle.pkix_shapes.specs.Terms.{term_of}
 use Rattle.pkix_shapes.specs.declared.shape.Shape.{Choice', Containing', DefinedBy', Leaf, ListOf', Named', Open, Private', Refused as RefusedType, Sequence', SetOf', Shape}
 use Rattle.explain.specs.Contents.{contents_in}
@@ -57,9 +59,23 @@ contained_by (Some shape) (Some end) = contained_in shape.now
 abbrev pub contained : NamedElement → Option (Bor Shape)
 contained element = contained_by element.shape element.end
 
--- the contents octets of a primitive element; of another one none
+-- how many contents octets of a BIT STRING stand before the octets that it holds: the first, which says how many bits
+-- are unused (X.690 8.6.2); where there are some its bits are no octets, and it holds none
+abbrev pub before_octets : List ℕ → ℕ
+before_octets [] = 0
+before_octets (unused ∷ octets) = cond (unused == 0) 1 (length (unused ∷ octets))
+
+-- those of a string: none stand before in one that isn't a BIT STRING (universal 3)
+abbrev pub before_held : Tag → List ℕ → ℕ
+before_held tag contents = cond ((tag.class == 0) && (tag.number == 3)) (before_octets contents) 0
+
+-- the octets that a primitive string holds; of another element none
+abbrev pub held : Tag → Option (List ℕ) → List ℕ
+held tag None = []
+held tag (Some contents) = drop (before_held tag contents) contents
+
 abbrev pub own_contents : List ℕ → NamedElement → List ℕ
-own_contents document element = unwrap_or (contents_in document element) []
+own_contents document element = held element.header.tag (contents_in document element)
 
 -- the contents octets of elements as long as they are deeper
 abbrev pub deeper_contents : List ℕ → ℕ → List NamedElement → List ℕ
@@ -74,14 +90,15 @@ contents_within document [] = []
 contents_within document (element ∷ elements) =
     own_contents document element ++ deeper_contents document element.header.depth elements
 
--- where the contents octets of a primitive element are in the document; those of another one nowhere
-abbrev pub piece_at : Option ℕ → Option (List ℕ) → List Piece
-piece_at None contents = []
-piece_at (Some at) None = []
-piece_at (Some at) (Some contents) = record { at = at; octets = length contents } ∷ []
+-- where these are in the document; those of another element nowhere
+abbrev pub piece_at : Tag → Option ℕ → Option (List ℕ) → List Piece
+piece_at tag None contents = []
+piece_at tag (Some at) None = []
+piece_at tag (Some at) (Some contents) =
+    record { at = at + before_held tag contents; octets = length contents - before_held tag contents } ∷ []
 
 abbrev pub own_pieces : List ℕ → NamedElement → List Piece
-own_pieces document element = piece_at element.begin (contents_in document element)
+own_pieces document element = piece_at element.header.tag element.begin (contents_in document element)
 
 -- where those of elements stand as long as they are deeper
 abbrev pub deeper_pieces : List ℕ → ℕ → List NamedElement → List Piece
@@ -119,13 +136,17 @@ AddsContained limits file elements number (Some shape) before after =
     (inside : Inside) × IsDocumentIn limits file (drop number elements) number shape inside
     × (inside.carried ≡ None) × (after ≡ before ++ (inside ∷ []))
 
--- the type of what the value of a known extension contains, by the identifier of that: the first field of the extension
+-- The type of what the value of a known extension contains, by the identifier of that, the first field of the
+-- extension; or a public key, by the identifier of its algorithm, which is the first field of what stands before it.
 abbrev pub carried_type : List ℕ → List NamedElement → Option NamedElement → Option TypeTerm
 carried_type file elements None = None
 carried_type file elements (Some element) =
     cond (is_field element.step (codes "extnValue"))
     (option_and_then type_of_extension
-    (option_and_then (contents_in file) (slice_get elements (element.around + 1)))) None
+    (option_and_then (contents_in file) (slice_get elements (element.around + 1))))
+    (cond (is_field element.step (codes "subjectPublicKey"))
+    (option_and_then type_of_public_key
+    (option_and_then (contents_in file) (slice_get elements (element.around + 2)))) None)
 
 -- where it is looked for
 abbrev pub looked_for : Bool → List ℕ → List NamedElement → Option NamedElement → Option TypeTerm

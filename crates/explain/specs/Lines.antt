@@ -1,5 +1,6 @@
 -- The lines of a report, one for each element that is shown.
 use Rattle.std.specs.Prelude.{Bool, List, None, Option, Some, [], cond, false, length, min, nat_lt, true, unwrap_or, ℕ, ◌+◌, ◌++◌, ◌-◌, ◌^◌, ◌∷◌, ◌≡◌}
+use Rattle.std.specs.Bool.{then_some}
 use Rattle.std.specs.Option.{option_map}
 use Rattle.asn_names.specs.declared.element.NamedElement.{NamedElement}
 use Rattle.asn_names.specs.declared.judgement.Judgement.{Judgement}
@@ -34,15 +35,10 @@ abbrev pub end_after : Option Announced → ℕ → ℕ
 end_after None end = end
 end_after (Some announced) end = end_of_announced announced.length end
 
--- the place inside `privateKey`, of what is inside it
-abbrev pub inside_of : Bool → ℕ → Option ℕ
-inside_of true at = Some at
-inside_of false at = None
-
 -- an element's own place, header, tag, form and name
 pub record IsHeaderLine (placed : Placed) (element : NamedElement) (line : Line) : Type 0 where
   pub at : line.at ≡ placed.at
-  pub inside : line.inside ≡ inside_of placed.is_inside element.header.at
+  pub inside : line.inside ≡ then_some placed.is_inside element.header.at
   pub depth : line.depth ≡ min (placed.depth + element.header.depth) (2 ^ 64 - 1)
   pub around : line.around ≡ placed.around
   pub step : line.step ≡ element.step

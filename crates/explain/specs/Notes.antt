@@ -10,7 +10,10 @@ use Rattle.asn_names.specs.declared.judgement.Judgement.TheVariants as judgement
 use Rattle.pkix_definitions.specs.Identifiers.{curve_lengths, ec_public_key, entry_under, extension_request}
 use Rattle.pkix_shapes.specs.declared.identifiers.Identifier.{Identifier}
 use Rattle.explain.specs.Causes.{unit_of}
+use Rattle.explain.specs.NotedKeys.{remark_on_curve, remark_on_exponent, remark_on_inside, remark_on_modulus}
+use Rattle.explain.specs.NotedNames.{remark_on_name}
 use Rattle.explain.specs.Public.{is_field}
+use Rattle.explain.specs.Remarks.{remark_if}
 use Rattle.explain.specs.declared.notes.Context.{Context}
 use Rattle.reports.specs.declared.report.Answer.{Answer}
 use Rattle.reports.specs.declared.report.Answer.TheVariants.{Der, NotDer, Refused}
@@ -102,10 +105,6 @@ context_after context line =
     (cond (is_field line.step (codes "extnID")) (record context { extension = identifier_in line.value })
     (record context { curve = curve_after context.curve (named line.value) })))
 
-abbrev pub remark_if : Bool → Remark → Option Remark
-remark_if true remark = Some remark
-remark_if false remark = None
-
 -- the parameters after an algorithm
 abbrev pub parameters : List Line → Option Line
 parameters [] = None
@@ -164,17 +163,21 @@ abbrev pub ends_in_one : List ℕ → Bool
 ends_in_one [] = true
 ends_in_one (unused ∷ octets) = last_is_one unused (slice_get octets (length octets - 1))
 
-abbrev pub remark_on_octets : Option (Bor Identifier) → Value → Option Remark
-remark_on_octets extension (Octets octets) = remark_if (not (ends_in_one octets.items)) (ExtensionZeroBits extension)
-remark_on_octets extension _ = None
-
 -- The bits of a keyUsage, which have names, end in a 1 in DER (X.690 11.2.2).
-abbrev pub remark_on_usage : Option (Bor Identifier) → Line → Option Remark
-remark_on_usage extension line =
-    cond (same_octets line.type_name.now (codes "KeyUsage")) (remark_on_octets extension line.value) None
+abbrev pub remark_on_usage : Option (Bor Identifier) → Value → Option Remark
+remark_on_usage extension (Octets octets) = remark_if (not (ends_in_one octets.items)) (ExtensionZeroBits extension)
+remark_on_usage extension _ = None
+
+-- What is in a document, by its type or its field; else by what it is as a name.
+abbrev pub remark_on_member : Option (Bor Identifier) → Line → Option Remark
+remark_on_member extension line =
+    cond (same_octets line.type_name.now (codes "KeyUsage")) (remark_on_usage extension line.value)
+    (cond (is_field line.step (codes "modulus")) (remark_on_modulus line.value)
+    (cond (is_field line.step (codes "publicExponent")) (remark_on_exponent line.value)
+    (cond (is_field line.step (codes "parameters")) (remark_on_curve line.value) (remark_on_name extension line))))
 
 abbrev pub remark_by : Option (Bor Identifier) → Line → Option Judgement → Option Remark
-remark_by extension line None = remark_on_usage extension line
+remark_by extension line None = remark_on_member extension line
 remark_by extension line (Some judgements.Der) = None
 remark_by extension line (Some judgements.NotDer) = Some (ExtensionNotDer extension)
 remark_by extension line (Some (judgements.Refused fault)) = Some (ExtensionRefused extension fault.at fault.why)
@@ -183,12 +186,20 @@ remark_by extension line (Some (judgements.Refused fault)) = Some (ExtensionRefu
 abbrev pub remark_on_value : Option (Bor Identifier) → Line → Option Remark
 remark_on_value extension line = remark_by extension line line.carries
 
+abbrev pub public_key_remark : Context → Line → Option Judgement → Option Remark
+public_key_remark context line None = remark_on_key context line.value
+public_key_remark context line (Some judgement) = remark_on_inside judgement
+
+-- A public key is looked into, where its algorithm says what is in it.
+abbrev pub remark_on_public_key : Context → Line → Option Remark
+remark_on_public_key context line = public_key_remark context line line.carries
+
 -- What is remarked on a line, by what the lines before say and by the lines after.
 abbrev pub remark_on : Context → Line → List Line → Option Remark
 remark_on context line after =
     cond (is_field line.step (codes "algorithm")) (remark_on_algorithm (named line.value) (parameters after))
     (cond (is_field line.step (codes "values") && context.is_single) (remark_on_values (members_of line.depth after))
-    (cond (is_public_key line.step) (remark_on_key context line.value) (remark_on_value context.extension line)))
+    (cond (is_public_key line.step) (remark_on_public_key context line) (remark_on_value context.extension line)))
 
 -- the line is the same field of a member as another one
 abbrev pub is_same_step : Step → Step → Bool

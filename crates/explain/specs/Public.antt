@@ -1,6 +1,6 @@
 -- What a report shows of contents: the number of the octets of what is private, of keys and signatures, and of strings
 -- that aren't a subject's; of others what they say, and all of what is in the value of a known extension.
-use Rattle.std.specs.Prelude.{Bool, List, None, Option, Some, [], cond, false, length, nat_le, nat_lt, not, string_bytes, true, ℕ, ◌&&◌, ◌==◌, ◌||◌, ◌∷◌, ◌<◌, ◌≡◌, codes}
+use Rattle.std.specs.Prelude.{Bool, List, None, Option, Some, [], cond, false, length, nat_le, nat_lt, not, string_bytes, true, ℕ, ◌&&◌, ◌*◌, ◌+◌, ◌==◌, ◌||◌, ◌∷◌, ◌<◌, ◌≡◌, codes}
 use Rattle.std.specs.Option.{option_map}
 use Rattle.tlv_core.specs.Identifier.{Tag}
 use Rattle.tlv_core.specs.ObjectIdentifier.{IsObjectIdentifier}
@@ -80,10 +80,22 @@ sort_by tag (Some shape) = sort_of_type tag shape
 abbrev pub sort_of : NamedElement → Sort
 sort_of element = sort_by element.header.tag (option_map (λ r. r.now) element.shape)
 
-abbrev pub is_small : List ℕ → Bool
-is_small [] = false
-is_small (octet ∷ []) = nat_lt octet 128
-is_small (octet ∷ (other ∷ octets)) = false
+-- the number that goes on with these octets (X.690 8.3.3)
+abbrev pub number_from : ℕ → List ℕ → ℕ
+number_from number [] = number
+number_from number (octet ∷ octets) = number_from (number * 256 + octet) octets
+
+-- The first octet isn't needed (X.690 8.3.2), of a number that isn't negative.
+abbrev pub is_padded : ℕ → List ℕ → Bool
+is_padded first [] = false
+is_padded first (second ∷ octets) = (first == 0) && nat_lt second 128
+
+-- the number that an INTEGER of up to four contents octets is which isn't negative; of other contents none
+abbrev pub number_of : List ℕ → Option ℕ
+number_of [] = None
+number_of (first ∷ octets) =
+    cond (nat_lt first 128 && not (is_padded first octets) && nat_lt (length octets) 4)
+    (Some (number_from first octets)) None
 
 abbrev pub has_unused : List ℕ → Bool
 has_unused [] = false
@@ -93,7 +105,7 @@ has_unused (unused ∷ octets) = nat_lt unused 8
 abbrev pub IsSizeAlone : Sort → List ℕ → Type 0
 IsSizeAlone Null contents = (length contents == 0) ≡ false
 IsSizeAlone Boolean contents = (length contents == 1) ≡ false
-IsSizeAlone Integer contents = is_small contents ≡ false
+IsSizeAlone Integer contents = number_of contents ≡ None
 IsSizeAlone Bits contents = has_unused contents ≡ false
 IsSizeAlone Characters contents = ⊥
 IsSizeAlone Octets contents = Unit {0}
@@ -110,7 +122,7 @@ Says sort contents (values.Bits number unused) =
 Says sort contents values.Null = (sort ≡ Null) × (contents ≡ [])
 Says sort contents (values.Boolean is) =
     (sort ≡ Boolean) × (octet : ℕ) × (contents ≡ octet ∷ []) × (is ≡ not (octet == 0))
-Says sort contents (values.Number number) = (sort ≡ Integer) × (contents ≡ number ∷ []) × (number < 128)
+Says sort contents (values.Number number) = (sort ≡ Integer) × (number_of contents ≡ Some number)
 Says sort contents (values.Named known) =
     (sort ≡ IdentifierSort) × (usual contents ≡ Some (row_of known.now))
 Says sort contents (values.Arcs text) =
@@ -139,7 +151,7 @@ abbrev pub ShowsAll : Sort → List ℕ → Value → Type 0
 ShowsAll Null contents value = Says Null contents value
 ShowsAll Boolean contents value = Says Boolean contents value
 ShowsAll Integer contents value =
-    elim (is_small contents) [ true ↦ Says Integer contents value | false ↦ AreOctets contents value ]
+    elim (number_of contents) [ Some number ↦ Says Integer contents value | None ↦ AreOctets contents value ]
 ShowsAll Bits contents value = AreOctets contents value
 ShowsAll Characters contents value = Says Characters contents value
 ShowsAll Octets contents value = AreOctets contents value

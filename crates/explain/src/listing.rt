@@ -10,7 +10,7 @@ ghost use Rattle.asn_names.specs.declared.element.NamedElement.{NamedElement};
 ghost use Rattle.explain.specs.Causes.{line_cause};
 ghost use Rattle.explain.specs.Fronts.{is_deeper};
 ghost use Rattle.explain.specs.Insides.{carried_by};
-ghost use Rattle.explain.specs.Lines.{AddsLine, IsHeaderLine, IsListedValue, inside_of, size_between};
+ghost use Rattle.explain.specs.Lines.{AddsLine, IsHeaderLine, IsListedValue, size_between};
 ghost use Rattle.explain.specs.Listings.{AddsDocument, AddsElement, IsListed, ListingState, Lists, after_inside};
 ghost use Rattle.explain.specs.Listings.{causes_inside, first_inside, hidden_after, listing_state, most_lines};
 ghost use Rattle.explain.specs.Listings.{number_around, own_number, own_place, start_of};
@@ -41,7 +41,7 @@ fn header_line(
 {
     Line {
         at: placed.at,
-        inside: inside_of(placed.is_inside, element.header.at),
+        inside: placed.is_inside.then_some(element.header.at),
         depth: placed.depth.saturating_add(element.header.depth),
         around: placed.around,
         step: element.step,
@@ -63,12 +63,6 @@ fn type_name_of(element: &NamedElement) -> &'static str
         Some(name) => name,
         None => "",
     }
-}
-
-fn inside_of(is_inside: bool, at: u64) -> Option<u64>
-    ensures { result ≡ inside_of is_inside at }
-{
-    if is_inside { Some(at) } else { None }
 }
 
 /// What is shown of the contents of an element, in the value of an extension or not.

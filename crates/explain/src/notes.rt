@@ -7,14 +7,25 @@ ghost use Rattle.explain.specs.Notes.{add_note, arcs_of, are_same, context_after
 ghost use Rattle.explain.specs.Notes.{is_attribute, is_curve_named, is_point, is_public_key, is_repeated};
 ghost use Rattle.explain.specs.Notes.{is_same_field, is_same_identifier, is_same_step, is_single_valued, members_of};
 ghost use Rattle.explain.specs.Notes.{ml_dsa_lengths, ml_kem_lengths, most_notes, named, nist_encapsulation};
-ghost use Rattle.explain.specs.Notes.{nist_signature, notes_on, parameters, public_octets, remark_if, remark_on};
+ghost use Rattle.explain.specs.Notes.{nist_signature, notes_on, parameters, public_octets, remark_on};
 ghost use Rattle.explain.specs.Notes.{ends_in_one, identifier_in, remark_on_algorithm, remark_on_bits};
-ghost use Rattle.explain.specs.Notes.{remark_on_key, remark_on_repeat, remark_on_usage, remark_on_value};
+ghost use Rattle.explain.specs.Notes.{remark_on_key, remark_on_member, remark_on_public_key, remark_on_repeat};
+ghost use Rattle.explain.specs.Notes.{remark_on_usage, remark_on_value};
 ghost use Rattle.explain.specs.Notes.{remark_on_values, remark_once_more, slh_dsa_sha2_lengths};
 ghost use Rattle.explain.specs.Notes.{slh_dsa_shake_lengths};
 
+mod hosts;
+mod keys;
+mod names;
+mod remarks;
+
 use crate::document::values::is_field;
 use crate::listing::causes::unit_of;
+use crate::notes::keys::{
+    remark_on_curve, remark_on_exponent, remark_on_inside, remark_on_modulus,
+};
+use crate::notes::names::remark_on_name;
+use crate::notes::remarks::{is_name, remark_if};
 use asn_names::element::Step;
 use asn_names::judgement::Judgement;
 use pkix_definitions::identifiers::{
@@ -304,9 +315,19 @@ fn remark_on(context: Context, line: &Line, after: &[Line]) -> Option<Remark>
         return remark_on_values(members_of(line.depth, after));
     }
     if is_public_key(line.step) {
-        return remark_on_key(context, &line.value);
+        return remark_on_public_key(context, line);
     }
     remark_on_value(context.extension, line)
+}
+
+/// A public key is looked into, where its algorithm says what is in it.
+fn remark_on_public_key(context: Context, line: &Line) -> Option<Remark>
+    ensures { result ≡ remark_on_public_key context line.now }
+{
+    match line.carries {
+        None => remark_on_key(context, &line.value),
+        Some(judgement) => remark_on_inside(judgement),
+    }
 }
 
 /// The value of an extension is in DER (RFC 5280 section 4.2).
@@ -314,7 +335,7 @@ fn remark_on_value(extension: Option<&'static Identifier>, line: &Line) -> Optio
     ensures { result ≡ remark_on_value extension.entry line.now }
 {
     match line.carries {
-        None => remark_on_usage(extension, line),
+        None => remark_on_member(extension, line),
         Some(Judgement::Der) => None,
         Some(Judgement::NotDer) => Some(Remark::ExtensionNotDer(extension)),
         Some(Judgement::Refused(fault)) => Some(Remark::ExtensionRefused(
@@ -323,14 +344,30 @@ fn remark_on_value(extension: Option<&'static Identifier>, line: &Line) -> Optio
     }
 }
 
-/// The bits of a keyUsage, which have names, end in a 1 in DER (X.690 11.2.2).
-fn remark_on_usage(extension: Option<&'static Identifier>, line: &Line) -> Option<Remark>
-    ensures { result ≡ remark_on_usage extension.entry line.now }
+/// What is in a document, by its type or its field; else by what it is as a name.
+fn remark_on_member(extension: Option<&'static Identifier>, line: &Line) -> Option<Remark>
+    ensures { result ≡ remark_on_member extension.entry line.now }
 {
-    if !is_name(line.type_name, "KeyUsage") {
-        return None;
+    if is_name(line.type_name, "KeyUsage") {
+        return remark_on_usage(extension, &line.value);
     }
-    match &line.value {
+    if is_field(line.step, "modulus") {
+        return remark_on_modulus(&line.value);
+    }
+    if is_field(line.step, "publicExponent") {
+        return remark_on_exponent(&line.value);
+    }
+    if is_field(line.step, "parameters") {
+        return remark_on_curve(&line.value);
+    }
+    remark_on_name(extension, line)
+}
+
+/// The bits of a keyUsage, which have names, end in a 1 in DER (X.690 11.2.2).
+fn remark_on_usage(extension: Option<&'static Identifier>, value: &Value) -> Option<Remark>
+    ensures { result ≡ remark_on_usage extension.entry value.now }
+{
+    match value {
         Value::Octets(contents) => {
             remark_if(!ends_in_one(contents), Remark::ExtensionZeroBits(extension))
         }
@@ -349,13 +386,6 @@ fn ends_in_one(contents: &[u8]) -> bool
         Some(last) => *last / unit_of(*unused) % 2 == 1,
         None => true,
     }
-}
-
-/// A remark, where this is so.
-fn remark_if(said: bool, remark: Remark) -> Option<Remark>
-    ensures { result ≡ remark_if said remark }
-{
-    if said { Some(remark) } else { None }
 }
 
 /// The parameters after an algorithm.
@@ -499,12 +529,6 @@ fn is_attribute(around: Option<&Line>) -> bool
         Some(around) => is_name(around.type_name, "RequestAttribute"),
         None => false,
     }
-}
-
-fn is_name(name: &str, word: &str) -> bool
-    ensures { result ≡ same_octets name.now word.now }
-{
-    name == word
 }
 
 /// Whether the same identifier as the same field is in one of the last members of the list before it.

@@ -111,26 +111,18 @@ subject_part line =
     (cond (is_step (codes "type") line.step) (type_said line.value ++ codes "=")
     (cond (is_step (codes "value") line.step) (value_said true line.tag line.value) [])))
 
+-- one without attributes is empty
+abbrev pub names_said : ℕ → List Line → List ℕ
+names_said depth [] = codes "empty"
+names_said depth (line ∷ lines) =
+    cond (nat_lt depth line.depth) (each_in subject_part depth (line ∷ lines)) (codes "empty")
+
 unfoldable pub subject_of : ℕ → List Line → List ℕ
-subject_of depth lines = codes "  subject    " ++ each_in subject_part depth lines ++ line_feed
+subject_of depth lines = codes "  subject    " ++ names_said depth lines ++ line_feed
 
 abbrev pub subject_line : List Line → List ℕ
 subject_line [] = []
 subject_line (line ∷ lines) = subject_of line.depth lines
-
--- A key and a signature: the algorithm, the curve that parameters name, and how long a public key is.
-
-abbrev pub key_part : Line → List ℕ
-key_part line =
-    cond (is_step (codes "algorithm") line.step) (identifier_said line.value)
-    (cond (is_step (codes "parameters") line.step && is_identifier line.value)
-    (codes ", " ++ identifier_said line.value)
-    (cond (is_step (codes "subjectPublicKey") line.step) (codes ", " ++ value_said false line.tag line.value) []))
-
--- these of the element that is the first, after and before other words
-abbrev pub key_line : List ℕ → List Line → List ℕ → List ℕ
-key_line label [] end = []
-key_line label (line ∷ lines) end = label ++ each_in key_part line.depth lines ++ end
 
 -- What stands in an extension: a line for each leaf.
 
@@ -299,23 +291,7 @@ is_accepted (Refused fault) = false
 abbrev pub is_asking : Report → Bool
 is_asking report = is_accepted report.answer && bytes_eq report.kind.word.now (codes "request")
 
--- subject, key and signature, and after them attributes and extensions in their order
--- attributes and extensions
+-- attributes and extensions in their order
 abbrev pub others_said : List Line → List ℕ
 others_said [] = []
 others_said (line ∷ lines) = each_start_in asked line.depth lines
-
-unfoldable pub parts_said : List Line → List Line → List Line → List Line → List ℕ
-parts_said subject key algorithm lines =
-    subject_line subject ++ key_line (codes "  key        ") key line_feed
-    ++ key_line (codes "  signature  ") algorithm (codes ", not verified\n") ++ others_said lines
-
-abbrev pub asked_lines : List Line → List ℕ
-asked_lines lines =
-    parts_said (from_field (codes "subject") lines) (from_field (codes "subjectPKInfo") lines)
-    (from_field (codes "signatureAlgorithm") lines) lines
-
--- What an accepted request asks for; of another document nothing.
-unfoldable pub asks_lines : Report → List ℕ
-asks_lines report =
-    cond (is_asking report) (line_feed ++ codes "asks for\n" ++ asked_lines report.lines.items) []

@@ -6,6 +6,7 @@ use Rattle.tlv_core.specs.declared.fault.Fault.{Fault}
 use Rattle.reports.specs.Guesses.{guess_act, guess_said}
 use Rattle.reports.specs.PlacedAdvice.{fault_act, fault_likely}
 use Rattle.pkix_shapes.specs.declared.identifiers.Identifier.{Identifier}
+use Rattle.reports.specs.Remarks.{key_remark_said, name_remark_said}
 use Rattle.reports.specs.Words.{place_said, sized}
 use Rattle.reports.specs.declared.report.Answer.{Answer}
 use Rattle.reports.specs.declared.report.Answer.TheVariants.{Der, NotDer, Refused}
@@ -115,3 +116,5 @@ remark_said (remarks.ExtensionZeroBits name) =
 remark_said (remarks.ExtensionRefused name at why) =
     extension_said (option_map (λ r. r.now) name) ++ codes " isn't of its type inside: fault at " ++ place_said at why
     ++ codes ", counted from the first octet of its value (RFC 5280 section 4.2)"
+remark_said (remarks.Key remark) = key_remark_said remark
+remark_said (remarks.Name remark) = name_remark_said remark

@@ -10,7 +10,7 @@ use Rattle.reports.specs.declared.report.Note.{Note}
 use Rattle.reports.specs.declared.report.Report.{Report}
 use Rattle.reports.specs.Field.{field_said}
 use Rattle.reports.specs.Hints.{do_said, likely_said}
-use Rattle.reports.specs.JsonAsks.{asks_member}
+use Rattle.reports.specs.JsonAsks.{summary_member}
 use Rattle.reports.specs.JsonLists.{line_object, not_der_members, note_object, place_members}
 use Rattle.reports.specs.JsonMembers.{list_member, number_member, object, object_member, optional, said_member, text_member}
 use Rattle.reports.specs.JsonWords.{guess_word}
@@ -93,7 +93,7 @@ lines_member all lines = cond all (list_member (codes "lines") (flat_map line_ob
 
 -- what it asks for, and all its elements, where they are wanted
 unfoldable pub contents_members : Report → Bool → List Token
-contents_members report all = asks_member report ++ lines_member all report.lines.items
+contents_members report all = summary_member report ++ lines_member all report.lines.items
 
 unfoldable pub notes_member : Report → List Note → List Token
 notes_member report notes =

@@ -1,24 +1,17 @@
 -- What an accepted request asks for, as tokens of JSON.
 use Rattle.std.specs.Prelude.{List, [], codes, cond, length, not, string_bytes, ℕ, ◌&&◌, ◌++◌, ◌==◌, ◌||◌, ◌∷◌}
 use Rattle.std.specs.Str.{bytes_eq}
-use Rattle.json.specs.Token.{Token, begin_array, end_array, string}
+use Rattle.json.specs.Token.{Token}
 use Rattle.tlv_core.specs.Identifier.{Tag}
 use Rattle.reports.specs.Asks.{address_said, each_in, each_start_in, field_name, from_field, has_bit, identifier_said, is_asking, is_critical, is_identifier, is_leaf, is_of, is_other, is_step, usage_name}
+use Rattle.reports.specs.JsonKeys.{holds_member, key_member}
 use Rattle.reports.specs.JsonLists.{carried_member, value_member, value_members}
-use Rattle.reports.specs.JsonMembers.{boolean_member, list_member, number_member, object, object_member, optional, said_member, text_member}
+use Rattle.reports.specs.JsonMembers.{boolean_member, item, list, list_member, number_member, object, object_member, optional, said_member, text_member}
 use Rattle.reports.specs.Letters.{characters}
 use Rattle.reports.specs.declared.report.Line.{Line}
 use Rattle.reports.specs.declared.report.Report.{Report}
 use Rattle.reports.specs.declared.report.Value.{Value}
 use Rattle.reports.specs.declared.report.Value.TheVariants as values
-
--- an item that is a list
-abbrev pub list : List Token → List Token
-list items = begin_array ∷ (items ++ end_array ∷ [])
-
--- an item that is a string
-abbrev pub item : List ℕ → List Token
-item text = string text ∷ []
 
 -- what contents say: a string by its characters
 abbrev pub said_value : Tag → Value → List Token
@@ -43,24 +36,6 @@ relative_name line lines =
 abbrev pub subject_member : List Line → List Token
 subject_member [] = []
 subject_member (line ∷ lines) = list_member (codes "subject") (each_start_in relative_name line.depth lines)
-
--- A key and a signature: the algorithm, what its parameters name, and how long a public key is.
-
-abbrev pub size_member : Value → List Token
-size_member (values.Bits octets unused) = number_member (codes "octets") octets
-size_member value = []
-
-abbrev pub key_part : Line → List Token
-key_part line =
-    cond (is_step (codes "algorithm") line.step && is_identifier line.value)
-    (text_member (codes "algorithm") (identifier_said line.value))
-    (cond (is_step (codes "parameters") line.step && is_identifier line.value)
-    (text_member (codes "parameters") (identifier_said line.value))
-    (cond (is_step (codes "subjectPublicKey") line.step) (size_member line.value) []))
-
-abbrev pub key_member : List ℕ → List Line → List Token
-key_member name [] = []
-key_member name (line ∷ lines) = object_member name (each_in key_part line.depth lines)
 
 -- Attributes but those of extensions, by their names.
 
@@ -156,6 +131,7 @@ asked_members lines =
     part_members (from_field (codes "subject") lines) (from_field (codes "subjectPKInfo") lines)
     (from_field (codes "signatureAlgorithm") lines) lines
 
--- What an accepted request asks for; of another document nothing.
-abbrev pub asks_member : Report → List Token
-asks_member report = cond (is_asking report) (object_member (codes "asks") (asked_members report.lines.items)) []
+-- What an accepted document says of itself: what a request asks for, and what a key is.
+abbrev pub summary_member : Report → List Token
+summary_member report =
+    cond (is_asking report) (object_member (codes "asks") (asked_members report.lines.items)) (holds_member report)

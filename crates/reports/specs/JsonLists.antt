@@ -15,8 +15,12 @@ use Rattle.asn_names.specs.declared.judgement.Judgement.TheVariants as judgement
 use Rattle.pkix_shapes.specs.declared.identifiers.Identifier.{Identifier}
 use Rattle.reports.specs.declared.json_lists.Marked.{Marked}
 use Rattle.reports.specs.declared.report.Cause.{Cause}
+use Rattle.reports.specs.declared.report.KeyRemark.{KeyRemark}
+use Rattle.reports.specs.declared.report.KeyRemark.TheVariants as keys
 use Rattle.reports.specs.declared.report.Length.{Length}
 use Rattle.reports.specs.declared.report.Line.{Line}
+use Rattle.reports.specs.declared.report.NameRemark.{NameRemark}
+use Rattle.reports.specs.declared.report.NameRemark.TheVariants as names
 use Rattle.reports.specs.declared.report.Note.{Note}
 use Rattle.reports.specs.declared.report.Remark.{Remark}
 use Rattle.reports.specs.declared.report.Remark.TheVariants as remarks
@@ -25,8 +29,9 @@ use Rattle.reports.specs.declared.report.Value.{Value}
 use Rattle.reports.specs.declared.report.Value.TheVariants as values
 use Rattle.reports.specs.Picks.{is_place_alone, path_to_line}
 use Rattle.reports.specs.JsonMembers.{boolean_member, list_member, number_member, object, object_member, optional, said_member, text_member}
-use Rattle.reports.specs.JsonWords.{cause_word, class_word, remark_word}
+use Rattle.reports.specs.JsonWords.{cause_word, class_word}
 use Rattle.reports.specs.Paths.{with_root, with_step, with_steps}
+use Rattle.reports.specs.Remarks.{remark_code, remark_level}
 
 -- the path of an element, by the number of the line of the one around it, and by the step from there
 unfoldable pub path_of : Report → ℕ → Step → List ℕ
@@ -159,6 +164,24 @@ not_der_members places report lines = some_members report places (marked_in line
 abbrev pub extension_member : Identifier → List Token
 extension_member identifier = text_member (codes "extension") identifier.name.now
 
+-- the numbers that a remark on a key has
+unfoldable pub key_remark_members : KeyRemark → List Token
+key_remark_members keys.NotDer = []
+key_remark_members (keys.Refused at why) = object_member (codes "fault") (place_members at why)
+key_remark_members keys.NegativeModulus = []
+key_remark_members keys.EvenModulus = []
+key_remark_members (keys.ShortModulus bits) = number_member (codes "bits") bits
+key_remark_members keys.Exponent = []
+key_remark_members (keys.SmallCurve bits) = number_member (codes "bits") bits
+
+-- and one on a name
+unfoldable pub name_remark_members : NameRemark → List Token
+name_remark_members (names.AddressLength octets) = number_member (codes "octets") octets
+name_remark_members names.DnsSyntax = []
+name_remark_members names.Wildcard = []
+name_remark_members names.PrintableString = []
+name_remark_members names.Hidden = []
+
 -- the numbers that a remark has
 unfoldable pub remark_members : Remark → List Token
 remark_members (remarks.PointSize octets) = number_member (codes "octets") octets
@@ -175,6 +198,13 @@ remark_members (remarks.ExtensionZeroBits name) = optional extension_member (opt
 remark_members (remarks.ExtensionRefused name at why) =
     optional extension_member (option_map (λ r. r.now) name)
     ++ object_member (codes "fault") (place_members at why)
+remark_members (remarks.Key remark) = key_remark_members remark
+remark_members (remarks.Name remark) = name_remark_members remark
+
+-- its code and its level
+abbrev pub remark_words : Remark → List Token
+remark_words remark =
+    text_member (codes "what") (remark_code remark) ++ text_member (codes "level") (remark_level remark)
 
 abbrev pub field_of_line : Report → Line → List Token
 field_of_line report line = field_members report line.around line.step line.at
@@ -183,7 +213,7 @@ field_of_line report line = field_members report line.around line.step line.at
 unfoldable pub note_members : Report → Note → List Token
 note_members report note =
     optional (field_of_line report) (slice_get report.lines.items note.line)
-    ++ text_member (codes "what") (remark_word note.remark) ++ remark_members note.remark
+    ++ remark_words note.remark ++ remark_members note.remark
 
 abbrev pub note_object : Report → Note → List Token
 note_object report note = object (note_members report note)

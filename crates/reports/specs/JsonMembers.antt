@@ -34,3 +34,11 @@ boolean_member name value = key name ∷ boolean value ∷ []
 abbrev pub optional : {A : Type 0} → (A → List Token) → Option A → List Token
 optional member None = []
 optional member (Some value) = member value
+
+-- an item that is a list
+abbrev pub list : List Token → List Token
+list items = begin_array ∷ (items ++ end_array ∷ [])
+
+-- an item that is a string
+abbrev pub item : List ℕ → List Token
+item text = string text ∷ []

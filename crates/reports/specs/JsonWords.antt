@@ -6,8 +6,6 @@ use Rattle.reports.specs.declared.report.Cause.{Cause}
 use Rattle.reports.specs.declared.report.Cause.TheVariants as causes
 use Rattle.reports.specs.declared.report.Guess.{Guess}
 use Rattle.reports.specs.declared.report.Guess.TheVariants as guesses
-use Rattle.reports.specs.declared.report.Remark.{Remark}
-use Rattle.reports.specs.declared.report.Remark.TheVariants as remarks
 
 -- the class of a tag (X.690 8.1.2.2)
 abbrev pub class_word : Class → List ℕ
@@ -48,17 +46,3 @@ guess_word guesses.SshPublicKey = codes "ssh_public_key"
 guess_word guesses.Recoded = codes "recoded"
 guess_word guesses.Replaced = codes "replaced"
 guess_word guesses.TextLines = codes "text_lines"
-
--- what is remarked
-abbrev pub remark_word : Remark → List ℕ
-remark_word (remarks.PointSize octets) = codes "point_size"
-remark_word remarks.PointBits = codes "point_bits"
-remark_word remarks.NoNamedCurve = codes "no_named_curve"
-remark_word remarks.ExtensionTwice = codes "extension_twice"
-remark_word remarks.AttributeTwice = codes "attribute_twice"
-remark_word (remarks.SeveralValues count) = codes "several_values"
-remark_word (remarks.KeySize octets due) = codes "key_size"
-remark_word remarks.NeedlessParameters = codes "needless_parameters"
-remark_word (remarks.ExtensionNotDer name) = codes "extension_not_der"
-remark_word (remarks.ExtensionZeroBits name) = codes "extension_not_der"
-remark_word (remarks.ExtensionRefused name at why) = codes "extension_not_der"

@@ -5,9 +5,11 @@ pub mod Guesses
 pub mod Hints
 pub mod Json
 pub mod JsonAsks
+pub mod JsonKeys
 pub mod JsonLists
 pub mod JsonMembers
 pub mod JsonWords
+pub mod Keys
 pub mod Letters
 pub mod Lines
 pub mod Listings
@@ -15,7 +17,9 @@ pub mod Paths
 pub mod Picks
 pub mod PlacedAdvice
 pub mod ReasonDue
+pub mod Remarks
 pub mod Reports
+pub mod Summaries
 pub mod Texts
 pub mod TypeWords
 pub mod Words

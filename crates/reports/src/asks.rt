@@ -1,12 +1,12 @@
 //! What an accepted request asks for, in words, by the lines of its elements.
 ghost use Rattle.std.specs.Prelude.{[], ◌≡◌, ◌∷◌, ◌++◌, ◌==◌, OnOk, codes, cond, false, length, string_bytes};
 ghost use Rattle.hex.specs.Hex.{encode_lower};
-ghost use Rattle.reports.specs.Asks.{address_said, asked, asked_lines, asks_lines, attribute_said, before_fact};
+ghost use Rattle.reports.specs.Asks.{address_said, asked, attribute_said, before_fact};
 ghost use Rattle.reports.specs.Asks.{between, carried_line, container_line, dotted, each_in, each_start_in};
 ghost use Rattle.reports.specs.Asks.{extension_said, fact_line, fact_value, fact_word, field_name, first_octets};
 ghost use Rattle.reports.specs.Asks.{from_field, groups, identifier_said, is_accepted, is_asking, is_critical};
-ghost use Rattle.reports.specs.Asks.{is_empty, is_identifier, is_leaf, is_of, is_other, is_step, is_true, key_line};
-ghost use Rattle.reports.specs.Asks.{key_part, name_word, not_shown, others_said, parts_said, short_name, subject_line};
+ghost use Rattle.reports.specs.Asks.{is_empty, is_identifier, is_leaf, is_of, is_other, is_step, is_true};
+ghost use Rattle.reports.specs.Asks.{name_word, names_said, not_shown, others_said, short_name, subject_line};
 ghost use Rattle.reports.specs.Asks.{subject_of, subject_part, told, type_said};
 ghost use Rattle.reports.specs.Asks.{usual_name, value_said};
 ghost use Rattle.reports.specs.JsonLists.{first_ones};
@@ -24,25 +24,6 @@ use tlv_core::tag::Tag;
 /// How many octets are written of what has no words.
 const MOST_OCTETS: u64 = 32;
 
-/// What an accepted request asks for; of another document nothing.
-#[tactic(auto, unfolding(crate::specs::Asks::asks_lines))]
-pub(crate) fn push_asks(
-    alloc: Global,
-    text: &mut String,
-    report: &Report,
-    lines: &[Line],
-) -> Result<(), AllocError>
-    requires { lines.now ≡ report.now.lines.items }
-    ensures { OnOk result (string_bytes text.new ≡ string_bytes text.old ++ asks_lines report.now) }
-{
-    if !is_asking(report) {
-        return Ok(());
-    }
-    text.push_str("\n")?;
-    text.push_str("asks for\n")?;
-    push_asked_lines(alloc, text, lines)
-}
-
 /// Whether it asks for something: an accepted request does.
 pub(crate) fn is_asking(report: &Report) -> bool
     ensures { result ≡ is_asking report.now }
@@ -50,41 +31,13 @@ pub(crate) fn is_asking(report: &Report) -> bool
     is_accepted(report.answer) && report.kind.word == "request"
 }
 
-fn is_accepted(answer: Answer) -> bool
+pub(crate) fn is_accepted(answer: Answer) -> bool
     ensures { result ≡ is_accepted answer }
 {
     match answer {
         Answer::Der | Answer::NotDer(_) => true,
         Answer::Refused(_) => false,
     }
-}
-
-fn push_asked_lines(alloc: Global, text: &mut String, lines: &[Line]) -> Result<(), AllocError>
-    ensures { OnOk result (string_bytes text.new ≡ string_bytes text.old ++ asked_lines lines.now) }
-{
-    let subject = from_field(lines, "subject");
-    let key = from_field(lines, "subjectPKInfo");
-    let algorithm = from_field(lines, "signatureAlgorithm");
-    push_parts(alloc, text, subject, key, algorithm, lines)
-}
-
-/// Subject, key and signature, and after them attributes and extensions.
-#[tactic(auto, unfolding(crate::specs::Asks::parts_said))]
-fn push_parts(
-    alloc: Global,
-    text: &mut String,
-    subject: &[Line],
-    key: &[Line],
-    algorithm: &[Line],
-    lines: &[Line],
-) -> Result<(), AllocError>
-    ensures { OnOk result (string_bytes text.new ≡ string_bytes text.old
-        ++ parts_said subject.now key.now algorithm.now lines.now) }
-{
-    push_subject(alloc, text, subject)?;
-    push_key_line(alloc, text, "  key        ", key, "\n")?;
-    push_key_line(alloc, text, "  signature  ", algorithm, ", not verified\n")?;
-    push_others(alloc, text, lines)
 }
 
 /// Lines from the first on that is the field of this name.
@@ -118,7 +71,11 @@ pub(crate) fn is_step(step: Step, name: &str) -> bool
     }
 }
 
-fn push_subject(alloc: Global, text: &mut String, lines: &[Line]) -> Result<(), AllocError>
+pub(crate) fn push_subject(
+    alloc: Global,
+    text: &mut String,
+    lines: &[Line],
+) -> Result<(), AllocError>
     ensures { OnOk result (string_bytes text.new ≡ string_bytes text.old ++ subject_line lines.now) }
 {
     match lines {
@@ -137,8 +94,23 @@ fn push_subject_of(
     ensures { OnOk result (string_bytes text.new ≡ string_bytes text.old ++ subject_of depth lines.now) }
 {
     text.push_str("  subject    ")?;
-    push_subject_parts(alloc, text, depth, lines)?;
+    push_names(alloc, text, depth, lines)?;
     text.push_str("\n")
+}
+
+/// The attributes of a subject: one without any is empty.
+fn push_names(
+    alloc: Global,
+    text: &mut String,
+    depth: u64,
+    lines: &[Line],
+) -> Result<(), AllocError>
+    ensures { OnOk result (string_bytes text.new ≡ string_bytes text.old ++ names_said depth lines.now) }
+{
+    match lines {
+        [line, ..] if line.depth > depth => push_subject_parts(alloc, text, depth, lines),
+        _ => text.push_str("empty"),
+    }
 }
 
 fn push_subject_parts(
@@ -262,7 +234,7 @@ fn short_name(name: &str) -> &str
 }
 
 /// What the contents of an element say, in a distinguished name or elsewhere.
-fn push_value(
+pub(crate) fn push_value(
     alloc: Global,
     text: &mut String,
     in_name: bool,
@@ -278,7 +250,7 @@ fn push_value(
         Value::Size(octets) | Value::Bits(octets, _) => push_size(text, *octets),
         Value::Null => text.push_str("NULL"),
         Value::Boolean(is) => text.push_str(if *is { "TRUE" } else { "FALSE" }),
-        Value::Number(number) => push_number(text, u64::from(*number)),
+        Value::Number(number) => push_number(text, *number),
         Value::Named(identifier) => text.push_str(identifier.name),
         Value::Arcs(arcs) => text.push_str(arcs.as_str()),
         Value::Characters(octets) => push_letters(alloc, text, in_name, tag, octets),
@@ -287,7 +259,11 @@ fn push_value(
 }
 
 /// Octets in hexadecimal digits, 32 at most.
-fn push_first_octets(alloc: Global, text: &mut String, octets: &[u8]) -> Result<(), AllocError>
+pub(crate) fn push_first_octets(
+    alloc: Global,
+    text: &mut String,
+    octets: &[u8],
+) -> Result<(), AllocError>
     ensures { OnOk result (string_bytes text.new ≡ string_bytes text.old ++ first_octets octets.now) }
 {
     let digits = hex::encode(alloc, up_to(octets, MOST_OCTETS))?;
@@ -309,65 +285,12 @@ fn up_to(octets: &[u8], most: u64) -> &[u8]
     }
 }
 
-/// The parts of a key or a signature, after and before other words.
-fn push_key_line(
-    alloc: Global,
-    text: &mut String,
-    label: &str,
-    lines: &[Line],
-    end: &str,
-) -> Result<(), AllocError>
-    ensures { OnOk result (string_bytes text.new ≡ string_bytes text.old
-        ++ key_line label.now lines.now end.now) }
-{
-    let [line, rest @ ..] = lines else {
-        return Ok(());
-    };
-    text.push_str(label)?;
-    push_key_parts(alloc, text, line.depth, rest)?;
-    text.push_str(end)
-}
-
-/// An algorithm, the curve that its parameters name, and how long a public key is.
-fn push_key_parts(
-    alloc: Global,
-    text: &mut String,
-    depth: u64,
-    lines: &[Line],
-) -> Result<(), AllocError>
-    ensures { OnOk result (string_bytes text.new ≡ string_bytes text.old
-        ++ each_in key_part depth lines.now) }
-{
-    let mut left = lines;
-    while let [line, rest @ ..] = left {
-        if line.depth <= depth {
-            return Ok(());
-        }
-        push_key_part(alloc, text, line)?;
-        left = rest;
-    }
-    Ok(())
-}
-
-fn push_key_part(alloc: Global, text: &mut String, line: &Line) -> Result<(), AllocError>
-    ensures { OnOk result (string_bytes text.new ≡ string_bytes text.old ++ key_part line.now) }
-{
-    if is_step(line.step, "algorithm") {
-        return push_identifier(text, &line.value);
-    }
-    if is_step(line.step, "parameters") && is_identifier(&line.value) {
-        text.push_str(", ")?;
-        return push_identifier(text, &line.value);
-    }
-    if is_step(line.step, "subjectPublicKey") {
-        text.push_str(", ")?;
-        return push_value(alloc, text, false, line.tag, &line.value);
-    }
-    Ok(())
-}
-
 /// Attributes and extensions.
-fn push_others(alloc: Global, text: &mut String, lines: &[Line]) -> Result<(), AllocError>
+pub(crate) fn push_others(
+    alloc: Global,
+    text: &mut String,
+    lines: &[Line],
+) -> Result<(), AllocError>
     ensures { OnOk result (string_bytes text.new ≡ string_bytes text.old ++ others_said lines.now) }
 {
     match lines {

@@ -6,6 +6,7 @@ ghost use Rattle.reports.specs.Hints.{reason_act, reason_likely, remark_said, si
 
 use crate::guesses::{push_guess, push_guess_act};
 use crate::placed_advice::{push_fault_act, push_fault_likely};
+use crate::remarks::{push_key_remark, push_name_remark};
 use crate::report::{Answer, Cause, Guess, Remark, Report};
 use crate::text::push_number;
 use crate::text_report::push_reason;
@@ -188,6 +189,8 @@ fn push_remark(text: &mut String, remark: Remark) -> Result<(), AllocError>
             push_reason(text, at, why)?;
             text.push_str(", counted from the first octet of its value (RFC 5280 section 4.2)")
         }
+        Remark::Key(remark) => push_key_remark(text, remark),
+        Remark::Name(remark) => push_name_remark(text, remark),
     }
 }
 

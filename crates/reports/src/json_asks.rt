@@ -1,19 +1,20 @@
 //! What an accepted request asks for, as JSON.
 ghost use Rattle.std.specs.Prelude.{[], ◌≡◌, ◌++◌, IfOk, OnOk, codes, cond, string_bytes};
 ghost use Rattle.reports.specs.Asks.{each_in, each_start_in, identifier_said, is_other};
-ghost use Rattle.reports.specs.JsonAsks.{asked_members, asks_member, attribute_item, attribute_name, attributes_member};
+ghost use Rattle.reports.specs.JsonAsks.{asked_members, attribute_item, attribute_name, attributes_member};
 ghost use Rattle.reports.specs.JsonAsks.{extension_item, extension_members, extension_object, extensions_member};
-ghost use Rattle.reports.specs.JsonAsks.{fact_item, fact_members, item, key_member, key_part, list, list_name};
+ghost use Rattle.reports.specs.JsonAsks.{fact_item, fact_members, list_name};
 ghost use Rattle.reports.specs.JsonAsks.{name_key, name_member, name_object, name_said, part_members, relative_name};
-ghost use Rattle.reports.specs.JsonAsks.{said_value, size_member, subject_member, three_usages, usage_item};
-ghost use Rattle.reports.specs.JsonAsks.{usage_items, usages_in, verdict_part};
-ghost use Rattle.reports.specs.JsonMembers.{list_member, object, text_member};
+ghost use Rattle.reports.specs.JsonAsks.{said_value, subject_member, three_usages, usage_item};
+ghost use Rattle.reports.specs.JsonAsks.{summary_member, usage_items, usages_in, verdict_part};
+ghost use Rattle.reports.specs.JsonMembers.{item, list, list_member, object};
 ghost use Rattle.reports.specs.Letters.{characters};
 
 use crate::asks::{
     field_name, from_field, is_asking, is_critical, is_identifier, is_leaf, is_of, is_other,
     is_step, push_address, push_identifier,
 };
+use crate::json_keys::{identifier_text, push_holds, push_key};
 use crate::json_lists::{push_carried, push_value, push_value_members};
 use crate::json_text::JsonText;
 use crate::letters::push_string;
@@ -22,18 +23,18 @@ use crate::usages::{has_bit, usage_name};
 use std::alloc::{AllocError, Global};
 use tlv_core::tag::Tag;
 
-/// What an accepted request asks for; of another document nothing.
-pub(crate) fn push_asks(
+/// What an accepted document says of itself: what a request asks for, and what a key is.
+pub(crate) fn push_summary(
     alloc: Global,
     json: &mut JsonText,
     report: &Report,
     lines: &[Line],
 ) -> Result<(), AllocError>
     requires { lines.now ≡ report.now.lines.items }
-    ensures { OnOk result (json.new ≡ json.old ++ asks_member report.now) }
+    ensures { OnOk result (json.new ≡ json.old ++ summary_member report.now) }
 {
     if !is_asking(report) {
-        return Ok(());
+        return push_holds(alloc, json, report, lines);
     }
     json.begin_object_at("asks")?;
     push_asked(alloc, json, lines)?;
@@ -241,88 +242,6 @@ fn string_of(alloc: Global, tag: Tag, octets: &[u8]) -> Result<String, AllocErro
     let mut text = String::new(alloc);
     push_string(&mut text, tag, octets)?;
     Ok(text)
-}
-
-/// An object identifier by its usual name, or by its arcs.
-fn identifier_text(alloc: Global, value: &Value) -> Result<String, AllocError>
-    ensures { IfOk result (λ text. string_bytes text ≡ identifier_said value.now) }
-{
-    let mut text = String::new(alloc);
-    push_identifier(&mut text, value)?;
-    Ok(text)
-}
-
-/// A key or a signature by its parts.
-fn push_key(
-    alloc: Global,
-    json: &mut JsonText,
-    name: &str,
-    lines: &[Line],
-) -> Result<(), AllocError>
-    ensures { OnOk result (json.new ≡ json.old ++ key_member name.now lines.now) }
-{
-    let [line, rest @ ..] = lines else {
-        return Ok(());
-    };
-    json.begin_object_at(name)?;
-    push_key_parts(alloc, json, line.depth, rest)?;
-    json.end_object()
-}
-
-fn push_key_parts(
-    alloc: Global,
-    json: &mut JsonText,
-    depth: u64,
-    lines: &[Line],
-) -> Result<(), AllocError>
-    ensures { OnOk result (json.new ≡ json.old ++ each_in key_part depth lines.now) }
-{
-    let mut left = lines;
-    while let [line, rest @ ..] = left {
-        if line.depth <= depth {
-            return Ok(());
-        }
-        push_key_part(alloc, json, line)?;
-        left = rest;
-    }
-    Ok(())
-}
-
-/// The algorithm, what its parameters name, and how long a public key is.
-fn push_key_part(alloc: Global, json: &mut JsonText, line: &Line) -> Result<(), AllocError>
-    ensures { OnOk result (json.new ≡ json.old ++ key_part line.now) }
-{
-    if is_step(line.step, "algorithm") && is_identifier(&line.value) {
-        return push_identifier_at(alloc, json, "algorithm", &line.value);
-    }
-    if is_step(line.step, "parameters") && is_identifier(&line.value) {
-        return push_identifier_at(alloc, json, "parameters", &line.value);
-    }
-    if is_step(line.step, "subjectPublicKey") {
-        return push_size(json, &line.value);
-    }
-    Ok(())
-}
-
-fn push_identifier_at(
-    alloc: Global,
-    json: &mut JsonText,
-    name: &str,
-    value: &Value,
-) -> Result<(), AllocError>
-    ensures { OnOk result (json.new ≡ json.old ++ text_member name.now (identifier_said value.now)) }
-{
-    let text = identifier_text(alloc, value)?;
-    json.text(name, text.as_str())
-}
-
-fn push_size(json: &mut JsonText, value: &Value) -> Result<(), AllocError>
-    ensures { OnOk result (json.new ≡ json.old ++ size_member value.now) }
-{
-    match value {
-        Value::Bits(octets, _) => json.number("octets", *octets),
-        _ => Ok(()),
-    }
 }
 
 /// Attributes but those of extensions, by their names.

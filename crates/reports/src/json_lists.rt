@@ -6,6 +6,7 @@ ghost use Rattle.reports.specs.JsonLists.{field_members, field_of_line, first_on
 ghost use Rattle.reports.specs.JsonLists.{is_nothing, length_members, line_members, line_object, marked_in};
 ghost use Rattle.reports.specs.JsonLists.{marked_object, not_der_members, note_members, note_object, octets_members};
 ghost use Rattle.reports.specs.JsonLists.{path_of, place_members};
+ghost use Rattle.reports.specs.JsonLists.{key_remark_members, name_remark_members, remark_words};
 ghost use Rattle.reports.specs.JsonLists.{remark_members, some_members, tag_member, tag_members, value_member};
 ghost use Rattle.reports.specs.JsonLists.{value_members};
 ghost use Rattle.reports.specs.JsonMembers.{list_member, number_member, object_member, optional};
@@ -15,10 +16,11 @@ ghost use Rattle.tlv_core.specs.Classes.{class_of};
 
 use crate::json_report::push_place;
 use crate::json_text::JsonText;
-use crate::json_words::{word_of_cause, word_of_class, word_of_remark};
+use crate::json_words::{word_of_cause, word_of_class};
 use crate::paths::{push_path, push_root, push_step};
 use crate::picks::{is_place_alone, line_of, path_to_line};
-use crate::report::{Cause, Length, Line, Note, Remark, Report, Value};
+use crate::remarks::{code_of, level_of};
+use crate::report::{Cause, KeyRemark, Length, Line, NameRemark, Note, Remark, Report, Value};
 use asn_names::element::Step;
 use asn_names::judgement::Judgement;
 use pkix_shapes::identifiers::Identifier;
@@ -200,6 +202,35 @@ fn push_remark(json: &mut JsonText, remark: Remark) -> Result<(), AllocError>
             push_extension(json, name)?;
             push_fault(json, at, why)
         }
+        Remark::Key(remark) => push_key_remark(json, remark),
+        Remark::Name(remark) => push_name_remark(json, remark),
+    }
+}
+
+#[tactic(auto, unfolding(crate::specs::JsonLists::key_remark_members))]
+fn push_key_remark(json: &mut JsonText, remark: KeyRemark) -> Result<(), AllocError>
+    ensures { OnOk result (json.new ≡ json.old ++ key_remark_members remark) }
+{
+    match remark {
+        KeyRemark::Refused(at, why) => push_fault(json, at, why),
+        KeyRemark::ShortModulus(bits) | KeyRemark::SmallCurve(bits) => json.number("bits", bits),
+        KeyRemark::NotDer
+        | KeyRemark::NegativeModulus
+        | KeyRemark::EvenModulus
+        | KeyRemark::Exponent => Ok(()),
+    }
+}
+
+#[tactic(auto, unfolding(crate::specs::JsonLists::name_remark_members))]
+fn push_name_remark(json: &mut JsonText, remark: NameRemark) -> Result<(), AllocError>
+    ensures { OnOk result (json.new ≡ json.old ++ name_remark_members remark) }
+{
+    match remark {
+        NameRemark::AddressLength(octets) => json.number("octets", octets),
+        NameRemark::DnsSyntax
+        | NameRemark::Wildcard
+        | NameRemark::PrintableString
+        | NameRemark::Hidden => Ok(()),
     }
 }
 
@@ -239,6 +270,14 @@ fn push_field_of_line(
     }
 }
 
+/// The code and the level of a remark.
+fn push_remark_words(json: &mut JsonText, remark: Remark) -> Result<(), AllocError>
+    ensures { OnOk result (json.new ≡ json.old ++ remark_words remark) }
+{
+    json.text("what", code_of(remark))?;
+    json.text("level", level_of(remark))
+}
+
 #[tactic(auto, unfolding(crate::specs::JsonLists::note_members))]
 fn push_note_members(
     alloc: Global,
@@ -249,7 +288,7 @@ fn push_note_members(
     ensures { OnOk result (json.new ≡ json.old ++ note_members report.now note.now) }
 {
     push_field_of_line(alloc, json, report, line_of(&report.lines, note.line))?;
-    json.text("what", word_of_remark(note.remark))?;
+    push_remark_words(json, note.remark)?;
     push_remark(json, note.remark)
 }
 
@@ -388,7 +427,7 @@ pub(crate) fn push_value_members(
         Value::Bits(octets, unused) => push_bits(json, *octets, u64::from(*unused)),
         Value::Null => json.boolean("null", true),
         Value::Boolean(value) => json.boolean("boolean", *value),
-        Value::Number(number) => json.number("integer", u64::from(*number)),
+        Value::Number(number) => json.number("integer", *number),
         Value::Named(id) => {
             json.text("identifier", id.arcs)?;
             json.text("name", id.name)

@@ -12,7 +12,7 @@ ghost use Rattle.reports.specs.Texts.{line_feed};
 
 use crate::field::field_text;
 use crate::hints::{do_text, likely_text};
-use crate::json_asks::push_asks;
+use crate::json_asks::push_summary;
 use crate::json_lists::{push_lines, push_not_der, push_notes};
 use crate::json_text::JsonText;
 use crate::json_words::word_of_guess;
@@ -285,7 +285,7 @@ fn push_contents(
     requires { lines.now ≡ report.now.lines.items }
     ensures { OnOk result (json.new ≡ json.old ++ contents_members report.now all) }
 {
-    push_asks(alloc, json, report, lines)?;
+    push_summary(alloc, json, report, lines)?;
     push_all(alloc, json, all, lines)
 }
 

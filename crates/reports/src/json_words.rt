@@ -1,8 +1,8 @@
 //! Words of JSON that stay as they are, whatever the words of the text become.
 ghost use Rattle.std.specs.Prelude.{◌≡◌};
-ghost use Rattle.reports.specs.JsonWords.{cause_word, class_word, guess_word, remark_word};
+ghost use Rattle.reports.specs.JsonWords.{cause_word, class_word, guess_word};
 
-use crate::report::{Cause, Guess, Remark};
+use crate::report::{Cause, Guess};
 use tlv_core::tag::Class;
 
 pub(crate) fn word_of_class(class: Class) -> &'static str
@@ -55,23 +55,5 @@ pub(crate) fn word_of_guess(guess: Guess) -> &'static str
         Guess::Recoded => "recoded",
         Guess::Replaced => "replaced",
         Guess::TextLines => "text_lines",
-    }
-}
-
-pub(crate) fn word_of_remark(remark: Remark) -> &'static str
-    ensures { result.now ≡ remark_word remark }
-{
-    match remark {
-        Remark::PointSize(_) => "point_size",
-        Remark::PointBits => "point_bits",
-        Remark::NoNamedCurve => "no_named_curve",
-        Remark::ExtensionTwice => "extension_twice",
-        Remark::AttributeTwice => "attribute_twice",
-        Remark::SeveralValues(_) => "several_values",
-        Remark::KeySize(_, _) => "key_size",
-        Remark::NeedlessParameters => "needless_parameters",
-        Remark::ExtensionNotDer(_)
-        | Remark::ExtensionZeroBits(_)
-        | Remark::ExtensionRefused(_, _, _) => "extension_not_der",
     }
 }

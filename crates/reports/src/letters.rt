@@ -1,8 +1,10 @@
 //! The characters of a string: as they are where they are printable, else by their numbers.
 ghost use Rattle.std.specs.Prelude.{◌≡◌, ◌++◌, OnOk, chars, encode_utf8, flat_map, string_bytes};
+ghost use Rattle.std.specs.List.{list_any};
 ghost use Rattle.hex.specs.Hex.{encode_lower};
-ghost use Rattle.reports.specs.Letters.{are_units, by_units, by_utf8, characters, code_digits, is_printable};
-ghost use Rattle.reports.specs.Letters.{is_special, is_string, letter, letters, unit, units};
+ghost use Rattle.reports.specs.Letters.{are_units, by_units, by_utf8, characters, code_digits, codes_in_utf8};
+ghost use Rattle.reports.specs.Letters.{has_hidden, is_hidden, is_printable, is_special, is_string, letter, letters};
+ghost use Rattle.reports.specs.Letters.{unit, unit_code, unit_codes, units};
 
 use std::alloc::{AllocError, Global};
 use tlv_core::tag::{Class, Tag};
@@ -53,7 +55,7 @@ fn push_utf8(text: &mut String, octets: &[u8]) -> Result<(), AllocError>
 }
 
 /// Whether it is a string of this universal tag.
-fn is_string(tag: Tag, number: u32) -> bool
+pub fn is_string(tag: Tag, number: u32) -> bool
     ensures { result ≡ is_string number tag }
 {
     tag.class() == Class::Universal && tag.number() == number
@@ -96,13 +98,18 @@ fn push_units(text: &mut String, octets: &[u8]) -> Result<(), AllocError>
     Ok(())
 }
 
-#[tactic(auto, unfolding(crate::specs::Letters::unit))]
 fn push_unit(text: &mut String, high: u8, low: u8) -> Result<(), AllocError>
     ensures { OnOk result (string_bytes text.new ≡ string_bytes text.old ++ unit high low) }
 {
+    text.push(character_of_unit(high, low))
+}
+
+fn character_of_unit(high: u8, low: u8) -> char
+    ensures { result ≡ unit_code high low }
+{
     match char::from_u32(u32::from(high) * 256 + u32::from(low)) {
-        Some(c) => text.push(c),
-        None => text.push(char::REPLACEMENT_CHARACTER),
+        Some(c) => c,
+        None => char::REPLACEMENT_CHARACTER,
     }
 }
 
@@ -181,4 +188,62 @@ fn push_digits(alloc: Global, text: &mut String, octets: &[u8]) -> Result<(), Al
 {
     let digits = hex::encode(alloc, octets)?;
     text.push_str(digits.as_str())
+}
+
+/// Whether a reader doesn't see all characters of a string, as one of them controls or formats text.
+pub fn has_hidden(tag: Tag, octets: &[u8]) -> bool
+    ensures { result ≡ has_hidden tag octets.now }
+{
+    if is_string(tag, BMP_STRING) && are_units(octets) {
+        return has_hidden_unit(octets);
+    }
+    if is_string(tag, UTF8_STRING) {
+        return has_hidden_in_utf8(octets);
+    }
+    has_hidden_octet(octets)
+}
+
+/// Among characters of two octets each.
+fn has_hidden_unit(octets: &[u8]) -> bool
+    ensures { result ≡ list_any is_hidden (unit_codes octets.now) }
+{
+    let mut left = octets;
+    while let [high, low, rest @ ..] = left {
+        if is_hidden(character_of_unit(*high, *low)) {
+            return true;
+        }
+        left = rest;
+    }
+    false
+}
+
+/// Among those of octets that are UTF-8, and else among characters of an octet each.
+fn has_hidden_in_utf8(octets: &[u8]) -> bool
+    ensures { result ≡ list_any is_hidden (codes_in_utf8 octets.now) }
+{
+    match str::from_utf8(octets) {
+        Ok(string) => has_hidden_character(string),
+        Err(_) => has_hidden_octet(octets),
+    }
+}
+
+fn has_hidden_character(string: &str) -> bool
+    ensures { result ≡ list_any is_hidden (chars string.now) }
+{
+    string.chars().any(|c| is_hidden(c))
+}
+
+/// Among characters of an octet each.
+fn has_hidden_octet(octets: &[u8]) -> bool
+    ensures { result ≡ list_any is_hidden octets.now }
+{
+    octets.iter().any(|octet| is_hidden(char::from(*octet)))
+}
+
+/// Whether a character controls or formats text (general categories Cc and Cf of Unicode).
+fn is_hidden(c: char) -> bool
+    ensures { result ≡ is_hidden c }
+{
+    let category = GeneralCategory::for_char(c);
+    category == GeneralCategory::Control || category == GeneralCategory::Format
 }

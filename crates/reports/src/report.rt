@@ -48,8 +48,8 @@ pub enum Value {
     Bits(u64, u8),
     Null,
     Boolean(bool),
-    /// An INTEGER below 128.
-    Number(u8),
+    /// An INTEGER of up to four contents octets that isn't negative.
+    Number(u64),
     /// An object identifier that has a usual name.
     Named(&'static Identifier),
     /// Another one, by its arcs in decimal.
@@ -215,6 +215,43 @@ pub enum Remark {
     KeySize(u64, u64),
     /// Parameters beside an algorithm that has none (the same).
     NeedlessParameters,
+    /// About a key and what is in it.
+    Key(KeyRemark),
+    /// About a name.
+    Name(NameRemark),
+}
+
+/// What is remarked on a key.
+#[derive(Clone, Copy)]
+pub enum KeyRemark {
+    /// What subjectPublicKey contains is an RSAPublicKey, and not in DER (RFC 3279 section 2.3.1).
+    NotDer,
+    /// It is no RSAPublicKey, by the fault at this place in it.
+    Refused(u64, Reason),
+    /// A modulus of RSA below 0, or an even one (RFC 8017 section 3.1).
+    NegativeModulus,
+    EvenModulus,
+    /// A modulus of so many bits, fewer than 2048 (NIST SP 800-131A).
+    ShortModulus(u64),
+    /// A public exponent of RSA that isn't odd, or is below 3 (RFC 8017 section 3.1).
+    Exponent,
+    /// A curve of so many bits, fewer than 224 (NIST SP 800-131A).
+    SmallCurve(u64),
+}
+
+/// What is remarked on a name, of a subject or in an extension.
+#[derive(Clone, Copy)]
+pub enum NameRemark {
+    /// An IP address in subjectAltName that has so many octets (RFC 5280 section 4.2.1.6).
+    AddressLength(u64),
+    /// A DNS name there that isn't in the preferred name syntax (the same).
+    DnsSyntax,
+    /// One whose wildcard isn't the whole first label (RFC 9525 section 6.3).
+    Wildcard,
+    /// A PrintableString with a character that isn't one of its own (X.680 41.4).
+    PrintableString,
+    /// A character that controls or formats text.
+    Hidden,
 }
 
 /// A remark, and the number of the line that it is about.

@@ -321,7 +321,7 @@ fn push_value(alloc: Global, text: &mut String, line: &Line) -> Result<(), Alloc
         Value::Boolean(value) => text.push_str(if *value { ": TRUE" } else { ": FALSE" }),
         Value::Number(number) => {
             text.push_str(": ")?;
-            push_number(text, u64::from(*number))
+            push_number(text, *number)
         }
         Value::Named(identifier) => {
             text.push_str(": ")?;

@@ -1,12 +1,14 @@
 //! Documents that OCTET STRINGs contain, by their type or as the value of an extension, and where their octets are in
 //! the file.
-ghost use Rattle.std.specs.Prelude.{◌<◌, ◌++◌, ◌≡◌, IfOk, IfSome, None, OnOk, Some, length, slice_get, true};
+ghost use Rattle.std.specs.Prelude.{◌<◌, ◌≤◌, ◌+◌, ◌++◌, ◌≡◌, IfOk, IfSome, None, OnOk, Some, length, option_and_then};
+ghost use Rattle.std.specs.Prelude.{slice_get, true};
 ghost use Rattle.std.specs.Option.{option_map};
 ghost use Rattle.pkix_shapes.specs.Plain.{is_plain};
 ghost use Rattle.pkix_shapes.specs.Terms.{term_of};
+ghost use Rattle.explain.specs.Contents.{contents_in};
 ghost use Rattle.explain.specs.Insides.{AddsInside, AreCarried, HasInsides, IsDocumentIn, IsNamed, IsValueOf};
-ghost use Rattle.explain.specs.Insides.{contained, contents_within, deeper_contents, deeper_pieces, inside_at};
-ghost use Rattle.explain.specs.Insides.{is_at_place, looked_for, own_contents, own_pieces, pieces_within};
+ghost use Rattle.explain.specs.Insides.{before_held, contained, contents_within, deeper_contents, deeper_pieces};
+ghost use Rattle.explain.specs.Insides.{inside_at, is_at_place, looked_for, own_contents, own_pieces, pieces_within};
 
 use crate::document::places::Piece;
 use crate::document::values::{contents_of, is_field};
@@ -15,9 +17,14 @@ use asn_names::judgement::{Judgement, judge};
 use asn_names::naming::{NamedElements, name_elements};
 use ber_outline::outline::outline;
 use pkix_shapes::extensions::extension_type;
+use pkix_shapes::public_keys::public_key_type;
 use pkix_shapes::shape::Shape;
 use std::alloc::{AllocError, Global};
 use tlv_core::limits::Limits;
+use tlv_core::tag::{Class, Tag};
+
+/// Its universal tag (X.680 8.4).
+const BIT_STRING: u32 = 3;
 
 /// A document inside an OCTET STRING, by its elements.
 #[derive(Drop)]
@@ -171,16 +178,36 @@ fn carried_type(
         ≡ looked_for search.now.in_extensions file.now elements.now (Some element.now) }
     ensures plain { IfSome result (λ r. is_plain r.now ≡ true) }
 {
-    if !search.in_extensions || !is_field(element.step, "extnValue") {
+    if !search.in_extensions {
         return None;
     }
-    let Some(first) = elements.get((element.around as usize).saturating_add(1)) else {
-        return None;
-    };
-    match contents_of(file, first) {
-        Some(identifier) => extension_type(identifier),
-        None => None,
+    if is_field(element.step, "extnValue") {
+        return match contents_at(file, elements, element.around, 1) {
+            Some(identifier) => extension_type(identifier),
+            None => None,
+        };
     }
+    if is_field(element.step, "subjectPublicKey") {
+        return match contents_at(file, elements, element.around, 2) {
+            Some(algorithm) => public_key_type(algorithm),
+            None => None,
+        };
+    }
+    None
+}
+
+/// The contents of the element so many after another one.
+fn contents_at<'a>(
+    file: &'a [u8],
+    elements: &[NamedElement],
+    number: u64,
+    after: u64,
+) -> Option<&'a [u8]>
+    ensures { option_map (λ r. r.now) result
+        ≡ option_and_then (contents_in file.now) (slice_get elements.now (number + after)) }
+{
+    let element = elements.get(number.saturating_add(after) as usize)?;
+    contents_of(file, element)
 }
 
 /// The element of this number.
@@ -286,14 +313,30 @@ fn push_contents(
     let Some(contents) = contents_of(file, element) else {
         return Ok(());
     };
-    octets.extend_from_slice(contents)?;
+    let before = before_held(element.header.tag, contents);
+    octets.extend_from_slice(&contents[before..])?;
     if let Some(at) = element.begin {
         pieces.push(Piece {
-            at,
-            octets: contents.len() as u64,
+            at: at + before as u64,
+            octets: (contents.len() - before) as u64,
         })?;
     }
     Ok(())
+}
+
+/// How many contents octets of a string stand before the octets that it holds: of a BIT STRING the first, which says
+/// how many bits are unused (X.690 8.6.2). Where there are some its bits are no octets, and it holds none.
+fn before_held(tag: Tag, contents: &[u8]) -> usize
+    ensures value { result ≡ before_held tag contents.now }
+    ensures within { result ≤ length contents.now }
+{
+    if tag.class() != Class::Universal || tag.number() != BIT_STRING {
+        return 0;
+    }
+    match contents {
+        [0, ..] => 1,
+        _ => contents.len(),
+    }
 }
 
 /// The document inside the element at a place.

@@ -3,7 +3,7 @@ ghost use Rattle.std.specs.Prelude.{◌≡◌, ◌==◌, IfOk, cond, length};
 ghost use Rattle.std.specs.Option.{option_map};
 ghost use Rattle.explain.specs.Contents.{between, contents_in};
 ghost use Rattle.explain.specs.Public.{Says, ShowsAll, ShowsContents, ShowsOwn, is_field, is_public, sort_of};
-ghost use Rattle.explain.specs.Public.{sort_of_leaf, sort_of_number};
+ghost use Rattle.explain.specs.Public.{number_of, sort_of_leaf, sort_of_number};
 
 use asn_names::element::{NamedElement, Step};
 use pkix_shapes::identifiers::identifier_of;
@@ -139,9 +139,9 @@ fn whole_value(alloc: Global, sort: Sort, contents: &[u8]) -> Result<Value, Allo
 fn whole_integer(alloc: Global, contents: &[u8]) -> Result<Value, AllocError>
     ensures { IfOk result (λ value. ShowsAll Sort.Integer contents.now value) }
 {
-    match contents {
-        [octet] if *octet < 128 => Ok(Value::Number(*octet)),
-        _ => Ok(Value::Octets(contents.to_vec(alloc)?)),
+    match short_integer(contents) {
+        Some(number) => Ok(Value::Number(number)),
+        None => Ok(Value::Octets(contents.to_vec(alloc)?)),
     }
 }
 
@@ -178,9 +178,27 @@ fn boolean_value(contents: &[u8]) -> Value
 fn integer_value(contents: &[u8]) -> Value
     ensures { Says Sort.Integer contents.now result }
 {
+    match short_integer(contents) {
+        Some(number) => Value::Number(number),
+        None => size_alone(contents),
+    }
+}
+
+/// The number that an INTEGER of up to four contents octets is which isn't negative.
+fn short_integer(contents: &[u8]) -> Option<u64>
+    ensures { result ≡ number_of contents.now }
+{
     match contents {
-        [octet] if *octet < 128 => Value::Number(*octet),
-        _ => size_alone(contents),
+        [0, b, ..] if *b < 128 => None,
+        [a] if *a < 128 => Some(u64::from(*a)),
+        [a, b] if *a < 128 => Some(u64::from(*a) * 256 + u64::from(*b)),
+        [a, b, c] if *a < 128 => Some((u64::from(*a) * 256 + u64::from(*b)) * 256 + u64::from(*c)),
+        [a, b, c, d] if *a < 128 => {
+            Some(
+                ((u64::from(*a) * 256 + u64::from(*b)) * 256 + u64::from(*c)) * 256 + u64::from(*d),
+            )
+        }
+        _ => None,
     }
 }
 

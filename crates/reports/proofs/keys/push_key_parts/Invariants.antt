@@ -1,6 +1,7 @@
 use Rattle.std.proofs.Common.{◌≡◌, ◌++◌, length, string_bytes}
-use Rattle.reports.specs.Asks.{each_in, key_part}
-use Rattle.reports.proofs.asks.push_key_parts.Given as goal
+use Rattle.reports.specs.Asks.{each_in}
+use Rattle.reports.specs.Keys.{key_part}
+use Rattle.reports.proofs.keys.push_key_parts.Given as goal
 
 abbrev pub invariant-loop-left : goal.invariant-loop-left
 invariant-loop-left l =

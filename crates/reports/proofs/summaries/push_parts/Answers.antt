@@ -1,8 +1,10 @@
 use Rattle.std.proofs.Common.{◌++◌, codes, string_bytes}
-use Rattle.reports.specs.Asks.{key_line, others_said, parts_said, subject_line}
+use Rattle.reports.specs.Asks.{others_said, subject_line}
+use Rattle.reports.specs.Keys.{key_line}
+use Rattle.reports.specs.Summaries.{parts_said}
 use Rattle.reports.specs.Texts.{line_feed}
 use Rattle.reports.proofs.Appends.{further, past}
-use Rattle.reports.proofs.asks.push_parts.Goals as goal
+use Rattle.reports.proofs.summaries.push_parts.Goals as goal
 
 pub returns : goal.returns
 unfolding parts_said
