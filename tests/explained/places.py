@@ -2,10 +2,11 @@
 """places.py PROGRAM..: the lines that `explain --json --all` lists, beside those of `openssl asn1parse`.
 
 Of each document that is accepted, of examples/ and of the tables in tests/pkder, each line's place, size of header,
-length, end, depth, form and tag are compared with openssl's. What is inside `privateKey`, and in the value of a known
-extension that is in DER by tests/oracle/extensions.py, openssl lists by itself, of the octets of its segments joined,
-and its places are made places in the file. Nothing inside a private element has a line; which elements are private is
-said here anew, by the types of docs/formats.md. Else no line may be missing, and none may be there that openssl hasn't.
+length, end, depth, form and tag are compared with openssl's. What is inside `privateKey`, in the value of a known
+extension that is in DER by tests/oracle/extensions.py, and in a public key of RSA that is in DER by
+tests/oracle/public_keys.py, openssl lists by itself, of the octets of its segments joined, and its places are made
+places in the file. Nothing inside a private element has a line; which elements are private is said here anew, by the
+types of docs/formats.md. Else no line may be missing, and none may be there that openssl hasn't.
 
 Documents that openssl can't list are counted. The last line is 'explained_places: N passed, M failed'; where there is
 no openssl, that is said and nothing fails."""
@@ -18,6 +19,7 @@ from pathlib import Path
 sys.path[0] = str(Path(__file__).resolve().parents[2])
 from tests.explained.documents import answer, documents, objects_in, try_all
 from tests.oracle.extensions import carried
+from tests.oracle.public_keys import carried_key
 from tests.oracle.reader import EC_PUBLIC_KEY, EXTENSION_REQUEST, RFC_8410, RSA_ENCRYPTION
 
 LISTED = re.compile(r" *(\d+):d=(\d+) +hl=(\d+) l= *(\d+|inf) +(cons|prim): (\S.{17}|\S.*)")
@@ -26,6 +28,7 @@ TAGS = """EOC,BOOLEAN,INTEGER,BIT STRING,OCTET STRING,NULL,OBJECT,OBJECT DESCRIP
 UTF8STRING,<ASN1 13>,<ASN1 14>,<ASN1 15>,SEQUENCE,SET,NUMERICSTRING,PRINTABLESTRING,T61STRING,VIDEOTEXSTRING,IA5STRING,
 UTCTIME,GENERALIZEDTIME,GRAPHICSTRING,VISIBLESTRING,GENERALSTRING,UNIVERSALSTRING,<ASN1 29>,BMPSTRING"""
 UNIVERSAL = {it.strip(): number for number, it in enumerate(TAGS.split(","))}
+BIT_STRING, OCTET_STRING = "universal 3", "universal 4"
 CLASSES = {"appl": "application", "cont": "context", "priv": "private"}
 SHOWN = 3
 MOST_TOLD = 6
@@ -45,11 +48,18 @@ class Element:
         """It and the elements in it, in the order of their octets."""
         return [self] + [it for member in self.members for it in member.all()]
 
-    def contents(self, octets):
-        """The places of the octets of a primitive string, or of one in segments."""
+    def pieces(self):
+        """The places of the contents of a primitive string, or of each segment of one."""
         if self.constructed:
-            return [place for it in self.members for place in it.contents(octets)]
-        return [*range(self.at + self.header, self.end)]
+            return [it for member in self.members for it in member.pieces()]
+        return [range(self.at + self.header, self.end)]
+
+    def held(self, octets):
+        """The places of the octets that the string holds: of a BIT STRING without unused bits all but the first of each
+        piece."""
+        if self.tag != BIT_STRING:
+            return [place for it in self.pieces() for place in it]
+        return [place for it in self.pieces() if octets[it[0]] == 0 for place in it[1:]]
 
 
 def tag_of(name):
@@ -140,8 +150,8 @@ def line_of(element, places=None, depth=0):
 
 
 def lines_inside(element, octets, privates=lambda root: []):
-    """The lines of what an OCTET STRING contains, of which these are private; None where openssl can't list it."""
-    places = element.contents(octets)
+    """The lines of what a string contains, of which these are private; None where openssl can't list it."""
+    places = element.held(octets)
     root = listed_by_openssl(bytes(octets[it] for it in places))
     if root is None:
         return None
@@ -157,7 +167,7 @@ def lines_in_key(key, octets):
 def values_in_der(root, document):
     """The values of the known extensions of a request that are in DER."""
     octets, limits = document.octets, (document.depth, document.limit)
-    contents = lambda element: bytes(octets[it] for it in element.contents(octets))
+    contents = lambda element: bytes(octets[it] for it in element.held(octets))
     for attribute in (it for last in root.members[0].members[3:] for it in last.members):
         if contents(attribute.members[0]) == EXTENSION_REQUEST:
             for extension in (it for asked in attribute.members[1].members for it in asked.members):
@@ -166,16 +176,30 @@ def values_in_der(root, document):
                     yield value
 
 
+def public_keys_in_der(root, document):
+    """The public keys of a request or of a public key whose algorithms say what they are, and that are so in DER."""
+    octets, limits = document.octets, (document.depth, document.limit)
+    algorithm, key = (root.members[0].members[2] if document.kind == "request" else root).members
+    identifier = bytes(octets[it] for it in algorithm.members[0].held(octets))
+    pieces = [octets[it.start : it.stop] for it in key.pieces()]
+    return [key] if (carried_key(identifier, pieces, *limits) or {}).get("verdict") == "der" else []
+
+
+def carrying(root, document):
+    """The elements of a document that contain others, as openssl doesn't list them, but for keys."""
+    values = values_in_der(root, document) if document.kind == "request" else []
+    return [*values, *(public_keys_in_der(root, document) if document.kind in ("request", "public") else [])]
+
+
 def due_lines(document):
-    """The lines that are due by openssl, in their order but for those inside OCTET STRINGs; None where it can't list."""
+    """The lines that are due by openssl, in their order but for those inside strings; None where it can't list."""
     root = listed_by_openssl(document.octets)
     if root is None:
         return None
     octets, kind = document.octets, document.kind
     lines = [line_of(it) for it in told(root, private_elements(kind, root, octets))]
-    keys, is_request = {"key": [root], "package": root.members}.get(kind, []), kind == "request"
-    insides = [lines_in_key(it, octets) for it in keys]
-    insides += [lines_inside(it, octets) for it in (values_in_der(root, document) if is_request else [])]
+    insides = [lines_in_key(it, octets) for it in {"key": [root], "package": root.members}.get(kind, [])]
+    insides += [lines_inside(it, octets) for it in carrying(root, document)]
     return None if None in insides else lines + [it for inside in insides for it in inside]
 
 
@@ -200,7 +224,7 @@ def differences(program, document, due):
     if not said and len(found) != len(due):
         return ["a line stands twice"]
     # (the lines of what is inside segments stand after those)
-    in_segments = any(it[5:] == (True, "universal 4") for it in due)
+    in_segments = any(it[5:] in ((True, BIT_STRING), (True, OCTET_STRING)) for it in due)
     if not said and not in_segments and [it[0] for it in found] != sorted(it[0] for it in due):
         return ["not in the order of the octets"]
     return said

@@ -17,6 +17,7 @@ to stand there each, in small or capital letters:
   lists      the places of the lines that --all lists, each with its header in hexadecimal if that is told
   marked     the place of a line with carets under it
   asks       the lines of what a request asks for, in their order, without the blanks in front
+  holds      the same of what a document of another kind holds
 What is listed without --all is of these lines: at most the first 4, those round the fault, and the last 7, or the ways
 to the elements that aren't in DER; none of a request in DER of which there is nothing to note. The last line is
 'explained_reports: N passed, M failed'."""
@@ -56,11 +57,17 @@ class Report:
         self.first, _, rest = text.partition("\n")
         self.line, _, rest = rest.partition("\n")
         parts = re.split(r"\n\n+", rest.strip("\n"))
-        self.asks = [it.strip() for it in parts.pop(0).split("\n")[1:]] if parts[0].startswith("asks for\n") else []
+        self.asks, self.holds = (self.block(parts, head) for head in ("asks for\n", "holds\n"))
         is_listing = bool(parts) and not re.match(r"[a-z]+ ", parts[0])
         self.listing = parts[0].split("\n") if is_listing else []
         self.said = self.labels("\n".join(parts[is_listing:]))
         self.notes = re.findall(r"(?m)^note +(.*)", "\n".join(parts[is_listing:]))
+
+    @staticmethod
+    def block(parts, head):
+        """The lines under a head, which are taken away where they are the first part."""
+        is_there = bool(parts) and parts[0].startswith(head)
+        return [it.strip() for it in parts.pop(0).split("\n")[1:]] if is_there else []
 
     @staticmethod
     def labels(text):
@@ -141,12 +148,15 @@ def wrong_in_lines(block, report, whole):
 
 
 def wrong_in_asks(block, report, whole):
-    """What is wrong with what a request asks for, without and with --all."""
+    """What is wrong with what a request asks for or a document holds, without and with --all."""
     for it in (report, whole):
-        if it.asks != block.get("asks", it.asks):
-            yield f"asks: {it.asks}"
-    if bool(report.asks) != (block["kind"][0] == "request" and not report.line.startswith("fault")):
+        if it.asks != block.get("asks", it.asks) or it.holds != block.get("holds", it.holds):
+            yield f"asks: {it.asks}, holds: {it.holds}"
+    kind, is_accepted = block["kind"][0], not report.line.startswith("fault")
+    if bool(report.asks) != (is_accepted and kind == "request"):
         yield f"{len(report.asks)} lines of what it asks for"
+    if len(report.holds) != (is_accepted and kind not in ("request", "package")):
+        yield f"{len(report.holds)} lines of what it holds"
 
 
 def wrong_in_object(block, found, report):

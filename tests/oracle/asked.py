@@ -2,24 +2,24 @@
 object `asks` of JSON.
 
 It is written from docs/formats.md, "What a request asks for" and "What stands in extensions", RFC 4514 and RFC 5280
-section 4.2.1: the document is gone through by tests/oracle/document_types.py, and what stands in an extension, whose
-verdict tests/oracle/extensions.py gives, by the types here. Nothing is shared with the definitions and the code of
-pkder but the table of usual names."""
+section 4.2.1: the document is gone through by tests/oracle/document_types.py, what stands in an extension by the types
+here, its verdict being that of tests/oracle/extensions.py, and a key by tests/oracle/held.py. Nothing is shared with
+the definitions and the code of pkder but the table of usual names."""
 import re
-import unicodedata
 from collections import namedtuple
 
+from tests.oracle.asked_words import address, characters_of, identifier, shown, sized, value_words
 from tests.oracle.document_types import REQUEST, Walk
 from tests.oracle.extensions import carried
-from tests.oracle.parts import Part, arcs, parts
+from tests.oracle.held import NO_VALUE, Key
+from tests.oracle.parts import parts
 from tests.oracle.reader import EXTENSION_REQUEST
 from tests.oracle.report import CHARACTERS, value_of
-from tools.pages.identifier_names import names_by_contents
 
 LEAF, OPEN, FIELDS, MEMBERS, CHOICE = "leaf", "open", "fields", "members", "choice"
 CONTEXT = 2
 BOOLEAN, INTEGER, BIT_STRING, OCTET_STRING, NULL, IDENTIFIER = ((0, it) for it in range(1, 7))
-UTF8_STRING, SEQUENCE, SET, IA5_STRING, BMP_STRING = ((0, it) for it in (12, 16, 17, 22, 30))
+SEQUENCE, SET, IA5_STRING = ((0, it) for it in (16, 17, 22))
 ENUMERATED = 0, 10
 
 # A type: the tags that its elements may have, None standing for any; of a leaf `parts` is the tag that says how it is
@@ -115,7 +115,6 @@ LISTS = {"2.5.29.15": "bits", "2.5.29.17": "names", "2.5.29.18": "names"}
 SHORT_NAMES = {"2.5.4.3": "CN", "2.5.4.7": "L", "2.5.4.8": "ST", "2.5.4.10": "O", "2.5.4.11": "OU", "2.5.4.6": "C",
                "2.5.4.9": "STREET", "0.9.2342.19200300.100.1.25": "DC", "0.9.2342.19200300.100.1.1": "UID"}
 SPECIAL = '"+,;<>'
-MOST = 32
 
 
 # What stands in the value of an extension that is in DER
@@ -146,19 +145,13 @@ def facts_in(part, type_, field=""):
         yield from facts_in(it, member, name)
 
 
-def identifier(contents):
-    """An object identifier by its arcs, and its usual name where it has one."""
-    name = names_by_contents().get(contents)
-    return {"identifier": arcs(Part(6, b"", contents))} | ({"name": name} if name else {})
-
-
 def fact_value(fact):
     """What a primitive element says, as JSON has it where it isn't characters."""
     contents = fact.contents
     if fact.tag == BOOLEAN:
         return {"boolean": contents != b"\0"}
-    if fact.tag in (INTEGER, ENUMERATED) and len(contents) == 1 and contents < b"\x80":
-        return {"integer": contents[0]}
+    if fact.tag in (INTEGER, ENUMERATED) and len(contents) <= 4 and contents < b"\x80":
+        return {"integer": int.from_bytes(contents, "big")}
     if fact.tag == NULL:
         return {"null": True}
     if fact.tag == IDENTIFIER:
@@ -173,58 +166,6 @@ def usages(contents):
 
 
 # Words
-
-
-def letter(character, special):
-    """A character as it is shown."""
-    if character in "\\" + special:
-        return "\\" + character
-    if character == " " or unicodedata.category(character)[0] in "LMNPS":
-        return character
-    number = ord(character)
-    return f"\\u{{{number:04x}}}" if number < 1 << 16 else f"\\u{{{number:06x}}}"
-
-
-def shown(characters, special=""):
-    return "".join(letter(it, special) for it in characters)
-
-
-def characters_of(tag, octets):
-    """The characters of a string. A BMPString isn't sound where an octet is left over, or has half of a pair, since it
-    has none beyond the basic plane (X.680 41.15); then each octet is a character, as of any other string."""
-    if tag == UTF8_STRING:
-        return octets.decode("utf-8")
-    units = [int.from_bytes(octets[at : at + 2], "big") for at in range(0, len(octets), 2)]
-    if tag == BMP_STRING and len(octets) % 2 == 0 and not any(0xD800 <= it < 0xE000 for it in units):
-        return "".join(map(chr, units))
-    return octets.decode("latin-1")
-
-
-def first_octets(octets):
-    return octets[:MOST].hex() + ".." * (len(octets) > MOST)
-
-
-def address(octets):
-    """An address, and a mask after it (RFC 5280 section 4.2.1.10)."""
-    if len(octets) in (4, 8):
-        return "/".join(".".join(map(str, octets[at : at + 4])) for at in range(0, len(octets), 4))
-    if len(octets) == 16:
-        return ":".join(octets[at : at + 2].hex() for at in range(0, 16, 2))
-    return first_octets(octets)
-
-
-def sized(count):
-    return f"{count} octet" if count == 1 else f"{count} octets"
-
-
-def value_words(value):
-    """What JSON says of a value, in words."""
-    (key, said), *_ = value.items()
-    if key == "identifier":
-        return value.get("name", said)
-    if key == "octets":
-        return first_octets(bytes.fromhex(value["hexadecimal"])) if "hexadecimal" in value else sized(said)
-    return {"boolean": "TRUE" if said is True else "FALSE", "integer": str(said), "null": "NULL"}[key]
 
 
 def fact_lines(fact):
@@ -286,7 +227,7 @@ class Extension:
             size = "constructed" if self.is_in_segments else sized(sum(map(len, self.pieces)))
             said = [f"{size}, not looked into"]
         elif found["verdict"] != "der":
-            said = ["not in DER" if found["verdict"] == "not_der" else "not of its type"]
+            said = [NO_VALUE[found["verdict"]]]
         yield from (f"      {it}" for it in said)
 
     def object(self, limits):
@@ -301,7 +242,7 @@ INFO = r"certificationRequestInfo\."
 FIELD = re.compile(rf"""{INFO}subject(?P<relative>\[\d+\])?(?P<item>\[\d+\])?(?P<of_item>\.(type|value))?
     |{INFO}subjectPKInfo\.algorithm\.(?P<named>algorithm|parameters)
     |signatureAlgorithm\.(?P<signature>algorithm|parameters)
-    |{INFO}subjectPKInfo\.(?P<key>subjectPublicKey)|{INFO}attributes\[\d+\]\.(?P<attribute>type)
+    |{INFO}subjectPKInfo\.(?P<key>subjectPublicKey)(\{{\d+\}})*|{INFO}attributes\[\d+\]\.(?P<attribute>type)
     |{INFO}attributes\[\d+\]\.values\[\d+\](?P<extension>\[\d+\])(\.(?P<of_extension>\w+)(?P<segment>(\{{\d+\}})*))?""",
                    re.X)
 
@@ -311,7 +252,7 @@ class Asked:
 
     def __init__(self, octets, depth, limit):
         self.octets, self.limits = octets, (depth, limit)
-        self.subject, self.key, self.signature, self.others, self.attribute = [], {}, {}, [], None
+        self.subject, self.key, self.signature, self.others, self.attribute = [], Key(octets), {}, [], None
         walk = Walk(octets, REQUEST, depth, limit)
         while element := walk.next():
             if found := FIELD.fullmatch(element.path):
@@ -324,12 +265,11 @@ class Asked:
         """Takes an element of these fields."""
         if found["of_item"] or found["item"] or found["relative"]:
             self.take_name(element, found)
-        elif found["signature"] or found["named"]:
+        elif found["named"] or found["key"]:
+            self.key.take(found["named"] or found["key"], element)
+        elif found["signature"]:
             if element.tag == IDENTIFIER and not element.is_constructed:
-                named = self.signature if found["signature"] else self.key
-                named[found["signature"] or found["named"]] = value_words(identifier(self.contents(element)))
-        elif found["key"]:
-            self.key["octets"] = None if element.is_constructed else len(self.contents(element)) - 1
+                self.signature[found["signature"]] = value_words(identifier(self.contents(element)))
         elif found["attribute"]:
             self.attribute = self.contents(element)
             if self.attribute != EXTENSION_REQUEST:
@@ -374,13 +314,11 @@ class Asked:
 
     def subject_words(self):
         pairs = [[f"{self.type_words(type_)}={self.name_words(value)}" for type_, value in it] for it in self.subject]
-        return ", ".join("+".join(it) for it in pairs)
+        return ", ".join("+".join(it) for it in pairs) or "empty"
 
     def text(self):
         """The lines under `asks for`."""
-        size = "constructed" if self.key["octets"] is None else sized(self.key["octets"])
-        key = ", ".join([*(self.key[it] for it in ("algorithm", "parameters") if it in self.key), size])
-        found = [f"  subject    {self.subject_words()}", f"  key        {key}",
+        found = [f"  subject    {self.subject_words()}", f"  key        {self.key.words(self.limits)}",
                  f"  signature  {', '.join(self.signature.values())}, not verified"]
         for it in self.others:
             found += it.lines(self.limits) if isinstance(it, Extension) else [f"  {it}, not shown"]
@@ -402,7 +340,7 @@ class Asked:
         extensions = [it.object(self.limits) for it in self.others if isinstance(it, Extension)]
         return {
             "subject": [[self.name_object(*pair) for pair in it] for it in self.subject],
-            "key": {key: said for key, said in self.key.items() if said is not None},
+            "key": self.key.object(self.limits),
             "signature": self.signature,
             "attributes": [it for it in self.others if not isinstance(it, Extension)],
             "extensions": extensions,

@@ -170,12 +170,9 @@ TYPES = {
 BY_CONTENTS = {oid(arcs): type_ for arcs, type_ in TYPES.items()}
 
 
-def carried(identifier, octets, depth=DEPTH, limit=OCTETS):
-    """What the octets of `extnValue` are, as `carries` says it in JSON, by the contents of `extnID`; None where the
-    extension isn't known. The limits are those of the document; the outermost element is at depth 1."""
-    type_ = BY_CONTENTS.get(identifier)
-    if type_ is None:
-        return None
+def judged(type_, octets, depth, limit):
+    """What octets are as one value of a type and nothing else. The limits are those of the document; the outermost
+    element is at depth 1."""
     reader = Reader(octets, depth, limit)
     try:
         element = reader.element(Container(OUTERMOST, None, 1))
@@ -186,3 +183,10 @@ def carried(identifier, octets, depth=DEPTH, limit=OCTETS):
     except Fault as fault:
         return {"verdict": "refused", "at": fault.place, "reason": fault.reason}
     return {"verdict": "der" if text == octets else "not_der"}
+
+
+def carried(identifier, octets, depth=DEPTH, limit=OCTETS):
+    """What the octets of `extnValue` are, as `carries` says it in JSON, by the contents of `extnID`; None where the
+    extension isn't known."""
+    type_ = BY_CONTENTS.get(identifier)
+    return type_ and judged(type_, octets, depth, limit)

@@ -1,10 +1,14 @@
-"""Certification requests that ask for much: subjects whose strings have characters of any kind, extensions that carry
-anything (tests/oracle/made_extensions.py), and attributes that aren't looked into."""
+"""Documents of which `explain` says much: certification requests whose subjects have strings with characters of any
+kind, whose extensions carry anything (tests/oracle/made_extensions.py), and whose attributes aren't looked into; and
+encrypted keys whose parameters have names and numbers, and public keys of RSA that carry anything
+(tests/oracle/made_public_keys.py)."""
 import functools
 import unicodedata
 
-from tests.oracle.made_documents import INTEGER, OBJECT_IDENTIFIER, SEQUENCE, SET, TAG_0, Maker, Node
+from tests.oracle.made_documents import (
+    CURVES, EC_PUBLIC_KEY, INTEGER, OBJECT_IDENTIFIER, OTHER_CURVES, SEQUENCE, SET, TAG_0, Maker, Node)
 from tests.oracle.made_extensions import RequestMaker
+from tests.oracle.made_public_keys import PublicKeyMaker
 from tests.oracle.reader import oid
 
 UTF8_STRING, PRINTABLE_STRING, TELETEX_STRING, IA5_STRING, UNIVERSAL_STRING, BMP_STRING = (
@@ -16,6 +20,9 @@ NAME_TYPES = """2.5.4.3 2.5.4.6 2.5.4.7 2.5.4.8 2.5.4.9 2.5.4.10 2.5.4.11 0.9.23
 0.9.2342.19200300.100.1.1 2.5.4.5 2.5.4.12 2.5.4.42 2.5.4.97 1.2.840.113549.1.9.1 1.2.3.4 2.5.4.200""".split()
 # challengePassword, unstructuredName, and others
 ATTRIBUTE_TYPES = ["1.2.840.113549.1.9.7", "1.2.840.113549.1.9.2", "1.3.6.1.4.1.311.13.2.3", "1.2.3.4"]
+# PBES2 and what stands in its parameters (RFC 8018), in PKCS #12, and others
+SCHEMES = """1.2.840.113549.1.5.13 1.2.840.113549.1.5.12 1.2.840.113549.2.9 2.16.840.1.101.3.4.1.42
+1.3.6.1.4.1.11591.4.11 1.2.840.113549.1.12.1.3 1.2.3.4 2.999""".split()
 MARKED = '\\"+,;<># =\\\\'
 UNSEEN = "\0\t\n\r\x1b\x7f\x80\x85\xa0\xad\u061c\u200b\u200e\u2028\u2029\u202e\u2066\ufeff\ue000\ufff9" \
     "\U000e0041\U0010fffd"
@@ -73,3 +80,25 @@ class AskingMaker(RequestMaker):
         if self.random.random() < 0.875:
             info.append(Node(TAG_0, self.some(0, 3, self.request_attribute)))
         return Node(SEQUENCE, [Node(SEQUENCE, info), self.any_algorithm(), bits])
+
+
+class HoldingMaker(PublicKeyMaker):
+    """Makes documents of other kinds that are sound."""
+
+    def any(self, deeper=2):
+        """An open value, an identifier or a number more often than not."""
+        number = self.one_of(b"\0", b"\1\0\1", b"\x7f\xff\xff\xff", b"\x10\0", b"\0\x80")
+        makers = [lambda: Node(OBJECT_IDENTIFIER, oid(self.one_of(*SCHEMES))), lambda: Node(INTEGER, number),
+                  self.number_of_rsa, lambda: super(HoldingMaker, self).any(deeper)]
+        return self.random.choices(makers, [3, 1, 1, 5])[0]()
+
+    def encrypted(self):
+        scheme = Node(OBJECT_IDENTIFIER, oid(self.one_of(*SCHEMES)))
+        return Node(SEQUENCE, [Node(SEQUENCE, [scheme, *self.some(0, 1, self.parameters)]), self.string()])
+
+    def public_key(self):
+        """A public key, in one of four with a curve that is named, written out or left out."""
+        if self.random.random() < 0.75:
+            return super().public_key()
+        curve = self.one_of([], [self.any()], [self.identifier(self.one_of(*CURVES, *OTHER_CURVES))])
+        return Node(SEQUENCE, [self.algorithm(EC_PUBLIC_KEY, *curve), self.bits()])

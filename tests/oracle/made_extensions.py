@@ -3,6 +3,7 @@ layout that BER allows, such values with a rule broken or with damage, and other
 from tests.oracle.made_documents import (
     BIT_STRING, BOOLEAN, CONTEXT, EXTENSION_REQUEST, INTEGER, OBJECT_IDENTIFIER, SEQUENCE, SET, TAG_0, TAG_1, TEXTS,
     UTF8_STRING, Maker, Node)
+from tests.oracle.made_public_keys import PublicKeyMaker
 from tests.oracle.reader import oid
 
 DIRECTORY_STRINGS = [UTF8_STRING, UTF8_STRING, *((0, it) for it in (19, 20, 28, 30))]
@@ -211,8 +212,9 @@ def contents_of(chance, arcs):
     return octets
 
 
-class RequestMaker(Maker):
-    """Makes requests with extensions, most of them known, in any layout. What they carry goes by chance alone."""
+class RequestMaker(PublicKeyMaker):
+    """Makes requests with extensions, most of them known, in any layout. What they and keys of RSA carry goes by chance
+    alone."""
 
     def extension(self):
         is_known = self.random.random() < 0.9

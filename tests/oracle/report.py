@@ -149,8 +149,8 @@ def value_of(element, octets):
         return {"boolean": contents != b"\0"}
     if element.tag == NULL.tag:
         return {"null": True}
-    if element.tag in (INTEGER.tag, ENUMERATED) and len(contents) == 1 and contents < b"\x80":
-        return {"integer": contents[0]}
+    if element.tag in (INTEGER.tag, ENUMERATED) and 0 < len(contents) <= 4 and contents < b"\x80":
+        return {"integer": int.from_bytes(contents, "big")}
     if element.tag in CHARACTERS and element.name == "value":
         try:
             return {"characters": contents.decode("utf-8")}

@@ -1,5 +1,6 @@
-"""Certification requests that openssl makes, and what openssl and `cryptography` (pyca) read of what they ask for:
-pairs of what it is (`DNS`, `email`, `URI`, `IP`, `usage`, `purpose`, `cA`, `pathLenConstraint`) and what is said."""
+"""Certification requests and public keys that openssl makes, and what openssl and `cryptography` (pyca) read in them:
+pairs of what it is (`DNS`, `email`, `URI`, `IP`, `usage`, `purpose`, `cA`, `pathLenConstraint`, and of a key of RSA
+`bits` and `exponent`) and what is said."""
 import importlib.util
 import ipaddress
 import os
@@ -34,6 +35,8 @@ PURPOSES = {
     "OCSPSigning": ("OCSP Signing", "1.3.6.1.5.5.7.3.9"),
 }
 NAME_WORDS = {"DNS": "DNS", "email": "email", "URI": "URI", "IP Address": "IP"}
+# What keys of RSA have: their bits and their exponents.
+RSA = [(1024, 65537), (1023, 3), (2048, 65537), (1024, 2**31 - 1), (1024, 2**31 + 11), (1025, 2**40 + 15)]
 HEADS = {"X509v3 Subject Alternative Name": "names", "X509v3 Key Usage": "bits",
          "X509v3 Extended Key Usage": "purposes", "X509v3 Basic Constraints": "constraints"}
 
@@ -79,19 +82,32 @@ def random_extensions(chance):
 
 
 def made_by_openssl(seed, count=COUNT):
-    """Requests, each with its title; none where there is no openssl."""
+    """Requests and public keys, each with its title and its kind; none where there is no openssl."""
     if not shutil.which("openssl"):
         return
     chance = random.Random(f"openssl {seed}")
     with tempfile.TemporaryDirectory() as folder:
-        key, config = os.path.join(folder, "key"), os.path.join(folder, "config")
-        run("genpkey", "-algorithm", "EC", "-pkeyopt", "ec_paramgen_curve:P-256", "-out", key)
+        config, keys = os.path.join(folder, "config"), [*keys_in(folder)]
+        for key in keys:
+            yield f"{os.path.basename(key)} of openssl", "public", run("pkey", "-in", key, "-pubout", "-outform", "DER")
         for number in range(count):
             name = chance.choice(["CN = example.org", "C = DE\nO = B\u00fccher, GmbH + Co.\nCN = \u4e2d\u6587"])
             with open(config, "w", encoding="utf-8") as it:
                 it.write(CONFIG.format(name=name, asked=random_extensions(chance)))
-            words = ("-new", "-key", key, "-config", config, "-outform", "DER")
-            yield f"request {number} of openssl, seed {seed}", run("req", *words)
+            words = ("-new", "-key", keys[number % len(keys)], "-config", config, "-outform", "DER")
+            yield f"request {number} of openssl, seed {seed}", "request", run("req", *words)
+
+
+def keys_in(folder):
+    """The paths of private keys that are put into a folder."""
+    settings = {"public key on P-256": ["EC", "ec_paramgen_curve:P-256"]}
+    for bits, exponent in RSA:
+        words = ["RSA", f"rsa_keygen_bits:{bits}", f"rsa_keygen_pubexp:{exponent}"]
+        settings[f"public key of {bits} bits with exponent {exponent}"] = words
+    for title, (algorithm, *words) in settings.items():
+        path = os.path.join(folder, title)
+        run("genpkey", "-algorithm", algorithm, *(it for word in words for it in ("-pkeyopt", word)), "-out", path)
+        yield path
 
 
 def run(*words, given=b""):
@@ -101,13 +117,16 @@ def run(*words, given=b""):
 # What tools read
 
 
-def read_by_openssl(octets):
+def read_by_openssl(kind, octets):
     """What openssl says in its words, made those of RFC 5280."""
-    text = run("req", "-inform", "DER", "-noout", "-text", given=octets).decode()
+    words = ("pkey", "-pubin") if kind == "public" else ("req",)
+    text = run(*words, "-inform", "DER", "-noout", "-text", given=octets).decode()
     found = set()
     for head, said in re.findall(r"(?m)^ +([A-Z0-9][\w ]+): (?:critical)?\n +(.+)$", text):
         for it in said.split(", ") if head in HEADS else []:
             found.add(openssl_fact(HEADS[head], it.strip()))
+    if exponent := re.search(r"(?m)^ *Exponent: (\d+) \(", text):
+        found |= {("bits", re.search(r"Public-Key: \((\d+) bit\)", text)[1]), ("exponent", exponent[1])}
     return {it for it in found if it}
 
 
@@ -124,12 +143,16 @@ def openssl_fact(of, said):
     return kind and (kind, str(ipaddress.ip_address(value)) if kind == "IP" else value)
 
 
-def read_by_pyca(octets):
+def read_by_pyca(kind, octets):
     """What cryptography reads."""
     from cryptography import x509
+    from cryptography.hazmat.primitives.serialization import load_der_public_key
 
-    found = set()
-    for it in x509.load_der_x509_csr(octets).extensions:
+    if kind == "public":
+        return pyca_key(load_der_public_key(octets))
+    request = x509.load_der_x509_csr(octets)
+    found = pyca_key(request.public_key())
+    for it in request.extensions:
         value = it.value
         if isinstance(value, x509.SubjectAlternativeName):
             kinds = {"DNS": x509.DNSName, "email": x509.RFC822Name, "URI": x509.UniformResourceIdentifier,
@@ -146,6 +169,15 @@ def read_by_pyca(octets):
     return found
 
 
+def pyca_key(key):
+    """The size and the exponent of a key of RSA."""
+    from cryptography.hazmat.primitives.asymmetric.rsa import RSAPublicKey
+
+    if not isinstance(key, RSAPublicKey):
+        return set()
+    return {("bits", str(key.key_size)), ("exponent", str(key.public_numbers().e))}
+
+
 def pyca_usages(it):
     """Whether each usage is asked for; without keyAgreement cryptography has no answer for the last two."""
     last = (it.encipher_only, it.decipher_only) if it.key_agreement else (False, False)
@@ -158,19 +190,33 @@ READERS = {"openssl": read_by_openssl if shutil.which("openssl") else None,
 
 
 def read_in_lines(block):
-    """The same in the lines under `asks for`."""
+    """The same in the lines under `asks for` or `holds`."""
     found, of = [], ""
     for line in block.splitlines():
-        if not line.startswith("      "):
+        if line.startswith("  key "):
+            found += key_facts(line)
+        elif not line.startswith("      "):
             of = line.split(",")[0].strip()
-            continue
-        word, _, said = line.strip().partition(" ")
-        if of == "keyUsage":
-            found.append(("usage", word))
-        elif of == "extKeyUsage":
-            found.append(("purpose", word.removeprefix("id-kp-")))
-        elif word in NAME_WORDS.values():
-            found.append((word, str(ipaddress.ip_address(said)) if word == "IP" else said))
-        elif of == "basicConstraints":
-            found.append((word, said))
+        else:
+            found += extension_facts(of, *line.strip().partition(" ")[::2])
     return {*found}
+
+
+def key_facts(line):
+    """What a line says of a key of RSA."""
+    if bits := re.search(r", (\d+) bits", line):
+        yield "bits", bits[1]
+    if exponent := re.search(r", exponent (\w+)", line):
+        yield "exponent", str(int(exponent[1], 0))
+
+
+def extension_facts(of, word, said):
+    """What a line says in an extension."""
+    if of == "keyUsage":
+        yield "usage", word
+    elif of == "extKeyUsage":
+        yield "purpose", word.removeprefix("id-kp-")
+    elif word in NAME_WORDS.values():
+        yield word, str(ipaddress.ip_address(said)) if word == "IP" else said
+    elif of == "basicConstraints":
+        yield word, said
