@@ -221,10 +221,11 @@ pkder_outcome pkder_show(uint32_t kind, uint32_t depth, uint64_t octets, const u
 /* Writes the report of the octets of src where dst begins: what pkder_check answers, as the program's line, the
  * elements with their places, names and sizes, and of octets that are no document which field is at fault, what is due
  * there, the class of what stands there, the usual cause and what to do. Of an accepted request it says what that asks
- * for. It is UTF-8, as text printable ASCII but for the names and strings that a request asks for; each line ends in a
- * line feed. No octet 0 stands after them. Octets of private keys and values of attributes aren't in it, but the known
- * extensions that an accepted request asks for: of octets that are no document it tells the first elements, as far as
- * they are usual, and what docs/formats.md lists beside them ("What a report tells").
+ * for, and of another accepted document but a package what it holds. It is UTF-8, as text printable ASCII but for the
+ * names and strings that a request asks for; each line ends in a line feed. No octet 0 stands after them. Octets of
+ * private keys and values of attributes aren't in it, but the known extensions that an accepted request asks for: of
+ * octets that are no document it tells the first elements, as far as they are usual, and what docs/formats.md lists
+ * beside them ("What a report tells").
  *
  * Promised, by status:
  *   PKDER_REPORTED: the first `size` octets of dst are the report of the octets in this form (docs/proved.md says what

@@ -15,7 +15,7 @@ var ErrUntold = errors.New("the value of the extension isn't in DER, or the requ
 // what extensionRequest has. The error of its methods is ErrUntold or nil.
 type Asked struct {
 	Subject    [][]NameAttribute
-	Key        AskedAlgorithm
+	Key        HeldKey
 	Signature  AskedAlgorithm
 	Attributes []string
 	Extensions []Extension
@@ -32,12 +32,10 @@ type NameAttribute struct {
 }
 
 // AskedAlgorithm is an algorithm by its usual name, else by its arcs, and so what its parameters name, as a curve,
-// empty where they name nothing. Octets is how many a public key has, and 0 of one in segments (BER) and of a
-// signature.
+// empty where they name nothing.
 type AskedAlgorithm struct {
 	Algorithm  string
 	Parameters string
-	Octets     uint64
 }
 
 // Extension is an extension: its arcs, its usual name, empty where there is none, whether it is critical, its place,
@@ -181,6 +179,7 @@ func (asked Asked) one(name string) (Extension, error) {
 
 type toldAsked struct {
 	Asked
+	Key        toldKey
 	Extensions []toldExtension
 }
 
@@ -205,6 +204,7 @@ func askedOf(text string) (Asked, error) {
 		return Asked{}, errors.New("the report of libpkder doesn't say what the request asks for")
 	}
 	asked := told.Asks.Asked
+	asked.Key = told.Asks.Key.key()
 	for _, it := range told.Asks.Extensions {
 		asked.Extensions = append(asked.Extensions, it.extension())
 	}

@@ -20,6 +20,9 @@
 //		return err
 //	}
 //	names, err := asked.DNS()
+//
+// Holds has what a document of another kind holds: its algorithm or its curve, the size of a key of RSA, and how a key
+// is encrypted.
 package pkder
 
 /*

@@ -8,7 +8,7 @@ import (
 	"testing"
 )
 
-// refusalOfAll is what all calls answer of the octets, Explain, Asks and Field too.
+// refusalOfAll is what all calls answer of the octets, Explain, Asks, Holds and Field too.
 func refusalOfAll(t *testing.T, document []byte) error {
 	refused := refusal(t, document)
 	if err := unreported(t, document); err.Error() != refused.Error() {
@@ -17,12 +17,13 @@ func refusalOfAll(t *testing.T, document []byte) error {
 	return refused
 }
 
-// unreported is what Explain, Asks and Field answer of the octets.
+// unreported is what Explain, Asks, Holds and Field answer of the octets.
 func unreported(t *testing.T, document []byte) error {
 	_, explained := Explain(Key, Usual(), document, ReportForm{})
 	_, asked := Asks(Usual(), document)
+	_, held := Holds(Key, Usual(), document)
 	_, err := Field(Key, Usual(), document)
-	for _, it := range []error{explained, asked} {
+	for _, it := range []error{explained, asked, held} {
 		if err == nil || it == nil || err.Error() != it.Error() {
 			t.Fatal(document, it, err)
 		}
@@ -87,9 +88,15 @@ func TestStandInOfReports(t *testing.T) {
 	if _, err := Asks(Usual(), []byte{6, 28, 28}); err == nil || err.Error() != report.Fault.Error() {
 		t.Error(err)
 	}
+	if _, err := Holds(Key, Usual(), []byte{6, 28, 28}); err == nil || err.Error() != report.Fault.Error() {
+		t.Error(err)
+	}
 	// (a report without a fault, and without anything else)
 	if _, err := Asks(Usual(), []byte{6, 0, 0}); err == nil {
 		t.Error("a report of nothing says what is asked for")
+	}
+	if _, err := Holds(Key, Usual(), []byte{6, 0, 0}); err == nil {
+		t.Error("a report of nothing says what is held")
 	}
 	for _, status := range []byte{0, 2, 5} {
 		line := fmt.Sprintf("libpkder answers the status %d", status)

@@ -28,8 +28,9 @@ def reports(document):
 
 
 def told(document):
-    """The call that raises what a report tells."""
+    """Those that raise what a report tells."""
     yield lambda: pkder.asks(document)
+    yield lambda: pkder.holds(pkder.Kind.KEY, document)
 
 
 def calls(document):
@@ -69,9 +70,10 @@ class Answers(unittest.TestCase):
             with self.subTest(line=line):
                 self.assertEqual((report.is_der, str(report.fault)), (False, line))
                 self.assertEqual(pkder.field(pkder.Kind.KEY, document), "")
-            with self.subTest(line=line), self.assertRaises(pkder.Fault) as raised:
-                pkder.asks(document)
-            self.assertEqual(str(raised.exception), line)
+            for call in told(document):
+                with self.subTest(line=line), self.assertRaises(pkder.Fault) as raised:
+                    call()
+                self.assertEqual(str(raised.exception), line)
 
     def test_statuses_of_reports_are_no_answer_of_other_calls(self):
         for document in b"\6\0\0", b"\7\0\0":

@@ -237,7 +237,7 @@ class Asked(unittest.TestCase):
     def test_whole(self):
         found = explained("extensions-sound")
         self.assertEqual(found.subject, ((pkder.NameAttribute("2.5.4.3", "commonName", "www.example.org"),),))
-        self.assertEqual(found.key, pkder.Algorithm("Ed25519", octets=32))
+        self.assertEqual(found.key, pkder.Key("Ed25519", octets=32))
         self.assertEqual((found.signature, found.attributes), (pkder.Algorithm("Ed25519"), ()))
         self.assertEqual(found.san, (pkder.Name("dns", "www.example.org"), pkder.Name("ip", "192.0.2.17")))
         self.assertEqual((found.dns, found.is_ca), (("www.example.org",), False))
@@ -257,12 +257,12 @@ class Asked(unittest.TestCase):
         names = [[(it.name, it.text, it.value) for it in relative] for relative in found.subject]
         self.assertEqual(names, [[("countryName", "US", None)], [("organizationName", "Example", None)],
                                  [("commonName", "www.example.com", None)]])
-        self.assertEqual(found.key, pkder.Algorithm("id-ecPublicKey", "P-256", 65))
+        self.assertEqual(found.key, pkder.Key("id-ecPublicKey", "P-256", 65))
         self.assertEqual(found.signature, pkder.Algorithm("ecdsa-with-SHA256"))
         self.assertEqual((found.dns, found.is_ca), (("www.example.com", "example.com"), False))
         self.assertEqual((found.key_usage, found.extended_key_usage), ((), ()))
         found = pkder.asks(request_of("examples/request-rsa2048"))
-        self.assertEqual(found.key, pkder.Algorithm("rsaEncryption", octets=270))
+        self.assertEqual(found.key, pkder.Key("rsaEncryption", None, 270, "der", 2048, "65537"))
         self.assertEqual(found.signature, pkder.Algorithm("sha256WithRSAEncryption"))
         self.assertEqual((found.extensions, found.san, found.dns, found.is_ca), ((), (), (), False))
 
@@ -270,7 +270,7 @@ class Asked(unittest.TestCase):
         # (its strings are in segments, and the value of the subjectAltName, too)
         found = pkder.asks(bytearray(request_of("examples/request-indefinite")))
         self.assertEqual([it.text for relative in found.subject for it in relative], [None, None, None])
-        self.assertEqual(found.key, pkder.Algorithm("id-ecPublicKey", "P-256"))
+        self.assertEqual(found.key, pkder.Key("id-ecPublicKey", "P-256"))
         self.assertEqual(found.dns, ("www.example.com", "example.com"))
         found = explained("critical-false")
         self.assertEqual(found.subject[1][0].text, "Müller und Söhne GmbH")
@@ -312,6 +312,59 @@ class Asked(unittest.TestCase):
         for limits in {"depth": 0}, {"depth": 65}, {"octets": 0}, {"octets": 2**31}:
             with self.subTest(limits=limits), self.assertRaises(ValueError) as raised:
                 pkder.asks(KEY, **limits)
+            self.assertNotIsInstance(raised.exception, pkder.Fault)
+
+
+def rsa_key(contents):
+    """A public key of RSA whose BIT STRING has these contents, in hexadecimal digits."""
+    octets = bytes.fromhex(contents)
+    algorithm = bytes.fromhex("300d06092a864886f70d0101010500")
+    key = algorithm + bytes([3, len(octets)]) + octets
+    return bytes([0x30, len(key)]) + key
+
+
+class Held(unittest.TestCase):
+    """What documents hold, as `openssl asn1parse` shows it, and by X.690 8.3."""
+
+    def test_examples(self):
+        of_rsa = pkder.Key("rsaEncryption", None, 270, "der", 2048, "65537")
+        for name, kind, due in (
+            ("rsa2048", pkder.Kind.KEY, pkder.Holds(pkder.Key("rsaEncryption"))),
+            ("p384", pkder.Kind.KEY, pkder.Holds(pkder.Key("id-ecPublicKey", "P-384"))),
+            ("public-rsa2048", pkder.Kind.PUBLIC, pkder.Holds(of_rsa)),
+            ("public-p256", pkder.Kind.PUBLIC, pkder.Holds(pkder.Key("id-ecPublicKey", "P-256", 65))),
+            ("public-indefinite", pkder.Kind.PUBLIC, pkder.Holds(pkder.Key("Ed25519"))),
+            ("k256-sec1", pkder.Kind.EC, pkder.Holds(curve="secp256k1")),
+            ("encrypted-keytool", pkder.Kind.ENCRYPTED, pkder.Holds(
+                algorithms=("id-PBES2", "id-PBKDF2", "id-hmacWithSHA256", "aes256-CBC-PAD"), numbers=(10000, 32))),
+        ):
+            with self.subTest(name=name):
+                self.assertEqual(pkder.holds(kind, request_of(f"examples/{name}")), due)
+        # (an EC key without parameters)
+        self.assertEqual(pkder.holds(pkder.Kind.EC, bytes.fromhex("302502010104 20" + "11" * 32)), pkder.Holds())
+
+    def test_keys_of_rsa(self):
+        for contents, due in (
+            ("003006020121020103", ("der", 6, "3")),
+            ("0030090202ff7f0203010001", ("der", None, "65537")),
+            ("00300d0206008000000000020300ffff", ("der", 40, "65535")),
+            ("00300b02020101020500ffffffff", ("der", 9, "0x00ffffffff")),
+            ("0030060201210201ff", ("der", 6, "0xff")),
+            ("00308106020121020103", ("not_der", None, None)),
+            ("003003020121", ("refused", None, None)),
+            ("013006020121020102", ("refused", None, None)),
+        ):
+            found = pkder.holds(pkder.Kind.PUBLIC, rsa_key(contents)).key
+            with self.subTest(contents=contents):
+                self.assertEqual((found.verdict, found.bits, found.exponent), due)
+                self.assertEqual(found.octets, len(contents) // 2 - 1)
+
+    def test_refused_documents(self):
+        with self.assertRaises(pkder.Fault):
+            pkder.holds(pkder.Kind.KEY, b"")
+        for kind in pkder.Kind.REQUEST, pkder.Kind.PACKAGE, 3, 6, 0, 7:
+            with self.subTest(kind=kind), self.assertRaises(ValueError) as raised:
+                pkder.holds(kind, b"")
             self.assertNotIsInstance(raised.exception, pkder.Fault)
 
 

@@ -9,6 +9,7 @@
     pkder.explain(pkder.Kind.KEY, octets)        a report for people: .text, and .is_der, .differs_at or .fault
     pkder.field(pkder.Kind.KEY, octets)          the field that the report is about: "" where the document is in DER
     pkder.asks(octets)                           what a request asks for: .subject, .key, .dns, .key_usage, .extensions
+    pkder.holds(pkder.Kind.KEY, octets)          what another document holds: .key, .curve, .algorithms, .numbers
 
 Each takes a whole document, and raises Fault where that is refused, but explain and field, which answer of any octets;
 same takes two, and raises Fault where one of them is refused. All but the first take BER, too. The library is the file
@@ -21,11 +22,12 @@ import json as _json
 import os
 from typing import Any, Dict, List, Optional, Tuple, Union
 
-from ._asks import Algorithm, Asks, Extension, Name, NameAttribute, Value, asks_of as _asks_of
+from ._asks import Algorithm, Asks, Extension, Holds, Key, Name, NameAttribute, Value
+from ._asks import asks_of as _asks_of, holds_of as _holds_of
 
-__all__ = ["DEPTH", "OCTETS", "Algorithm", "Asks", "Extension", "Fault", "Form", "Kind", "Name", "NameAttribute",
-           "NotDer", "Part", "Reason", "Refused", "Report", "Value", "asks", "check", "explain", "field", "normalise",
-           "require_der", "same", "show", "signed"]
+__all__ = ["DEPTH", "OCTETS", "Algorithm", "Asks", "Extension", "Fault", "Form", "Holds", "Key", "Kind", "Name",
+           "NameAttribute", "NotDer", "Part", "Reason", "Refused", "Report", "Value", "asks", "check", "explain",
+           "field", "holds", "normalise", "require_der", "same", "show", "signed"]
 __version__ = "1.1.0"
 
 
@@ -346,10 +348,25 @@ def field(kind: Kind, document: Octets, *, depth: int = DEPTH, octets: int = OCT
 def asks(document: Octets, *, depth: int = DEPTH, octets: int = OCTETS) -> Asks:
     """What a request asks for, by the report that explain makes of it: subject, key, names and other extensions. Fault
     is raised where the request is refused; one in BER isn't. Its signature isn't verified, and no name is looked up."""
-    report = explain(Kind.REQUEST, document, json=True, depth=depth, octets=octets)
+    return _asks_of(_told("asks", Kind.REQUEST, document, depth, octets))
+
+
+def holds(kind: Kind, document: Octets, *, depth: int = DEPTH, octets: int = OCTETS) -> Holds:
+    """What a document of kind KEY, EC, PUBLIC or ENCRYPTED holds, by the report that explain makes of it: the algorithm
+    or the curve of a key, the size of one of RSA, and how a key is encrypted. Fault is raised where it is refused; one
+    in BER isn't. No octets of private keys are in it."""
+    if kind in (Kind.REQUEST, Kind.PACKAGE):
+        raise ValueError("nothing is told of what such a document holds")
+    return _holds_of(_told("holds", kind, document, depth, octets))
+
+
+def _told(member: str, kind: Kind, document: Octets, depth: int, octets: int) -> Dict[str, Any]:
+    """This member of the report of a document."""
+    report = explain(kind, document, json=True, depth=depth, octets=octets)
     if report.fault:
         raise report.fault
     told = _json.loads(report.text)
-    if "asks" not in told:
-        raise RuntimeError("the report of libpkder doesn't say what the request asks for")
-    return _asks_of(told["asks"])
+    if member not in told:
+        raise RuntimeError(f"the report of libpkder has no {member}")
+    found: Dict[str, Any] = told[member]
+    return found

@@ -1,4 +1,5 @@
-"""What a certification request asks for, as values: made of what explain says of it in JSON."""
+"""What a certification request asks for, and what another document holds, as values: made of what explain says of it
+in JSON."""
 import dataclasses
 from typing import Any, Dict, Optional, Tuple
 
@@ -63,12 +64,36 @@ class Extension:
 
 @dataclasses.dataclass(frozen=True)
 class Algorithm:
-    """An algorithm by its usual name, else by its arcs, and so what its parameters name, as a curve, or None; and of a
-    public key how many octets it has, None where it is in segments (BER)."""
+    """An algorithm by its usual name, else by its arcs, and so what its parameters name, as a curve, or None."""
 
     algorithm: str
     parameters: Optional[str] = None
+
+
+@dataclasses.dataclass(frozen=True)
+class Key(Algorithm):
+    """A key by its algorithm; and of a public key how many octets it has, None where it is in segments (BER). Of one of
+    RSA verdict is what it is as an RSAPublicKey, "der", "not_der" or "refused", and of one in DER bits is how many its
+    modulus has, None where that is negative, and exponent is that in decimal digits, from 2**31 on, and below 0, by its
+    first octets in hexadecimal ones, as "0x0100000001". Of any other key these three are None."""
+
     octets: Optional[int] = None
+    verdict: Optional[str] = None
+    bits: Optional[int] = None
+    exponent: Optional[str] = None
+
+
+@dataclasses.dataclass(frozen=True)
+class Holds:
+    """What a document holds: of kind KEY and PUBLIC key, of kind EC curve by its usual name, else by its arcs, None
+    where it names none, and of kind ENCRYPTED algorithms, what its algorithm and the parameters of that name, and
+    numbers, those from 0 to 2**31 - 1 in the parameters, as how often a password is hashed. The others are None, and
+    ()."""
+
+    key: Optional[Key] = None
+    curve: Optional[str] = None
+    algorithms: Tuple[str, ...] = ()
+    numbers: Tuple[int, ...] = ()
 
 
 @dataclasses.dataclass(frozen=True)
@@ -78,7 +103,7 @@ class Asks:
     properties are None where it can't be told: the extension's value isn't in DER, or there are two of it."""
 
     subject: Tuple[Tuple[NameAttribute, ...], ...]
-    key: Algorithm
+    key: Key
     signature: Algorithm
     attributes: Tuple[str, ...]
     extensions: Tuple[Extension, ...]
@@ -144,11 +169,23 @@ def _extension(told: Dict[str, Any]) -> Extension:
 
 
 def _algorithm(told: Dict[str, Any]) -> Algorithm:
-    return Algorithm(told["algorithm"], told.get("parameters"), told.get("octets"))
+    return Algorithm(told["algorithm"], told.get("parameters"))
+
+
+def _key(told: Dict[str, Any]) -> Key:
+    return Key(told["algorithm"], told.get("parameters"), told.get("octets"), told.get("carries", {}).get("verdict"),
+               told.get("bits"), told.get("exponent"))
 
 
 def asks_of(told: Dict[str, Any]) -> Asks:
     """The member asks of a report in JSON, as values."""
     subject = tuple(tuple(map(_name_attribute, it)) for it in told["subject"])
-    return Asks(subject, _algorithm(told["key"]), _algorithm(told["signature"]), tuple(told["attributes"]),
+    return Asks(subject, _key(told["key"]), _algorithm(told["signature"]), tuple(told["attributes"]),
                 tuple(map(_extension, told["extensions"])))
+
+
+def holds_of(told: Dict[str, Any]) -> Holds:
+    """The member holds of a report in JSON, as values."""
+    encryption = told.get("encryption", {})
+    return Holds(_key(told["key"]) if "key" in told else None, told.get("curve"),
+                 tuple(encryption.get("algorithms", ())), tuple(map(int, encryption.get("numbers", ()))))
