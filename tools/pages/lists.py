@@ -1,8 +1,8 @@
 #!/usr/bin/env python3
 """lists.py: whether each list that stands in many places is the same in all of them.
 
-Lists are the kinds of documents, the parts of a request, the reasons of faults, and the statuses of the library and of
-the program. Each has a source in crates/ (the table of kinds is crates/pk_documents/src/kind.rt);
+Lists are the kinds of documents, the parts of a request, the reasons of faults, the remarks of notes, and the statuses
+of the library and of the program. Each has a source in crates/ (the table of kinds is crates/pk_documents/src/kind.rt);
 tools/pages/lists.toml has the places that tell it, header, packages, man pages, pages, tests and tools among them. A
 place that lacks an entry, or says something else of it, has a line with what to change there. Then each place is asked
 for an entry that there isn't, and has to lack it.
@@ -73,7 +73,16 @@ def reasons():
         yield {"name": name, "number": str(number), "upper": upper(name)}
 
 
-LISTS = {it.__name__: it for it in (kinds, parts, statuses, endings, reasons)}
+def remarks():
+    """The remarks of notes, by their codes and levels."""
+    text = text_of("crates/reports/specs/Remarks.antt")
+    codes, levels = (re.findall(rf'(?m)^\w+_{word} \(?(\w+\.\w+)[^=]*= codes "(\w+)"$', text)
+                     for word in ("code", "level"))
+    several = {code: dict(levels)[variant] for variant, code in codes}
+    yield from ({"code": code, "level": level} for code, level in several.items())
+
+
+LISTS = {it.__name__: it for it in (kinds, parts, statuses, endings, reasons, remarks)}
 
 
 def texts_by(template, entry):

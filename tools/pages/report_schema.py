@@ -144,12 +144,17 @@ SOUND = {
         "field": "certificationRequestInfo.subject[2][0].value", "due": "a string", "found": "16 octets", "missing": 1,
         "over": 1, "more": 1, "looks_like": "ec", "likely": "a damaged length", "do": "refuse it",
         "not_der": [{"field": "signature{1}", "at": 4, "what": "long_length"}], "not_der_places": 1,
+        "holds": {
+            "key": {"algorithm": "rsaEncryption", "parameters": "P-256", "octets": 270,
+                    "carries": {"verdict": "refused", "at": 0, "reason": "Truncated"}, "bits": 2048,
+                    "exponent": "0x0100000001"},
+            "curve": "P-256", "encryption": {"algorithms": ["id-PBES2"], "numbers": ["2048"]}},
         "lines": [
             {"at": 0, "header": 4, "length": 375, "depth": 0, "type": "CertificationRequest",
              "tag": {"class": "universal", "number": 16}, "constructed": True, "end": 379},
             {"at": 8, "header": 2, "length": 1, "depth": 2, "name": "version",
              "tag": {"class": "universal", "number": 2}, "constructed": False, "end": 11, "value": {"integer": 0}}],
-        "notes": [{"field": "publicKey", "at": 300, "what": "point_size", "octets": 64}],
+        "notes": [{"field": "publicKey", "at": 300, "what": "point_size", "level": "must", "octets": 64}],
     },
     "error": {"form": 1, "version": "2.0.0", "file": "Müller.der", "status": 3, "error": "no such file"},
     "comparison": {

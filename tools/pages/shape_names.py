@@ -25,7 +25,8 @@ from tools.pages.identifier_names import contents_of, names_by_contents
 
 PAGE = "docs/formats.md"
 ORACLE = "tests/oracle/extensions.py"
-TABLES = [f"crates/pkix_shapes/src/{it}.rt" for it in ("universal", "shared", "keys", "requests", "extensions")]
+FILES = ("universal", "shared", "keys", "public_keys", "requests", "extensions")
+TABLES = [f"crates/pkix_shapes/src/{it}.rt" for it in FILES]
 TOKEN = re.compile(r'\s+|//[^\n]*|("[^"]*"|[\w!]+(?:::\w+)*|[&(){}\[\],:=;])')
 CONSTANT = re.compile(r"(?:const|static) (\w+): ([^=]*) = ([^;]*);")
 LEAVES = {"Boolean": (1, "BOOLEAN"), "Integer": (2, "INTEGER"), "BitString": (3, "BIT STRING"),
