@@ -21,13 +21,16 @@ static RSA_PUBLIC_KEY: Shape = Shape::Named(
     ),
 );
 
+/// id-RSASSA-PSS, 1.2.840.113549.1.1.10.
+const RSASSA_PSS: &[u8] = &[0x2A, 0x86, 0x48, 0x86, 0xF7, 0x0D, 0x01, 0x01, 0x0A];
+
 /// The type of what a public key of this algorithm contains, where it is a type of ASN.1: an RSAPublicKey (RFC 8017
-/// A.1.1).
+/// A.1.1), which is that of both algorithms of RSA (RFC 4055 section 1.2).
 pub fn public_key_type(algorithm: &[u8]) -> Option<&'static Shape>
     ensures type_term { option_map (λ r. term_of r.now) result ≡ type_of_public_key algorithm.now }
     ensures plain { IfSome result (λ r. is_plain r.now ≡ true) }
 {
-    if are_same_octets(algorithm, RSA_ENCRYPTION) {
+    if are_same_octets(algorithm, RSA_ENCRYPTION) || are_same_octets(algorithm, RSASSA_PSS) {
         Some(rsa_public_key())
     } else {
         None
