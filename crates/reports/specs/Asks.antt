@@ -8,8 +8,8 @@ use Rattle.asn_names.specs.declared.element.Step.{Step}
 use Rattle.asn_names.specs.declared.element.Step.TheVariants.{Field, Member, Outermost, Outside, Segment}
 use Rattle.asn_names.specs.declared.judgement.Judgement.{Judgement}
 use Rattle.asn_names.specs.declared.judgement.Judgement.TheVariants as judgements
-use Rattle.reports.specs.JsonLists.{first_ones}
 use Rattle.reports.specs.Letters.{letters}
+use Rattle.reports.specs.Picks.{first_ones}
 use Rattle.reports.specs.Texts.{line_feed}
 use Rattle.reports.specs.Words.{sized}
 use Rattle.reports.specs.declared.report.Answer.{Answer}
@@ -268,13 +268,27 @@ usual_name value = []
 abbrev pub is_other : Value → Bool
 is_other value = not (bytes_eq (usual_name value) (codes "extensionRequest"))
 
-unfoldable pub not_shown : Value → List ℕ
-not_shown value = codes "  " ++ identifier_said value ++ codes ", not shown\n"
+-- how many octets the first value of an attribute has, by the lines after its type: that of the SET around it, and its
+-- own
+abbrev pub size_in : Value → Option ℕ
+size_in (values.Size octets) = Some octets
+size_in value = None
 
--- another attribute by its name
+abbrev pub value_size : List Line → Option ℕ
+value_size (around ∷ (value ∷ lines)) = size_in value.value
+value_size lines = None
+
+abbrev pub size_said : Option ℕ → List ℕ
+size_said None = []
+size_said (Some octets) = codes ", " ++ sized octets
+
+unfoldable pub not_shown : Value → Option ℕ → List ℕ
+not_shown value octets = codes "  " ++ identifier_said value ++ size_said octets ++ codes ", not shown\n"
+
+-- another attribute by its name, and by the size of what it says
 abbrev pub attribute_said : List Line → List ℕ
 attribute_said [] = []
-attribute_said (line ∷ lines) = cond (is_other line.value) (not_shown line.value) []
+attribute_said (line ∷ lines) = cond (is_other line.value) (not_shown line.value (value_size lines)) []
 
 -- what is said of an element, by the lines after its own
 abbrev pub asked : Line → List Line → List ℕ

@@ -3,10 +3,13 @@ use Rattle.std.specs.Prelude.{Bool, List, None, Option, Some, [], codes, cond, d
 use Rattle.std.specs.Option.{option_map}
 use Rattle.std.specs.Str.{bytes_eq}
 use Rattle.tlv_core.specs.declared.fault.Fault.{Fault}
+use Rattle.tlv_core.specs.declared.reason.Reason.{Reason}
 use Rattle.reports.specs.Guesses.{guess_act, guess_said}
 use Rattle.reports.specs.PlacedAdvice.{fault_act, fault_likely}
 use Rattle.pkix_shapes.specs.declared.identifiers.Identifier.{Identifier}
-use Rattle.reports.specs.Remarks.{key_remark_said, name_remark_said}
+use Rattle.reports.specs.Remarks.{algorithm_remark_said, attribute_remark_said, extension_remark_said, key_remark_said}
+use Rattle.reports.specs.Remarks.{name_remark_said}
+use Rattle.reports.specs.Seen.{seen_of}
 use Rattle.reports.specs.Words.{place_said, sized}
 use Rattle.reports.specs.declared.report.Answer.{Answer}
 use Rattle.reports.specs.declared.report.Answer.TheVariants.{Der, NotDer, Refused}
@@ -39,7 +42,8 @@ likely_by guess line reason = guess_said guess
 
 unfoldable pub reason_likely : Report → Fault → List ℕ
 reason_likely report fault =
-    likely_by report.guess (line_said report.octets report.announced) (fault_likely report.kind.word.now fault)
+    likely_by report.guess (line_said report.octets report.announced)
+    (fault_likely report.kind.word.now (seen_of report fault) fault)
 
 abbrev pub likely_of : Report → Answer → List ℕ
 likely_of report (Refused fault) = reason_likely report fault
@@ -54,7 +58,8 @@ act_by kind guesses.Unknown reason = reason
 act_by kind guess reason = guess_act kind guess
 
 unfoldable pub reason_act : Report → Fault → List ℕ
-reason_act report fault = act_by report.kind.word.now report.guess (fault_act report.kind.word.now fault)
+reason_act report fault =
+    act_by report.kind.word.now report.guess (fault_act report.kind.word.now (seen_of report fault) fault)
 
 -- what to do with what is signed, which a request alone has
 abbrev pub signed_words : List ℕ → List ℕ
@@ -94,27 +99,48 @@ abbrev pub extension_said : Option Identifier → List ℕ
 extension_said None = codes "the extension"
 extension_said (Some identifier) = identifier.name.now
 
+unfoldable pub point_size_said : ℕ → List ℕ
+point_size_said octets =
+    codes "a point of " ++ sized octets ++ codes ", which none of this curve has (RFC 5480 section 2.2)"
+
+unfoldable pub several_values_said : ℕ → List ℕ
+several_values_said count = decimal count ++ codes " values of an attribute that has one (RFC 2985 section 5.4)"
+
+unfoldable pub due_size_said : ℕ → ℕ → List ℕ
+due_size_said octets due =
+    codes "a key of " ++ sized octets ++ codes ", where its algorithm has " ++ decimal due
+    ++ codes " (RFC 9881, RFC 9935, RFC 9909)"
+
+-- the value of an extension that isn't in DER
+unfoldable pub not_der_value_said : Option Identifier → List ℕ
+not_der_value_said name = extension_said name ++ codes " isn't in DER inside (RFC 5280 section 4.2)"
+
+-- one that is a keyUsage with zeros at its end
+unfoldable pub zero_bits_said : Option Identifier → List ℕ
+zero_bits_said name = extension_said name ++ codes " has bits 0 at its end, which DER leaves out (X.690 11.2.2)"
+
+-- one that isn't of its type
+unfoldable pub refused_value_said : Option Identifier → ℕ → Reason → List ℕ
+refused_value_said name at why =
+    extension_said name ++ codes " isn't of its type inside: fault at " ++ place_said at why
+    ++ codes ", counted from the first octet of its value (RFC 5280 section 4.2)"
+
 -- what other standards say to what is there
 unfoldable pub remark_said : Remark → List ℕ
-remark_said (remarks.PointSize octets) =
-    codes "a point of " ++ sized octets ++ codes ", which none of this curve has (RFC 5480 section 2.2)"
+remark_said (remarks.PointSize octets) = point_size_said octets
 remark_said remarks.PointBits = codes "a point with unused bits (RFC 5480 section 2.2)"
 remark_said remarks.NoNamedCurve = codes "id-ecPublicKey without a named curve (RFC 5480 section 2.1.1)"
 remark_said remarks.ExtensionTwice = codes "an extension that stands there before (RFC 5280 section 4.2)"
 remark_said remarks.AttributeTwice = codes "an attribute that stands there before (RFC 2986 section 4.1)"
-remark_said (remarks.SeveralValues count) =
-    decimal count ++ codes " values of an attribute that has one (RFC 2985 section 5.4)"
-remark_said (remarks.KeySize octets due) =
-    codes "a key of " ++ sized octets ++ codes ", where its algorithm has " ++ decimal due
-    ++ codes " (RFC 9881, RFC 9935, RFC 9909)"
+remark_said (remarks.SeveralValues count) = several_values_said count
+remark_said (remarks.KeySize octets due) = due_size_said octets due
 remark_said remarks.NeedlessParameters =
     codes "parameters beside an algorithm that has none (RFC 9881, RFC 9935, RFC 9909)"
-remark_said (remarks.ExtensionNotDer name) =
-    extension_said (option_map (λ r. r.now) name) ++ codes " isn't in DER inside (RFC 5280 section 4.2)"
-remark_said (remarks.ExtensionZeroBits name) =
-    extension_said (option_map (λ r. r.now) name) ++ codes " has bits 0 at its end, which DER leaves out (X.690 11.2.2)"
-remark_said (remarks.ExtensionRefused name at why) =
-    extension_said (option_map (λ r. r.now) name) ++ codes " isn't of its type inside: fault at " ++ place_said at why
-    ++ codes ", counted from the first octet of its value (RFC 5280 section 4.2)"
+remark_said (remarks.ExtensionNotDer name) = not_der_value_said (option_map (λ r. r.now) name)
+remark_said (remarks.ExtensionZeroBits name) = zero_bits_said (option_map (λ r. r.now) name)
+remark_said (remarks.ExtensionRefused name at why) = refused_value_said (option_map (λ r. r.now) name) at why
 remark_said (remarks.Key remark) = key_remark_said remark
 remark_said (remarks.Name remark) = name_remark_said remark
+remark_said (remarks.Extension remark) = extension_remark_said remark
+remark_said (remarks.Algorithm remark) = algorithm_remark_said remark
+remark_said (remarks.Attribute remark) = attribute_remark_said remark

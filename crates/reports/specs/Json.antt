@@ -8,6 +8,7 @@ use Rattle.reports.specs.declared.report.Diagnosis.{Diagnosis}
 use Rattle.reports.specs.declared.report.Line.{Line}
 use Rattle.reports.specs.declared.report.Note.{Note}
 use Rattle.reports.specs.declared.report.Report.{Report}
+use Rattle.reports.specs.Briefs.{brief_said}
 use Rattle.reports.specs.Field.{field_said}
 use Rattle.reports.specs.Hints.{do_said, likely_said}
 use Rattle.reports.specs.JsonAsks.{summary_member}
@@ -77,9 +78,11 @@ number_members report diagnosis =
 unfoldable pub due_members : Report → List Token
 due_members report = said_member (codes "due") (due_said report) ++ said_member (codes "found") (found_said report)
 
--- the usual cause and what to do, in words
+-- the usual cause, what to do, and the answer for whoever sent the file, in words
 unfoldable pub advice_members : Report → List Token
-advice_members report = said_member (codes "likely") (likely_said report) ++ said_member (codes "do") (do_said report)
+advice_members report =
+    said_member (codes "likely") (likely_said report) ++ said_member (codes "do") (do_said report)
+    ++ text_member (codes "brief") (brief_said report)
 
 -- where it isn't in DER, if that is the answer
 unfoldable pub places_members : ℕ → Answer → Report → List Token
@@ -99,12 +102,21 @@ unfoldable pub notes_member : Report → List Note → List Token
 notes_member report notes =
     cond (length notes == 0) [] (list_member (codes "notes") (flat_map (note_object report) notes))
 
--- What check says: what is certain of the document.
-unfoldable pub check_object : Report → List ℕ → Option (List ℕ) → ℕ → List Token
-check_object report version file places =
-    object (head_members report version file ++ about_members report
+-- what is certain of the document
+unfoldable pub certain_members : Report → List ℕ → Option (List ℕ) → ℕ → List Token
+certain_members report version file places =
+    head_members report version file ++ about_members report
     ++ optional (number_members report) report.diagnosis ++ said_member (codes "looks_like") (guess_word report.guess)
-    ++ places_members places report.answer report)
+    ++ places_members places report.answer report
+
+-- What check says: that.
+unfoldable pub check_object : Report → List ℕ → Option (List ℕ) → ℕ → List Token
+check_object report version file places = object (certain_members report version file places)
+
+-- What check says with notes.
+unfoldable pub noted_object : Report → List ℕ → Option (List ℕ) → ℕ → List Token
+noted_object report version file places =
+    object (certain_members report version file places ++ notes_member report report.notes.items)
 
 -- What explain says: the same, and what there is to say in words, the elements and the notes.
 unfoldable pub report_object : Report → List ℕ → Option (List ℕ) → Bool → ℕ → List Token

@@ -1,9 +1,9 @@
 -- What an accepted request asks for, as tokens of JSON.
-use Rattle.std.specs.Prelude.{List, [], codes, cond, length, not, string_bytes, ℕ, ◌&&◌, ◌++◌, ◌==◌, ◌||◌, ◌∷◌}
+use Rattle.std.specs.Prelude.{List, [], codes, cond, length, not, string_bytes, ℕ, ◌++◌, ◌==◌, ◌||◌, ◌∷◌}
 use Rattle.std.specs.Str.{bytes_eq}
 use Rattle.json.specs.Token.{Token}
 use Rattle.tlv_core.specs.Identifier.{Tag}
-use Rattle.reports.specs.Asks.{address_said, each_in, each_start_in, field_name, from_field, has_bit, identifier_said, is_asking, is_critical, is_identifier, is_leaf, is_of, is_other, is_step, usage_name}
+use Rattle.reports.specs.Asks.{address_said, each_in, each_start_in, field_name, from_field, has_bit, identifier_said, is_asking, is_critical, is_leaf, is_of, is_other, is_step, usage_name}
 use Rattle.reports.specs.JsonKeys.{holds_member, key_member}
 use Rattle.reports.specs.JsonLists.{carried_member, value_member, value_members}
 use Rattle.reports.specs.JsonMembers.{boolean_member, item, list, list_member, number_member, object, object_member, optional, said_member, text_member}

@@ -1,12 +1,11 @@
 -- What a key says of itself, as tokens of JSON.
-use Rattle.std.specs.Prelude.{List, Option, [], codes, cond, decimal, length, ℕ, ◌&&◌, ◌++◌, ◌==◌, ◌∷◌}
+use Rattle.std.specs.Prelude.{List, None, Option, Some, [], codes, cond, decimal, ℕ, ◌&&◌, ◌++◌, ◌∷◌}
 use Rattle.std.specs.Str.{bytes_eq}
 use Rattle.json.specs.Token.{Token}
-use Rattle.asn_names.specs.declared.judgement.Judgement.{Judgement}
 use Rattle.reports.specs.Asks.{each_in, from_field, identifier_said, is_identifier, is_step}
 use Rattle.reports.specs.JsonLists.{carried_member}
 use Rattle.reports.specs.JsonMembers.{item, list_member, number_member, object_member, optional, said_member, text_member}
-use Rattle.reports.specs.Keys.{bit_length, integer_bits, integer_said, is_below_zero}
+use Rattle.reports.specs.Keys.{bit_length, integer_bits, integer_said, is_below_zero, short_exponent}
 use Rattle.reports.specs.Summaries.{curve_name, is_holding}
 use Rattle.reports.specs.declared.report.Line.{Line}
 use Rattle.reports.specs.declared.report.Report.{Report}
@@ -76,17 +75,31 @@ encryption_members lines = scheme_member (codes "encryption") (from_field (codes
 unfoldable pub curve_members : List Line → List Token
 curve_members lines = said_member (codes "curve") (curve_name (from_field (codes "parameters") lines))
 
-unfoldable pub private_key_members : List Line → List Token
-private_key_members lines = key_member (codes "key") (from_field (codes "privateKeyAlgorithm") lines)
+-- a private key: the parts of its algorithm, and the size of one of RSA
+
+abbrev pub rsa_members : Option ℕ → Option ℕ → List Token
+rsa_members None exponent = []
+rsa_members (Some bits) exponent =
+    number_member (codes "bits") bits ++ optional (λ number. text_member (codes "exponent") (decimal number)) exponent
+
+abbrev pub sized_key : Option ℕ → Option ℕ → List Line → List Token
+sized_key modulus exponent [] = []
+sized_key modulus exponent (line ∷ lines) =
+    object_member (codes "key") (each_in key_part line.depth lines ++ rsa_members modulus exponent)
+
+unfoldable pub private_key_members : Option ℕ → List Line → List Token
+private_key_members modulus lines =
+    sized_key modulus (short_exponent (from_field (codes "publicExponent") lines))
+    (from_field (codes "privateKeyAlgorithm") lines)
 
 -- What a key says of itself, by its kind.
-unfoldable pub held_members : List ℕ → List Line → List Token
-held_members kind lines =
+unfoldable pub held_members : List ℕ → Option ℕ → List Line → List Token
+held_members kind modulus lines =
     cond (bytes_eq kind (codes "encrypted")) (encryption_members lines)
     (cond (bytes_eq kind (codes "ec")) (curve_members lines)
-    (cond (bytes_eq kind (codes "key")) (private_key_members lines) (key_member (codes "key") lines)))
+    (cond (bytes_eq kind (codes "key")) (private_key_members modulus lines) (key_member (codes "key") lines)))
 
 abbrev pub holds_member : Report → List Token
 holds_member report =
     cond (is_holding report)
-    (object_member (codes "holds") (held_members report.kind.word.now report.lines.items)) []
+    (object_member (codes "holds") (held_members report.kind.word.now report.modulus report.lines.items)) []

@@ -1,5 +1,5 @@
 -- The elements of a report, and what is said of some, as tokens of JSON.
-use Rattle.std.specs.Prelude.{Bool, List, None, Some, [], codes, cond, false, flat_map, nat_lt, length, string_bytes, take, true, ℕ, ◌++◌, ◌∷◌}
+use Rattle.std.specs.Prelude.{Bool, List, None, Some, [], codes, cond, false, flat_map, length, string_bytes, true, ℕ, ◌++◌, ◌∷◌}
 use Rattle.std.specs.List.{slice_get}
 use Rattle.std.specs.Option.{option_map}
 use Rattle.std.specs.Str.{is_utf8}
@@ -14,6 +14,8 @@ use Rattle.asn_names.specs.declared.judgement.Judgement.{Judgement}
 use Rattle.asn_names.specs.declared.judgement.Judgement.TheVariants as judgements
 use Rattle.pkix_shapes.specs.declared.identifiers.Identifier.{Identifier}
 use Rattle.reports.specs.declared.json_lists.Marked.{Marked}
+use Rattle.reports.specs.declared.report.AttributeRemark.{AttributeRemark}
+use Rattle.reports.specs.declared.report.AttributeRemark.TheVariants as attributes
 use Rattle.reports.specs.declared.report.Cause.{Cause}
 use Rattle.reports.specs.declared.report.KeyRemark.{KeyRemark}
 use Rattle.reports.specs.declared.report.KeyRemark.TheVariants as keys
@@ -27,7 +29,7 @@ use Rattle.reports.specs.declared.report.Remark.TheVariants as remarks
 use Rattle.reports.specs.declared.report.Report.{Report}
 use Rattle.reports.specs.declared.report.Value.{Value}
 use Rattle.reports.specs.declared.report.Value.TheVariants as values
-use Rattle.reports.specs.Picks.{is_place_alone, path_to_line}
+use Rattle.reports.specs.Picks.{first_ones, is_place_alone, path_to_line}
 use Rattle.reports.specs.JsonMembers.{boolean_member, list_member, number_member, object, object_member, optional, said_member, text_member}
 use Rattle.reports.specs.JsonWords.{cause_word, class_word}
 use Rattle.reports.specs.Paths.{with_root, with_step, with_steps}
@@ -146,10 +148,6 @@ unfoldable pub marked_object : Report → Marked → List Token
 marked_object report it =
     object (field_members report it.around it.step it.at ++ text_member (codes "what") (cause_word it.cause))
 
--- up to so many
-abbrev pub first_ones : {A : Type 0} → ℕ → List A → List A
-first_ones most items = cond (nat_lt most (length items)) (take most items) items
-
 -- up to so many of these elements, and how many there are
 unfoldable pub some_members : Report → ℕ → List Marked → List Token
 some_members report places marked =
@@ -181,6 +179,19 @@ name_remark_members names.DnsSyntax = []
 name_remark_members names.Wildcard = []
 name_remark_members names.PrintableString = []
 name_remark_members names.Hidden = []
+name_remark_members names.MailSyntax = []
+name_remark_members names.UriSyntax = []
+name_remark_members names.AddressAsDns = []
+name_remark_members names.Twice = []
+
+-- and one on the value of an attribute
+unfoldable pub attribute_remark_members : AttributeRemark → List Token
+attribute_remark_members attributes.Country = []
+attribute_remark_members attributes.EmailType = []
+attribute_remark_members attributes.OtherType = []
+attribute_remark_members (attributes.Long characters most) =
+    number_member (codes "characters") characters ++ number_member (codes "most_characters") most
+attribute_remark_members attributes.Blank = []
 
 -- the numbers that a remark has
 unfoldable pub remark_members : Remark → List Token
@@ -200,6 +211,9 @@ remark_members (remarks.ExtensionRefused name at why) =
     ++ object_member (codes "fault") (place_members at why)
 remark_members (remarks.Key remark) = key_remark_members remark
 remark_members (remarks.Name remark) = name_remark_members remark
+remark_members (remarks.Extension remark) = []
+remark_members (remarks.Algorithm remark) = []
+remark_members (remarks.Attribute remark) = attribute_remark_members remark
 
 -- its code and its level
 abbrev pub remark_words : Remark → List Token

@@ -50,6 +50,25 @@ integer_said value = []
 abbrev pub exponent_said : Value → List ℕ
 exponent_said value = codes ", exponent " ++ integer_said value
 
+-- The size of a private key of RSA, whose modulus is public (RFC 8017 section 3.2): so many bits, and the exponent where
+-- that is short.
+
+abbrev pub number_in : Value → Option ℕ
+number_in (values.Number number) = Some number
+number_in value = None
+
+abbrev pub short_exponent : List Line → Option ℕ
+short_exponent [] = None
+short_exponent (line ∷ lines) = number_in line.value
+
+abbrev pub short_exponent_said : Option ℕ → List ℕ
+short_exponent_said None = []
+short_exponent_said (Some exponent) = codes ", exponent " ++ decimal exponent
+
+abbrev pub rsa_said : Option ℕ → Option ℕ → List ℕ
+rsa_said None exponent = []
+rsa_said (Some bits) exponent = bits_said bits ++ short_exponent_said exponent
+
 unfoldable pub key_octets : Line → List ℕ → List ℕ
 key_octets line end = codes ", " ++ value_said false line.tag line.value ++ end
 

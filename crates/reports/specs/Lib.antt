@@ -1,5 +1,6 @@
 pub mod Advice
 pub mod Asks
+pub mod Briefs
 pub mod Field
 pub mod Guesses
 pub mod Hints
@@ -13,12 +14,14 @@ pub mod Keys
 pub mod Letters
 pub mod Lines
 pub mod Listings
+pub mod Notes
 pub mod Paths
 pub mod Picks
 pub mod PlacedAdvice
 pub mod ReasonDue
 pub mod Remarks
 pub mod Reports
+pub mod Seen
 pub mod Summaries
 pub mod Texts
 pub mod TypeWords

@@ -1,5 +1,5 @@
 -- Which lines of a listing are picked, the path to a line, and of which line the place alone is shown.
-use Rattle.std.specs.Prelude.{Bool, List, None, Option, Some, [], cond, false, is_some, length, nat_le, nat_lt, slice_get, suc, true, zero, ℕ, ◌&&◌, ◌+◌, ◌++◌, ◌-◌, ◌==◌, ◌||◌, ◌∷◌}
+use Rattle.std.specs.Prelude.{Bool, List, None, Option, Some, [], cond, false, is_some, length, nat_le, nat_lt, slice_get, suc, take, true, zero, ℕ, ◌&&◌, ◌+◌, ◌++◌, ◌-◌, ◌==◌, ◌||◌, ◌∷◌}
 use Rattle.asn_names.specs.declared.element.Step.{Step}
 use Rattle.asn_names.specs.declared.element.Step.TheVariants.{Outside}
 use Rattle.reports.specs.declared.picks.PickState.{PickState}
@@ -83,3 +83,7 @@ is_not_shown value = false
 abbrev pub is_place_alone : Step → Value → Bool
 is_place_alone Outside value = is_not_shown value
 is_place_alone step value = false
+
+-- up to so many
+abbrev pub first_ones : {A : Type 0} → ℕ → List A → List A
+first_ones most items = cond (nat_lt most (length items)) (take most items) items

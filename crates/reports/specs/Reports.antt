@@ -2,19 +2,16 @@
 use Rattle.std.specs.Prelude.{Bool, List, None, Option, Some, [], codes, cond, decimal, flat_map, length, ℕ, ◌++◌, ◌==◌}
 use Rattle.tlv_core.specs.declared.reason.Reason.{Reason}
 use Rattle.reports.specs.Field.{field_said}
-use Rattle.reports.specs.Hints.{do_said, likely_said, remark_said}
-use Rattle.reports.specs.Picks.{path_to_line}
+use Rattle.reports.specs.Hints.{do_said, likely_said}
 use Rattle.reports.specs.Summaries.{summary_lines}
 use Rattle.reports.specs.Listings.{listing}
-use Rattle.reports.specs.Paths.{path_text}
-use Rattle.reports.specs.Remarks.{remark_code, remark_level}
+use Rattle.reports.specs.Notes.{note_said}
 use Rattle.reports.specs.Texts.{line_feed}
 use Rattle.reports.specs.Words.{due_said, found_said, place_said, sized}
 use Rattle.reports.specs.Wraps.{labelled_line}
 use Rattle.reports.specs.declared.report.Answer.{Answer}
 use Rattle.reports.specs.declared.report.Answer.TheVariants.{Der, NotDer, Refused}
 use Rattle.reports.specs.declared.report.Note.{Note}
-use Rattle.reports.specs.declared.report.Remark.{Remark}
 use Rattle.reports.specs.declared.report.Report.{Report}
 
 -- the kind, and the number of octets
@@ -46,16 +43,8 @@ answer_lines Der report = []
 answer_lines (NotDer at) report = refused_lines report
 answer_lines (Refused fault) report = refused_lines report
 
--- the level and the code of a remark
-unfoldable pub coded : Remark → List ℕ
-coded remark = remark_level remark ++ codes " " ++ remark_code remark ++ codes " "
-
--- them, the path to what a remark is about, and the remark
 unfoldable pub note_line : Report → Note → List ℕ
-note_line report note =
-    labelled_line (codes "note    ")
-    (coded note.remark ++ path_text report.kind.type_name.now (path_to_line report.lines.items note.line)
-    ++ codes ": " ++ remark_said note.remark)
+note_line report note = labelled_line (codes "note    ") (note_said report note)
 
 unfoldable pub note_lines : Report → List Note → List ℕ
 note_lines report notes = cond (length notes == 0) [] (line_feed ++ flat_map (note_line report) notes)

@@ -1,8 +1,8 @@
 -- What an accepted document says of itself, in words: what a request asks for, and what a key is.
-use Rattle.std.specs.Prelude.{Bool, List, [], codes, cond, decimal, length, ℕ, ◌&&◌, ◌++◌, ◌==◌, ◌||◌, ◌∷◌}
+use Rattle.std.specs.Prelude.{Bool, List, Option, [], codes, cond, decimal, length, ℕ, ◌&&◌, ◌++◌, ◌==◌, ◌||◌, ◌∷◌}
 use Rattle.std.specs.Str.{bytes_eq}
 use Rattle.reports.specs.Asks.{each_in, from_field, identifier_said, is_accepted, is_asking, is_step, others_said, subject_line}
-use Rattle.reports.specs.Keys.{key_line}
+use Rattle.reports.specs.Keys.{key_line, rsa_said, short_exponent}
 use Rattle.reports.specs.Texts.{line_feed}
 use Rattle.reports.specs.declared.report.Line.{Line}
 use Rattle.reports.specs.declared.report.Report.{Report}
@@ -56,15 +56,18 @@ encryption_line lines =
 unfoldable pub public_key_line : List Line → List ℕ
 public_key_line lines = key_line (codes "  key        ") lines line_feed
 
-unfoldable pub private_key_line : List Line → List ℕ
-private_key_line lines = public_key_line (from_field (codes "privateKeyAlgorithm") lines)
+-- after its algorithm the size of a key of RSA
+unfoldable pub private_key_line : Option ℕ → List Line → List ℕ
+private_key_line modulus lines =
+    key_line (codes "  key        ") (from_field (codes "privateKeyAlgorithm") lines)
+    (rsa_said modulus (short_exponent (from_field (codes "publicExponent") lines)) ++ line_feed)
 
 -- What a key says of itself, by its kind.
-unfoldable pub held_line : List ℕ → List Line → List ℕ
-held_line kind lines =
+unfoldable pub held_line : List ℕ → Option ℕ → List Line → List ℕ
+held_line kind modulus lines =
     cond (bytes_eq kind (codes "encrypted")) (encryption_line lines)
     (cond (bytes_eq kind (codes "ec")) (curve_line lines)
-    (cond (bytes_eq kind (codes "key")) (private_key_line lines) (public_key_line lines)))
+    (cond (bytes_eq kind (codes "key")) (private_key_line modulus lines) (public_key_line lines)))
 
 abbrev pub is_key : List ℕ → Bool
 is_key kind =
@@ -76,7 +79,8 @@ is_holding report = is_accepted report.answer && is_key report.kind.word.now
 
 unfoldable pub holds_lines : Report → List ℕ
 holds_lines report =
-    cond (is_holding report) (line_feed ++ codes "holds\n" ++ held_line report.kind.word.now report.lines.items) []
+    cond (is_holding report)
+    (line_feed ++ codes "holds\n" ++ held_line report.kind.word.now report.modulus report.lines.items) []
 
 -- What an accepted document says of itself; of another one, and of a package, nothing.
 unfoldable pub summary_lines : Report → List ℕ

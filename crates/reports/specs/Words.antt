@@ -1,5 +1,5 @@
 -- What is said of the element that is refused, and of what is due in its place.
-use Rattle.std.specs.Prelude.{Bool, List, None, Option, Some, [], codes, cond, decimal, false, is_some, length, nat_lt, not, true, ℕ, ◌&&◌, ◌+◌, ◌++◌, ◌-◌, ◌==◌}
+use Rattle.std.specs.Prelude.{Bool, List, None, Option, Some, [], codes, cond, decimal, false, is_some, length, nat_lt, not, slice_get, true, ℕ, ◌&&◌, ◌+◌, ◌++◌, ◌-◌, ◌==◌}
 use Rattle.tlv_core.specs.Reasons.{name_of}
 use Rattle.tlv_core.specs.declared.fault.Fault.{Fault}
 use Rattle.tlv_core.specs.declared.reason.Reason.{Reason}
@@ -12,7 +12,10 @@ use Rattle.reports.specs.declared.report.Due.{Due}
 use Rattle.reports.specs.declared.report.Due.TheVariants.{Fields, «Type», Unsaid}
 use Rattle.reports.specs.declared.report.Found.{Found}
 use Rattle.reports.specs.declared.report.Length.{Length}
+use Rattle.reports.specs.declared.report.Line.{Line}
 use Rattle.reports.specs.declared.report.Report.{Report}
+use Rattle.reports.specs.declared.report.Value.{Value}
+use Rattle.reports.specs.declared.report.Value.TheVariants as values
 use Rattle.reports.specs.Paths.{path_text}
 use Rattle.reports.specs.ReasonDue.{reason_due}
 use Rattle.reports.specs.TypeWords.{fields_said, shape_said, tag_said}
@@ -62,9 +65,26 @@ abbrev pub length_said : Option Length → List ℕ
 length_said None = []
 length_said (Some length) = contents_said length.contents
 
--- an element by its header
-unfoldable pub header_said : Found → List ℕ
-header_said found = tag_said found.tag ++ length_said found.length
+-- the number that a line shows
+abbrev pub number_of : Value → Option ℕ
+number_of (values.Number number) = Some number
+number_of value = None
+
+abbrev pub number_on : Option Line → Option ℕ
+number_on None = None
+number_on (Some line) = number_of line.value
+
+abbrev pub number_at : List Line → Option ℕ → Option ℕ
+number_at lines None = None
+number_at lines (Some number) = number_on (slice_get lines number)
+
+-- an element by its tag, and by its number where that is shown, else by its length
+abbrev pub number_or_length : Option ℕ → Option Length → List ℕ
+number_or_length (Some number) length = codes " " ++ decimal number
+number_or_length None length = length_said length
+
+unfoldable pub header_said : Found → Option ℕ → List ℕ
+header_said found number = tag_said found.tag ++ number_or_length number found.length
 
 -- a container by its path and its place
 unfoldable pub placed : List ℕ → FaultContainer → List ℕ
@@ -110,19 +130,19 @@ unfoldable pub container_said : List ℕ → Diagnosis → List ℕ
 container_said root diagnosis = ended root diagnosis.container
 
 -- the element that is there; else the container that ends there
-abbrev pub found_by : List ℕ → Diagnosis → Option Found → List ℕ
-found_by root diagnosis (Some found) = header_said found ++ element_said root diagnosis
-found_by root diagnosis None = container_said root diagnosis
+abbrev pub found_by : List ℕ → Diagnosis → Option ℕ → Option Found → List ℕ
+found_by root diagnosis number (Some found) = header_said found number ++ element_said root diagnosis
+found_by root diagnosis number None = container_said root diagnosis
 
-unfoldable pub found_of : List ℕ → Diagnosis → List ℕ
-found_of root diagnosis = found_by root diagnosis diagnosis.found
+unfoldable pub found_of : List ℕ → Diagnosis → Option ℕ → List ℕ
+found_of root diagnosis number = found_by root diagnosis number diagnosis.found
 
-abbrev pub found_in : List ℕ → Option Diagnosis → List ℕ
-found_in root None = []
-found_in root (Some diagnosis) = found_of root diagnosis
+abbrev pub found_in : List ℕ → List Line → Option Diagnosis → List ℕ
+found_in root lines None = []
+found_in root lines (Some diagnosis) = found_of root diagnosis (number_at lines diagnosis.line)
 
 abbrev pub diagnosis_said : Report → List ℕ
-diagnosis_said report = found_in report.kind.type_name.now report.diagnosis
+diagnosis_said report = found_in report.kind.type_name.now report.lines.items report.diagnosis
 
 abbrev pub more_words : Bool → List ℕ
 more_words is_inside =

@@ -6,12 +6,12 @@ ghost use Rattle.reports.specs.Asks.{between, carried_line, container_line, dott
 ghost use Rattle.reports.specs.Asks.{extension_said, fact_line, fact_value, fact_word, field_name, first_octets};
 ghost use Rattle.reports.specs.Asks.{from_field, groups, identifier_said, is_accepted, is_asking, is_critical};
 ghost use Rattle.reports.specs.Asks.{is_empty, is_identifier, is_leaf, is_of, is_other, is_step, is_true};
-ghost use Rattle.reports.specs.Asks.{name_word, names_said, not_shown, others_said, short_name, subject_line};
-ghost use Rattle.reports.specs.Asks.{subject_of, subject_part, told, type_said};
-ghost use Rattle.reports.specs.Asks.{usual_name, value_said};
-ghost use Rattle.reports.specs.JsonLists.{first_ones};
+ghost use Rattle.reports.specs.Asks.{name_word, names_said, not_shown, others_said, short_name, size_in, size_said};
+ghost use Rattle.reports.specs.Asks.{subject_line, subject_of, subject_part, told, type_said};
+ghost use Rattle.reports.specs.Asks.{usual_name, value_said, value_size};
 
 use crate::letters::push_letters;
+use crate::picks::up_to;
 use crate::report::{Answer, Length, Line, Report, Value};
 use crate::text::push_number;
 use crate::usages::push_usages;
@@ -274,17 +274,6 @@ pub(crate) fn push_first_octets(
     Ok(())
 }
 
-/// Up to so many of the octets.
-fn up_to(octets: &[u8], most: u64) -> &[u8]
-    ensures { result.now ≡ first_ones most octets.now }
-{
-    if most < octets.len() as u64 {
-        &octets[..most as usize]
-    } else {
-        octets
-    }
-}
-
 /// Attributes and extensions.
 pub(crate) fn push_others(
     alloc: Global,
@@ -337,33 +326,65 @@ fn push_asked(
     Ok(())
 }
 
-/// An attribute that isn't one of extensions, by its name.
+/// An attribute that isn't one of extensions, by its name, and by the size of what it says.
 fn push_attribute(text: &mut String, lines: &[Line]) -> Result<(), AllocError>
     ensures { OnOk result (string_bytes text.new ≡ string_bytes text.old ++ attribute_said lines.now) }
 {
     match lines {
-        [line, ..] => push_other(text, &line.value),
+        [line, rest @ ..] => push_other(text, &line.value, value_size(rest)),
         [] => Ok(()),
     }
 }
 
-fn push_other(text: &mut String, value: &Value) -> Result<(), AllocError>
+fn push_other(text: &mut String, value: &Value, octets: Option<u64>) -> Result<(), AllocError>
     ensures { OnOk result (string_bytes text.new ≡ string_bytes text.old
-        ++ cond (is_other value.now) (not_shown value.now) []) }
+        ++ cond (is_other value.now) (not_shown value.now octets) []) }
 {
     if is_other(value) {
-        return push_not_shown(text, value);
+        return push_not_shown(text, value, octets);
     }
     Ok(())
 }
 
 #[tactic(auto, unfolding(crate::specs::Asks::not_shown))]
-fn push_not_shown(text: &mut String, value: &Value) -> Result<(), AllocError>
-    ensures { OnOk result (string_bytes text.new ≡ string_bytes text.old ++ not_shown value.now) }
+fn push_not_shown(text: &mut String, value: &Value, octets: Option<u64>) -> Result<(), AllocError>
+    ensures { OnOk result (string_bytes text.new ≡ string_bytes text.old ++ not_shown value.now octets) }
 {
     text.push_str("  ")?;
     push_identifier(text, value)?;
+    push_size_of(text, octets)?;
     text.push_str(", not shown\n")
+}
+
+fn push_size_of(text: &mut String, octets: Option<u64>) -> Result<(), AllocError>
+    ensures { OnOk result (string_bytes text.new ≡ string_bytes text.old ++ size_said octets) }
+{
+    match octets {
+        Some(octets) => {
+            text.push_str(", ")?;
+            push_size(text, octets)
+        }
+        None => Ok(()),
+    }
+}
+
+/// How many octets the first value of an attribute has, by the lines after its type.
+fn value_size(lines: &[Line]) -> Option<u64>
+    ensures { result ≡ value_size lines.now }
+{
+    match lines {
+        [_, value, ..] => size_in(&value.value),
+        _ => None,
+    }
+}
+
+fn size_in(value: &Value) -> Option<u64>
+    ensures { result ≡ size_in value.now }
+{
+    match value {
+        Value::Size(octets) => Some(*octets),
+        _ => None,
+    }
 }
 
 /// Whether an attribute of this type isn't one of extensions (RFC 2985 section 5.4.2).

@@ -251,7 +251,7 @@ fn is_lost_label(kind: &str, label: &str) -> bool
         && (label == "PRIVATE KEY" || label == "EC PRIVATE KEY" || is_among(label, PRIVATE_LABELS))
 }
 
-fn is_among(label: &str, labels: &'static [&'static str]) -> bool
+pub(crate) fn is_among(label: &str, labels: &'static [&'static str]) -> bool
     ensures { result ≡ is_among (map (λ r. r.now) labels.now) label.now }
 {
     match labels {

@@ -3,17 +3,24 @@ ghost use Rattle.std.specs.Prelude.{◌≡◌, ◌++◌, IfOk, OnOk, string_byte
 ghost use Rattle.std.specs.Option.{option_map};
 ghost use Rattle.reports.specs.Hints.{cause_said, do_said, extension_said, is_lines, likely_said, line_said};
 ghost use Rattle.reports.specs.Hints.{reason_act, reason_likely, remark_said, signed_words, sound_said};
+ghost use Rattle.reports.specs.Hints.{due_size_said, not_der_value_said, point_size_said, refused_value_said};
+ghost use Rattle.reports.specs.Hints.{several_values_said, zero_bits_said};
 
 use crate::guesses::{push_guess, push_guess_act};
 use crate::placed_advice::{push_fault_act, push_fault_likely};
-use crate::remarks::{push_key_remark, push_name_remark};
+use crate::remarks::{
+    algorithm_remark_words, extension_remark_words, push_attribute_remark, push_key_remark,
+    push_name_remark,
+};
 use crate::report::{Answer, Cause, Guess, Remark, Report};
+use crate::seen::seen_of;
 use crate::text::push_number;
 use crate::text_report::push_reason;
 use crate::words::push_size;
 use pkix_shapes::identifiers::Identifier;
 use std::alloc::{AllocError, Global};
 use tlv_core::fault::Fault;
+use tlv_core::reason::Reason;
 
 /// The usual cause.
 pub(crate) fn likely_text(alloc: Global, report: &Report) -> Result<String, AllocError>
@@ -35,7 +42,7 @@ fn push_likely(text: &mut String, report: &Report, fault: Fault) -> Result<(), A
         Guess::Unknown => {
             let line = line_words(report.octets, report.announced);
             if line.is_empty() {
-                push_fault_likely(text, report.kind.word, fault)
+                push_fault_likely(text, report.kind.word, seen_of(report, fault), fault)
             } else {
                 text.push_str(line)
             }
@@ -62,7 +69,7 @@ fn line_words(octets: u64, announced: Option<u64>) -> &'static str
 }
 
 /// Whether lines of 64 letters of base64, or of 76, have so many octets.
-fn is_lines(octets: u64) -> bool
+pub(crate) fn is_lines(octets: u64) -> bool
     ensures { result ≡ is_lines octets }
 {
     octets % 48 == 0 || octets % 57 == 0
@@ -111,7 +118,7 @@ fn push_act(text: &mut String, report: &Report, fault: Fault) -> Result<(), Allo
         ++ reason_act report.now fault) }
 {
     match report.guess {
-        Guess::Unknown => push_fault_act(text, report.kind.word, fault),
+        Guess::Unknown => push_fault_act(text, report.kind.word, seen_of(report, fault), fault),
         guess => push_guess_act(text, report.kind.word, guess),
     }
 }
@@ -146,11 +153,7 @@ fn push_remark(text: &mut String, remark: Remark) -> Result<(), AllocError>
     ensures { OnOk result (string_bytes text.new ≡ string_bytes text.old ++ remark_said remark) }
 {
     match remark {
-        Remark::PointSize(octets) => {
-            text.push_str("a point of ")?;
-            push_size(text, octets)?;
-            text.push_str(", which none of this curve has (RFC 5480 section 2.2)")
-        }
+        Remark::PointSize(octets) => push_point_size(text, octets),
         Remark::PointBits => text.push_str("a point with unused bits (RFC 5480 section 2.2)"),
         Remark::NoNamedCurve => text.push_str(
             "id-ecPublicKey without a named curve (RFC 5480 section 2.1.1)",
@@ -161,37 +164,85 @@ fn push_remark(text: &mut String, remark: Remark) -> Result<(), AllocError>
         Remark::AttributeTwice => text.push_str(
             "an attribute that stands there before (RFC 2986 section 4.1)",
         ),
-        Remark::SeveralValues(count) => {
-            push_number(text, count)?;
-            text.push_str(" values of an attribute that has one (RFC 2985 section 5.4)")
-        }
-        Remark::KeySize(octets, due) => {
-            text.push_str("a key of ")?;
-            push_size(text, octets)?;
-            text.push_str(", where its algorithm has ")?;
-            push_number(text, due)?;
-            text.push_str(" (RFC 9881, RFC 9935, RFC 9909)")
-        }
+        Remark::SeveralValues(count) => push_several_values(text, count),
+        Remark::KeySize(octets, due) => push_due_size(text, octets, due),
         Remark::NeedlessParameters => text.push_str(
             "parameters beside an algorithm that has none (RFC 9881, RFC 9935, RFC 9909)",
         ),
-        Remark::ExtensionNotDer(name) => {
-            push_extension(text, name)?;
-            text.push_str(" isn't in DER inside (RFC 5280 section 4.2)")
-        }
-        Remark::ExtensionZeroBits(name) => {
-            push_extension(text, name)?;
-            text.push_str(" has bits 0 at its end, which DER leaves out (X.690 11.2.2)")
-        }
-        Remark::ExtensionRefused(name, at, why) => {
-            push_extension(text, name)?;
-            text.push_str(" isn't of its type inside: fault at ")?;
-            push_reason(text, at, why)?;
-            text.push_str(", counted from the first octet of its value (RFC 5280 section 4.2)")
-        }
+        Remark::ExtensionNotDer(name) => push_not_der_value(text, name),
+        Remark::ExtensionZeroBits(name) => push_zero_bits(text, name),
+        Remark::ExtensionRefused(name, at, why) => push_refused_value(text, name, at, why),
         Remark::Key(remark) => push_key_remark(text, remark),
         Remark::Name(remark) => push_name_remark(text, remark),
+        Remark::Extension(remark) => text.push_str(extension_remark_words(remark)),
+        Remark::Algorithm(remark) => text.push_str(algorithm_remark_words(remark)),
+        Remark::Attribute(remark) => push_attribute_remark(text, remark),
     }
+}
+
+#[tactic(auto, unfolding(crate::specs::Hints::point_size_said))]
+fn push_point_size(text: &mut String, octets: u64) -> Result<(), AllocError>
+    ensures { OnOk result (string_bytes text.new ≡ string_bytes text.old ++ point_size_said octets) }
+{
+    text.push_str("a point of ")?;
+    push_size(text, octets)?;
+    text.push_str(", which none of this curve has (RFC 5480 section 2.2)")
+}
+
+#[tactic(auto, unfolding(crate::specs::Hints::several_values_said))]
+fn push_several_values(text: &mut String, count: u64) -> Result<(), AllocError>
+    ensures { OnOk result (string_bytes text.new ≡ string_bytes text.old ++ several_values_said count) }
+{
+    push_number(text, count)?;
+    text.push_str(" values of an attribute that has one (RFC 2985 section 5.4)")
+}
+
+#[tactic(auto, unfolding(crate::specs::Hints::due_size_said))]
+fn push_due_size(text: &mut String, octets: u64, due: u64) -> Result<(), AllocError>
+    ensures { OnOk result (string_bytes text.new ≡ string_bytes text.old ++ due_size_said octets due) }
+{
+    text.push_str("a key of ")?;
+    push_size(text, octets)?;
+    text.push_str(", where its algorithm has ")?;
+    push_number(text, due)?;
+    text.push_str(" (RFC 9881, RFC 9935, RFC 9909)")
+}
+
+#[tactic(auto, unfolding(crate::specs::Hints::not_der_value_said))]
+fn push_not_der_value(
+    text: &mut String,
+    name: Option<&'static Identifier>,
+) -> Result<(), AllocError>
+    ensures { OnOk result (string_bytes text.new ≡ string_bytes text.old
+        ++ not_der_value_said (option_map (λ r. r.now) name.entry)) }
+{
+    push_extension(text, name)?;
+    text.push_str(" isn't in DER inside (RFC 5280 section 4.2)")
+}
+
+#[tactic(auto, unfolding(crate::specs::Hints::zero_bits_said))]
+fn push_zero_bits(text: &mut String, name: Option<&'static Identifier>) -> Result<(), AllocError>
+    ensures { OnOk result (string_bytes text.new ≡ string_bytes text.old
+        ++ zero_bits_said (option_map (λ r. r.now) name.entry)) }
+{
+    push_extension(text, name)?;
+    text.push_str(" has bits 0 at its end, which DER leaves out (X.690 11.2.2)")
+}
+
+#[tactic(auto, unfolding(crate::specs::Hints::refused_value_said))]
+fn push_refused_value(
+    text: &mut String,
+    name: Option<&'static Identifier>,
+    at: u64,
+    why: Reason,
+) -> Result<(), AllocError>
+    ensures { OnOk result (string_bytes text.new ≡ string_bytes text.old
+        ++ refused_value_said (option_map (λ r. r.now) name.entry) at why) }
+{
+    push_extension(text, name)?;
+    text.push_str(" isn't of its type inside: fault at ")?;
+    push_reason(text, at, why)?;
+    text.push_str(", counted from the first octet of its value (RFC 5280 section 4.2)")
 }
 
 /// An extension by its usual name, where it has one.

@@ -4,14 +4,14 @@ ghost use Rattle.reports.specs.Asks.{each_in, identifier_said};
 ghost use Rattle.reports.specs.JsonKeys.{bits_member, curve_members, encryption_members, held_members, holds_member};
 ghost use Rattle.reports.specs.JsonKeys.{identifier_item, identifier_of, private_key_members};
 ghost use Rattle.reports.specs.JsonKeys.{key_member, key_members, key_part, modulus_member, number_item, number_of};
-ghost use Rattle.reports.specs.JsonKeys.{scheme_member, scheme_members, size_member};
+ghost use Rattle.reports.specs.JsonKeys.{rsa_members, scheme_member, scheme_members, size_member, sized_key};
 ghost use Rattle.reports.specs.JsonMembers.{list_member, said_member, text_member};
 ghost use Rattle.reports.specs.Keys.{integer_said};
 
 use crate::asks::{from_field, is_identifier, is_step, push_identifier};
 use crate::json_lists::push_carried;
 use crate::json_text::JsonText;
-use crate::keys::{bit_length, integer_bits, is_below_zero, push_integer};
+use crate::keys::{bit_length, integer_bits, is_below_zero, push_integer, short_exponent};
 use crate::report::{Line, Report, Value};
 use crate::summaries::{curve_name, is_holding};
 use crate::text::push_number;
@@ -31,7 +31,7 @@ pub(crate) fn push_holds(
         return Ok(());
     }
     json.begin_object_at("holds")?;
-    push_held(alloc, json, report.kind.word, lines)?;
+    push_held(alloc, json, report.kind.word, report.modulus, lines)?;
     json.end_object()
 }
 
@@ -40,9 +40,10 @@ fn push_held(
     alloc: Global,
     json: &mut JsonText,
     kind: &str,
+    modulus: Option<u64>,
     lines: &[Line],
 ) -> Result<(), AllocError>
-    ensures { OnOk result (json.new ≡ json.old ++ held_members kind.now lines.now) }
+    ensures { OnOk result (json.new ≡ json.old ++ held_members kind.now modulus lines.now) }
 {
     if kind == "encrypted" {
         return push_encryption(alloc, json, lines);
@@ -51,7 +52,7 @@ fn push_held(
         return push_curve(json, lines);
     }
     if kind == "key" {
-        return push_private_key(alloc, json, lines);
+        return push_private_key(alloc, json, modulus, lines);
     }
     push_key(alloc, json, "key", lines)
 }
@@ -72,10 +73,58 @@ fn push_curve(json: &mut JsonText, lines: &[Line]) -> Result<(), AllocError>
 }
 
 #[tactic(auto, unfolding(crate::specs::JsonKeys::private_key_members))]
-fn push_private_key(alloc: Global, json: &mut JsonText, lines: &[Line]) -> Result<(), AllocError>
-    ensures { OnOk result (json.new ≡ json.old ++ private_key_members lines.now) }
+fn push_private_key(
+    alloc: Global,
+    json: &mut JsonText,
+    modulus: Option<u64>,
+    lines: &[Line],
+) -> Result<(), AllocError>
+    ensures { OnOk result (json.new ≡ json.old ++ private_key_members modulus lines.now) }
 {
-    push_key(alloc, json, "key", from_field(lines, "privateKeyAlgorithm"))
+    let exponent = short_exponent(from_field(lines, "publicExponent"));
+    let algorithm = from_field(lines, "privateKeyAlgorithm");
+    push_sized_key(alloc, json, modulus, exponent, algorithm)
+}
+
+/// The parts of the algorithm of a private key, and the size of one of RSA.
+fn push_sized_key(
+    alloc: Global,
+    json: &mut JsonText,
+    modulus: Option<u64>,
+    exponent: Option<u64>,
+    lines: &[Line],
+) -> Result<(), AllocError>
+    ensures { OnOk result (json.new ≡ json.old ++ sized_key modulus exponent lines.now) }
+{
+    let [line, rest @ ..] = lines else {
+        return Ok(());
+    };
+    json.begin_object_at("key")?;
+    push_key_parts(alloc, json, line.depth, rest)?;
+    push_rsa_size(alloc, json, modulus, exponent)?;
+    json.end_object()
+}
+
+fn push_rsa_size(
+    alloc: Global,
+    json: &mut JsonText,
+    modulus: Option<u64>,
+    exponent: Option<u64>,
+) -> Result<(), AllocError>
+    ensures { OnOk result (json.new ≡ json.old ++ rsa_members modulus exponent) }
+{
+    let Some(bits) = modulus else {
+        return Ok(());
+    };
+    json.number("bits", bits)?;
+    match exponent {
+        Some(number) => {
+            let mut text = String::new(alloc);
+            push_number(&mut text, number)?;
+            json.text("exponent", text.as_str())
+        }
+        None => Ok(()),
+    }
 }
 
 /// A key or a signature by its parts.

@@ -2,11 +2,12 @@
 ghost use Rattle.std.specs.Prelude.{[], ◌≡◌, ◌++◌, IfOk, OnOk, codes, flat_map, length, string_bytes};
 ghost use Rattle.std.specs.Option.{option_map};
 ghost use Rattle.reports.specs.JsonLists.{carried_member, characters_member, extension_member};
-ghost use Rattle.reports.specs.JsonLists.{field_members, field_of_line, first_ones, form_members, judgement_members};
+ghost use Rattle.reports.specs.JsonLists.{field_members, field_of_line, form_members, judgement_members};
 ghost use Rattle.reports.specs.JsonLists.{is_nothing, length_members, line_members, line_object, marked_in};
 ghost use Rattle.reports.specs.JsonLists.{marked_object, not_der_members, note_members, note_object, octets_members};
 ghost use Rattle.reports.specs.JsonLists.{path_of, place_members};
-ghost use Rattle.reports.specs.JsonLists.{key_remark_members, name_remark_members, remark_words};
+ghost use Rattle.reports.specs.JsonLists.{attribute_remark_members, key_remark_members, name_remark_members};
+ghost use Rattle.reports.specs.JsonLists.{remark_words};
 ghost use Rattle.reports.specs.JsonLists.{remark_members, some_members, tag_member, tag_members, value_member};
 ghost use Rattle.reports.specs.JsonLists.{value_members};
 ghost use Rattle.reports.specs.JsonMembers.{list_member, number_member, object_member, optional};
@@ -18,9 +19,11 @@ use crate::json_report::push_place;
 use crate::json_text::JsonText;
 use crate::json_words::{word_of_cause, word_of_class};
 use crate::paths::{push_path, push_root, push_step};
-use crate::picks::{is_place_alone, line_of, path_to_line};
+use crate::picks::{is_place_alone, line_of, path_to_line, up_to};
 use crate::remarks::{code_of, level_of};
-use crate::report::{Cause, KeyRemark, Length, Line, NameRemark, Note, Remark, Report, Value};
+use crate::report::{
+    AttributeRemark, Cause, KeyRemark, Length, Line, NameRemark, Note, Remark, Report, Value,
+};
 use asn_names::element::Step;
 use asn_names::judgement::Judgement;
 use pkix_shapes::identifiers::Identifier;
@@ -118,17 +121,6 @@ fn push_all_marked(
     Ok(())
 }
 
-/// Up to so many.
-fn up_to(marked: &[Marked], most: u64) -> &[Marked]
-    ensures { result.now ≡ first_ones most marked.now }
-{
-    if most < marked.len() as u64 {
-        &marked[..most as usize]
-    } else {
-        marked
-    }
-}
-
 fn push_list(
     alloc: Global,
     json: &mut JsonText,
@@ -194,7 +186,9 @@ fn push_remark(json: &mut JsonText, remark: Remark) -> Result<(), AllocError>
         | Remark::NoNamedCurve
         | Remark::ExtensionTwice
         | Remark::AttributeTwice
-        | Remark::NeedlessParameters => Ok(()),
+        | Remark::NeedlessParameters
+        | Remark::Extension(_)
+        | Remark::Algorithm(_) => Ok(()),
         Remark::ExtensionNotDer(name) | Remark::ExtensionZeroBits(name) => {
             push_extension(json, name)
         }
@@ -204,6 +198,7 @@ fn push_remark(json: &mut JsonText, remark: Remark) -> Result<(), AllocError>
         }
         Remark::Key(remark) => push_key_remark(json, remark),
         Remark::Name(remark) => push_name_remark(json, remark),
+        Remark::Attribute(remark) => push_attribute_remark(json, remark),
     }
 }
 
@@ -230,7 +225,27 @@ fn push_name_remark(json: &mut JsonText, remark: NameRemark) -> Result<(), Alloc
         NameRemark::DnsSyntax
         | NameRemark::Wildcard
         | NameRemark::PrintableString
-        | NameRemark::Hidden => Ok(()),
+        | NameRemark::Hidden
+        | NameRemark::MailSyntax
+        | NameRemark::UriSyntax
+        | NameRemark::AddressAsDns
+        | NameRemark::Twice => Ok(()),
+    }
+}
+
+#[tactic(auto, unfolding(crate::specs::JsonLists::attribute_remark_members))]
+fn push_attribute_remark(json: &mut JsonText, remark: AttributeRemark) -> Result<(), AllocError>
+    ensures { OnOk result (json.new ≡ json.old ++ attribute_remark_members remark) }
+{
+    match remark {
+        AttributeRemark::Long(characters, most) => {
+            json.number("characters", characters)?;
+            json.number("most_characters", most)
+        }
+        AttributeRemark::Country
+        | AttributeRemark::EmailType
+        | AttributeRemark::OtherType
+        | AttributeRemark::Blank => Ok(()),
     }
 }
 

@@ -2,14 +2,16 @@
 ghost use Rattle.std.specs.Prelude.{◌≡◌, ◌++◌, IfOk, OnOk, codes, string_bytes};
 ghost use Rattle.std.specs.Option.{option_map};
 ghost use Rattle.json.specs.Print.{print};
-ghost use Rattle.reports.specs.Json.{about_members, advice_members, answer_members, check_object, contents_members};
-ghost use Rattle.reports.specs.Json.{due_members, file_place, follow_by, head_members, inside_members, lines_member};
-ghost use Rattle.reports.specs.Json.{missing_members, more_members, more_than, notes_member, number_members};
-ghost use Rattle.reports.specs.Json.{places_members, report_object, verdict_members};
+ghost use Rattle.reports.specs.Json.{about_members, advice_members, answer_members, certain_members, check_object};
+ghost use Rattle.reports.specs.Json.{contents_members, due_members, file_place, follow_by, head_members};
+ghost use Rattle.reports.specs.Json.{inside_members, lines_member, missing_members, more_members, more_than};
+ghost use Rattle.reports.specs.Json.{noted_object, notes_member, number_members, places_members, report_object};
+ghost use Rattle.reports.specs.Json.{verdict_members};
 ghost use Rattle.reports.specs.JsonLists.{place_members};
 ghost use Rattle.reports.specs.JsonMembers.{optional, text_member};
 ghost use Rattle.reports.specs.Texts.{line_feed};
 
+use crate::brief::brief_words;
 use crate::field::field_text;
 use crate::hints::{do_text, likely_text};
 use crate::json_asks::push_summary;
@@ -37,13 +39,50 @@ pub fn check_json(
 {
     let mut json = JsonText::new(alloc);
     json.begin_object()?;
-    push_head(&mut json, report, version, file)?;
-    push_field(alloc, &mut json, report)?;
-    push_numbers(&mut json, report, report.diagnosis.as_ref())?;
-    json.said("looks_like", word_of_guess(report.guess))?;
-    push_places(alloc, &mut json, places, report)?;
+    push_certain(alloc, &mut json, report, version, file, places)?;
     json.end_object()?;
     json.into_line()
+}
+
+/// The same with the notes.
+#[tactic(auto, unfolding(crate::specs::Json::noted_object))]
+pub fn noted_json(
+    alloc: Global,
+    report: &Report,
+    version: &str,
+    file: Option<&str>,
+    places: u64,
+) -> Result<String, AllocError>
+    ensures { IfOk result (λ text. string_bytes text
+        ≡ print (noted_object report.now version.now (option_map (λ r. r.now) file.entry) places)
+        ++ line_feed) }
+{
+    let mut json = JsonText::new(alloc);
+    json.begin_object()?;
+    push_certain(alloc, &mut json, report, version, file, places)?;
+    push_remarks(alloc, &mut json, report, &report.notes)?;
+    json.end_object()?;
+    json.into_line()
+}
+
+/// What is certain of the document.
+#[tactic(auto, unfolding(crate::specs::Json::certain_members))]
+fn push_certain(
+    alloc: Global,
+    json: &mut JsonText,
+    report: &Report,
+    version: &str,
+    file: Option<&str>,
+    places: u64,
+) -> Result<(), AllocError>
+    ensures { OnOk result (json.new ≡ json.old
+        ++ certain_members report.now version.now (option_map (λ r. r.now) file.entry) places) }
+{
+    push_head(json, report, version, file)?;
+    push_field(alloc, json, report)?;
+    push_numbers(json, report, report.diagnosis.as_ref())?;
+    json.said("looks_like", word_of_guess(report.guess))?;
+    push_places(alloc, json, places, report)
 }
 
 /// The report as `explain` gives it: the same, and what there is to say in words, the notes, and with `all` the
@@ -245,15 +284,17 @@ fn push_due(alloc: Global, json: &mut JsonText, report: &Report) -> Result<(), A
     json.said("found", found.as_str())
 }
 
-/// The usual cause, and what to do, in words.
+/// The usual cause, what to do, and the answer for whoever sent the file, in words.
 #[tactic(auto, unfolding(crate::specs::Json::advice_members))]
 fn push_advice(alloc: Global, json: &mut JsonText, report: &Report) -> Result<(), AllocError>
     ensures { OnOk result (json.new ≡ json.old ++ advice_members report.now) }
 {
     let likely = likely_text(alloc, report)?;
     let advice = do_text(alloc, report)?;
+    let brief = brief_words(alloc, report)?;
     json.said("likely", likely.as_str())?;
-    json.said("do", advice.as_str())
+    json.said("do", advice.as_str())?;
+    json.text("brief", brief.as_str())
 }
 
 /// Where it isn't in DER, if that is the answer.

@@ -3,6 +3,7 @@ ghost use Rattle.std.specs.Prelude.{◌≡◌, ◌++◌, OnOk, codes, cond, stri
 ghost use Rattle.reports.specs.Asks.{each_in};
 ghost use Rattle.reports.specs.Keys.{bit_length, bits_from, bits_said, exponent_said, integer_bits, integer_said};
 ghost use Rattle.reports.specs.Keys.{is_below_zero, key_line, key_octets, key_part, key_size, modulus_said};
+ghost use Rattle.reports.specs.Keys.{number_in, rsa_said, short_exponent, short_exponent_said};
 
 use crate::asks::{is_identifier, is_step, push_first_octets, push_identifier, push_value};
 use crate::report::{Line, Value};
@@ -135,6 +136,52 @@ fn push_exponent(alloc: Global, text: &mut String, value: &Value) -> Result<(), 
 {
     text.push_str(", exponent ")?;
     push_integer(alloc, text, value)
+}
+
+/// The size of a private key of RSA, where its modulus has so many bits, and the exponent where that is short.
+pub(crate) fn push_rsa(
+    text: &mut String,
+    modulus: Option<u64>,
+    exponent: Option<u64>,
+) -> Result<(), AllocError>
+    ensures { OnOk result (string_bytes text.new ≡ string_bytes text.old ++ rsa_said modulus exponent) }
+{
+    let Some(bits) = modulus else {
+        return Ok(());
+    };
+    push_bits(text, bits)?;
+    push_short_exponent(text, exponent)
+}
+
+fn push_short_exponent(text: &mut String, exponent: Option<u64>) -> Result<(), AllocError>
+    ensures { OnOk result (string_bytes text.new ≡ string_bytes text.old ++ short_exponent_said exponent) }
+{
+    match exponent {
+        Some(number) => {
+            text.push_str(", exponent ")?;
+            push_number(text, number)
+        }
+        None => Ok(()),
+    }
+}
+
+/// The exponent that the first of the lines says, where it is short.
+pub(crate) fn short_exponent(lines: &[Line]) -> Option<u64>
+    ensures { result ≡ short_exponent lines.now }
+{
+    match lines.first() {
+        Some(line) => number_in(&line.value),
+        None => None,
+    }
+}
+
+fn number_in(value: &Value) -> Option<u64>
+    ensures { result ≡ number_in value.now }
+{
+    match value {
+        Value::Number(number) => Some(*number),
+        _ => None,
+    }
 }
 
 /// An INTEGER in decimal digits, a large one in hexadecimal ones.

@@ -2,7 +2,7 @@
 ghost use Rattle.std.specs.Prelude.{◌≡◌, ◌++◌, IfOk, OnOk, cond, nat_lt, reverse, slice_get};
 ghost use Rattle.std.specs.Option.{option_map};
 ghost use Rattle.reports.specs.Picks.{causes, first_cause, is_beside, is_not_shown, is_place_alone, judge_line};
-ghost use Rattle.reports.specs.Picks.{numbers_from, start_of, ends_path, steps_to, path_to_line};
+ghost use Rattle.reports.specs.Picks.{first_ones, numbers_from, start_of, ends_path, steps_to, path_to_line};
 
 use crate::report::{Line, Value};
 use asn_names::element::Step;
@@ -190,5 +190,16 @@ fn is_not_shown(value: &Value) -> bool
     match value {
         Value::NotShown => true,
         _ => false,
+    }
+}
+
+/// Up to so many.
+pub(crate) fn up_to<T>(items: &[T], most: u64) -> &[T]
+    ensures { result.now ≡ first_ones most items.now }
+{
+    if most < items.len() as u64 {
+        &items[..most as usize]
+    } else {
+        items
     }
 }

@@ -1,9 +1,15 @@
-//! Remarks by their codes and levels, which text and JSON have, and in words those on keys and names.
+//! Remarks by their codes and levels, which text and JSON have, and in words those on keys, names, extensions and
+//! algorithms.
 ghost use Rattle.std.specs.Prelude.{◌≡◌, ◌++◌, OnOk, string_bytes};
-ghost use Rattle.reports.specs.Remarks.{key_code, key_level, key_remark_said, name_code, name_level};
+ghost use Rattle.reports.specs.Remarks.{algorithm_code, algorithm_level, algorithm_remark_said, attribute_code};
+ghost use Rattle.reports.specs.Remarks.{attribute_level, attribute_numbers, attribute_remark_said, attribute_words};
+ghost use Rattle.reports.specs.Remarks.{extension_code, extension_level, extension_remark_said, key_code, key_level};
+ghost use Rattle.reports.specs.Remarks.{key_remark_said, name_code, name_level, name_numbers, name_words};
 ghost use Rattle.reports.specs.Remarks.{name_remark_said, remark_code, remark_level};
 
-use crate::report::{KeyRemark, NameRemark, Remark};
+use crate::report::{
+    AlgorithmRemark, AttributeRemark, ExtensionRemark, KeyRemark, NameRemark, Remark,
+};
 use crate::text::push_number;
 use crate::text_report::push_reason;
 use crate::words::push_size;
@@ -27,6 +33,9 @@ pub(crate) fn code_of(remark: Remark) -> &'static str
         | Remark::ExtensionRefused(_, _, _) => "extension_not_der",
         Remark::Key(remark) => code_of_key(remark),
         Remark::Name(remark) => code_of_name(remark),
+        Remark::Extension(remark) => code_of_extension(remark),
+        Remark::Algorithm(remark) => code_of_algorithm(remark),
+        Remark::Attribute(remark) => code_of_attribute(remark),
     }
 }
 
@@ -52,6 +61,45 @@ fn code_of_name(remark: NameRemark) -> &'static str
         NameRemark::Wildcard => "san_wildcard",
         NameRemark::PrintableString => "printable_string",
         NameRemark::Hidden => "control_in_name",
+        NameRemark::MailSyntax => "san_mail_syntax",
+        NameRemark::UriSyntax => "san_uri_syntax",
+        NameRemark::AddressAsDns => "san_ip_as_dns",
+        NameRemark::Twice => "san_twice",
+    }
+}
+
+fn code_of_attribute(remark: AttributeRemark) -> &'static str
+    ensures { result.now ≡ attribute_code remark }
+{
+    match remark {
+        AttributeRemark::Country => "country",
+        AttributeRemark::EmailType => "email_type",
+        AttributeRemark::OtherType => "name_type",
+        AttributeRemark::Long(_, _) => "name_long",
+        AttributeRemark::Blank => "name_blank",
+    }
+}
+
+fn code_of_extension(remark: ExtensionRemark) -> &'static str
+    ensures { result.now ≡ extension_code remark }
+{
+    match remark {
+        ExtensionRemark::NoUsage => "ku_none",
+        ExtensionRemark::SignWithoutCa => "certsign_without_ca",
+        ExtensionRemark::PathWithoutCa => "pathlen_without_ca",
+        ExtensionRemark::OldRequest => "old_extension_request",
+        ExtensionRemark::EmptySubject => "empty_subject",
+    }
+}
+
+fn code_of_algorithm(remark: AlgorithmRemark) -> &'static str
+    ensures { result.now ≡ algorithm_code remark }
+{
+    match remark {
+        AlgorithmRemark::Sha1 => "sha1",
+        AlgorithmRemark::Md5 | AlgorithmRemark::OldDigest => "md5",
+        AlgorithmRemark::NoNull => "rsa_no_null",
+        AlgorithmRemark::AnotherKey => "algorithm_of_another_key",
     }
 }
 
@@ -73,6 +121,9 @@ pub(crate) fn level_of(remark: Remark) -> &'static str
         | Remark::ExtensionRefused(_, _, _) => "must",
         Remark::Key(remark) => level_of_key(remark),
         Remark::Name(remark) => level_of_name(remark),
+        Remark::Extension(remark) => level_of_extension(remark),
+        Remark::Algorithm(remark) => level_of_algorithm(remark),
+        Remark::Attribute(remark) => level_of_attribute(remark),
     }
 }
 
@@ -93,11 +144,45 @@ fn level_of_name(remark: NameRemark) -> &'static str
     ensures { result.now ≡ name_level remark }
 {
     match remark {
-        NameRemark::Wildcard => "should",
+        NameRemark::Wildcard | NameRemark::AddressAsDns | NameRemark::Twice => "should",
         NameRemark::AddressLength(_)
         | NameRemark::DnsSyntax
         | NameRemark::PrintableString
-        | NameRemark::Hidden => "must",
+        | NameRemark::Hidden
+        | NameRemark::MailSyntax
+        | NameRemark::UriSyntax => "must",
+    }
+}
+
+fn level_of_attribute(remark: AttributeRemark) -> &'static str
+    ensures { result.now ≡ attribute_level remark }
+{
+    match remark {
+        AttributeRemark::Blank => "should",
+        AttributeRemark::Country
+        | AttributeRemark::EmailType
+        | AttributeRemark::OtherType
+        | AttributeRemark::Long(_, _) => "must",
+    }
+}
+
+fn level_of_extension(remark: ExtensionRemark) -> &'static str
+    ensures { result.now ≡ extension_level remark }
+{
+    match remark {
+        ExtensionRemark::OldRequest | ExtensionRemark::EmptySubject => "should",
+        ExtensionRemark::NoUsage
+        | ExtensionRemark::SignWithoutCa
+        | ExtensionRemark::PathWithoutCa => "must",
+    }
+}
+
+fn level_of_algorithm(remark: AlgorithmRemark) -> &'static str
+    ensures { result.now ≡ algorithm_level remark }
+{
+    match remark {
+        AlgorithmRemark::Sha1 | AlgorithmRemark::Md5 | AlgorithmRemark::OldDigest => "should",
+        AlgorithmRemark::NoNull | AlgorithmRemark::AnotherKey => "must",
     }
 }
 
@@ -138,23 +223,143 @@ pub(crate) fn push_key_remark(text: &mut String, remark: KeyRemark) -> Result<()
 pub(crate) fn push_name_remark(text: &mut String, remark: NameRemark) -> Result<(), AllocError>
     ensures { OnOk result (string_bytes text.new ≡ string_bytes text.old ++ name_remark_said remark) }
 {
+    text.push_str(name_words(remark))?;
+    push_name_numbers(text, remark)
+}
+
+/// What is said of a name, up to the numbers that it has.
+#[tactic(auto, unfolding(crate::specs::Remarks::name_words))]
+fn name_words(remark: NameRemark) -> &'static str
+    ensures { result.now ≡ name_words remark }
+{
+    match remark {
+        NameRemark::AddressLength(_) => "an IP address of ",
+        NameRemark::DnsSyntax => {
+            "a DNS name that isn't in the preferred name syntax (RFC 5280 section 4.2.1.6)"
+        }
+        NameRemark::Wildcard =>
+            "a wildcard that isn't the whole first label (RFC 9525 section 6.3)",
+        NameRemark::PrintableString => {
+            "a PrintableString with a character that isn't one of its own (X.680 41.4)"
+        }
+        NameRemark::Hidden => {
+            "a character that controls or formats text, which a reader doesn't see"
+        }
+        NameRemark::MailSyntax => "an rfc822Name that isn't a mailbox (RFC 5280 section 4.2.1.6)",
+        NameRemark::UriSyntax => {
+            "a URI without a scheme, or with nothing after it (RFC 5280 section 4.2.1.6)"
+        }
+        NameRemark::AddressAsDns => {
+            "an IPv4 address as a DNS name, where iPAddress is for these (RFC 5280 section 4.2.1.6)"
+        }
+        NameRemark::Twice => "a name that stands there before",
+    }
+}
+
+#[tactic(auto, unfolding(crate::specs::Remarks::name_numbers))]
+fn push_name_numbers(text: &mut String, remark: NameRemark) -> Result<(), AllocError>
+    ensures { OnOk result (string_bytes text.new ≡ string_bytes text.old ++ name_numbers remark) }
+{
     match remark {
         NameRemark::AddressLength(octets) => {
-            text.push_str("an IP address of ")?;
             push_size(text, octets)?;
             text.push_str(", where it has 4 or 16 (RFC 5280 section 4.2.1.6)")
         }
-        NameRemark::DnsSyntax => text.push_str(
-            "a DNS name that isn't in the preferred name syntax (RFC 5280 section 4.2.1.6)",
-        ),
-        NameRemark::Wildcard => text.push_str(
-            "a wildcard that isn't the whole first label (RFC 9525 section 6.3)",
-        ),
-        NameRemark::PrintableString => text.push_str(
-            "a PrintableString with a character that isn't one of its own (X.680 41.4)",
-        ),
-        NameRemark::Hidden => text.push_str(
-            "a character that controls or formats text, which a reader doesn't see",
-        ),
+        NameRemark::DnsSyntax
+        | NameRemark::Wildcard
+        | NameRemark::PrintableString
+        | NameRemark::Hidden
+        | NameRemark::MailSyntax
+        | NameRemark::UriSyntax
+        | NameRemark::AddressAsDns
+        | NameRemark::Twice => Ok(()),
+    }
+}
+
+#[tactic(auto, unfolding(crate::specs::Remarks::attribute_remark_said))]
+pub(crate) fn push_attribute_remark(
+    text: &mut String,
+    remark: AttributeRemark,
+) -> Result<(), AllocError>
+    ensures { OnOk result (string_bytes text.new ≡ string_bytes text.old
+        ++ attribute_remark_said remark) }
+{
+    text.push_str(attribute_words(remark))?;
+    push_attribute_numbers(text, remark)
+}
+
+/// What is said of the value of an attribute, up to the numbers that it has.
+#[tactic(auto, unfolding(crate::specs::Remarks::attribute_words))]
+fn attribute_words(remark: AttributeRemark) -> &'static str
+    ensures { result.now ≡ attribute_words remark }
+{
+    match remark {
+        AttributeRemark::Country => {
+            "a countryName that isn't a PrintableString of two characters (RFC 5280 appendix A.1)"
+        }
+        AttributeRemark::EmailType => {
+            "an emailAddress that isn't an IA5String (RFC 5280 appendix A.1)"
+        }
+        AttributeRemark::OtherType => {
+            "a value of another type than its attribute has (RFC 5280 appendix A.1)"
+        }
+        AttributeRemark::Long(_, _) => "a value of ",
+        AttributeRemark::Blank => "a value in which a reader sees nothing",
+    }
+}
+
+#[tactic(auto, unfolding(crate::specs::Remarks::attribute_numbers))]
+fn push_attribute_numbers(text: &mut String, remark: AttributeRemark) -> Result<(), AllocError>
+    ensures { OnOk result (string_bytes text.new ≡ string_bytes text.old ++ attribute_numbers remark) }
+{
+    match remark {
+        AttributeRemark::Long(characters, most) => {
+            push_number(text, characters)?;
+            text.push_str(" characters, where its attribute has ")?;
+            push_number(text, most)?;
+            text.push_str(" at most (RFC 5280 appendix A.1)")
+        }
+        AttributeRemark::Country
+        | AttributeRemark::EmailType
+        | AttributeRemark::OtherType
+        | AttributeRemark::Blank => Ok(()),
+    }
+}
+
+#[tactic(auto, unfolding(crate::specs::Remarks::extension_remark_said))]
+pub(crate) fn extension_remark_words(remark: ExtensionRemark) -> &'static str
+    ensures { result.now ≡ extension_remark_said remark }
+{
+    match remark {
+        ExtensionRemark::NoUsage => { "a keyUsage of which no bit is 1 (RFC 5280 section 4.2.1.3)" }
+        ExtensionRemark::SignWithoutCa => {
+            "keyCertSign, where no basicConstraints has cA TRUE (RFC 5280 section 4.2.1.3)"
+        }
+        ExtensionRemark::PathWithoutCa => {
+            "pathLenConstraint, where no basicConstraints has cA TRUE (RFC 5280 section 4.2.1.9)"
+        }
+        ExtensionRemark::OldRequest => {
+            "Microsoft's attribute in place of extensionRequest (RFC 2985 section 5.4.2)"
+        }
+        ExtensionRemark::EmptySubject => {
+            "a subject without an attribute, and no subjectAltName (RFC 5280 section 4.1.2.6)"
+        }
+    }
+}
+
+#[tactic(auto, unfolding(crate::specs::Remarks::algorithm_remark_said))]
+pub(crate) fn algorithm_remark_words(remark: AlgorithmRemark) -> &'static str
+    ensures { result.now ≡ algorithm_remark_said remark }
+{
+    match remark {
+        AlgorithmRemark::Sha1 => "a signature with SHA-1 (NIST SP 800-131A)",
+        AlgorithmRemark::Md5 => "a signature with MD5 (RFC 6151 section 2)",
+        AlgorithmRemark::OldDigest => "a signature with MD2 or MD4, which are older than MD5",
+        AlgorithmRemark::NoNull => {
+            "rsaEncryption without NULL as its parameters (RFC 8017 appendix A.1, RFC 3279 section 2.3.1)"
+        }
+        AlgorithmRemark::AnotherKey => {
+            "a signature that the key in the request can't make (RFC 2986 section 3)"
+        }
     }
 }

@@ -219,6 +219,12 @@ pub enum Remark {
     Key(KeyRemark),
     /// About a name.
     Name(NameRemark),
+    /// About what the extensions of a request say, or lack.
+    Extension(ExtensionRemark),
+    /// About an algorithm.
+    Algorithm(AlgorithmRemark),
+    /// About the value of an attribute in a name.
+    Attribute(AttributeRemark),
 }
 
 /// What is remarked on a key.
@@ -252,6 +258,59 @@ pub enum NameRemark {
     PrintableString,
     /// A character that controls or formats text.
     Hidden,
+    /// An rfc822Name there that is no mailbox (RFC 5280 section 4.2.1.6).
+    MailSyntax,
+    /// A uniformResourceIdentifier there without a scheme, or with nothing after it (the same).
+    UriSyntax,
+    /// A DNS name there that is an address of IP version 4, for which there is iPAddress (the same).
+    AddressAsDns,
+    /// A name there that is there before.
+    Twice,
+}
+
+/// What is remarked on the value of an attribute in a name.
+#[derive(Clone, Copy)]
+pub enum AttributeRemark {
+    /// A countryName that isn't a PrintableString of two characters (RFC 5280 appendix A.1).
+    Country,
+    /// An emailAddress that isn't an IA5String (the same).
+    EmailType,
+    /// A value of another type than its attribute has (the same, and section 4.1.2.4).
+    OtherType,
+    /// A value of so many characters, where its attribute has so many at most (the same).
+    Long(u64, u64),
+    /// A value in which a reader sees nothing.
+    Blank,
+}
+
+/// What is remarked on what the extensions of a request say, or lack.
+#[derive(Clone, Copy)]
+pub enum ExtensionRemark {
+    /// A keyUsage of which no bit is 1 (RFC 5280 section 4.2.1.3).
+    NoUsage,
+    /// The usage keyCertSign, where no basicConstraints has cA TRUE (the same).
+    SignWithoutCa,
+    /// A pathLenConstraint, where none has cA TRUE (RFC 5280 section 4.2.1.9).
+    PathWithoutCa,
+    /// Microsoft's attribute in place of extensionRequest (RFC 2985 section 5.4.2).
+    OldRequest,
+    /// A subject without an attribute, where no extension is a subjectAltName (RFC 5280 section 4.1.2.6).
+    EmptySubject,
+}
+
+/// What is remarked on an algorithm.
+#[derive(Clone, Copy)]
+pub enum AlgorithmRemark {
+    /// A signature with SHA-1 (NIST SP 800-131A).
+    Sha1,
+    /// One with MD5 (RFC 6151 section 2).
+    Md5,
+    /// One with MD2 or MD4.
+    OldDigest,
+    /// rsaEncryption without parameters, or with others than NULL (RFC 8017 appendix A.1, RFC 3279 section 2.3.1).
+    NoNull,
+    /// A signature that the key in the request can't make (RFC 2986 section 3).
+    AnotherKey,
 }
 
 /// A remark, and the number of the line that it is about.
@@ -276,4 +335,6 @@ pub struct Report {
     pub guess: Guess,
     /// Of a document that is accepted.
     pub notes: Vec<Note>,
+    /// The same: how many bits the first modulus of an RSA key in it has.
+    pub modulus: Option<u64>,
 }

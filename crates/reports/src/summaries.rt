@@ -9,7 +9,7 @@ ghost use Rattle.reports.specs.Summaries.{scheme_part, summary_lines};
 use crate::asks::{
     from_field, is_accepted, is_asking, is_step, push_identifier, push_others, push_subject,
 };
-use crate::keys::push_key_line;
+use crate::keys::{push_key_line, push_rsa, short_exponent};
 use crate::report::{Line, Report, Value};
 use crate::text::push_number;
 use std::alloc::{AllocError, Global};
@@ -77,7 +77,7 @@ fn push_holds(
     }
     text.push_str("\n")?;
     text.push_str("holds\n")?;
-    push_held(alloc, text, report.kind.word, lines)
+    push_held(alloc, text, report.kind.word, report.modulus, lines)
 }
 
 /// Whether it is a key that is accepted.
@@ -94,9 +94,15 @@ fn is_key(kind: &str) -> bool
 }
 
 #[tactic(auto, unfolding(crate::specs::Summaries::held_line))]
-fn push_held(alloc: Global, text: &mut String, kind: &str, lines: &[Line]) -> Result<(), AllocError>
+fn push_held(
+    alloc: Global,
+    text: &mut String,
+    kind: &str,
+    modulus: Option<u64>,
+    lines: &[Line],
+) -> Result<(), AllocError>
     ensures { OnOk result (string_bytes text.new ≡ string_bytes text.old
-        ++ held_line kind.now lines.now) }
+        ++ held_line kind.now modulus lines.now) }
 {
     if kind == "encrypted" {
         return push_encryption(text, lines);
@@ -105,7 +111,7 @@ fn push_held(alloc: Global, text: &mut String, kind: &str, lines: &[Line]) -> Re
         return push_curve(text, lines);
     }
     if kind == "key" {
-        return push_private_key(alloc, text, lines);
+        return push_private_key(alloc, text, modulus, lines);
     }
     push_public_key(alloc, text, lines)
 }
@@ -119,11 +125,24 @@ fn push_encryption(text: &mut String, lines: &[Line]) -> Result<(), AllocError>
 }
 
 #[tactic(auto, unfolding(crate::specs::Summaries::private_key_line))]
-fn push_private_key(alloc: Global, text: &mut String, lines: &[Line]) -> Result<(), AllocError>
+fn push_private_key(
+    alloc: Global,
+    text: &mut String,
+    modulus: Option<u64>,
+    lines: &[Line],
+) -> Result<(), AllocError>
     ensures { OnOk result (string_bytes text.new ≡ string_bytes text.old
-        ++ private_key_line lines.now) }
+        ++ private_key_line modulus lines.now) }
 {
-    push_public_key(alloc, text, from_field(lines, "privateKeyAlgorithm"))
+    let mut end = String::new(alloc);
+    push_rsa(
+        &mut end,
+        modulus,
+        short_exponent(from_field(lines, "publicExponent")),
+    )?;
+    end.push_str("\n")?;
+    let algorithm = from_field(lines, "privateKeyAlgorithm");
+    push_key_line(alloc, text, "  key        ", algorithm, end.as_str())
 }
 
 #[tactic(auto, unfolding(crate::specs::Summaries::public_key_line))]

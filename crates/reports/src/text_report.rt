@@ -1,15 +1,13 @@
 //! The parts of a report around its listing.
 ghost use Rattle.std.specs.Prelude.{◌≡◌, ◌++◌, OnOk, flat_map, string_bytes};
-ghost use Rattle.reports.specs.Reports.{answer_line, answer_lines, coded, head_line, inside_said, note_line};
-ghost use Rattle.reports.specs.Reports.{note_lines, refused_lines};
+ghost use Rattle.reports.specs.Reports.{answer_line, answer_lines, head_line, inside_said, note_line, note_lines};
+ghost use Rattle.reports.specs.Reports.{refused_lines};
 ghost use Rattle.reports.specs.Words.{place_said};
 
 use crate::field::field_text;
-use crate::hints::{do_text, likely_text, note_text};
-use crate::paths::path_text;
-use crate::picks::path_to_line;
-use crate::remarks::{code_of, level_of};
-use crate::report::{Answer, Note, Remark, Report};
+use crate::hints::{do_text, likely_text};
+use crate::notes::note_said;
+use crate::report::{Answer, Note, Report};
 use crate::text::push_number;
 use crate::text_wrap::push_labelled;
 use crate::words::{due_text, found_text, push_size};
@@ -150,24 +148,6 @@ fn push_note(
     ensures { OnOk result (string_bytes text.new ≡ string_bytes text.old
         ++ note_line report.now note) }
 {
-    let path = path_to_line(alloc, &report.lines, note.line)?;
-    let place = path_text(alloc, report.kind.type_name, &path)?;
-    let mut said = String::new(alloc);
-    push_level(&mut said, note.remark)?;
-    said.push_str(place.as_str())?;
-    said.push_str(": ")?;
-    let remark = note_text(alloc, note.remark)?;
-    said.push_str(remark.as_str())?;
+    let said = note_said(alloc, report, note)?;
     push_labelled(text, "note    ", said.as_str())
-}
-
-/// The level and the code of a remark.
-#[tactic(auto, unfolding(crate::specs::Reports::coded))]
-fn push_level(text: &mut String, remark: Remark) -> Result<(), AllocError>
-    ensures { OnOk result (string_bytes text.new ≡ string_bytes text.old ++ coded remark) }
-{
-    text.push_str(level_of(remark))?;
-    text.push_str(" ")?;
-    text.push_str(code_of(remark))?;
-    text.push_str(" ")
 }

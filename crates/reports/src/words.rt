@@ -3,12 +3,12 @@
 ghost use Rattle.std.specs.Prelude.{◌≡◌, ◌++◌, IfOk, OnOk, string_bytes};
 ghost use Rattle.reports.specs.Words.{container_said, diagnosis_said, due_of, due_said, due_type_said, element_said};
 ghost use Rattle.reports.specs.Words.{ends_before, found_of, found_said, header_said, joined, length_said, more_of};
-ghost use Rattle.reports.specs.Words.{more_said, more_words, off_by, passed_said, placed, says_size, size_of};
-ghost use Rattle.reports.specs.Words.{size_said, sized, would_end};
+ghost use Rattle.reports.specs.Words.{more_said, more_words, number_at, off_by, passed_said, placed, says_size};
+ghost use Rattle.reports.specs.Words.{size_of, size_said, sized, would_end};
 
 use crate::paths::path_text;
 use crate::reason_due::reason_due;
-use crate::report::{Answer, Diagnosis, Due, FaultContainer, Found, Length, Report};
+use crate::report::{Answer, Diagnosis, Due, FaultContainer, Found, Length, Line, Report, Value};
 use crate::text::{push_number, push_sum};
 use crate::type_words::{push_fields, push_shape, push_tag};
 use std::alloc::{AllocError, Global};
@@ -99,7 +99,8 @@ fn diagnosis_text(alloc: Global, report: &Report) -> Result<String, AllocError>
 {
     let mut text = String::new(alloc);
     if let Some(diagnosis) = &report.diagnosis {
-        push_found(alloc, &mut text, report.kind.type_name, diagnosis)?;
+        let number = number_at(&report.lines, diagnosis.line);
+        push_found(alloc, &mut text, report.kind.type_name, diagnosis, number)?;
     }
     Ok(text)
 }
@@ -111,26 +112,49 @@ fn push_found(
     text: &mut String,
     root: &str,
     diagnosis: &Diagnosis,
+    number: Option<u64>,
 ) -> Result<(), AllocError>
     ensures { OnOk result (string_bytes text.new ≡ string_bytes text.old
-        ++ found_of root.now diagnosis.now) }
+        ++ found_of root.now diagnosis.now number) }
 {
     match diagnosis.found {
         Some(found) => {
-            push_header(text, found)?;
+            push_header(text, found, number)?;
             push_element(alloc, text, root, diagnosis)
         }
         None => push_container(alloc, text, root, diagnosis),
     }
 }
 
-/// An element by its header.
+/// The number that the line at a fault shows.
+fn number_at(lines: &[Line], line: Option<u64>) -> Option<u64>
+    ensures { result ≡ number_at lines.now line }
+{
+    let Some(number) = line else {
+        return None;
+    };
+    let Some(line) = lines.get(number as usize) else {
+        return None;
+    };
+    match line.value {
+        Value::Number(number) => Some(number),
+        _ => None,
+    }
+}
+
+/// An element by its tag, and by its number where that is shown, else by its length.
 #[tactic(auto, unfolding(crate::specs::Words::header_said))]
-fn push_header(text: &mut String, found: Found) -> Result<(), AllocError>
-    ensures { OnOk result (string_bytes text.new ≡ string_bytes text.old ++ header_said found) }
+fn push_header(text: &mut String, found: Found, number: Option<u64>) -> Result<(), AllocError>
+    ensures { OnOk result (string_bytes text.new ≡ string_bytes text.old ++ header_said found number) }
 {
     push_tag(text, found.tag)?;
-    push_length(text, found.length)
+    match number {
+        Some(number) => {
+            text.push_str(" ")?;
+            push_number(text, number)
+        }
+        None => push_length(text, found.length),
+    }
 }
 
 /// What length octets say.

@@ -1,5 +1,6 @@
 use Rattle.std.proofs.Common.{◌++◌, ◌∙◌, ap, codes, flat_map, length}
-use Rattle.reports.specs.JsonLists.{first_ones, marked_object, some_members}
+use Rattle.reports.specs.JsonLists.{marked_object, some_members}
+use Rattle.reports.specs.Picks.{first_ones}
 use Rattle.reports.specs.JsonMembers.{list_member, number_member}
 use Rattle.reports.proofs.Appends.{in_words, past}
 use Rattle.reports.proofs.json_lists.push_some.Goals as goal
