@@ -1,6 +1,6 @@
 -- What is shown of the first elements that differ, by the lines of two reports.
 use Rattle.std.proofs.Common.{List, ap, length, map, ℕ, ◌-◌, ◌∙◌, ◌≡◌}
-use Rattle.reports.specs.JsonLists.{first_ones}
+use Rattle.reports.specs.Picks.{first_ones}
 use Rattle.reports.specs.declared.report.Line.{Line}
 use Rattle.comparison.specs.DifferenceWords.{DifferenceWords, said_of}
 use Rattle.comparison.specs.DifferenceLists.{differences}

@@ -8,7 +8,7 @@ use Rattle.pk_documents.specs.Kinds.{type_of}
 use Rattle.pk_documents.specs.declared.kind.Kind.{Kind}
 use Rattle.explain.specs.Reports.{IsReportOf}
 use Rattle.explain.specs.Written.{version}
-use Rattle.reports.specs.JsonLists.{first_ones}
+use Rattle.reports.specs.Picks.{first_ones}
 use Rattle.reports.specs.Texts.{line_feed}
 use Rattle.reports.specs.declared.report.Line.{Line}
 use Rattle.reports.specs.declared.report.Report.{Report}

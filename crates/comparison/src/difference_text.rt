@@ -1,6 +1,6 @@
 //! What is shown of the elements that differ.
 ghost use Rattle.std.specs.Prelude.{◌≡◌, ◌++◌, ◌-◌, IfOk, OnOk, map, string_bytes};
-ghost use Rattle.reports.specs.JsonLists.{first_ones};
+ghost use Rattle.reports.specs.Picks.{first_ones};
 ghost use Rattle.comparison.specs.DifferenceWords.{difference_field, said_of, side_value, words_of};
 
 use crate::difference_list::Difference;

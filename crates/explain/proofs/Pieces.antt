@@ -1,5 +1,5 @@
 -- The places of octets that are in pieces.
-use Rattle.std.proofs.Common.{List, Option, ap, arith, cond, drop, false, get_or, length, nat_lt, subst, sym, take, ℕ, [], ◌+◌, ◌-◌, ◌∙◌, ◌∷◌, ◌≡◌, ◌≤◌}
+use Rattle.std.proofs.Common.{List, ap, arith, cond, drop, false, get_or, length, nat_lt, subst, sym, take, ℕ, [], ◌+◌, ◌-◌, ◌∙◌, ◌∷◌, ◌≡◌, ◌≤◌}
 use Rattle.std.proofs.Math.Nat.{zero-add}
 use Rattle.std.proofs.lemmas.List.{length-drop, take_all}
 use Rattle.std.proofs.lemmas.Bool.Decides.{nat_tests}

@@ -41,21 +41,21 @@ next_taken notes after number remark =
 -- the notes from a line on are those on it and those from the next one on
 next_line : (lines : List Line) (number : ℕ) (line : Line) (context next : Context) (first second : Option Remark)
     → number < length lines → line ≡ get_or lines number line
-    → first ≡ remark_on context line (drop (number + 1) lines)
-    → second ≡ remark_on_repeat lines (take number lines) line → next ≡ context_after context line
+    → first ≡ remark_on lines context line (drop (number + 1) lines)
+    → second ≡ remark_on_repeat context.extension lines (take number lines) line → next ≡ context_after context line
     → notes_from lines context number (drop number lines)
     ≡ note_on number first ++ (note_on number second ++ notes_from lines next (number + 1) (drop (number + 1) lines))
 next_line lines number line context next first second h e f s n =
     let d : drop number lines ≡ line ∷ drop (number + 1) lines =
     drop_more lines number line h ∙ ap (λ (x : Line). x ∷ drop (number + 1) lines) (sym e) in
-    rw (d, f, s, n) (append_assoc (note_on number (remark_on context line (drop (number + 1) lines)))
-    (note_on number (remark_on_repeat lines (take number lines) line))
+    rw (d, f, s, n) (append_assoc (note_on number (remark_on lines context line (drop (number + 1) lines)))
+    (note_on number (remark_on_repeat context.extension lines (take number lines) line))
     (notes_from lines (context_after context line) (number + 1) (drop (number + 1) lines)))
 
 pub one_line : (lines : List Line) (number : ℕ) (line : Line) (context next : Context) (first second : Option Remark)
     (notes mid new answer : List Note) → number < length lines → line ≡ get_or lines number line
-    → first ≡ remark_on context line (drop (number + 1) lines)
-    → second ≡ remark_on_repeat lines (take number lines) line → next ≡ context_after context line
+    → first ≡ remark_on lines context line (drop (number + 1) lines)
+    → second ≡ remark_on_repeat context.extension lines (take number lines) line → next ≡ context_after context line
     → mid ≡ add_note notes number first → new ≡ add_note mid number second
     → take most_notes (notes ++ notes_from lines context number (drop number lines)) ≡ answer
     → take most_notes (new ++ notes_from lines next (number + 1) (drop (number + 1) lines)) ≡ answer

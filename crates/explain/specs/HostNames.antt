@@ -49,3 +49,7 @@ has_star name = list_any (λ octet. octet == 42) (after_wildcard name)
 -- A name of 253 octets at most is in the syntax, but that its first label may be a * alone.
 abbrev pub is_host_name : List ℕ → Bool
 is_host_name name = nat_le (length name) 253 && are_labels label_start (after_wildcard name)
+
+-- The same without a wildcard.
+abbrev pub is_domain_name : List ℕ → Bool
+is_domain_name name = nat_le (length name) 253 && are_labels label_start name

@@ -13,9 +13,14 @@ pub mod HostNames
 pub mod Insides
 pub mod Lines
 pub mod Listings
+pub mod Moduli
+pub mod GeneralNames
 pub mod Guesses
+pub mod NotedAlgorithms
+pub mod NotedAttributes
 pub mod NotedKeys
 pub mod NotedNames
+pub mod NotedUsages
 pub mod Notes
 pub mod Places
 pub mod Promises

@@ -1,5 +1,5 @@
 -- What is remarked on public keys: on those of RSA, which are looked into, and on the curves of others.
-use Rattle.std.specs.Prelude.{Bool, List, None, Option, Some, [], codes, cond, false, length, nat_lt, option_and_then, slice_get, string_bytes, true, ℕ, ◌%◌, ◌-◌, ◌==◌, ◌||◌, ◌∷◌}
+use Rattle.std.specs.Prelude.{Bool, List, None, Option, Some, [], codes, false, length, nat_lt, option_and_then, slice_get, string_bytes, true, ℕ, ◌%◌, ◌-◌, ◌==◌, ◌||◌, ◌∷◌}
 use Rattle.std.specs.Option.{option_map}
 use Rattle.asn_names.specs.declared.judgement.Judgement.{Judgement}
 use Rattle.asn_names.specs.declared.judgement.Judgement.TheVariants as judgements

@@ -1,28 +1,32 @@
 -- What other standards forbid in an accepted document, by its lines.
-use Rattle.std.specs.Prelude.{Bool, List, None, Option, Some, [], codes, cond, false, filter, length, nat_lt, not, option_and_then, reverse, slice_get, string_bytes, take, true, ℕ, ◌%◌, ◌*◌, ◌+◌, ◌++◌, ◌-◌, ◌/◌, ◌==◌, ◌&&◌, ◌||◌, ◌∷◌}
+use Rattle.std.specs.Prelude.{Bool, List, None, Option, Some, [], codes, cond, false, filter, length, nat_le, nat_lt, not, option_and_then, reverse, slice_get, true, string_bytes, take, ℕ, ◌*◌, ◌+◌, ◌++◌, ◌-◌, ◌==◌, ◌&&◌, ◌||◌, ◌∷◌}
 use Rattle.std.specs.Borrow.{Bor}
 use Rattle.std.specs.List.{list_any}
 use Rattle.std.specs.Option.{is_some, option_or}
 use Rattle.x690.specs.Lists.{one_of, same_octets}
 use Rattle.asn_names.specs.declared.element.Step.{Step}
+use Rattle.asn_names.specs.declared.element.Step.TheVariants.{Member}
 use Rattle.asn_names.specs.declared.judgement.Judgement.{Judgement}
 use Rattle.asn_names.specs.declared.judgement.Judgement.TheVariants as judgements
 use Rattle.pkix_definitions.specs.Identifiers.{curve_lengths, ec_public_key, entry_under, extension_request}
 use Rattle.pkix_shapes.specs.declared.identifiers.Identifier.{Identifier}
-use Rattle.explain.specs.Causes.{unit_of}
+use Rattle.explain.specs.NotedAlgorithms.{remark_on_scheme}
+use Rattle.explain.specs.NotedAttributes.{remark_on_attribute}
 use Rattle.explain.specs.NotedKeys.{remark_on_curve, remark_on_exponent, remark_on_inside, remark_on_modulus}
-use Rattle.explain.specs.NotedNames.{remark_on_name}
+use Rattle.explain.specs.NotedNames.{is_one_element, is_subject_alt_name, remark_on_name}
+use Rattle.explain.specs.NotedUsages.{held_in, remark_on_old_request, remark_on_path, remark_on_subject, remark_on_usage}
 use Rattle.explain.specs.Public.{is_field}
 use Rattle.explain.specs.Remarks.{remark_if}
 use Rattle.explain.specs.declared.notes.Context.{Context}
 use Rattle.reports.specs.declared.report.Answer.{Answer}
 use Rattle.reports.specs.declared.report.Answer.TheVariants.{Der, NotDer, Refused}
 use Rattle.reports.specs.declared.report.Line.{Line}
+use Rattle.reports.specs.declared.report.NameRemark.TheVariants.{Twice}
 use Rattle.reports.specs.declared.report.Note.{Note}
 use Rattle.reports.specs.declared.report.Remark.{Remark}
-use Rattle.reports.specs.declared.report.Remark.TheVariants.{AttributeTwice, ExtensionNotDer, ExtensionRefused, ExtensionTwice, ExtensionZeroBits, KeySize, NeedlessParameters, NoNamedCurve, PointBits, PointSize, SeveralValues}
+use Rattle.reports.specs.declared.report.Remark.TheVariants.{AttributeTwice, ExtensionNotDer, ExtensionRefused, ExtensionTwice, KeySize, Name, NeedlessParameters, NoNamedCurve, PointBits, PointSize, SeveralValues}
 use Rattle.reports.specs.declared.report.Value.{Value}
-use Rattle.reports.specs.declared.report.Value.TheVariants.{Arcs, Bits, Named, Octets}
+use Rattle.reports.specs.declared.report.Value.TheVariants.{Arcs, Bits, Characters, Named, Octets}
 
 -- 1.2.840.113549.1.9.7
 abbrev pub challenge_password : List ℕ
@@ -86,24 +90,39 @@ is_single_valued type = is_one_of (challenge_password ∷ extension_request ∷ 
 abbrev pub curve_after : Option ℕ → Option (List ℕ) → Option ℕ
 curve_after curve name = option_or (option_and_then (entry_under curve_lengths) name) curve
 
--- before the first line
-abbrev pub context_start : Context
-context_start = record { curve = None; public = None; is_single = false; extension = None }
+-- before the first of these lines
+abbrev pub context_start : List Line → Context
+context_start lines = record {
+  curve = None;
+  public = None;
+  is_single = false;
+  extension = None;
+  algorithm = None;
+  attribute = None;
+  held = held_in lines;
+}
 
 -- an object identifier that has a usual name
 abbrev pub identifier_in : Value → Option (Bor Identifier)
 identifier_in (Named identifier) = Some identifier
 identifier_in _ = None
 
--- What the lines before say of the next one: an algorithm how many octets its public keys have; a curve after it how
--- many a coordinate has, which are as many as a private key has; the type of an attribute whether it has one value.
+-- What the lines before say of the next one: an algorithm how many octets its public keys have, and which one it is; a
+-- curve after it how many a coordinate has, which are as many as a private key has; the type of an attribute whether it
+-- has one value, and what its value is to be, but that of an otherName, which has a type of its own.
 abbrev pub context_after : Context → Line → Context
 context_after context line =
     cond (is_field line.step (codes "algorithm"))
-    (record context { public = option_and_then public_octets (named line.value); curve = None })
-    (cond (is_field line.step (codes "type")) (record context { is_single = is_single_valued (named line.value) })
+    (record context {
+      public = option_and_then public_octets (named line.value);
+      curve = None;
+      algorithm = identifier_in line.value;
+    })
+    (cond (is_field line.step (codes "type"))
+    (record context { is_single = is_single_valued (named line.value); attribute = identifier_in line.value })
+    (cond (is_field line.step (codes "type-id")) (record context { attribute = None })
     (cond (is_field line.step (codes "extnID")) (record context { extension = identifier_in line.value })
-    (record context { curve = curve_after context.curve (named line.value) })))
+    (record context { curve = curve_after context.curve (named line.value) }))))
 
 -- the parameters after an algorithm
 abbrev pub parameters : List Line → Option Line
@@ -154,37 +173,27 @@ abbrev pub remark_on_key : Context → Value → Option Remark
 remark_on_key context (Bits octets unused) = remark_on_bits context.public context.curve octets unused
 remark_on_key context _ = None
 
-abbrev pub last_is_one : ℕ → Option ℕ → Bool
-last_is_one unused None = true
-last_is_one unused (Some last) = ((last / unit_of unused) % 2) == 1
-
--- the last bit of a BIT STRING is 1, or it has none
-abbrev pub ends_in_one : List ℕ → Bool
-ends_in_one [] = true
-ends_in_one (unused ∷ octets) = last_is_one unused (slice_get octets (length octets - 1))
-
--- The bits of a keyUsage, which have names, end in a 1 in DER (X.690 11.2.2).
-abbrev pub remark_on_usage : Option (Bor Identifier) → Value → Option Remark
-remark_on_usage extension (Octets octets) = remark_if (not (ends_in_one octets.items)) (ExtensionZeroBits extension)
-remark_on_usage extension _ = None
-
 -- What is in a document, by its type or its field; else by what it is as a name.
-abbrev pub remark_on_member : Option (Bor Identifier) → Line → Option Remark
-remark_on_member extension line =
-    cond (same_octets line.type_name.now (codes "KeyUsage")) (remark_on_usage extension line.value)
+abbrev pub remark_on_member : Context → Line → Option Remark
+remark_on_member context line =
+    cond (same_octets line.type_name.now (codes "KeyUsage"))
+    (remark_on_usage context.extension context.held.is_ca line.value)
+    (cond (is_field line.step (codes "pathLenConstraint")) (remark_on_path context.held.is_ca)
     (cond (is_field line.step (codes "modulus")) (remark_on_modulus line.value)
     (cond (is_field line.step (codes "publicExponent")) (remark_on_exponent line.value)
-    (cond (is_field line.step (codes "parameters")) (remark_on_curve line.value) (remark_on_name extension line))))
+    (cond (is_field line.step (codes "parameters")) (remark_on_curve line.value)
+    (remark_on_name context.extension line)))))
 
-abbrev pub remark_by : Option (Bor Identifier) → Line → Option Judgement → Option Remark
-remark_by extension line None = remark_on_member extension line
-remark_by extension line (Some judgements.Der) = None
-remark_by extension line (Some judgements.NotDer) = Some (ExtensionNotDer extension)
-remark_by extension line (Some (judgements.Refused fault)) = Some (ExtensionRefused extension fault.at fault.why)
+abbrev pub remark_by : Context → Line → Option Judgement → Option Remark
+remark_by context line None = remark_on_member context line
+remark_by context line (Some judgements.Der) = None
+remark_by context line (Some judgements.NotDer) = Some (ExtensionNotDer context.extension)
+remark_by context line (Some (judgements.Refused fault)) =
+    Some (ExtensionRefused context.extension fault.at fault.why)
 
 -- The value of an extension is in DER (RFC 5280 section 4.2).
-abbrev pub remark_on_value : Option (Bor Identifier) → Line → Option Remark
-remark_on_value extension line = remark_by extension line line.carries
+abbrev pub remark_on_value : Context → Line → Option Remark
+remark_on_value context line = remark_by context line line.carries
 
 abbrev pub public_key_remark : Context → Line → Option Judgement → Option Remark
 public_key_remark context line None = remark_on_key context line.value
@@ -194,18 +203,39 @@ public_key_remark context line (Some judgement) = remark_on_inside judgement
 abbrev pub remark_on_public_key : Context → Line → Option Remark
 remark_on_public_key context line = public_key_remark context line line.carries
 
--- What is remarked on a line, by what the lines before say and by the lines after.
-abbrev pub remark_on : Context → Line → List Line → Option Remark
-remark_on context line after =
-    cond (is_field line.step (codes "algorithm")) (remark_on_algorithm (named line.value) (parameters after))
-    (cond (is_field line.step (codes "values") && context.is_single) (remark_on_values (members_of line.depth after))
-    (cond (is_public_key line.step) (remark_on_public_key context line) (remark_on_value context.extension line)))
+abbrev pub is_attribute : Option Line → Bool
+is_attribute None = false
+is_attribute (Some line) = same_octets line.type_name.now (codes "RequestAttribute")
 
--- the line is the same field of a member as another one
+-- An algorithm, by itself and its parameters; then by the algorithm before it and the element around it.
+abbrev pub remark_on_identifier : Context → Option Line → Line → Option Line → Option Remark
+remark_on_identifier context around line parameters =
+    option_or (remark_on_algorithm (named line.value) parameters)
+    (remark_on_scheme context.algorithm around parameters line.value)
+
+-- What is remarked on a line, by what the lines before say and by the lines after.
+abbrev pub remark_on : List Line → Context → Line → List Line → Option Remark
+remark_on lines context line after =
+    cond (is_field line.step (codes "algorithm"))
+    (remark_on_identifier context (slice_get lines line.around) line (parameters after))
+    (cond (is_field line.step (codes "values") && context.is_single) (remark_on_values (members_of line.depth after))
+    (cond (is_field line.step (codes "subject"))
+    (remark_on_subject context.held.has_names (members_of line.depth after))
+    (cond (is_field line.step (codes "type"))
+    (remark_on_old_request (is_attribute (slice_get lines line.around)) line.value)
+    (cond (is_public_key line.step) (remark_on_public_key context line)
+    (cond (is_field line.step (codes "value")) (remark_on_attribute context.attribute line)
+    (remark_on_value context line))))))
+
+abbrev pub is_member : Step → Bool
+is_member (Member number) = true
+is_member _ = false
+
+-- the line is the same field of a member as another one, or both are members themselves
 abbrev pub is_same_step : Step → Step → Bool
 is_same_step one other =
     (is_field one (codes "extnID") && is_field other (codes "extnID"))
-    || (is_field one (codes "type") && is_field other (codes "type"))
+    || ((is_field one (codes "type") && is_field other (codes "type")) || (is_member one && is_member other))
 
 abbrev pub is_same_field : Line → Line → Bool
 is_same_field line other = (other.depth == line.depth) && is_same_step other.step line.step
@@ -220,34 +250,51 @@ abbrev pub is_same_identifier : Line → Line → Bool
 is_same_identifier line other =
     are_same (named other.value) (named line.value) || are_same (arcs_of other.value) (arcs_of line.value)
 
+-- the octets of a string, or of contents that have no words
+abbrev pub octets_in : Value → Option (List ℕ)
+octets_in (Characters octets) = Some octets.items
+octets_in (Octets octets) = Some octets.items
+octets_in _ = None
+
+-- They are of the same type, and have the same octets.
+abbrev pub is_same_name : Line → Line → Bool
+is_same_name line other =
+    same_octets other.type_name.now line.type_name.now && are_same (octets_in other.value) (octets_in line.value)
+
+abbrev pub is_same_member : Line → Line → Bool
+is_same_member line other = is_same_identifier line other || is_same_name line other
+
+-- the depth of the list that a line is a member of, or its member is
+abbrev pub list_depth : Line → ℕ
+list_depth line = cond (is_member line.step) (line.depth - 1) (line.depth - 2)
+
 -- how many earlier members of a list are looked at
 abbrev pub most_members : ℕ
 most_members = 32
 
 -- Of the lines before a line, the last one first, in the list that its member is in, those are looked at that are the
--- same field of a member: one of the first so many says the same identifier.
+-- same field of a member, or members as it is: one of the first so many says the same.
 abbrev pub is_said : ℕ → Line → List Line → Bool
 is_said most line before =
-    list_any (is_same_identifier line)
-    (take most (filter (is_same_field line) (while_deeper (line.depth - 2) before)))
+    list_any (is_same_member line)
+    (take most (filter (is_same_field line) (while_deeper (list_depth line) before)))
 
--- The same identifier as the same field is in one of the last 32 members of the list before it.
+-- One of the last 32 members before it in its list says the same.
 abbrev pub is_repeated : List Line → Line → Bool
 is_repeated before line = is_said most_members line (reverse before)
 
-abbrev pub is_attribute : Option Line → Bool
-is_attribute None = false
-is_attribute (Some line) = same_octets line.type_name.now (codes "RequestAttribute")
-
--- what may not be there twice: an extension (RFC 5280 section 4.2), an attribute of a request (RFC 2986 section 4.1)
-abbrev pub remark_once_more : List Line → Line → Option Remark
-remark_once_more lines line =
+-- what may not be there twice: an extension (RFC 5280 section 4.2), an attribute of a request (RFC 2986 section 4.1);
+-- and a name in subjectAltName, of which the second says no more
+abbrev pub remark_once_more : Option (Bor Identifier) → List Line → Line → Option Remark
+remark_once_more extension lines line =
     cond (is_field line.step (codes "extnID")) (Some ExtensionTwice)
-    (remark_if (is_field line.step (codes "type") && is_attribute (slice_get lines line.around)) AttributeTwice)
+    (cond (is_subject_alt_name extension && is_one_element line.type_name.now) (Some (Name Twice))
+    (remark_if (is_field line.step (codes "type") && is_attribute (slice_get lines line.around)) AttributeTwice))
 
 -- What is remarked on a line, where one of the same list before it says the same.
-abbrev pub remark_on_repeat : List Line → List Line → Line → Option Remark
-remark_on_repeat lines before line = option_and_then (remark_if (is_repeated before line)) (remark_once_more lines line)
+abbrev pub remark_on_repeat : Option (Bor Identifier) → List Line → List Line → Line → Option Remark
+remark_on_repeat extension lines before line =
+    option_and_then (remark_if (is_repeated before line)) (remark_once_more extension lines line)
 
 abbrev pub note_on : ℕ → Option Remark → List Note
 note_on number None = []
@@ -257,17 +304,21 @@ note_on number (Some remark) = record { line = number; remark = remark } ∷ []
 abbrev pub notes_from : List Line → Context → ℕ → List Line → List Note
 notes_from lines context number [] = []
 notes_from lines context number (line ∷ after) =
-    note_on number (remark_on context line after)
-    ++ note_on number (remark_on_repeat lines (take number lines) line)
+    note_on number (remark_on lines context line after)
+    ++ note_on number (remark_on_repeat context.extension lines (take number lines) line)
     ++ notes_from lines (context_after context line) (number + 1) after
 
 -- at most so many notes are shown
 abbrev pub most_notes : ℕ
 most_notes = 100
 
+-- there are as many, so that more may be left out
+abbrev pub has_most_notes : List Note → Bool
+has_most_notes notes = nat_le most_notes (length notes)
+
 -- The notes on lines: the first ones.
 abbrev pub notes_on : List Line → List Note
-notes_on lines = take most_notes (notes_from lines context_start 0 lines)
+notes_on lines = take most_notes (notes_from lines (context_start lines) 0 lines)
 
 -- a note more, where there is a remark and room for it
 abbrev pub add_note : List Note → ℕ → Option Remark → List Note

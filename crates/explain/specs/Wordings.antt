@@ -13,6 +13,7 @@ use Rattle.explain.specs.FaultLines.{AddsFault}
 use Rattle.explain.specs.Faults.{Case, IsDiagnosisIf}
 use Rattle.explain.specs.Insides.{HasInsides, IsNamed}
 use Rattle.explain.specs.Listings.{IsListed}
+use Rattle.explain.specs.Moduli.{modulus_by}
 use Rattle.explain.specs.Notes.{most_notes, notes_by}
 use Rattle.explain.specs.Places.{end_by_listed}
 use Rattle.explain.specs.Rules.{front_document, search_by}
@@ -68,6 +69,7 @@ pub record IsReportBy (limits : Limits) (of : Kind) (disclosed : Disclosed) (rep
   pub guess : report.guess ≡ disclosed.guess
   pub notes : report.notes.items ≡ notes_by disclosed.answer report.lines.items
   pub few : length report.notes.items ≤ most_notes
+  pub modulus : report.modulus ≡ modulus_by disclosed.answer is_listing.insides
 
 -- What may be shown of the document, and the report that is made of that.
 pub record IsWordedReport (limits : Limits) (of : Kind) (document : List ℕ) (report : Report) : Type 0 where

@@ -3,6 +3,7 @@ use Rattle.std.specs.Prelude.{◌≡◌, ◌++◌, ℕ, List, None, Option, code
 use Rattle.json.specs.Print.{print}
 use Rattle.tlv_core.specs.Limits.{Limits}
 use Rattle.pk_documents.specs.declared.kind.Kind.{Kind}
+use Rattle.reports.specs.Briefs.{brief_line}
 use Rattle.reports.specs.Field.{field_said}
 use Rattle.reports.specs.Json.{report_object}
 use Rattle.reports.specs.Reports.{report_lines}
@@ -24,7 +25,7 @@ places_shown = 100
 abbrev pub written_text : Form → Option (List ℕ) → Report → List ℕ
 written_text form file report =
     cond form.json (print (report_object report version file form.all form.places) ++ line_feed)
-    (report_lines report form.all form.places)
+    (cond form.brief (brief_line report) (report_lines report form.all form.places))
 
 -- The text is the report of these octets, and the answer the one in it.
 abbrev pub IsWritten : Form → Limits → Kind → List ℕ → List ℕ → Answer → Type 0

@@ -2,7 +2,7 @@
 //! report.
 ghost use Rattle.std.specs.Prelude.{◌≡◌, ◌≤◌, IfOk, length, not};
 ghost use Rattle.explain.specs.Listings.{IsListed};
-ghost use Rattle.explain.specs.Notes.{most_notes, notes_by};
+ghost use Rattle.explain.specs.Notes.{has_most_notes, most_notes, notes_by};
 ghost use Rattle.explain.specs.Reports.{IsReportOf};
 ghost use Rattle.explain.specs.Rules.{causes_by, front_document, is_refusal};
 ghost use Rattle.explain.specs.Wordings.{IsReportBy, announced_end};
@@ -10,12 +10,13 @@ ghost use Rattle.explain.specs.Wordings.{IsReportBy, announced_end};
 use crate::disclosed::{Disclosed, disclose};
 use crate::document::inside::{Inside, InsideSearch, documents_inside, named_elements};
 use crate::document::kinds::{shape_of, words_of};
+use crate::document::moduli::modulus_by;
 use crate::document::places::{DocumentCursor, Piece, sum_of};
 use crate::fault::diagnosis::{RefusedFront, diagnose};
 use crate::listing::causes::causes_of;
 use crate::listing::fault_line::push_fault_line;
 use crate::listing::lines_of;
-use crate::notes::notes_of;
+use crate::notes::{MOST_NOTES, notes_of};
 use asn_names::element::NamedElement;
 use asn_names::naming::NamedElements;
 use pk_documents::kind::Kind;
@@ -74,6 +75,7 @@ fn report_of(
     let diagnosis = diagnose(alloc, answer, shown, path)?;
     let notes = notes_by(alloc, answer, lines.as_slice())?;
     let announced = announced_end(lines.as_slice());
+    let modulus = modulus_by(answer, insides.as_slice());
     Ok(Report {
         kind: words_of(kind),
         octets,
@@ -83,7 +85,15 @@ fn report_of(
         diagnosis,
         guess,
         notes,
+        modulus,
     })
+}
+
+/// Whether a report has as many notes as are told at most, so that more may be left out.
+pub fn has_most_notes(notes: &[Note]) -> bool
+    ensures { result ≡ has_most_notes notes.now }
+{
+    notes.len() >= MOST_NOTES
 }
 
 fn is_accepted(answer: Answer) -> bool

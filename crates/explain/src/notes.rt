@@ -8,31 +8,40 @@ ghost use Rattle.explain.specs.Notes.{is_attribute, is_curve_named, is_point, is
 ghost use Rattle.explain.specs.Notes.{is_same_field, is_same_identifier, is_same_step, is_single_valued, members_of};
 ghost use Rattle.explain.specs.Notes.{ml_dsa_lengths, ml_kem_lengths, most_notes, named, nist_encapsulation};
 ghost use Rattle.explain.specs.Notes.{nist_signature, notes_on, parameters, public_octets, remark_on};
-ghost use Rattle.explain.specs.Notes.{ends_in_one, identifier_in, remark_on_algorithm, remark_on_bits};
+ghost use Rattle.explain.specs.Notes.{identifier_in, remark_on_algorithm, remark_on_bits, remark_on_identifier};
 ghost use Rattle.explain.specs.Notes.{remark_on_key, remark_on_member, remark_on_public_key, remark_on_repeat};
-ghost use Rattle.explain.specs.Notes.{remark_on_usage, remark_on_value};
+ghost use Rattle.explain.specs.Notes.{remark_on_value};
 ghost use Rattle.explain.specs.Notes.{remark_on_values, remark_once_more, slh_dsa_sha2_lengths};
 ghost use Rattle.explain.specs.Notes.{slh_dsa_shake_lengths};
+ghost use Rattle.explain.specs.Notes.{is_member, is_same_member, is_same_name, list_depth, octets_in};
 
+mod algorithms;
+mod attributes;
+mod general_names;
 mod hosts;
 mod keys;
 mod names;
 mod remarks;
+mod usages;
 
 use crate::document::values::is_field;
-use crate::listing::causes::unit_of;
+use crate::notes::algorithms::remark_on_scheme;
+use crate::notes::attributes::remark_on_attribute;
 use crate::notes::keys::{
     remark_on_curve, remark_on_exponent, remark_on_inside, remark_on_modulus,
 };
-use crate::notes::names::remark_on_name;
+use crate::notes::names::{is_one_element, is_subject_alt_name, remark_on_name};
 use crate::notes::remarks::{is_name, remark_if};
+use crate::notes::usages::{
+    Held, held_in, remark_on_old_request, remark_on_path, remark_on_subject, remark_on_usage,
+};
 use asn_names::element::Step;
 use asn_names::judgement::Judgement;
 use pkix_definitions::identifiers::{
     EC_PUBLIC_KEY, EXTENSION_REQUEST, are_same_octets, curve_length,
 };
 use pkix_shapes::identifiers::Identifier;
-use reports::report::{Line, Note, Remark, Value};
+use reports::report::{Line, NameRemark, Note, Remark, Value};
 use std::alloc::{AllocError, Global};
 
 /// What the lines before say of the ones that follow.
@@ -46,10 +55,16 @@ struct Context {
     is_single: bool,
     /// The last extension, where it has a usual name.
     extension: Option<&'static Identifier>,
+    /// The last algorithm, where it has a usual name.
+    algorithm: Option<&'static Identifier>,
+    /// What stands anywhere in the document.
+    held: Held,
+    /// The type of the last attribute, where it has one.
+    attribute: Option<&'static Identifier>,
 }
 
 /// There are at most so many notes: a document may have an extension many thousand times.
-const MOST_NOTES: usize = 100;
+pub(crate) const MOST_NOTES: usize = 100;
 
 /// The notes on the lines of an accepted document, in their order: the first ones, where there are many.
 pub(crate) fn notes_of(alloc: Global, lines: &[Line]) -> Result<Vec<Note>, AllocError>
@@ -57,11 +72,19 @@ pub(crate) fn notes_of(alloc: Global, lines: &[Line]) -> Result<Vec<Note>, Alloc
     ensures few { IfOk result (λ notes. length notes.items ≤ most_notes) }
 {
     let mut notes = Vec::new(alloc);
-    let mut context = start();
+    let mut context = start(lines);
     for i in 0..lines.len() {
         let line = &lines[i];
-        push_note(&mut notes, i, remark_on(context, line, &lines[i + 1..]))?;
-        push_note(&mut notes, i, remark_on_repeat(lines, &lines[..i], line))?;
+        push_note(
+            &mut notes,
+            i,
+            remark_on(lines, context, line, &lines[i + 1..]),
+        )?;
+        push_note(
+            &mut notes,
+            i,
+            remark_on_repeat(context.extension, lines, &lines[..i], line),
+        )?;
         context = context_after(context, line);
     }
     Ok(notes)
@@ -84,14 +107,17 @@ fn push_note(notes: &mut Vec<Note>, line: usize, remark: Option<Remark>) -> Resu
     Ok(())
 }
 
-fn start() -> Context
-    ensures { result ≡ context_start }
+fn start(lines: &[Line]) -> Context
+    ensures { result ≡ context_start lines.now }
 {
     Context {
         curve: None,
         public: None,
         is_single: false,
         extension: None,
+        algorithm: None,
+        held: held_in(lines),
+        attribute: None,
     }
 }
 
@@ -103,12 +129,20 @@ fn context_after(context: Context, line: &Line) -> Context
         return Context {
             public: public_octets_of(name),
             curve: None,
+            algorithm: identifier_in(&line.value),
             ..context
         };
     }
     if is_field(line.step, "type") {
         return Context {
             is_single: is_single_valued(name),
+            attribute: identifier_in(&line.value),
+            ..context
+        };
+    }
+    if is_field(line.step, "type-id") {
+        return Context {
+            attribute: None,
             ..context
         };
     }
@@ -305,19 +339,45 @@ fn is_ec_public_key(algorithm: &[u8]) -> bool
 }
 
 /// What is remarked on a line, by what the lines before say and by the lines after.
-fn remark_on(context: Context, line: &Line, after: &[Line]) -> Option<Remark>
-    ensures { result ≡ remark_on context line.now after.now }
+fn remark_on(lines: &[Line], context: Context, line: &Line, after: &[Line]) -> Option<Remark>
+    ensures { result ≡ remark_on lines.now context line.now after.now }
 {
+    let around = lines.get(line.around as usize);
     if is_field(line.step, "algorithm") {
-        return remark_on_algorithm(named(&line.value), parameters(after));
+        return remark_on_identifier(context, around, line, parameters(after));
     }
     if is_field(line.step, "values") && context.is_single {
         return remark_on_values(members_of(line.depth, after));
     }
+    if is_field(line.step, "subject") {
+        return remark_on_subject(context.held.has_names, members_of(line.depth, after));
+    }
+    if is_field(line.step, "type") {
+        return remark_on_old_request(is_attribute(around), &line.value);
+    }
     if is_public_key(line.step) {
         return remark_on_public_key(context, line);
     }
-    remark_on_value(context.extension, line)
+    if is_field(line.step, "value") {
+        return remark_on_attribute(context.attribute, line);
+    }
+    remark_on_value(context, line)
+}
+
+/// An algorithm, by itself and its parameters; then by the algorithm before it and the element around it.
+fn remark_on_identifier(
+    context: Context,
+    around: Option<&Line>,
+    line: &Line,
+    parameters: Option<&Line>,
+) -> Option<Remark>
+    ensures { result ≡ remark_on_identifier context (option_map (λ r. r.now) around.entry) line.now
+        (option_map (λ r. r.now) parameters.entry) }
+{
+    if let Some(remark) = remark_on_algorithm(named(&line.value), parameters) {
+        return Some(remark);
+    }
+    remark_on_scheme(context.algorithm, around, parameters, &line.value)
 }
 
 /// A public key is looked into, where its algorithm says what is in it.
@@ -331,25 +391,30 @@ fn remark_on_public_key(context: Context, line: &Line) -> Option<Remark>
 }
 
 /// The value of an extension is in DER (RFC 5280 section 4.2).
-fn remark_on_value(extension: Option<&'static Identifier>, line: &Line) -> Option<Remark>
-    ensures { result ≡ remark_on_value extension.entry line.now }
+fn remark_on_value(context: Context, line: &Line) -> Option<Remark>
+    ensures { result ≡ remark_on_value context line.now }
 {
     match line.carries {
-        None => remark_on_member(extension, line),
+        None => remark_on_member(context, line),
         Some(Judgement::Der) => None,
-        Some(Judgement::NotDer) => Some(Remark::ExtensionNotDer(extension)),
+        Some(Judgement::NotDer) => Some(Remark::ExtensionNotDer(context.extension)),
         Some(Judgement::Refused(fault)) => Some(Remark::ExtensionRefused(
-            extension, fault.at, fault.why,
+            context.extension,
+            fault.at,
+            fault.why,
         )),
     }
 }
 
 /// What is in a document, by its type or its field; else by what it is as a name.
-fn remark_on_member(extension: Option<&'static Identifier>, line: &Line) -> Option<Remark>
-    ensures { result ≡ remark_on_member extension.entry line.now }
+fn remark_on_member(context: Context, line: &Line) -> Option<Remark>
+    ensures { result ≡ remark_on_member context line.now }
 {
     if is_name(line.type_name, "KeyUsage") {
-        return remark_on_usage(extension, &line.value);
+        return remark_on_usage(context.extension, context.held.is_ca, &line.value);
+    }
+    if is_field(line.step, "pathLenConstraint") {
+        return remark_on_path(context.held.is_ca);
     }
     if is_field(line.step, "modulus") {
         return remark_on_modulus(&line.value);
@@ -360,32 +425,7 @@ fn remark_on_member(extension: Option<&'static Identifier>, line: &Line) -> Opti
     if is_field(line.step, "parameters") {
         return remark_on_curve(&line.value);
     }
-    remark_on_name(extension, line)
-}
-
-/// The bits of a keyUsage, which have names, end in a 1 in DER (X.690 11.2.2).
-fn remark_on_usage(extension: Option<&'static Identifier>, value: &Value) -> Option<Remark>
-    ensures { result ≡ remark_on_usage extension.entry value.now }
-{
-    match value {
-        Value::Octets(contents) => {
-            remark_if(!ends_in_one(contents), Remark::ExtensionZeroBits(extension))
-        }
-        _ => None,
-    }
-}
-
-/// Whether the last bit of a BIT STRING is 1, or it has none.
-fn ends_in_one(contents: &[u8]) -> bool
-    ensures { result ≡ ends_in_one contents.now }
-{
-    let [unused, rest @ ..] = contents else {
-        return true;
-    };
-    match rest.last() {
-        Some(last) => *last / unit_of(*unused) % 2 == 1,
-        None => true,
-    }
+    remark_on_name(context.extension, line)
 }
 
 /// The parameters after an algorithm.
@@ -498,22 +538,34 @@ fn is_point(coordinate: u64, octets: u64) -> bool
 const MOST_MEMBERS: usize = 32;
 
 /// What is remarked on a line, where one of the same list before it says the same.
-fn remark_on_repeat(lines: &[Line], before: &[Line], line: &Line) -> Option<Remark>
-    ensures { result ≡ remark_on_repeat lines.now before.now line.now }
+fn remark_on_repeat(
+    extension: Option<&'static Identifier>,
+    lines: &[Line],
+    before: &[Line],
+    line: &Line,
+) -> Option<Remark>
+    ensures { result ≡ remark_on_repeat extension.entry lines.now before.now line.now }
 {
-    let Some(remark) = remark_once_more(lines, line) else {
+    let Some(remark) = remark_once_more(extension, lines, line) else {
         return None;
     };
     remark_if(is_repeated(before, line), remark)
 }
 
 /// What may not be there twice: an extension (RFC 5280 section 4.2), an attribute of a request (RFC 2986 section
-/// 4.1).
-fn remark_once_more(lines: &[Line], line: &Line) -> Option<Remark>
-    ensures { result ≡ remark_once_more lines.now line.now }
+/// 4.1); and a name in subjectAltName, of which the second says no more.
+fn remark_once_more(
+    extension: Option<&'static Identifier>,
+    lines: &[Line],
+    line: &Line,
+) -> Option<Remark>
+    ensures { result ≡ remark_once_more extension.entry lines.now line.now }
 {
     if is_field(line.step, "extnID") {
         return Some(Remark::ExtensionTwice);
+    }
+    if is_subject_alt_name(extension) && is_one_element(line.type_name) {
+        return Some(Remark::Name(NameRemark::Twice));
     }
     remark_if(
         is_field(line.step, "type") && is_attribute(lines.get(line.around as usize)),
@@ -531,11 +583,11 @@ fn is_attribute(around: Option<&Line>) -> bool
     }
 }
 
-/// Whether the same identifier as the same field is in one of the last members of the list before it.
+/// Whether one of the last members before it in its list says the same: as the same field, or as a member itself.
 fn is_repeated(before: &[Line], line: &Line) -> bool
     ensures { result ≡ is_repeated before.now line.now }
 {
-    let list = line.depth.saturating_sub(2);
+    let list = list_depth(line);
     let mut most = MOST_MEMBERS;
     for back in 0..before.len() {
         let other = &before[before.len() - 1 - back];
@@ -543,13 +595,33 @@ fn is_repeated(before: &[Line], line: &Line) -> bool
             return false;
         }
         if is_same_field(line, other) {
-            if is_same_identifier(line, other) {
+            if is_same_member(line, other) {
                 return true;
             }
             most -= 1;
         }
     }
     false
+}
+
+/// The depth of the list that a line is a member of, or its member is.
+fn list_depth(line: &Line) -> u64
+    ensures { result ≡ list_depth line.now }
+{
+    if is_member(line.step) {
+        line.depth.saturating_sub(1)
+    } else {
+        line.depth.saturating_sub(2)
+    }
+}
+
+fn is_member(step: Step) -> bool
+    ensures { result ≡ is_member step }
+{
+    match step {
+        Step::Member(_) => true,
+        _ => false,
+    }
 }
 
 fn is_same_field(line: &Line, other: &Line) -> bool
@@ -563,6 +635,13 @@ fn is_same_step(one: Step, other: Step) -> bool
 {
     (is_field(one, "extnID") && is_field(other, "extnID"))
         || (is_field(one, "type") && is_field(other, "type"))
+        || (is_member(one) && is_member(other))
+}
+
+fn is_same_member(line: &Line, other: &Line) -> bool
+    ensures { result ≡ is_same_member line.now other.now }
+{
+    is_same_identifier(line, other) || is_same_name(line, other)
 }
 
 fn is_same_identifier(line: &Line, other: &Line) -> bool
@@ -570,6 +649,24 @@ fn is_same_identifier(line: &Line, other: &Line) -> bool
 {
     are_same(named(&other.value), named(&line.value))
         || are_same(arcs_of(&other.value), arcs_of(&line.value))
+}
+
+/// Whether they are of the same type, and have the same octets.
+fn is_same_name(line: &Line, other: &Line) -> bool
+    ensures { result ≡ is_same_name line.now other.now }
+{
+    is_name(other.type_name, line.type_name)
+        && are_same(octets_in(&other.value), octets_in(&line.value))
+}
+
+/// The octets of a string, or of contents that have no words.
+fn octets_in(value: &Value) -> Option<&[u8]>
+    ensures { option_map (λ r. r.now) result ≡ octets_in value.now }
+{
+    match value {
+        Value::Characters(octets) | Value::Octets(octets) => Some(octets.as_slice()),
+        _ => None,
+    }
 }
 
 /// Whether two are there, and are the same.

@@ -6,6 +6,7 @@ ghost use Rattle.explain.specs.Written.{IsFieldOf, IsWritten, written_text};
 use crate::explained::explain;
 use crate::version::VERSION;
 use pk_documents::kind::Kind;
+use reports::brief::brief_text;
 use reports::field::field_text;
 use reports::json_report::report_json;
 use reports::report::{Answer, Report};
@@ -18,6 +19,8 @@ use tlv_core::limits::Limits;
 pub struct Form {
     /// As one object of JSON.
     pub json: bool,
+    /// As the answer for whoever sent the file alone, where it isn't JSON.
+    pub brief: bool,
     /// With all elements listed.
     pub all: bool,
     /// With so many of the places that aren't in DER, at most.
@@ -55,6 +58,9 @@ pub fn written_report(
 {
     if form.json {
         return report_json(alloc, report, VERSION, file, form.all, form.places);
+    }
+    if form.brief {
+        return brief_text(alloc, report);
     }
     report_text(alloc, report, form.all, form.places)
 }

@@ -1,7 +1,7 @@
 //! The names of hosts: whether one has the preferred name syntax.
 ghost use Rattle.std.specs.Prelude.{◌≡◌};
-ghost use Rattle.explain.specs.HostNames.{after_wildcard, are_labels, has_star, is_host_name, is_let_dig};
-ghost use Rattle.explain.specs.HostNames.{is_whole, label_after, label_start};
+ghost use Rattle.explain.specs.HostNames.{after_wildcard, are_labels, has_star, is_domain_name, is_host_name};
+ghost use Rattle.explain.specs.HostNames.{is_let_dig, is_whole, label_after, label_start};
 
 /// A label has at most so many octets (RFC 1034 section 3.1).
 const LABEL_OCTETS: u64 = 63;
@@ -16,11 +16,19 @@ struct Label {
     ends_in_hyphen: bool,
 }
 
-/// Whether it is a name in the preferred name syntax (RFC 1034 section 3.5, RFC 1123 section 2.1).
+/// Whether it is a name in the preferred name syntax (RFC 1034 section 3.5, RFC 1123 section 2.1). Its first label
+/// may be a `*` alone.
 pub(crate) fn is_host_name(name: &[u8]) -> bool
     ensures { result ≡ is_host_name name.now }
 {
     name.len() <= NAME_OCTETS && are_labels(after_wildcard(name))
+}
+
+/// Whether it is one without a wildcard.
+pub(crate) fn is_domain_name(name: &[u8]) -> bool
+    ensures { result ≡ is_domain_name name.now }
+{
+    name.len() <= NAME_OCTETS && are_labels(name)
 }
 
 /// What follows a first label that is a `*` alone (RFC 9525 section 6.3).

@@ -93,7 +93,7 @@ pub(crate) fn remark_on_curve(value: &Value) -> Option<Remark>
 }
 
 /// The arcs of an object identifier, in decimal.
-fn arcs_in(value: &Value) -> Option<&str>
+pub(crate) fn arcs_in(value: &Value) -> Option<&str>
     ensures { option_map (λ r. r.now) result ≡ arcs_in value.now }
 {
     match value {

@@ -1,18 +1,15 @@
-//! What is remarked on names: of a subject, and in subjectAltName.
+//! What is remarked on names that extensions have, and in subjectAltName on their syntax.
 ghost use Rattle.std.specs.Prelude.{◌≡◌};
-ghost use Rattle.explain.specs.NotedNames.{is_address_length, is_name_line, are_printable, is_printable_octet};
-ghost use Rattle.explain.specs.NotedNames.{is_subject_alt_name, remark_on_address, remark_on_characters};
-ghost use Rattle.explain.specs.NotedNames.{remark_on_dns_name, remark_on_name};
+ghost use Rattle.explain.specs.NotedNames.{is_address_length, is_one_element, is_string_name, is_subject_alt_name};
+ghost use Rattle.explain.specs.NotedNames.{remark_on_address, remark_on_characters, remark_on_dns_name};
+ghost use Rattle.explain.specs.NotedNames.{remark_on_name, remark_on_syntax};
 
-use crate::document::values::is_field;
-use crate::notes::hosts::{has_star, is_host_name, is_let_dig};
+use crate::notes::general_names::{has_scheme, is_ipv4_address, is_mailbox};
+use crate::notes::hosts::{has_star, is_host_name};
 use crate::notes::remarks::{is_name, remark_if};
 use pkix_shapes::identifiers::Identifier;
-use reports::letters::{has_hidden, is_string};
+use reports::letters::has_hidden;
 use reports::report::{Line, NameRemark, Remark, Value};
-
-/// Its universal tag (X.680 8.4).
-const PRINTABLE_STRING: u32 = 19;
 
 /// What is remarked on a name, in the extension of this usual name or elsewhere.
 pub(crate) fn remark_on_name(extension: Option<&'static Identifier>, line: &Line) -> Option<Remark>
@@ -25,7 +22,7 @@ pub(crate) fn remark_on_name(extension: Option<&'static Identifier>, line: &Line
     }
 }
 
-fn is_subject_alt_name(extension: Option<&'static Identifier>) -> bool
+pub(crate) fn is_subject_alt_name(extension: Option<&'static Identifier>) -> bool
     ensures { result ≡ is_subject_alt_name extension.entry }
 {
     match extension {
@@ -63,56 +60,62 @@ fn remark_on_characters(
 ) -> Option<Remark>
     ensures { result ≡ remark_on_characters extension.entry line.now octets.now }
 {
-    if is_name_line(line) && has_hidden(line.tag, octets) {
+    if is_string_name(line.type_name) && has_hidden(line.tag, octets) {
         return Some(Remark::Name(NameRemark::Hidden));
     }
-    if is_name(line.type_name, "dNSName") && is_subject_alt_name(extension) {
-        return remark_on_dns_name(octets);
+    if is_subject_alt_name(extension) {
+        return remark_on_syntax(line.type_name, octets);
+    }
+    None
+}
+
+/// Whether a name of this type is a string, which a reader takes for a name.
+fn is_string_name(type_name: &str) -> bool
+    ensures { result ≡ is_string_name type_name.now }
+{
+    is_name(type_name, "dNSName")
+        || is_name(type_name, "rfc822Name")
+        || is_name(type_name, "uniformResourceIdentifier")
+}
+
+/// Whether a name of this type is one element, whose contents are the name.
+pub(crate) fn is_one_element(type_name: &str) -> bool
+    ensures { result ≡ is_one_element type_name.now }
+{
+    is_string_name(type_name)
+        || is_name(type_name, "iPAddress")
+        || is_name(type_name, "registeredID")
+}
+
+/// A name in subjectAltName has the syntax of its type (RFC 5280 section 4.2.1.6).
+fn remark_on_syntax(type_name: &str, name: &[u8]) -> Option<Remark>
+    ensures { result ≡ remark_on_syntax type_name.now name.now }
+{
+    if is_name(type_name, "dNSName") {
+        return remark_on_dns_name(name);
+    }
+    if is_name(type_name, "rfc822Name") {
+        return remark_if(!is_mailbox(name), Remark::Name(NameRemark::MailSyntax));
     }
     remark_if(
-        is_field(line.step, "value")
-            && is_string(line.tag, PRINTABLE_STRING)
-            && !are_printable(octets),
-        Remark::Name(NameRemark::PrintableString),
+        is_name(type_name, "uniformResourceIdentifier") && !has_scheme(name),
+        Remark::Name(NameRemark::UriSyntax),
     )
 }
 
-/// Whether it is what a reader takes for a name: an attribute of a subject, or a name that an extension has.
-fn is_name_line(line: &Line) -> bool
-    ensures { result ≡ is_name_line line.now }
-{
-    is_field(line.step, "value")
-        || is_name(line.type_name, "dNSName")
-        || is_name(line.type_name, "rfc822Name")
-        || is_name(line.type_name, "uniformResourceIdentifier")
-}
-
-/// A DNS name is in the preferred name syntax (RFC 5280 section 4.2.1.6), where its first label isn't a wildcard.
+/// A DNS name is in the preferred name syntax (RFC 5280 section 4.2.1.6), where its first label isn't a wildcard, and
+/// isn't an address.
 fn remark_on_dns_name(name: &[u8]) -> Option<Remark>
     ensures { result ≡ remark_on_dns_name name.now }
 {
     if has_star(name) {
         return Some(Remark::Name(NameRemark::Wildcard));
     }
-    remark_if(!is_host_name(name), Remark::Name(NameRemark::DnsSyntax))
-}
-
-/// Whether all are characters of a PrintableString (X.680 41.4).
-fn are_printable(octets: &[u8]) -> bool
-    ensures { result ≡ are_printable octets.now }
-{
-    octets.iter().all(|octet| is_printable_octet(*octet))
-}
-
-/// Letters, digits, and the blank, ' ( ) + , - . / : = ?
-fn is_printable_octet(octet: u8) -> bool
-    ensures { result ≡ is_printable_octet octet }
-{
-    is_let_dig(octet)
-        || octet == b' '
-        || (octet >= b'\'' && octet <= b')')
-        || (octet >= b'+' && octet <= b'/')
-        || octet == b':'
-        || octet == b'='
-        || octet == b'?'
+    if !is_host_name(name) {
+        return Some(Remark::Name(NameRemark::DnsSyntax));
+    }
+    remark_if(
+        is_ipv4_address(name),
+        Remark::Name(NameRemark::AddressAsDns),
+    )
 }

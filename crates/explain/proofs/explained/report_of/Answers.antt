@@ -3,6 +3,7 @@ use Rattle.explain.specs.FaultLines.{AddsFault}
 use Rattle.explain.specs.Faults.{IsDiagnosisIf}
 use Rattle.explain.specs.Insides.{HasInsides}
 use Rattle.explain.specs.Listings.{IsListed}
+use Rattle.explain.specs.Moduli.{modulus_by}
 use Rattle.explain.specs.Notes.{notes_by}
 use Rattle.explain.specs.Rules.{front_document}
 use Rattle.explain.specs.Wordings.{announced_end, case_by}
@@ -53,4 +54,5 @@ returns c =
       guess = refl;
       notes = c.in_ok-notes.ensures.are ∙ ap (notes_by c.args.disclosed.answer) c.as_slice-5.ensures.value;
       few = c.in_ok-notes.ensures.few;
+      modulus = c.modulus_by-modulus.ensures ∙ ap (modulus_by c.args.disclosed.answer) c.as_slice-7.ensures.value;
     }
