@@ -49,6 +49,7 @@ pub replies_as : (Stopped Halted : ReadError → Type 0) (Due Owed : Outcome →
 replies_as Stopped Halted Due Owed old new halts owes outcomes.Done h = (h.0, owes outcomes.Done h.0 h.1, h.2)
 replies_as Stopped Halted Due Owed old new halts owes (outcomes.NotDer at) h =
     (h.0, owes (outcomes.NotDer at) h.0 h.1, h.2)
+replies_as Stopped Halted Due Owed old new halts owes outcomes.Noted h = (h.0, owes outcomes.Noted h.0 h.1, h.2)
 replies_as Stopped Halted Due Owed old new halts owes (outcomes.Explained found) h =
     (h.0, owes (outcomes.Explained found) h.0 h.1, h.2)
 replies_as Stopped Halted Due Owed old new halts owes (outcomes.WriteFailed count) h =
@@ -98,6 +99,7 @@ written_replies Stopped Due old new text count failed outcome whole is ends writ
         → RepliedAs Stopped Due (written_outcome count whole) old new
     go (Ok n) outcomes.Done ends writes due = (text, due, writes.1)
     go (Ok n) (outcomes.NotDer at) ends writes due = (text, due, writes.1)
+    go (Ok n) outcomes.Noted ends writes due = (text, due, writes.1)
     go (Ok n) (outcomes.Explained found) ends writes due = (text, due, writes.1)
     go (Ok n) (outcomes.Fault found) ends writes due = absurd ends
     go (Ok n) (outcomes.ReadFailed at) ends writes due = absurd ends
@@ -112,6 +114,7 @@ written_speaks count outcome whole is ends silent = go count whole ends (subst I
     go : (count : Result ℕ WriteError) (whole : Outcome) → IsWhole whole → IsSilent (written_outcome count whole) → ⊥
     go (Ok n) outcomes.Done ends h = h
     go (Ok n) (outcomes.NotDer at) ends h = h
+    go (Ok n) outcomes.Noted ends h = h
     go (Ok n) (outcomes.Explained found) ends h = h
     go (Ok n) (outcomes.Fault found) ends h = ends
     go (Ok n) (outcomes.ReadFailed at) ends h = ends
@@ -130,6 +133,7 @@ written_fails text old new count outcome whole source target is ends writes fine
         → FailedBy (written_outcome count whole) source target
     go (Ok n) outcomes.Done ends writes = (fine, writes.2)
     go (Ok n) (outcomes.NotDer at) ends writes = (fine, writes.2)
+    go (Ok n) outcomes.Noted ends writes = (fine, writes.2)
     go (Ok n) (outcomes.Explained found) ends writes = (fine, writes.2)
     go (Ok n) (outcomes.Fault found) ends writes = absurd ends
     go (Ok n) (outcomes.ReadFailed at) ends writes = absurd ends
@@ -249,6 +253,7 @@ module _ {S E W : Type 0} (octets_of : S → List ℕ) (whole_of : S → Outcome
 pub whole_says : (outcome : Outcome) → words_of outcome ≡ [] → IsWhole outcome
 whole_says outcomes.Done says = tt
 whole_says (outcomes.NotDer at) says = tt
+whole_says outcomes.Noted says = tt
 whole_says (outcomes.Explained found) says = tt
 whole_says (outcomes.Fault found) says = absurd cc
 whole_says (outcomes.ReadFailed at) says = absurd cc

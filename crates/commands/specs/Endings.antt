@@ -16,12 +16,13 @@ use Rattle.commands.specs.declared.files.FilesEnd.{FilesEnd}
 use Rattle.commands.specs.declared.files.FilesEnd.TheVariants as ends
 use Rattle.commands.specs.declared.task.Task.{Task}
 use Rattle.commands.specs.declared.outcome.Outcome.{Outcome}
-use Rattle.commands.specs.declared.outcome.Outcome.TheVariants.{Done, NotDer, Fault, Explained, ReadFailed, WriteFailed, Memory}
+use Rattle.commands.specs.declared.outcome.Outcome.TheVariants.{Done, NotDer, Noted, Fault, Explained, ReadFailed, WriteFailed, Memory}
 
 -- it says that all that was due is written
 abbrev pub IsWhole : Outcome → Type 0
 IsWhole Done = Unit {0}
 IsWhole (NotDer at) = Unit {0}
+IsWhole Noted = Unit {0}
 IsWhole (Fault found) = ⊥
 IsWhole (Explained found) = Unit {0}
 IsWhole (ReadFailed at) = ⊥
@@ -31,6 +32,7 @@ IsWhole Memory = ⊥
 abbrev pub is_done : Outcome → Bool
 is_done Done = true
 is_done (NotDer at) = false
+is_done Noted = false
 is_done (Fault found) = false
 is_done (Explained found) = false
 is_done (ReadFailed at) = false

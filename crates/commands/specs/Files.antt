@@ -18,7 +18,7 @@ use Rattle.commands.specs.declared.names.NamesFault.{NamesFault}
 use Rattle.commands.specs.declared.names.NamesFault.TheVariants.{TooMany}
 use Rattle.commands.specs.declared.opener.Unopened.{Unopened as Why}
 use Rattle.commands.specs.declared.outcome.Outcome.{Outcome}
-use Rattle.commands.specs.declared.outcome.Outcome.TheVariants.{Done, NotDer, Fault, Explained, ReadFailed, WriteFailed, Memory}
+use Rattle.commands.specs.declared.outcome.Outcome.TheVariants.{Done, NotDer, Noted, Fault, Explained, ReadFailed, WriteFailed, Memory}
 use Rattle.commands.specs.declared.task.Action.{Action}
 use Rattle.commands.specs.declared.task.Action.TheVariants as actions
 use Rattle.commands.specs.declared.task.Task.{Task}
@@ -29,6 +29,7 @@ use Rattle.commands.specs.declared.task.Task.{Task}
 abbrev pub kept : Outcome → Outcome
 kept Done = Done
 kept (NotDer at) = NotDer at
+kept Noted = Noted
 kept (Fault found) = Fault found
 kept (Explained found) = Explained found
 kept (ReadFailed at) = ReadFailed at
@@ -39,6 +40,7 @@ kept Memory = Memory
 abbrev pub has_failed_read : Outcome → Bool
 has_failed_read Done = false
 has_failed_read (NotDer at) = false
+has_failed_read Noted = false
 has_failed_read (Fault found) = false
 has_failed_read (Explained found) = false
 has_failed_read (ReadFailed at) = true
@@ -75,21 +77,42 @@ words_of_came (Unopened why) = why_of why
 abbrev pub is_json : Action → Bool
 is_json (actions.Show json) = json
 is_json (actions.Check json quiet places) = json
+is_json (actions.Note noting) = noting.json
 is_json (actions.Explain form) = form.json
 is_json actions.Normalise = false
 is_json (actions.Signed part) = false
+
+-- what comes after a name: a brief report stands in its line
+abbrev pub after_front : Bool → List ℕ
+after_front is_brief = cond is_brief (codes ": ") (codes ":\n")
 
 -- what is in front of a text that an action writes
 abbrev pub text_front : Action → List ℕ → List ℕ
 text_front (actions.Show json) name = shown_name name ++ codes ":\n"
 text_front (actions.Check json quiet places) name = shown_name name ++ codes ": "
-text_front (actions.Explain form) name = shown_name name ++ codes ":\n"
+text_front (actions.Note noting) name = shown_name name ++ codes ": "
+text_front (actions.Explain form) name = shown_name name ++ after_front form.brief
 text_front actions.Normalise name = []
 text_front (actions.Signed part) name = []
 
 -- in front of JSON, which names the file, stands nothing
 abbrev pub front_of : Action → List ℕ → List ℕ
 front_of action name = cond (is_json action) [] (text_front action name)
+
+-- whether that stands in front of each line, and not of the text alone
+abbrev pub fronts_lines : Action → Bool
+fronts_lines (actions.Note noting) = true
+fronts_lines _ = false
+
+-- Lines with this in front of each, where one begins, or goes on.
+abbrev pub fronted : List ℕ → Bool → List ℕ → List ℕ
+fronted front begins [] = []
+fronted front begins (octet ∷ octets) = cond begins front [] ++ (octet ∷ fronted front (octet == 10) octets)
+
+-- a text that an action writes with what is in front
+abbrev pub named_text : Action → List ℕ → List ℕ → List ℕ
+named_text action name text =
+    cond (fronts_lines action) (fronted (front_of action name) true text) (front_of action name ++ text)
 
 -- words after a name as it is shown, as a line, where there are some
 abbrev pub line_after : List ℕ → List ℕ → List ℕ
@@ -106,7 +129,7 @@ said_line action name file came words =
 -- What is said of a document: why nothing is written of it, or what is written; if that is nothing, nothing.
 abbrev pub said_text : Action → List ℕ → List ℕ → Came → List ℕ → List ℕ
 said_text action name file came written =
-    cond (length (words_of_came came) == 0) (cond (length written == 0) [] (front_of action name ++ written))
+    cond (length (words_of_came came) == 0) (cond (length written == 0) [] (named_text action name written))
     (said_line action name file came (words_of_came came))
 
 -- This is what the task says of the document of a name, and its status.

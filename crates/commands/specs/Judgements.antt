@@ -18,7 +18,7 @@ use Rattle.commands.specs.declared.names.NamesFault.TheVariants.{Memory as NoMem
 use Rattle.commands.specs.declared.names.Words.{Words}
 use Rattle.commands.specs.declared.opener.Unopened.{Unopened as Why}
 use Rattle.commands.specs.declared.outcome.Outcome.{Outcome}
-use Rattle.commands.specs.declared.outcome.Outcome.TheVariants.{Done, Explained, Fault, Memory, NotDer, ReadFailed, WriteFailed}
+use Rattle.commands.specs.declared.outcome.Outcome.TheVariants.{Done, Explained, Fault, Memory, NotDer, Noted, ReadFailed, WriteFailed}
 use Rattle.commands.specs.declared.task.Task.{Task}
 
 -- ---- the parts of a run
@@ -51,6 +51,7 @@ parts_of names (Some list) = parts_named names ++ (Listed list ∷ [])
 abbrev pub status_after : Outcome → Option ℕ
 status_after Done = Some (status_of Done)
 status_after (NotDer at) = Some (status_of (NotDer at))
+status_after Noted = Some (status_of Noted)
 status_after (Fault found) = Some (status_of (Fault found))
 status_after (Explained found) = Some (status_of (Explained found))
 status_after (ReadFailed at) = Some (status_of (ReadFailed at))

@@ -3,7 +3,7 @@ use Rattle.std.specs.Prelude.{ℕ, Bool, List, [], ◌∷◌, ◌++◌, ◌==◌
 use Rattle.tlv_core.specs.Reasons.{name_of}
 use Rattle.tlv_core.specs.declared.reason.Reason.{Reason}
 use Rattle.commands.specs.declared.outcome.Outcome.{Outcome}
-use Rattle.commands.specs.declared.outcome.Outcome.TheVariants.{Done, NotDer, Fault, Explained, ReadFailed, WriteFailed, Memory}
+use Rattle.commands.specs.declared.outcome.Outcome.TheVariants.{Done, NotDer, Noted, Fault, Explained, ReadFailed, WriteFailed, Memory}
 
 abbrev pub status_of : Outcome → ℕ
 status_of Done = 0
@@ -13,6 +13,7 @@ status_of (Explained fault) = 2
 status_of (ReadFailed at) = 3
 status_of (WriteFailed after) = 3
 status_of Memory = 3
+status_of Noted = 5
 
 abbrev pub line_feed : List ℕ
 line_feed = 10 ∷ []
@@ -30,6 +31,7 @@ inside_text (Some inside) = codes " inside at " ++ place_text inside.0 inside.1
 abbrev pub words_of : Outcome → List ℕ
 words_of Done = []
 words_of (NotDer at) = []
+words_of Noted = []
 words_of (Fault fault) = codes "fault at " ++ place_text fault.at fault.why ++ inside_text fault.inside
 words_of (Explained fault) = []
 words_of (ReadFailed at) = codes "read failed at " ++ decimal at

@@ -26,12 +26,13 @@ use Rattle.reports.specs.declared.report.Report.{Report}
 use Rattle.pk_show.specs.Shown.{document_lines}
 use Rattle.commands.specs.Inputs.{StopsTaking, TakesFirst}
 use Rattle.commands.specs.Outcomes.{said_verdict}
-use Rattle.commands.specs.Reported.{DueOfReport, DueOfShownReport, Unreported, check_text}
+use Rattle.commands.specs.Reported.{DueOfNoted, DueOfNotedLines, DueOfReport, DueOfShownReport, Unreported, check_text}
 use Rattle.commands.specs.declared.task.Action.{Action}
-use Rattle.commands.specs.declared.task.Action.TheVariants.{Check, Explain, Normalise, Show, Signed}
+use Rattle.commands.specs.declared.task.Action.TheVariants.{Check, Explain, Normalise, Note, Show, Signed}
+use Rattle.commands.specs.declared.task.Noting.{Noting}
 use Rattle.commands.specs.declared.task.Task.{Task}
 use Rattle.commands.specs.declared.outcome.Outcome.{Outcome}
-use Rattle.commands.specs.declared.outcome.Outcome.TheVariants.{Done, NotDer, Fault, Explained as ExplainedFault, ReadFailed, WriteFailed, Memory}
+use Rattle.commands.specs.declared.outcome.Outcome.TheVariants.{Done, NotDer, Noted, Fault, Explained as ExplainedFault, ReadFailed, WriteFailed, Memory}
 
 -- A value was taken, all of the input, and its DER text appended.
 abbrev pub DoneWith : Limits → TypeTerm → Option (List ℕ) → Option (List ℕ) → Option (List ℕ) → Option (List ℕ) → Type 0
@@ -53,6 +54,7 @@ RepliedTo limits type (WriteFailed count) before after old new =
     RefusedWhole limits type (Write (record { written = count })) before after old new
 RepliedTo limits type Memory before after old new = RefusedWhole limits type (Read MemoryRead) before after old new
 RepliedTo limits type (NotDer at) before after old new = ⊥
+RepliedTo limits type Noted before after old new = ⊥
 RepliedTo limits type (ExplainedFault found) before after old new = ⊥
 
 -- Why nothing was read that is all of the input.
@@ -66,6 +68,7 @@ abbrev pub RepliedAs : (ReadError → Type 0) → (Outcome → List ℕ → Type
     → Option (List ℕ) → Type 0
 RepliedAs Stopped Due Done old new = (text : List ℕ) × Due Done text × Appends old new text
 RepliedAs Stopped Due (NotDer at) old new = (text : List ℕ) × Due (NotDer at) text × Appends old new text
+RepliedAs Stopped Due Noted old new = (text : List ℕ) × Due Noted text × Appends old new text
 RepliedAs Stopped Due (ExplainedFault found) old new =
     (text : List ℕ) × Due (ExplainedFault found) text × Appends old new text
 RepliedAs Stopped Due (WriteFailed count) old new =
@@ -160,6 +163,16 @@ RepliedChecking false quiet places file limits kind outcome before after old new
 RepliedChecking true quiet places file limits kind outcome before after old new =
     RepliedReporting (check_text quiet places file) limits kind outcome before after old new
 
+-- What `check` writes with notes: lines of what isn't refused, or JSON.
+abbrev pub RepliedNoting : Bool → Noting → Option (List ℕ) → Limits → Kind → Outcome → Option (List ℕ)
+    → Option (List ℕ) → Option (List ℕ) → Option (List ℕ) → Type 0
+RepliedNoting false noting file limits kind outcome before after old new =
+    RepliedAs (λ error. StopsShowing limits kind error before after)
+    (DueOfOctets limits (DueOfNotedLines noting limits kind) before after) outcome old new
+RepliedNoting true noting file limits kind outcome before after old new =
+    RepliedAs (λ error. StopsTaking (limits.octets + 1) error before after)
+    (DueOfOctets limits (DueOfNoted noting file limits kind) before after) outcome old new
+
 -- by the action, the name of the file, if it has one, and the values of documents; `Signed` reads a request
 abbrev pub RepliedBy : (Document → Value) → Action → Option (List ℕ) → Kind → Limits → Outcome → Option (List ℕ)
     → Option (List ℕ) → Option (List ℕ) → Option (List ℕ) → Type 0
@@ -169,6 +182,8 @@ RepliedBy value_of (Show json) file kind limits outcome before after old new =
     RepliedShowing value_of json file limits kind outcome before after old new
 RepliedBy value_of (Check json quiet places) file kind limits outcome before after old new =
     RepliedChecking json quiet places file limits kind outcome before after old new
+RepliedBy value_of (Note noting) file kind limits outcome before after old new =
+    RepliedNoting noting.json noting file limits kind outcome before after old new
 RepliedBy value_of (Explain form) file kind limits outcome before after old new =
     RepliedReporting (written_text form file) limits kind outcome before after old new
 RepliedBy value_of (Signed part) file kind limits outcome before after old new =
@@ -193,6 +208,7 @@ NormaliseReplies =
 abbrev pub IsSilent : Outcome → Type 0
 IsSilent Done = ⊥
 IsSilent (NotDer at) = ⊥
+IsSilent Noted = ⊥
 IsSilent (Fault found) = Unit {0}
 IsSilent (ExplainedFault found) = ⊥
 IsSilent (ReadFailed at) = Unit {0}
@@ -203,6 +219,7 @@ IsSilent Memory = Unit {0}
 abbrev pub FailedBy : Outcome → Bool → Bool → Type 0
 FailedBy Done source target = (source ≡ false) × (target ≡ false)
 FailedBy (NotDer at) source target = (source ≡ false) × (target ≡ false)
+FailedBy Noted source target = (source ≡ false) × (target ≡ false)
 FailedBy (Fault found) source target = (source ≡ false) × (target ≡ false)
 FailedBy (ExplainedFault found) source target = (source ≡ false) × (target ≡ false)
 FailedBy (ReadFailed at) source target = (source ≡ true) × (target ≡ false)

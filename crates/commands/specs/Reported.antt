@@ -1,5 +1,5 @@
 -- What is written of a report, and how a run ends that writes it.
-use Rattle.std.specs.Prelude.{Bool, List, Option, [], codes, cond, false, true, ℕ, ◌++◌, ◌&&◌, ◌≡◌}
+use Rattle.std.specs.Prelude.{Bool, List, None, Option, Some, [], codes, cond, false, length, not, true, ℕ, ◌++◌, ◌&&◌, ◌==◌, ◌||◌, ◌≡◌}
 use Rattle.json.specs.Print.{print}
 use Rattle.json.specs.Token.{Token}
 use Rattle.tlv_core.specs.Limits.{Limits}
@@ -8,17 +8,23 @@ use Rattle.tlv_core.specs.declared.fault.ReadError.TheVariants.{Fault as FaultRe
 use Rattle.pk_documents.specs.Kinds.{type_of}
 use Rattle.pk_documents.specs.declared.kind.Kind.{Kind}
 use Rattle.explain.specs.Answers.{IsRefused}
+use Rattle.explain.specs.Notes.{has_most_notes}
 use Rattle.explain.specs.Reports.{IsReportOf}
 use Rattle.explain.specs.Rules.{is_refusal}
 use Rattle.explain.specs.Written.{places_shown, version, written_text}
-use Rattle.reports.specs.Json.{check_object}
+use Rattle.reports.specs.Json.{check_object, noted_object}
 use Rattle.reports.specs.JsonMembers.{number_member, object, text_member}
+use Rattle.reports.specs.Notes.{has_must, notes_text}
 use Rattle.reports.specs.declared.report.Answer.{Answer}
 use Rattle.reports.specs.declared.report.Answer.TheVariants as answers
+use Rattle.reports.specs.declared.report.Note.{Note}
 use Rattle.reports.specs.declared.report.Report.{Report}
-use Rattle.commands.specs.Outcomes.{line_feed}
+use Rattle.commands.specs.Outcomes.{line_feed, said_verdict}
 use Rattle.commands.specs.declared.outcome.Outcome.{Outcome}
-use Rattle.commands.specs.declared.outcome.Outcome.TheVariants.{Done, Explained as ExplainedFault, NotDer}
+use Rattle.commands.specs.declared.outcome.Outcome.TheVariants.{Done, Explained as ExplainedFault, NotDer, Noted}
+use Rattle.commands.specs.declared.task.Noting.{Noting}
+use Rattle.commands.specs.declared.task.Refuse.{Refuse}
+use Rattle.commands.specs.declared.task.Refuse.TheVariants.{Must, Nothing}
 
 abbrev pub is_der : Answer → Bool
 is_der answers.Der = true
@@ -45,6 +51,53 @@ DueOfReport text_of limits kind octets outcome text =
     × (outcome ≡ explained_outcome report.answer)
     × (text ≡ text_of report)
 
+-- ---- with notes
+
+-- the place where a document that isn't refused isn't in DER
+abbrev pub place_of : Answer → Option ℕ
+place_of answers.Der = None
+place_of (answers.NotDer at) = Some at
+place_of (answers.Refused found) = None
+
+-- what `check` says with notes of a document that isn't refused: the same as without them, and a line for each
+abbrev pub noted_lines : Bool → Report → List ℕ
+noted_lines quiet report = said_verdict quiet (place_of report.answer) ++ notes_text report
+
+-- the same in JSON, of the file of this name; quiet, nothing of what is in DER without a note
+abbrev pub noted_text : Noting → Option (List ℕ) → Report → List ℕ
+noted_text noting file report =
+    cond (noting.quiet && is_der report.answer && length report.notes.items == 0) []
+    (print (noted_object report version file noting.places) ++ line_feed)
+
+-- one of the notes is one that no document is to have, or may be one of those that are left out
+abbrev pub is_noted : Refuse → List Note → Bool
+is_noted Nothing notes = false
+is_noted Must notes = has_must notes || has_most_notes notes
+
+-- how that ends: otherwise than a check without notes where a document that isn't refused has such a note
+abbrev pub noted_outcome : Refuse → Report → Outcome
+noted_outcome refuse report =
+    cond (not (is_refusal report.answer) && is_noted refuse report.notes.items) Noted (explained_outcome report.answer)
+
+-- The report of these octets is due in JSON, with notes.
+abbrev pub DueOfNoted : Noting → Option (List ℕ) → Limits → Kind → List ℕ → Outcome → List ℕ → Type 0
+DueOfNoted noting file limits kind octets outcome text =
+    (report : Report)
+    × IsReportOf limits kind octets report
+    × (outcome ≡ noted_outcome noting.refuse report)
+    × (text ≡ noted_text noting file report)
+
+-- These octets aren't refused, and the lines of a check with notes are due of their report.
+abbrev pub DueOfNotedLines : Noting → Limits → Kind → List ℕ → Outcome → List ℕ → Type 0
+DueOfNotedLines noting limits kind octets outcome text =
+    (report : Report)
+    × IsReportOf limits kind octets report
+    × (is_refusal report.answer ≡ false)
+    × (outcome ≡ noted_outcome noting.refuse report)
+    × (text ≡ noted_lines noting.quiet report)
+
+-- ---- shown
+
 -- These octets aren't refused, and their report is due, with all elements.
 abbrev pub DueOfShownReport : Option (List ℕ) → Limits → Kind → List ℕ → Outcome → List ℕ → Type 0
 DueOfShownReport file limits kind octets outcome text =
@@ -52,7 +105,7 @@ DueOfShownReport file limits kind octets outcome text =
     × IsReportOf limits kind octets report
     × (is_refusal report.answer ≡ false)
     × (outcome ≡ Done)
-    × (text ≡ written_text (record { json = true; all = true; places = places_shown }) file report)
+    × (text ≡ written_text (record { json = true; brief = false; all = true; places = places_shown }) file report)
 
 -- why no report of these octets is due: they are refused, or memory ran out
 abbrev pub Unreported : Limits → Kind → List ℕ → ReadError → Type 0

@@ -1,9 +1,10 @@
 //! One task over any number of documents, which have names.
-ghost use Rattle.std.specs.Prelude.{◌≡◌, ◌+◌, ◌<◌, ◌≤◌, ◌++◌, ℕ, IfOk, List, MatchResult, OnOk, Option, false, length};
+ghost use Rattle.std.specs.Prelude.{◌≡◌, ◌+◌, ◌<◌, ◌≤◌, ◌++◌, ℕ, IfOk, List, MatchResult, OnOk, Option, false};
+ghost use Rattle.std.specs.Prelude.{[], cond, length, true};
 ghost use Rattle.arrayvec.specs.ArrayString.{array_string_len};
-ghost use Rattle.commands.specs.Files.{CameAs, Entry, FilesSaid, IsLeft, IsSaid, Went, front_of, has_failed_write};
-ghost use Rattle.commands.specs.Files.{is_json, kept, named_line, said_line, said_text, status_of_came};
-ghost use Rattle.commands.specs.Files.{status_of_end, words_of_came};
+ghost use Rattle.commands.specs.Files.{CameAs, Entry, FilesSaid, IsLeft, IsSaid, Went, after_front, front_of};
+ghost use Rattle.commands.specs.Files.{fronted, fronts_lines, has_failed_write, is_json, kept, named_line, named_text};
+ghost use Rattle.commands.specs.Files.{said_line, said_text, status_of_came, status_of_end, words_of_came};
 ghost use Rattle.commands.specs.NameLists.{HasStopped};
 ghost use Rattle.commands.specs.Names.{shown_name};
 ghost use Rattle.commands.specs.Openings.{why_of};
@@ -200,12 +201,50 @@ fn said_text(
     if !words.is_empty() {
         return said_line(alloc, action, name, file, came, words.as_str());
     }
-    let mut text = Vec::new(alloc);
     if written.is_empty() {
-        return Ok(text);
+        return Ok(Vec::new(alloc));
     }
-    push_front_of(alloc, &mut text, action, name)?;
-    text.extend_from_slice(written.as_slice())?;
+    named_text(alloc, action, name, written.as_slice())
+}
+
+/// What was written of a document with its name in front, of all lines or of each.
+fn named_text(
+    alloc: Global,
+    action: Action,
+    name: &[u8],
+    written: &[u8],
+) -> Result<Vec<u8>, AllocError>
+    ensures { IfOk result (λ text. text.items ≡ named_text action name.now written.now) }
+{
+    let mut front = Vec::new(alloc);
+    push_front_of(alloc, &mut front, action, name)?;
+    if fronts_lines(action) {
+        return fronted(alloc, front.as_slice(), written);
+    }
+    front.extend_from_slice(written)?;
+    Ok(front)
+}
+
+/// Whether what is in front of what an action writes stands in front of each line.
+fn fronts_lines(action: Action) -> bool
+    ensures { result ≡ fronts_lines action }
+{
+    matches!(action, Action::Note(_))
+}
+
+/// Lines with this in front of each.
+fn fronted(alloc: Global, front: &[u8], lines: &[u8]) -> Result<Vec<u8>, AllocError>
+    ensures { IfOk result (λ text. text.items ≡ fronted front.now true lines.now) }
+{
+    let mut text = Vec::new(alloc);
+    let mut begins = true;
+    let mut left = lines;
+    while let [octet, rest @ ..] = left {
+        push_begin(&mut text, begins, front)?;
+        text.push(*octet)?;
+        begins = *octet == b'\n';
+        left = rest;
+    }
     Ok(text)
 }
 
@@ -229,6 +268,16 @@ fn said_line(
     after_name(alloc, name, words)
 }
 
+/// Appends what is in front of a line, where one begins.
+fn push_begin(text: &mut Vec<u8>, begins: bool, front: &[u8]) -> Result<(), AllocError>
+    ensures { OnOk result (text.new.items ≡ text.old.items ++ cond begins front.now []) }
+{
+    if begins {
+        return text.extend_from_slice(front);
+    }
+    Ok(())
+}
+
 /// Whether what an action writes is JSON.
 fn is_json(action: Action) -> bool
     ensures { result ≡ is_json action }
@@ -236,6 +285,7 @@ fn is_json(action: Action) -> bool
     match action {
         Action::Show { json } => json,
         Action::Check { json, .. } => json,
+        Action::Note(noting) => noting.json,
         Action::Explain(form) => form.json,
         Action::Normalise | Action::Signed(_) => false,
     }
@@ -254,10 +304,18 @@ fn push_front_of(
         return Ok(());
     }
     match action {
-        Action::Check { .. } => push_front(alloc, text, name, ": "),
-        Action::Show { .. } | Action::Explain(_) => push_front(alloc, text, name, ":\n"),
+        Action::Check { .. } | Action::Note(_) => push_front(alloc, text, name, ": "),
+        Action::Explain(form) => push_front(alloc, text, name, after_front(form.brief)),
+        Action::Show { .. } => push_front(alloc, text, name, ":\n"),
         Action::Normalise | Action::Signed(_) => Ok(()),
     }
+}
+
+/// What comes after a name: a brief report stands in its line.
+fn after_front(is_brief: bool) -> &'static str
+    ensures { result.now ≡ after_front is_brief }
+{
+    if is_brief { ": " } else { ":\n" }
 }
 
 /// Appends a name as it is shown, and what comes after it.

@@ -16,6 +16,8 @@ pub enum Outcome {
     Done,
     /// The document is not in DER: the first place where it differs from its DER text.
     NotDer(u64),
+    /// The document has a note that it is not to have.
+    Noted,
     /// The document is refused, and nothing is written.
     Fault(DocumentFault),
     /// The document is refused, and the report that says so is written.
@@ -37,6 +39,7 @@ pub fn status(outcome: &Outcome) -> u8
         Outcome::NotDer(_) => 1,
         Outcome::Fault(_) | Outcome::Explained(_) => 2,
         Outcome::ReadFailed(_) | Outcome::WriteFailed(_) | Outcome::Memory => 3,
+        Outcome::Noted => 5,
     }
 }
 
@@ -46,7 +49,7 @@ pub fn outcome_words(outcome: &Outcome) -> LineWords
     ensures short { array_string_len result < 128 }
 {
     match outcome {
-        Outcome::Done | Outcome::NotDer(_) | Outcome::Explained(_) => no_words(),
+        Outcome::Done | Outcome::NotDer(_) | Outcome::Noted | Outcome::Explained(_) => no_words(),
         Outcome::Fault(fault) => fault_words(fault),
         Outcome::ReadFailed(at) => number_words("read failed at ", *at),
         Outcome::WriteFailed(after) => number_words("write failed after ", *after),

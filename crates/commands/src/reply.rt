@@ -7,13 +7,13 @@ ghost use Rattle.commands.specs.Inputs.{StopsTaking};
 ghost use Rattle.commands.specs.Outcomes.{words_of};
 ghost use Rattle.commands.specs.Replies.{DueOfCheck, DueOfOctets, DueOfShow, IsReportOfInput, StopsShowing};
 ghost use Rattle.commands.specs.Replies.{Unreadable, checked_outcome};
-ghost use Rattle.commands.specs.Reported.{DueOfReport, DueOfShownReport, check_text};
+ghost use Rattle.commands.specs.Reported.{DueOfNoted, DueOfNotedLines, DueOfReport, DueOfShownReport, check_text};
 ghost use Rattle.explain.specs.Written.{written_text};
 
 use crate::input::read_all;
 use crate::outcome::{Outcome, verdict_text};
-use crate::reported::{check_text, explained, refusal};
-use crate::task::Task;
+use crate::reported::{check_text, explained, json_with_notes, lines_with_notes, noted, refusal};
+use crate::task::{Noting, Task};
 use explain::explained::explain;
 use explain::written::{Form, PLACES, written_report};
 use pk_documents::check::check_whole_document;
@@ -79,6 +79,7 @@ pub(crate) fn show_report<R: Source>(
     }
     let form = Form {
         json: true,
+        brief: false,
         all: true,
         places: PLACES,
     };
@@ -138,6 +139,59 @@ pub(crate) fn check_report<R: Source>(
     Ok(Reply {
         text,
         whole: explained(&report.answer),
+    })
+}
+
+/// Whether the document is in DER, or where it first isn't, and its notes, in lines, if it isn't refused.
+pub(crate) fn note_lines<R: Source>(
+    alloc: Global,
+    src: &mut R,
+    task: &Task,
+    noting: Noting,
+) -> Result<Reply, ReadError>
+    requires readable { R.has_failed src.old ≡ false }
+    ensures replied { MatchResult result
+        (λ it. DueOfOctets task.now.limits (DueOfNotedLines noting task.now.limits task.now.kind)
+        (R.remaining src.old) (R.remaining src.new) it.whole (string_bytes it.text))
+        (λ error. StopsShowing task.now.limits task.now.kind error (R.remaining src.old)
+        (R.remaining src.new)) }
+    ensures read { MatchResult result (λ _. R.has_failed src.new ≡ false)
+        (IsFailedRead (R.has_failed src.new)) }
+{
+    let report = report_of_input(alloc, src, task)?;
+    if let Some(fault) = refusal(report.answer) {
+        return Err(ReadError::Fault(fault));
+    }
+    let text = lines_with_notes(alloc, &report, noting.quiet)?;
+    Ok(Reply {
+        text,
+        whole: noted(&report, noting.refuse),
+    })
+}
+
+/// The same in JSON, of a refused document too.
+pub(crate) fn note_report<R: Source>(
+    alloc: Global,
+    src: &mut R,
+    task: &Task,
+    file: Option<&str>,
+    noting: Noting,
+) -> Result<Reply, ReadError>
+    requires readable { R.has_failed src.old ≡ false }
+    ensures replied { MatchResult result
+        (λ it. DueOfOctets task.now.limits
+        (DueOfNoted noting (option_map (λ r. r.now) file.entry) task.now.limits task.now.kind)
+        (R.remaining src.old) (R.remaining src.new) it.whole (string_bytes it.text))
+        (λ error. StopsTaking (task.now.limits.octets + 1) error (R.remaining src.old)
+        (R.remaining src.new)) }
+    ensures read { MatchResult result (λ _. R.has_failed src.new ≡ false)
+        (IsFailedRead (R.has_failed src.new)) }
+{
+    let report = report_of_input(alloc, src, task)?;
+    let text = json_with_notes(alloc, &report, file, noting)?;
+    Ok(Reply {
+        text,
+        whole: noted(&report, noting.refuse),
     })
 }
 

@@ -6,13 +6,16 @@ ghost use Rattle.asn_documents.specs.WrittenValues.{WritesText};
 ghost use Rattle.pk_documents.specs.Kinds.{type_of};
 ghost use Rattle.pk_documents.specs.RequestParts.{part_of};
 ghost use Rattle.pk_documents.specs.declared.kind.Kind.TheVariants as kinds;
-ghost use Rattle.commands.specs.Replies.{DueOfValue, FailedBy, IsSilent, Replied, RepliedTo, RepliedWith, WroteText};
-ghost use Rattle.commands.specs.Replies.{unread_outcome, written_outcome};
+ghost use Rattle.commands.specs.Replies.{DueOfValue, FailedBy, IsSilent, Replied, RepliedNoting, RepliedTo};
+ghost use Rattle.commands.specs.Replies.{RepliedWith, WroteText, unread_outcome, written_outcome};
 
 use crate::block_target::{BlockTarget, Start, new_block};
 use crate::outcome::Outcome;
-use crate::reply::{Reply, check_line, check_report, explain_report, show_lines, show_report};
-use crate::task::{Action, Task};
+use crate::reply::{
+    Reply, check_line, check_report, explain_report, note_lines, note_report, show_lines,
+    show_report,
+};
+use crate::task::{Action, Noting, Task};
 use asn_documents::value::write_octets;
 use asn_documents::whole::read_whole_input;
 use asn_values::der_text::DerText;
@@ -63,10 +66,34 @@ pub fn run<R: Source, W: Target>(
             let reply = check_report(alloc, src, task, file, quiet, places);
             write_reply(reply, dst)
         }
+        Action::Note(noting) => note(alloc, src, dst, task, file, noting),
         Action::Explain(form) => write_reply(explain_report(alloc, src, task, file, form), dst),
         Action::Normalise => normalise(alloc, src, dst, task),
         Action::Signed(part) => extract(alloc, src, dst, part, task.limits),
     }
+}
+
+/// Writes what a check says, and notes.
+fn note<R: Source, W: Target>(
+    alloc: Global,
+    src: &mut R,
+    dst: &mut W,
+    task: &Task,
+    file: Option<&str>,
+    noting: Noting,
+) -> Outcome
+    requires readable { R.has_failed src.old ≡ false }
+    requires writable { W.has_failed dst.old ≡ false }
+    ensures replied { RepliedNoting noting.json noting (option_map (λ r. r.now) file.entry)
+        task.now.limits task.now.kind result (R.remaining src.old) (R.remaining src.new)
+        (W.contents dst.old) (W.contents dst.new) }
+    ensures unwritten { IsSilent result → dst.new ≡ dst.old }
+    ensures failed { FailedBy result (R.has_failed src.new) (W.has_failed dst.new) }
+{
+    if noting.json {
+        return write_reply(note_report(alloc, src, task, file, noting), dst);
+    }
+    write_reply(note_lines(alloc, src, task, noting), dst)
 }
 
 /// Writes a text that there is, and answers how the run ends.

@@ -109,7 +109,7 @@ fn is_whole(outcome: &Outcome) -> bool
 {
     matches!(
         outcome,
-        Outcome::Done | Outcome::NotDer(_) | Outcome::Explained(_)
+        Outcome::Done | Outcome::NotDer(_) | Outcome::Noted | Outcome::Explained(_)
     )
 }
 

@@ -18,12 +18,33 @@ pub enum Action {
         quiet: bool,
         places: u64,
     },
+    /// Write the same and what other standards say to what is there, its notes.
+    Note(Noting),
     /// Write a report of it, refused or not.
     Explain(Form),
     /// Write its DER text.
     Normalise,
     /// Write a part of a certification request.
     Signed(Part),
+}
+
+/// How a check with notes is written, and ends.
+#[derive(Clone, Copy, Debug, PartialEq, Eq)]
+pub struct Noting {
+    /// As JSON, with up to so many places that aren't in DER.
+    pub json: bool,
+    /// Without what is in DER, but for its notes.
+    pub quiet: bool,
+    pub places: u64,
+    pub refuse: Refuse,
+}
+
+/// The notes that no document is to have.
+#[derive(Clone, Copy, Debug, PartialEq, Eq)]
+pub enum Refuse {
+    Nothing,
+    /// Those on what a standard forbids.
+    Must,
 }
 
 /// What a command is to do, and with what document.

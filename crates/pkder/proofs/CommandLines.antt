@@ -13,7 +13,7 @@ use Rattle.clap.specs.declared.parser.matches.Found.{Found}
 use Rattle.clap.proofs.WalkLemmas.{first_value-rows, raw_values-rows}
 use Rattle.pkder.proofs.OneCommand.{MeansSame}
 use Rattle.pkder.proofs.PlainTexts.{controls_plain}
-use Rattle.pkder.specs.CommandLines.{Invokes, InvokesNothing, BadAction, BadInvocation, BadKinds, BadOther, BadPart, BadPlaces, IsFaultOf, IsPlainLine, MeansInvocation, MeansBy, MeansNothing, MeansTask, ReadsAction, ReadsPair, ReadsPlaces, ShowsPlaces, ShowsOwn, ShowsWhy, advice_for_command, advised_line, are_of_same, asks_reasons, bad_value_line, both_kinds, command_advised, command_name, controls_line, has_control, is_same, kinds_given, kinds_of, missing_line, no_kind_line, option_advised, other_taken, part_name, program, taken_kind, value_of}
+use Rattle.pkder.specs.CommandLines.{Invokes, InvokesNothing, BadAction, BadInvocation, BadKinds, BadOther, BadPart, BadPlaces, BadRefuse, IsFaultOf, IsPlainLine, MeansInvocation, MeansBy, MeansNothing, MeansTask, ReadsAction, ReadsPair, ReadsPlaces, ReadsRefuse, ShowsPlaces, ShowsOwn, ShowsWhy, advice_for_command, advised_line, are_of_same, asks_reasons, bad_value_line, both_kinds, command_advised, command_name, controls_line, has_control, is_same, kinds_given, kinds_of, missing_line, no_kind_line, option_advised, other_taken, part_name, program, refuses, taken_kind, value_of}
 use Rattle.pk_documents.specs.declared.kind.Kind.{Kind}
 use Rattle.pk_documents.specs.declared.request_part.Part.{Part}
 use Rattle.pkder.specs.declared.refusal.BadValue.{BadValue}
@@ -23,7 +23,9 @@ use Rattle.pkder.specs.declared.line.Invocation.{Invocation}
 use Rattle.pkder.specs.declared.line.Invocation.TheVariants.{Both, Each}
 use Rattle.pkder.specs.declared.pair.Pair.{Pair}
 use Rattle.commands.specs.declared.task.Action.{Action}
-use Rattle.commands.specs.declared.task.Action.TheVariants.{Check, Explain, Normalise, Show, Signed}
+use Rattle.commands.specs.declared.task.Action.TheVariants.{Check, Explain, Normalise, Note, Show, Signed}
+use Rattle.commands.specs.declared.task.Refuse.{Refuse}
+use Rattle.commands.specs.declared.task.Refuse.TheVariants.{Must, Nothing}
 use Rattle.commands.specs.declared.task.Task.{Task}
 
 -- ---- the line
@@ -231,6 +233,14 @@ no_part : (rows : List Row) (bad : BadValue) (part : Part) → BadPart rows bad
     → value_of (codes "part") rows ≡ part_name part → ⊥
 no_part rows bad part b r = b.1 part r
 
+no_refuse : (rows : List Row) (bad : BadValue) (refuse : Refuse) → BadRefuse rows bad → ReadsRefuse rows refuse → ⊥
+no_refuse rows bad refuse b r = cc (b.1, r)
+
+-- where nothing is refused
+pub nothing_refused : (refuse : Refuse) → refuses refuse ≡ false → refuse ≡ Nothing
+nothing_refused Nothing e = refl
+nothing_refused Must e = cc
+
 -- a command that says places, and one of this name
 shows_none : (name other : Text) → ShowsPlaces name → name ≡ other → (codes "check" ≡ other → ⊥)
     → (codes "explain" ≡ other → ⊥) → ⊥
@@ -238,17 +248,25 @@ shows_none name other t e check explain = elim t [ inl h ↦ check (sym h ∙ e)
 
 bad_action : (name : Text) (rows : List Row) (bad : BadValue) (action : Action) → BadAction name rows bad
     → name ≡ command_name action → ReadsAction action rows → ⊥
-bad_action name rows bad action (inr (inr h)) e r = h.1 action e
+bad_action name rows bad action (inr (inr (inr h))) e r = h.1 action e
 bad_action name rows bad (Show json) (inl h) e r = cc
 bad_action name rows bad (Check json quiet places) (inl h) e r = cc
+bad_action name rows bad (Note noting) (inl h) e r = cc
 bad_action name rows bad (Explain form) (inl h) e r = cc
 bad_action name rows bad Normalise (inl h) e r = cc
 bad_action name rows bad (Signed part) (inl h) e r = no_part rows bad part h.1 r
 bad_action name rows bad (Show json) (inr (inl h)) e r = shows_none name _ h.0 e (λ z. cc) (λ z. cc)
 bad_action name rows bad (Check json quiet places) (inr (inl h)) e r = no_places rows bad places h.1 r.2
-bad_action name rows bad (Explain form) (inr (inl h)) e r = no_places rows bad form.places h.1 r.2
+bad_action name rows bad (Note noting) (inr (inl h)) e r = no_places rows bad noting.places h.1 r.0.2
+bad_action name rows bad (Explain form) (inr (inl h)) e r = no_places rows bad form.places h.1 r.3
 bad_action name rows bad Normalise (inr (inl h)) e r = shows_none name _ h.0 e (λ z. cc) (λ z. cc)
 bad_action name rows bad (Signed part) (inr (inl h)) e r = shows_none name _ h.0 e (λ z. cc) (λ z. cc)
+bad_action name rows bad (Show json) (inr (inr (inl h))) e r = cc
+bad_action name rows bad (Check json quiet places) (inr (inr (inl h))) e r = no_refuse rows bad Nothing h.1 r.3
+bad_action name rows bad (Note noting) (inr (inr (inl h))) e r = no_refuse rows bad noting.refuse h.1 r.0.3
+bad_action name rows bad (Explain form) (inr (inr (inl h))) e r = cc
+bad_action name rows bad Normalise (inr (inr (inl h))) e r = cc
+bad_action name rows bad (Signed part) (inr (inr (inl h))) e r = cc
 
 -- a command whose action can't be read has no task
 pub no_action : (name : Text) (rows : List Row) (bad : BadValue) (task : Task) → BadAction name rows bad
@@ -299,6 +317,7 @@ no_kinds key (text ∷ other ∷ others) bad kinds (inr h) e =
 not_same : (name : Text) (action : Action) → is_same name ≡ true → name ≡ command_name action → ⊥
 not_same name (Show json) same is = let f : false ≡ true = sym (ap is_same is) ∙ same in cc
 not_same name (Check json quiet places) same is = let f : false ≡ true = sym (ap is_same is) ∙ same in cc
+not_same name (Note noting) same is = let f : false ≡ true = sym (ap is_same is) ∙ same in cc
 not_same name (Explain form) same is = let f : false ≡ true = sym (ap is_same is) ∙ same in cc
 not_same name Normalise same is = let f : false ≡ true = sym (ap is_same is) ∙ same in cc
 not_same name (Signed part) same is = let f : false ≡ true = sym (ap is_same is) ∙ same in cc

@@ -22,7 +22,10 @@ use Rattle.explain.specs.declared.written.Form.{Form}
 use Rattle.commands.specs.Names.{IsPrintable, escaped, quoted}
 use Rattle.commands.specs.Outcomes.{line_feed}
 use Rattle.commands.specs.declared.task.Action.{Action}
-use Rattle.commands.specs.declared.task.Action.TheVariants.{Check, Explain, Normalise, Show, Signed}
+use Rattle.commands.specs.declared.task.Action.TheVariants.{Check, Explain, Normalise, Note, Show, Signed}
+use Rattle.commands.specs.declared.task.Noting.{Noting}
+use Rattle.commands.specs.declared.task.Refuse.{Refuse}
+use Rattle.commands.specs.declared.task.Refuse.TheVariants.{Must, Nothing}
 use Rattle.pkder.specs.declared.refusal.BadValue.{BadValue}
 use Rattle.pkder.specs.declared.line.LineFault.{LineFault}
 use Rattle.pkder.specs.declared.line.LineFault.TheVariants as faults
@@ -61,6 +64,10 @@ octets_rule = record
 abbrev pub places_rule : Rule
 places_rule =
     record (new_rule (codes "places")) { long = Some (codes "places"); value_names = 1; defaults = codes "100" ∷ [] }
+
+-- the level of notes that no document is to have
+abbrev pub refuse_rule : Rule
+refuse_rule = record (new_rule (codes "refuse")) { long = Some (codes "refuse"); value_names = 1 }
 
 abbrev pub flag_rule : Text → Rule
 flag_rule name = record (new_rule name) { long = Some name; action = Some SetTrue }
@@ -107,11 +114,20 @@ with_name app = with_rule (with_rule app (file_rule (codes "to"))) name_rule
 abbrev pub with_json_and_places : App → App
 with_json_and_places app = with_rule (with_flag app (codes "json")) places_rule
 
+-- with notes, and with those that no document is to have
+abbrev pub with_notes : App → App
+with_notes app = with_rule (with_flag app (codes "notes")) refuse_rule
+
 abbrev pub check_shape : Shape
-check_shape = (with_names (with_json_and_places (with_flag (on_kind (codes "check")) (codes "quiet")))).top
+check_shape =
+    (with_names (with_json_and_places (with_notes (with_flag (on_kind (codes "check")) (codes "quiet"))))).top
+
+-- with all elements, or with the answer for whoever sent the file alone
+abbrev pub explain_flags : App
+explain_flags = with_flag (with_flag (on_kind (codes "explain")) (codes "all")) (codes "brief")
 
 abbrev pub explain_shape : Shape
-explain_shape = (with_names (with_json_and_places (with_flag (on_kind (codes "explain")) (codes "all")))).top
+explain_shape = (with_names (with_json_and_places explain_flags)).top
 
 abbrev pub show_shape : Shape
 show_shape = (with_names (with_flag (on_kind (codes "show")) (codes "json"))).top
@@ -162,6 +178,7 @@ program_for words = program
 abbrev pub command_name : Action → Text
 command_name (Show json) = codes "show"
 command_name (Check json quiet places) = codes "check"
+command_name (Note noting) = codes "check"
 command_name (Explain form) = codes "explain"
 command_name Normalise = codes "normalise"
 command_name (Signed part) = codes "signed"
@@ -188,9 +205,35 @@ is_given id rows = bytes_eq (value_of id rows) (codes "true")
 abbrev pub ReadsPlaces : List Row → ℕ → Type 0
 ReadsPlaces rows places = IsNumber (value_of (codes "places") rows) places × (1 ≤ places) × (places ≤ 2147483647)
 
+-- the notes that no document is to have, by the value of their option, if it is one
+unfoldable pub refuse_by : Option Text → Option Refuse
+refuse_by None = Some Nothing
+refuse_by (Some word) = if bytes_eq word (codes "must") then Some Must else None
+
+abbrev pub ReadsRefuse : List Row → Refuse → Type 0
+ReadsRefuse rows refuse = refuse_by (first_of (codes "refuse") rows) ≡ Some refuse
+
+-- there are such notes
+abbrev pub refuses : Refuse → Bool
+refuses Nothing = false
+refuses Must = true
+
+-- Notes are asked for: by themselves, or by what no document is to have.
+abbrev pub asks_notes : Refuse → List Row → Bool
+asks_notes refuse rows = is_given (codes "notes") rows || refuses refuse
+
+-- how `check` writes, and how it ends
+abbrev pub ReadsNoting : List Row → Noting → Type 0
+ReadsNoting rows noting =
+    (noting.json ≡ is_given (codes "json") rows)
+    × (noting.quiet ≡ is_given (codes "quiet") rows)
+    × ReadsPlaces rows noting.places
+    × ReadsRefuse rows noting.refuse
+
 abbrev pub ReadsForm : List Row → Form → Type 0
 ReadsForm rows form =
     (form.json ≡ is_given (codes "json") rows)
+    × (form.brief ≡ is_given (codes "brief") rows)
     × (form.all ≡ is_given (codes "all") rows)
     × ReadsPlaces rows form.places
 
@@ -200,6 +243,9 @@ ReadsAction (Check json quiet places) rows =
     (json ≡ is_given (codes "json") rows)
     × (quiet ≡ is_given (codes "quiet") rows)
     × ReadsPlaces rows places
+    × ReadsRefuse rows Nothing
+    × (is_given (codes "notes") rows ≡ false)
+ReadsAction (Note noting) rows = ReadsNoting rows noting × (asks_notes noting.refuse rows ≡ true)
 ReadsAction (Explain form) rows = ReadsForm rows form
 ReadsAction Normalise rows = Unit {0}
 ReadsAction (Signed part) rows = value_of (codes "part") rows ≡ part_name part
@@ -474,14 +520,22 @@ BadPlaces rows bad =
     × IsNoNumber (value_of (codes "places") rows) 2147483647
     × (bad.advice.now ≡ [])
 
+abbrev pub BadRefuse : List Row → BadValue → Type 0
+BadRefuse rows bad =
+    Names bad (codes "--refuse <LEVEL>") (value_of (codes "refuse") rows) (codes "must")
+    × (refuse_by (first_of (codes "refuse") rows) ≡ None)
+    × (bad.advice.now ≡ [])
+
 -- these commands say places
 abbrev pub ShowsPlaces : Text → Type 0
 ShowsPlaces name = (name ≡ codes "check") ⊎ (name ≡ codes "explain")
 
--- what is wrong with the command of this name, with the part that `signed` is to write, or with the number of places
+-- what is wrong with the command of this name, with the part that `signed` is to write, with the number of places, or
+-- with the notes that `check` is to refuse
 abbrev pub BadAction : Text → List Row → BadValue → Type 0
 BadAction name rows bad =
-    ((name ≡ codes "signed") × BadPart rows bad) ⊎ (ShowsPlaces name × BadPlaces rows bad) ⊎ BadCommand name bad
+    ((name ≡ codes "signed") × BadPart rows bad) ⊎ (ShowsPlaces name × BadPlaces rows bad)
+    ⊎ ((name ≡ codes "check") × BadRefuse rows bad) ⊎ BadCommand name bad
 
 -- a kind that the action doesn't take
 abbrev pub BadKindOf : Action → List Row → BadValue → Type 0

@@ -15,7 +15,7 @@ use Rattle.commands.specs.declared.new_file.Unmade.{Unmade}
 use Rattle.commands.specs.declared.outcome.Outcome.{Outcome}
 use Rattle.commands.specs.declared.outcome.Outcome.TheVariants as outcomes
 use Rattle.commands.specs.declared.task.Action.{Action}
-use Rattle.commands.specs.declared.task.Action.TheVariants.{Check, Explain, Normalise, Show, Signed}
+use Rattle.commands.specs.declared.task.Action.TheVariants.{Check, Explain, Normalise, Note, Show, Signed}
 use Rattle.pkder.specs.CommandLines.{Invokes, InvokesNothing}
 use Rattle.pkder.specs.declared.line.Invocation.{Invocation}
 use Rattle.pkder.specs.declared.line.Invocation.TheVariants.{Both, Each}
@@ -27,6 +27,7 @@ use Rattle.pkder.specs.declared.line.Order.{Order}
 abbrev pub is_binary : Action → Bool
 is_binary (Show json) = false
 is_binary (Check json quiet places) = false
+is_binary (Note noting) = false
 is_binary (Explain form) = false
 is_binary Normalise = true
 is_binary (Signed part) = true

@@ -5,10 +5,11 @@ ghost use Rattle.clap.specs.declared.builder.command.Command.TheViews.{out-Comma
 ghost use Rattle.pkder.specs.CommandLines.{check_shape, command_named as command_shape, depth_rule, explain_shape};
 ghost use Rattle.pkder.specs.CommandLines.{file_rule, flag_rule, kind_rule, name_rule, names_rule, normalise_shape};
 ghost use Rattle.pkder.specs.CommandLines.{octets_rule, pair_kinds_rule, part_rule, places_rule, program};
-ghost use Rattle.pkder.specs.CommandLines.{program_for, request_rule, required_rule, same_shape, show_shape};
-ghost use Rattle.pkder.specs.CommandLines.{signed_shape, top, with_limit_rules, with_name as app_with_name};
+ghost use Rattle.pkder.specs.CommandLines.{program_for, refuse_rule, request_rule, required_rule, same_shape};
+ghost use Rattle.pkder.specs.CommandLines.{show_shape, signed_shape, top, with_limit_rules};
+ghost use Rattle.pkder.specs.CommandLines.{with_name as app_with_name};
 ghost use Rattle.pkder.specs.CommandLines.{with_names as app_with_names, with_pair as app_with_pair};
-ghost use Rattle.pkder.specs.CommandLines.{with_json_and_places as app_with_places};
+ghost use Rattle.pkder.specs.CommandLines.{with_json_and_places as app_with_places, with_notes as app_with_notes};
 
 use crate::help::{CHECK, EXPLAIN, NORMALISE, PROGRAM, SAME, SHOW, SIGNED};
 use clap::{Arg, ArgAction, Command};
@@ -96,7 +97,8 @@ fn check<'a>(alloc: Global) -> Result<Command<'a>, AllocError>
         .after_help(CHECK);
     let on_kind = on_kind(alloc, command)?;
     let with_quiet = on_kind.arg(flag(alloc, "quiet", "write only what is not in DER"))?;
-    let with_places = with_json_and_places(alloc, with_quiet)?;
+    let with_notes = with_notes(alloc, with_quiet)?;
+    let with_places = with_json_and_places(alloc, with_notes)?;
     with_names(alloc, with_places)
 }
 
@@ -110,7 +112,12 @@ fn explain<'a>(alloc: Global) -> Result<Command<'a>, AllocError>
         .after_help(EXPLAIN);
     let on_kind = on_kind(alloc, command)?;
     let with_all = on_kind.arg(flag(alloc, "all", "list all elements, however many there are"))?;
-    let with_places = with_json_and_places(alloc, with_all)?;
+    let with_brief = with_all.arg(flag(
+        alloc,
+        "brief",
+        "say it briefly, for whoever sent the file",
+    ))?;
+    let with_places = with_json_and_places(alloc, with_brief)?;
     with_names(alloc, with_places)
 }
 
@@ -207,6 +214,20 @@ fn with_json_and_places<'a>(alloc: Global, command: Command<'a>) -> Result<Comma
 {
     let with_json = command.arg(flag(alloc, "json", "write an object of JSON for each document"))?;
     with_json.arg(places(alloc))
+}
+
+/// The command with notes, and with those that no document is to have.
+fn with_notes<'a>(alloc: Global, command: Command<'a>) -> Result<Command<'a>, AllocError>
+    requires { (fields_of command).has_globals ≡ false }
+    ensures shape { IfOk result (λ new. app_of new ≡ app_with_notes (app_of command.entry)) }
+    ensures local { IfOk result (λ new. (fields_of new).has_globals ≡ false) }
+{
+    let with_flag = command.arg(flag(
+        alloc,
+        "notes",
+        "write notes on what other standards say against it",
+    ))?;
+    with_flag.arg(refuse(alloc))
 }
 
 /// The command on any number of files.
@@ -357,6 +378,16 @@ fn places<'a>(alloc: Global) -> Arg<'a>
         .value_name("N")
         .help("list at most so many places that are not in DER,\n1 to 2147483647")
         .default_value("100")
+}
+
+fn refuse<'a>(alloc: Global) -> Arg<'a>
+    ensures rule { rule_of result ≡ refuse_rule }
+    ensures local { result.global ≡ false }
+{
+    Arg::new(alloc, "refuse")
+        .long("refuse")
+        .value_name("LEVEL")
+        .help("write notes, and end with status 5 where one has\nthis level: must")
 }
 
 fn depth<'a>(alloc: Global) -> Arg<'a>

@@ -17,6 +17,7 @@ Exit statuses, of several files the greatest:
   2  refused: 'fault at PLACE: REASON', the place an octet counted from 0
   3  reading or writing failed, or memory ran out
   4  the command line is refused
+  5  of check --refuse must: a note has the level must
 
 Say what a request is, and what a reason means:
   pkder show --kind request request.der
@@ -26,7 +27,12 @@ pub const CHECK: &str = "\
 It says 'DER', 'not DER at PLACE' (status 1) or 'fault at PLACE: REASON'
 (status 2), of a file after its name. Kinds and statuses: pkder help.
 
-  pkder check --kind request request.der";
+With --notes lines 'note LEVEL CODE PATH: WORDS' come after that, of what is
+not refused: LEVEL is must where another standard forbids what stands at PATH,
+and should where one advises against it. With --refuse must the status is 5
+where there is a note of that level.
+
+  pkder check --kind request --refuse must request.der";
 
 pub const EXPLAIN: &str = "\
 The report has no octets of private keys and no values of attributes. It is

@@ -1,9 +1,11 @@
 //! What a command line asks for.
-ghost use Rattle.std.specs.Prelude.{◌≡◌, ◌≤◌, ℕ, IfErr, IfOk, MatchOption, MatchResult, Some, codes, map, string_bytes};
-ghost use Rattle.clap.specs.Words.{found_of, kind_of, rows_of, subcommand_rows_of};
+ghost use Rattle.std.specs.Prelude.{◌≡◌, ◌≤◌, ℕ, IfErr, IfOk, MatchOption, MatchResult, Some, codes, map};
+ghost use Rattle.std.specs.Prelude.{option_map, string_bytes};
+ghost use Rattle.clap.specs.Words.{first_of, found_of, kind_of, rows_of, subcommand_rows_of};
 ghost use Rattle.pk_documents.specs.KindRows.{kind_named};
 ghost use Rattle.pkder.specs.CommandLines.{Invokes, InvokesNothing, BadAction, BadInvocation, BadOrder, BadKind};
-ghost use Rattle.pkder.specs.CommandLines.{BadKindOf, BadLimit, BadPart, BadPlaces, BadRequest, BadTask, DoesAction};
+ghost use Rattle.pkder.specs.CommandLines.{BadKindOf, BadLimit, BadPart, BadPlaces, BadRefuse, BadRequest, BadTask};
+ghost use Rattle.pkder.specs.CommandLines.{DoesAction, ReadsNoting, ReadsRefuse, refuse_by, refuses};
 ghost use Rattle.pkder.specs.CommandLines.{IsFaultOf, IsNumber, Means, MeansInvocation, MeansBy, MeansNothing};
 ghost use Rattle.pkder.specs.CommandLines.{MeansTask, ReadsForm, ReadsKind, ReadsLimits, ReadsPlaces, asks_reasons};
 ghost use Rattle.pkder.specs.CommandLines.{has_second_dash as has_dash_again, is_given, names_of, part_name};
@@ -17,7 +19,7 @@ use crate::pair::{Pair, read_pair};
 use crate::refusal::{BadValue, advice_for_kind, refusal_text};
 use clap::error::ErrorKind;
 use clap::{ArgMatches, Error};
-use commands::task::{Action, Task};
+use commands::task::{Action, Noting, Refuse, Task};
 use explain::written::Form;
 use pk_documents::kind::{Kind, WORDS};
 use pk_documents::request_part::Part;
@@ -249,12 +251,7 @@ fn read_action<'a>(name: &'a str, options: &ArgMatches<'a>) -> Result<Action, Ba
         (BadAction name.entry.now (rows_of (found_of options.now))) }
 {
     if name == "check" {
-        let places = read_places(options)?;
-        return Ok(Action::Check {
-            json: is_flagged(options, "json"),
-            quiet: is_flagged(options, "quiet"),
-            places,
-        });
+        return read_check(options);
     }
     if name == "explain" {
         return Ok(Action::Explain(read_form(options)?));
@@ -276,6 +273,86 @@ fn read_action<'a>(name: &'a str, options: &ArgMatches<'a>) -> Result<Action, Ba
         wanted: "check, explain, show, same, normalise or signed",
         advice: "",
     })
+}
+
+/// What `check` does.
+fn read_check<'a>(options: &ArgMatches<'a>) -> Result<Action, BadValue<'a>>
+    ensures { MatchResult result (DoesAction (codes "check") (rows_of (found_of options.now)))
+        (BadAction (codes "check") (rows_of (found_of options.now))) }
+{
+    let noting = read_noting(options)?;
+    Ok(check_action(options, noting))
+}
+
+/// The same, by how it writes and ends: it writes notes where they are asked for.
+fn check_action(options: &ArgMatches<'_>, noting: Noting) -> Action
+    requires { ReadsNoting (rows_of (found_of options.now)) noting }
+    ensures { DoesAction (codes "check") (rows_of (found_of options.now)) result }
+{
+    if is_flagged(options, "notes") || refuses(noting.refuse) {
+        return Action::Note(noting);
+    }
+    Action::Check {
+        json: noting.json,
+        quiet: noting.quiet,
+        places: noting.places,
+    }
+}
+
+/// Whether there are notes that no document is to have.
+fn refuses(refuse: Refuse) -> bool
+    ensures { result ≡ refuses refuse }
+{
+    match refuse {
+        Refuse::Nothing => false,
+        Refuse::Must => true,
+    }
+}
+
+/// How `check` writes, and how it ends.
+fn read_noting<'a>(options: &ArgMatches<'a>) -> Result<Noting, BadValue<'a>>
+    ensures { MatchResult result (ReadsNoting (rows_of (found_of options.now)))
+        (BadAction (codes "check") (rows_of (found_of options.now))) }
+{
+    let places = read_places(options)?;
+    let refuse = read_refuse(options)?;
+    Ok(Noting {
+        json: is_flagged(options, "json"),
+        quiet: is_flagged(options, "quiet"),
+        places,
+        refuse,
+    })
+}
+
+/// The notes that no document is to have.
+fn read_refuse<'a>(options: &ArgMatches<'a>) -> Result<Refuse, BadValue<'a>>
+    ensures { MatchResult result (ReadsRefuse (rows_of (found_of options.now)))
+        (BadRefuse (rows_of (found_of options.now))) }
+{
+    match refuse_by(given(options, "refuse")) {
+        Some(refuse) => Ok(refuse),
+        None => Err(BadValue {
+            option: "--refuse <LEVEL>",
+            value: value(options, "refuse"),
+            wanted: "must",
+            advice: "",
+        }),
+    }
+}
+
+/// The notes that no document is to have, by the value of their option.
+#[tactic(auto, unfolding(crate::specs::CommandLines::refuse_by))]
+fn refuse_by(word: Option<&str>) -> Option<Refuse>
+    ensures { result ≡ refuse_by (option_map (λ word. word.now) word.entry) }
+{
+    let Some(word) = word else {
+        return Some(Refuse::Nothing);
+    };
+    if word == "must" {
+        Some(Refuse::Must)
+    } else {
+        None
+    }
 }
 
 /// The kind that is named, where the action takes it.
@@ -346,6 +423,7 @@ fn read_form<'a>(options: &ArgMatches<'a>) -> Result<Form, BadValue<'a>>
     let places = read_places(options)?;
     Ok(Form {
         json: is_flagged(options, "json"),
+        brief: is_flagged(options, "brief"),
         all: is_flagged(options, "all"),
         places,
     })
@@ -373,6 +451,13 @@ pub fn is_flagged(options: &ArgMatches<'_>, id: &str) -> bool
     ensures { result ≡ is_given id.now (rows_of (found_of options.now)) }
 {
     value(options, id) == "true"
+}
+
+/// The value of an option, where there is one.
+fn given<'a>(options: &ArgMatches<'a>, id: &str) -> Option<&'a str>
+    ensures { option_map (λ text. text.now) result ≡ first_of id.now (rows_of (found_of options.now)) }
+{
+    options.get_str(id)
 }
 
 /// The value of an option, given or standing for it; no text where there is none.

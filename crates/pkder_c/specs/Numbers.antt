@@ -1,5 +1,5 @@
 -- The numbers of parts, forms and reasons.
-use Rattle.std.specs.Prelude.{ℕ, ◌+◌, ◌≡◌, ◌≤◌, cond}
+use Rattle.std.specs.Prelude.{ℕ, ◌+◌, ◌≡◌, ◌≤◌, cond, false}
 use Rattle.pk_documents.specs.declared.request_part.Part.{Part}
 use Rattle.pk_documents.specs.declared.request_part.Part.TheVariants as parts
 use Rattle.explain.specs.Written.{places_shown}
@@ -20,7 +20,7 @@ form_number form = cond form.all 1 0 + cond form.json 2 0
 
 -- the form of a report that this number asks for
 abbrev pub IsFormOf : ℕ → Form → Type 0
-IsFormOf number form = (form_number form ≡ number) × (form.places ≡ places_shown)
+IsFormOf number form = (form_number form ≡ number) × (form.brief ≡ false) × (form.places ≡ places_shown)
 
 abbrev pub IsFormNumber : ℕ → Type 0
 IsFormNumber number = number ≤ 3

@@ -47,6 +47,7 @@ pub fn form_of(number: u32) -> Option<Form>
     };
     Some(Form {
         json,
+        brief: false,
         all,
         places: PLACES,
     })
