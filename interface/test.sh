@@ -312,7 +312,7 @@ in_java() {
     try "built for Java" "$@" "$out" "$work/java_jar"
     try "built for Java again" "$@" "$out" "$work/java_again"
     try "the same jar" cmp "$work/java_again/pkder.jar" "$jar"
-    try "compiled tests in Java" javac --release 11 -Xlint:all -Werror -cp "$jar" -d "$work/java_tests" \
+    try "compiled tests in Java" javac --release 17 -Xlint:all -Werror -cp "$jar" -d "$work/java_tests" \
         "$here"/java/tests/*.java
     try "rows in Java" java_runs Tests -cp "$jar:$work/java_tests"
     try "copies in Java" java_copies

@@ -11,7 +11,8 @@ import (
 // curve, empty where they name nothing. Octets is how many a public key has, and 0 of one in segments (BER). Of a
 // public key of RSA Verdict is what it is as an RSAPublicKey, "der", "not_der" or "refused", and of one in DER Bits is
 // how many its modulus has, 0 where that is negative, and Exponent is that in decimal digits, from 1<<31 on, and below
-// 0, by its first octets in hexadecimal ones, as "0x0100000001". Of any other key these are empty and 0.
+// 0, by its first octets in hexadecimal ones, as "0x0100000001". A private key of RSA has Bits, and Exponent below
+// 1<<31, alone. Of any other key these are empty and 0.
 type HeldKey struct {
 	Algorithm  string
 	Parameters string

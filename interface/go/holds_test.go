@@ -23,7 +23,7 @@ func TestHolds(t *testing.T) {
 		kind Kind
 		due  string
 	}{
-		{"rsa2048", Key, "{rsaEncryption  0  0 }; ; []; []; <nil>"},
+		{"rsa2048", Key, "{rsaEncryption  0  2048 65537}; ; []; []; <nil>"},
 		{"p384", Key, "{id-ecPublicKey P-384 0  0 }; ; []; []; <nil>"},
 		{"public-rsa2048", Public, "{rsaEncryption  270 der 2048 65537}; ; []; []; <nil>"},
 		{"public-indefinite", Public, "{Ed25519  0  0 }; ; []; []; <nil>"},

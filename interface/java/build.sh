@@ -1,6 +1,6 @@
 #!/bin/sh
 # build.sh LIBRARY [OUT]: makes OUT/pkder.jar (OUT is interface/java/out unless said otherwise), with the classes, for
-# Java 11 and later, and the native library. LIBRARY is the folder that libpkder.a stands in, as interface/out. It takes
+# Java 17 and later, and the native library. LIBRARY is the folder that libpkder.a stands in, as interface/out. It takes
 # a JDK (javac, jar) and cc; by the environment JAVAC_FLAGS and CFLAGS are more words for these.
 # shellcheck disable=SC2086 # (lists of flags)
 set -eu
@@ -18,7 +18,7 @@ jdk=$(dirname "$(dirname "$(readlink -f "$(command -v javac)")")")
 work=$(mktemp -d)
 trap 'rm -rf "$work"' EXIT
 
-javac --release 11 -encoding UTF-8 -d "$work/classes" -h "$work/headers" ${JAVAC_FLAGS:-} \
+javac --release 17 -encoding UTF-8 -d "$work/classes" -h "$work/headers" ${JAVAC_FLAGS:-} \
     "$here/src/module-info.java" "$here"/src/pkder/*.java
 native=$work/classes/native/Linux-amd64
 mkdir -p "$native"

@@ -38,6 +38,7 @@ final class Calls {
         Claims.holds(Compiled.says("if (pkder.Pkder.check(pkder.Kind.KEY, key)) { }").contains("boolean"), "a verdict");
         Claims.holds(
             Compiled.says("if (pkder.Pkder.explain(pkder.Kind.KEY, key)) { }").contains("boolean"), "a report");
+        Claims.holds(Compiled.says("if (pkder.Pkder.asks(key).isCa()) { }").contains("boolean"), "whether it is a CA");
     }
 
     /** A line that looks at a truth value alone takes no two refused documents for the same. */
@@ -198,6 +199,10 @@ final class Calls {
         Claims.thrown(due, () -> Pkder.explain(Kind.KEY, null), "no document");
         Claims.thrown(due, () -> Pkder.field(Kind.KEY, null), "no document");
         Claims.thrown(due, () -> Pkder.field(null, NONE), "no kind");
+        Claims.thrown(due, () -> Pkder.asks(null), "no request");
+        Claims.thrown(due, () -> Pkder.asks(NONE, null), "no limits");
+        Claims.thrown(due, () -> Pkder.holds(Kind.KEY, null), "no document");
+        Claims.thrown(due, () -> Pkder.holds(null, NONE), "no kind");
         Claims.thrown(due, () -> Pkder.check(Kind.KEY, NONE, null), "no limits");
     }
 

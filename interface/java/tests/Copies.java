@@ -36,6 +36,7 @@ public final class Copies {
         Pkder.requireDer(Kind.KEY, key);
         Pkder.explain(Kind.KEY, key);
         Pkder.field(Kind.KEY, key);
+        Pkder.holds(Kind.KEY, key);
         Pkder.show(Kind.KEY, key);
         byte[] text = Pkder.normalise(Kind.KEY, key);
         Claims.holds(Arrays.equals(text, key), "the text");

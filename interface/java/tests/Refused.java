@@ -28,6 +28,8 @@ public final class Refused {
         put(tests, "signed", () -> Pkder.signed(Part.INFO, DOCUMENT));
         put(tests, "explain", () -> Pkder.explain(Kind.KEY, DOCUMENT));
         put(tests, "field", () -> Pkder.field(Kind.KEY, DOCUMENT));
+        put(tests, "asks", () -> Pkder.asks(DOCUMENT));
+        put(tests, "holds", () -> Pkder.holds(Kind.KEY, DOCUMENT));
         System.exit(Tests.failed(tests) == 0 ? 0 : 1);
     }
 

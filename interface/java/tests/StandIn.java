@@ -53,7 +53,12 @@ public final class StandIn {
     /** Those that tell of any octets. */
     private static List<Claims.Attempt> reporting(int... told) {
         byte[] document = document(told);
-        return List.of(() -> Pkder.explain(Kind.KEY, document), () -> Pkder.field(Kind.KEY, document));
+        List<Claims.Attempt> calls = new ArrayList<>();
+        calls.add(() -> Pkder.explain(Kind.KEY, document));
+        calls.add(() -> Pkder.field(Kind.KEY, document));
+        calls.add(() -> Pkder.asks(document));
+        calls.add(() -> Pkder.holds(Kind.KEY, document));
+        return calls;
     }
 
     private static List<Claims.Attempt> allCalls(int... told) {
@@ -93,6 +98,14 @@ public final class StandIn {
         Claims.equal(report.isDer() + " " + report.differsAt() + " " + report.fault().orElseThrow(),
             "false OptionalLong.empty fault at 5: Later inside at 7: Later", "a later reason");
         Claims.equal(Pkder.field(Kind.KEY, document(6, 28, 28)), "", "a later reason");
+        for (Claims.Attempt call : reporting(6, 28, 28).subList(2, 4)) {
+            FaultException why = Claims.thrown(FaultException.class, call, "a later reason");
+            Claims.equal(why.fault(), report.fault().orElseThrow(), "a later reason");
+        }
+        // (a report without a fault, and without anything else)
+        for (Claims.Attempt call : reporting(6, 0, 0).subList(2, 4)) {
+            Claims.thrown(IllegalStateException.class, call, "a report of nothing");
+        }
     }
 
     /** Statuses of reports and of two documents are no answer of other calls, nor are theirs one of a report. */

@@ -23,6 +23,18 @@ public final class Tests {
         tests.put("reports", Calls::reports);
         tests.put("fields", Calls::fields);
         tests.put("a long report", Calls::longReport);
+        tests.put("what requests ask for", Asked::requests);
+        tests.put("keys of requests", Asked::keys);
+        tests.put("extensions of requests", Asked::extensions);
+        tests.put("a request for a CA", Asked::authority);
+        tests.put("refused requests", Asked::refusedRequests);
+        tests.put("what documents hold", Asked::held);
+        tests.put("keys of RSA", Asked::keysOfRsa);
+        tests.put("refused documents", Asked::refusedDocuments);
+        tests.put("JSON", Told::json);
+        tests.put("reports that ask", Told::asked);
+        tests.put("reports that don't tell", Told::untold);
+        tests.put("reports of another library", Told::otherReports);
         tests.put("limits", Calls::limits);
         tests.put("nulls", Calls::nulls);
         tests.put("arrays", Calls::arrays);

@@ -329,7 +329,7 @@ class Held(unittest.TestCase):
     def test_examples(self):
         of_rsa = pkder.Key("rsaEncryption", None, 270, "der", 2048, "65537")
         for name, kind, due in (
-            ("rsa2048", pkder.Kind.KEY, pkder.Holds(pkder.Key("rsaEncryption"))),
+            ("rsa2048", pkder.Kind.KEY, pkder.Holds(pkder.Key("rsaEncryption", bits=2048, exponent="65537"))),
             ("p384", pkder.Kind.KEY, pkder.Holds(pkder.Key("id-ecPublicKey", "P-384"))),
             ("public-rsa2048", pkder.Kind.PUBLIC, pkder.Holds(of_rsa)),
             ("public-p256", pkder.Kind.PUBLIC, pkder.Holds(pkder.Key("id-ecPublicKey", "P-256", 65))),

@@ -47,10 +47,42 @@
 //! # Ok::<(), pkder::Error>(())
 //! ```
 //!
+//! What a request asks for, and what another document holds, are types:
+//!
+//! ```
+//! use pkder::{holds, Kind};
+//!
+//! let key = [&[0x30, 0x2A, 0x30, 0x05, 0x06, 0x03, 0x2B, 0x65, 0x70, 0x03, 0x21, 0x00][..], &[7; 32]].concat();
+//! let held = holds(Kind::Public, &key)?.key.expect("a public key");
+//! assert_eq!((held.algorithm.as_str(), held.octets), ("Ed25519", Some(32)));
+//! # Ok::<(), pkder::Error>(())
+//! ```
+//! ```no_run
+//! use pkder::{asks, Name};
+//!
+//! let asked = asks(&std::fs::read("request.der")?)?;
+//! for name in asked.san()? {
+//!     match name {
+//!         Name::Dns(host) => println!("host {host}"),
+//!         other => println!("not served: {other}"),
+//!     }
+//! }
+//! // (where that can't be told, as of a value in BER, it is an error)
+//! assert!(!asked.is_ca()?);
+//! # Ok::<(), Box<dyn std::error::Error>>(())
+//! ```
+//!
 //! Each call takes a whole document, and all but `require_der` take BER, too. The library wipes nothing unless it is
 //! built so, and neither does this crate: a text that is a private key is the caller's to wipe.
+mod asks;
+mod holds;
+mod json;
 mod raw;
 
+pub use asks::{Asks, Extension, Name, NameAttribute, Value};
+pub use holds::{Algorithm, Carried, Holds, Key};
+
+use json::Json;
 use raw::Outcome;
 use std::fmt;
 
@@ -280,6 +312,12 @@ pub enum Error {
     Memory,
     /// The limits are out of range.
     Limits,
+    /// Of `holds` alone: of a request and of a package it tells nothing.
+    Kind,
+    /// Of `asks` and `holds` alone: the library's report doesn't say what they tell.
+    Report,
+    /// Of the methods of `Asks` alone: the value of the extension isn't in DER, or the request has it twice.
+    Untold,
     /// A status that this crate doesn't know, of a later library: the document isn't accepted.
     Unknown(u32),
 }
@@ -292,6 +330,9 @@ impl fmt::Display for Error {
             Error::NotDer(place) => Form::DiffersAt(*place).fmt(f),
             Error::Memory => f.write_str("out of memory"),
             Error::Limits => f.write_str("limits out of range"),
+            Error::Kind => f.write_str("nothing is told of what documents of this kind hold"),
+            Error::Report => f.write_str("the report of libpkder doesn't say what is asked of it"),
+            Error::Untold => f.write_str("the value of the extension isn't in DER, or the request has it twice"),
             Error::Unknown(status) => write!(f, "libpkder answers the status {status}"),
         }
     }
@@ -379,6 +420,28 @@ impl Limits {
         let (path, _) = written(REPORT, (raw::REPORTED, raw::UNREPORTED), call)?;
         Ok(String::from_utf8_lossy(&path).into_owned())
     }
+
+    /// As the free function of the name.
+    pub fn asks(self, request: &[u8]) -> Result<Asks, Error> {
+        self.told(Kind::Request, request, |it| it.member("asks", Asks::of))
+    }
+
+    /// As the free function of the name.
+    pub fn holds(self, kind: Kind, document: &[u8]) -> Result<Holds, Error> {
+        match kind {
+            Kind::Request | Kind::Package => Err(Error::Kind),
+            _ => self.told(kind, document, |it| it.member("holds", Holds::of)),
+        }
+    }
+
+    /// What the report of a sound document tells.
+    fn told<T>(self, kind: Kind, document: &[u8], of: fn(&Json<'_>) -> Option<T>) -> Result<T, Error> {
+        let report = self.explain(kind, document, ReportForm { all: false, json: true })?;
+        match report.verdict {
+            Ok(_) => Json::read(&report.text).as_ref().and_then(of).ok_or(Error::Report),
+            Err(fault) => Err(Error::Fault(fault)),
+        }
+    }
 }
 
 /// Refuses a document that isn't in DER, as one that has a fault.
@@ -415,7 +478,7 @@ pub fn show(kind: Kind, document: &[u8]) -> Result<String, Error> {
 
 /// A report of the octets, whether they are a document or not: its elements with their places, and of a refused one
 /// which field is at fault, what is due there, the usual cause and what to do. No octets of private keys and no values
-/// of attributes are in it.
+/// of attributes are in it, but the known extensions that an accepted request asks for.
 pub fn explain(kind: Kind, document: &[u8], form: ReportForm) -> Result<Report, Error> {
     Limits::default().explain(kind, document, form)
 }
@@ -425,6 +488,17 @@ pub fn explain(kind: Kind, document: &[u8], form: ReportForm) -> Result<Report, 
 /// It reads the document again, as `explain` does.
 pub fn field(kind: Kind, document: &[u8]) -> Result<String, Error> {
     Limits::default().field(kind, document)
+}
+
+/// What a request asks for, by the report that `explain` makes of it. Refused requests are refused; one in BER isn't.
+pub fn asks(request: &[u8]) -> Result<Asks, Error> {
+    Limits::default().asks(request)
+}
+
+/// What a document of `Kind::Key`, `Kind::Public`, `Kind::Ec` or `Kind::Encrypted` holds, by the report that `explain`
+/// makes of it; of another kind `Error::Kind`. Refused documents are refused; one in BER isn't.
+pub fn holds(kind: Kind, document: &[u8]) -> Result<Holds, Error> {
+    Limits::default().holds(kind, document)
 }
 
 /// Room for a report or a field at first; reports of all elements may need more.

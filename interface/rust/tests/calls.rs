@@ -173,6 +173,8 @@ fn limits_out_of_range() {
         assert_eq!(limits.signed(Part::Info, &[]), Err(Error::Limits));
         assert_eq!(limits.explain(Kind::Key, &[], ReportForm::default()), Err(Error::Limits));
         assert_eq!(limits.field(Kind::Key, &[]), Err(Error::Limits));
+        assert_eq!(limits.asks(&[]), Err(Error::Limits));
+        assert_eq!(limits.holds(Kind::Key, &[]), Err(Error::Limits));
     }
 }
 

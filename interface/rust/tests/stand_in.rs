@@ -1,6 +1,8 @@
 //! What the crate makes of answers that no document brings: `cargo test --test stand_in -- --ignored`, linked to the
 //! stand-in of interface/c/stand_in.c.
-use pkder::{check, explain, field, normalise, require_der, same, show, signed, Error, Kind, Part, ReportForm};
+use pkder::{
+    asks, check, explain, field, holds, normalise, require_der, same, show, signed, Error, Kind, Part, ReportForm,
+};
 
 /// What all calls answer of the octets.
 fn refusal(document: &[u8]) -> Error {
@@ -12,10 +14,12 @@ fn refusal(document: &[u8]) -> Error {
     error
 }
 
-/// What `explain` and `field` answer of the octets.
+/// What `explain`, `field`, `asks` and `holds` answer of the octets.
 fn unreported(document: &[u8]) -> Error {
     let error = explain(Kind::Key, document, ReportForm::default()).unwrap_err();
     assert_eq!(field(Kind::Key, document), Err(error));
+    assert_eq!(asks(document), Err(error));
+    assert_eq!(holds(Kind::Key, document), Err(error));
     error
 }
 
@@ -75,6 +79,11 @@ fn reports_of_a_later_library() {
     assert_eq!(report.verdict.unwrap_err().to_string(), "fault at 5: Later inside at 7: Later");
     assert!(!report.is_der());
     assert_eq!(field(Kind::Key, &[6, 28, 28]).unwrap(), "");
+    assert_eq!(asks(&[6, 28, 28]), Err(Error::Fault(report.verdict.unwrap_err())));
+    assert_eq!(holds(Kind::Key, &[6, 28, 28]), Err(Error::Fault(report.verdict.unwrap_err())));
+    // (a report without a fault, and without anything else)
+    assert_eq!(asks(&[6, 0, 0]), Err(Error::Report));
+    assert_eq!(holds(Kind::Key, &[6, 0, 0]), Err(Error::Report));
 }
 
 #[test]

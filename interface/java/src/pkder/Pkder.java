@@ -271,6 +271,70 @@ public final class Pkder {
         return new String(path, StandardCharsets.UTF_8);
     }
 
+    /**
+     * Answers what a certification request asks for, by the report that {@link #explain(Kind, byte[])} makes of it.
+     *
+     * @param request the request's octets, in DER or in BER
+     * @return what it asks for
+     * @throws FaultException where the request is refused
+     */
+    public static Asks asks(byte[] request) throws FaultException {
+        return asks(request, Limits.USUAL);
+    }
+
+    /**
+     * Answers what a certification request asks for.
+     *
+     * @param request the request's octets, in DER or in BER
+     * @param limits the limits of what is read
+     * @return what it asks for
+     * @throws FaultException where the request is refused
+     */
+    public static Asks asks(byte[] request, Limits limits) throws FaultException {
+        return Told.asks(told(Kind.REQUEST, request, limits));
+    }
+
+    /**
+     * Answers what a document of another kind holds, by the report that {@link #explain(Kind, byte[])} makes of it.
+     *
+     * @param kind what the document is: {@link Kind#KEY}, {@link Kind#EC}, {@link Kind#PUBLIC} or {@link
+     *     Kind#ENCRYPTED}
+     * @param document its octets, in DER or in BER
+     * @return what it holds
+     * @throws FaultException where the document is refused
+     * @throws IllegalArgumentException of another kind
+     */
+    public static Holds holds(Kind kind, byte[] document) throws FaultException {
+        return holds(kind, document, Limits.USUAL);
+    }
+
+    /**
+     * Answers what a document of another kind holds.
+     *
+     * @param kind what the document is: {@link Kind#KEY}, {@link Kind#EC}, {@link Kind#PUBLIC} or {@link
+     *     Kind#ENCRYPTED}
+     * @param document its octets, in DER or in BER
+     * @param limits the limits of what is read
+     * @return what it holds
+     * @throws FaultException where the document is refused
+     * @throws IllegalArgumentException of another kind
+     */
+    public static Holds holds(Kind kind, byte[] document, Limits limits) throws FaultException {
+        if (kind == Kind.REQUEST || kind == Kind.PACKAGE) {
+            throw new IllegalArgumentException("nothing is told of what a document of kind " + kind + " holds");
+        }
+        return Told.holds(told(kind, document, limits));
+    }
+
+    /** The report of a sound document, in JSON. */
+    private static String told(Kind kind, byte[] document, Limits limits) throws FaultException {
+        Report report = explain(kind, document, ReportForm.JSON, limits);
+        if (report.fault().isPresent()) {
+            throw new FaultException(report.fault().get());
+        }
+        return report.text();
+    }
+
     private static byte[] written(byte[] document, Call call) throws FaultException {
         Outcome outcome = new Outcome();
         byte[] text = call.on(present(document), outcome.numbers);

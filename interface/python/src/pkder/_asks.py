@@ -75,7 +75,8 @@ class Key(Algorithm):
     """A key by its algorithm; and of a public key how many octets it has, None where it is in segments (BER). Of one of
     RSA verdict is what it is as an RSAPublicKey, "der", "not_der" or "refused", and of one in DER bits is how many its
     modulus has, None where that is negative, and exponent is that in decimal digits, from 2**31 on, and below 0, by its
-    first octets in hexadecimal ones, as "0x0100000001". Of any other key these three are None."""
+    first octets in hexadecimal ones, as "0x0100000001". A private key of RSA has bits, and exponent up to 2**31, alone.
+    Of any other key these three are None."""
 
     octets: Optional[int] = None
     verdict: Optional[str] = None
