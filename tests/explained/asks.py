@@ -13,7 +13,8 @@ Of each document the lines under `asks for` and `holds` of `explain` and of `exp
 - requests and public keys that openssl makes. Of each name, usage and purpose and of each size and exponent of an RSA
   key that openssl and `cryptography` (pyca) read in these there has to be a line, and none else of such kinds;
   addresses are compared by the standard library. A tool that isn't there is told;
-- of these and of the first all that have a `holds`: its identifiers and numbers are those that openssl lists.
+- of these and of the first all that have a `holds`: its identifiers and numbers are those that openssl lists, of a
+  private key of RSA also how long the modulus is, and the exponent.
 
 The last line is 'explained_asks: N passed, M failed', a document counting once for each of these."""
 import json
@@ -184,7 +185,18 @@ def words_listed(kind, octets):
             found.append(value_words(identifier(contents)))
         elif it.tag in ("universal 2", "universal 10") and kind == "encrypted" and 0 <= number < 1 << 31:
             found.append(str(number))
-    return found or ["not named"]
+    size = rsa_size_listed(root.members[2], octets) if kind == "key" and found[0] == "rsaEncryption" else []
+    return [*found, *size] or ["not named"]
+
+
+def rsa_size_listed(private, octets):
+    """The size of the modulus and the exponent that openssl lists inside `privateKey`, which may be in segments."""
+    inside = b"".join(octets[it.at + it.header : it.end] for it in private.all() if not it.constructed)
+    numbers = listed_by_openssl(inside).members[1:3]
+    modulus, exponent = (int.from_bytes(inside[it.at + it.header : it.end], "big", signed=True) for it in numbers)
+    if modulus < 0:
+        return []
+    return [f"{modulus.bit_length()} bits", *([f"exponent {exponent}"] if 0 <= exponent < 1 << 31 else [])]
 
 
 def looks_by_listing(program, given):

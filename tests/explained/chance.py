@@ -1,8 +1,8 @@
 """What a report of a refused document says of private octets by chance alone.
 
 Where damage moves private octets to places that are public, one of them may happen to be what usually stands there: the
-last arc of an attribute's type, the first octet of a NULL, a length at whose end a usual element begins. The report then
-shows it as that. So it is for few of the values that this octet may have, where a leak shows most of them."""
+last arc of an attribute's type, the first octet of a NULL, a length at whose end a usual element begins. The report
+then shows it as that. So it is for few of the values that this octet may have, where a leak shows most of them."""
 import json
 from collections import Counter
 

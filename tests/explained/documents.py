@@ -9,7 +9,7 @@ from pathlib import Path
 
 from tests.harness.rows import rows_of
 from tests.oracle import reader
-from tests.oracle.reader import ACTIONS, DEPTH, KINDS, OCTETS
+from tests.oracle.reader import DEPTH, KINDS, OCTETS
 from tools.gate.looks import counted
 
 TOP = str(Path(__file__).resolve().parents[2])
@@ -54,7 +54,7 @@ def of_tables():
     for path in [*sorted(glob.glob(f"{TOP}/tests/pkder/*.tsv")), f"{TOP}/examples/answers.tsv"]:
         for number, row in rows_of(path):
             words = row.words.split()
-            if words and words[0] in ACTIONS and row.status < 3 and not row.device and not HELP & {*words}:
+            if reader.has_part_in(words) and row.status < 3 and not row.device and not HELP & {*words}:
                 asked = reader.command_line().parse_args(shlex.split(row.words))
                 name = f"{os.path.relpath(path, TOP)}:{number}: {row.rule}"
                 yield Document(name, asked.kind, row.input, asked.depth, asked.octets)

@@ -215,9 +215,10 @@ def try_kind(found, asked, kind, pairs):
     texts = iter(asked.texts(kind, [it.texts[at] for it, _ in likes + apart for at in (0, 1)]))
     accepted = []
     for pair, lines in likes:
-        if asked.is_accepted(lines[0]):
+        is_accepted = asked.is_accepted(lines[0])
+        if is_accepted:
             accepted.append(pair)
-        found.count["failed"] += not compare(found, asked, pair, [next(texts), next(texts)], asked.is_accepted(lines[0]))
+        found.count["failed"] += not compare(found, asked, pair, [next(texts), next(texts)], is_accepted)
     for pair, lines in apart:
         are_accepted = [*map(asked.is_accepted, lines)]
         found.count["failed"] += not look_through(found, asked, pair, [next(texts), next(texts)], are_accepted)

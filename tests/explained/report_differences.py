@@ -17,7 +17,7 @@ LOOKED_AT = 6
 # Octets of headers, which small numbers of a report may be, too.
 USUAL = {*TELLING, *range(16)}
 TOLD = re.compile(r"^(field|found|likely|do) +(.*(?:\n {8}.*)*)\n", re.M)
-LOOKS = ("looks_like", "likely", "do")
+LOOKS = ("looks_like", "likely", "do", "brief")
 TOLD_KEYS = ("field", "found", *LOOKS)
 # The classes of elements that a report tells.
 CLASSES = {"INTEGER", "BIT STRING", "OCTET STRING", "NULL", "OBJECT IDENTIFIER", "UTF8String", "SEQUENCE", "SET", "[0]",
@@ -89,7 +89,7 @@ def differences(one, other, is_accepted, is_looked_at):
         it for it in keys if is_told_on_purpose(it, told.get(it), other_told.get(it), is_looked_at)]
     if {"field", "found"} & {*allowed}:
         # (words on where the fault is, and on what stands there)
-        allowed += [it for it in ("likely", "do") if it in keys and it not in allowed]
+        allowed += [it for it in ("likely", "do", "brief") if it in keys and it not in allowed]
     wrong = [it for it in keys if it not in allowed]
     if "field" in allowed:
         rest, other_rest = without_depth(rest), without_depth(other_rest)
@@ -155,8 +155,9 @@ def runs_told_alone(text, other):
 
 
 def untold_forms(octets):
-    """The forms in which octets may be told and aren't seen to be."""
-    identifier = octets[:-1] + bytes([octets[-1] & 0x7F])
+    """The forms in which octets may be told and aren't seen to be; as arcs those of an object identifier, whose last
+    subidentifier ends, and of which none begins with 80 (X.690 8.19.2)."""
+    identifier = octets[:-1].replace(b"\x80", b"\x81") + bytes([octets[-1] & 0x7F])
     forms = {
         "hexadecimal": octets.hex(), "capitals": octets.hex().upper(), "spaces": octets.hex(" "),
         "colons": octets.hex(":"), "a number": str(int.from_bytes(octets, "big")), "octets": str([*octets])[1:-1],
@@ -164,7 +165,8 @@ def untold_forms(octets):
         "escapes": "".join(f"\\x{it:02x}" for it in octets), "characters": octets.decode("latin-1"),
         "escapes of JSON": "".join(f"\\u00{it:02x}" for it in octets), "arcs": arcs(Part(6, b"", identifier)),
     }
-    return [name for name, text in forms.items() if not runs_in(octets) & runs_told(f"value {text} of it")]
+    seen = {name: runs_in(identifier if name == "arcs" else octets) for name in forms}
+    return [name for name, text in forms.items() if not seen[name] & runs_told(f"value {text} of it")]
 
 
 def private_runs(octets, marks):

@@ -14,6 +14,7 @@ to stand there each, in small or capital letters:
   number     a key of the JSON, and its number
   without    keys that the JSON hasn't, nor that of `check`
   looks      what `looks_like` is in the JSON
+  brief      the sentences of `--brief`, whole, which the JSON of each document has as `brief`
   lists      the places of the lines that --all lists, each with its header in hexadecimal if that is told
   marked     the place of a line with carets under it
   asks       the lines of what a request asks for, in their order, without the blanks in front
@@ -34,6 +35,7 @@ TOLD = (*LABELS[1:], "note")
 LISTED = re.compile(r" *(\d+)  ((?:[0-9a-f]{2}(?: [0-9a-f]{2})*)?) +(\S.*)")
 LEFT_OUT = re.compile(r" +\.\.\. +\((\d+) lines? left out; --all has (?:them|it)\)")
 MOST = 100
+BAD_LINE = 4
 
 
 def blocks():
@@ -168,10 +170,22 @@ def wrong_in_object(block, found, report):
     for due in block.get("looks", []):
         if found.get("looks_like") != due:
             yield f"looks_like: {found.get('looks_like')!r}, and not {due!r}"
+    yield from wrong_in_brief(block, found)
     yield from wrong_keys(block, found)
     for label in LABELS[1:] if report.line.startswith("fault") else []:
         if found.get(label, "") != report.said.get(label, ""):
             yield f"{label}: {found.get(label)!r} in JSON, {report.said.get(label)!r} in the text"
+
+
+def wrong_in_brief(block, found):
+    """What is wrong with the sentences for whoever sent the document: three at most, in a line, and none has a path."""
+    brief, field = found.get("brief", ""), found.get("field", "")
+    sentences = re.split(r"\. (?=[A-Z])", brief)
+    if not re.fullmatch(r"[A-Z].*\.", brief) or len(sentences) > 3 or "." in field and field in brief:
+        yield f"brief: {brief!r}"
+    for due in block.get("brief", []):
+        if brief != due:
+            yield f"brief: {brief!r}, and not {due!r}"
 
 
 def wrong_keys(block, found):
@@ -192,7 +206,12 @@ def wrong(program, block):
     yield from wrong_in_words(block, report)
     yield from wrong_in_lines(block, report, whole)
     yield from wrong_in_asks(block, report, whole)
-    yield from wrong_in_object(block, objects_in(answer(program, [*words, "--json"], octets)[1]), report)
+    found = objects_in(answer(program, [*words, "--json"], octets)[1])
+    yield from wrong_in_object(block, found, report)
+    status, output, _ = answer(program, [*words, "--brief"], octets)
+    # (callers of the library have the JSON alone, and refuse the flag; tests/pkder/briefs.tsv is of the program alone)
+    if status != BAD_LINE and output.decode() != f"{found.get('brief')}\n":
+        yield f"--brief: {output}"
     output = answer(program, ["check", "--json", "--kind", kind], octets)[1]
     # (callers of the library have `check` without reports, and its rows are of the program alone)
     if output.startswith(b"{"):

@@ -70,6 +70,8 @@ TYPED = [
     ("pkder show --depth 3 --kind p", {"public", "package"}),
     ("pkder normalise --kind=e", {"ec", "encrypted"}),
     ("pkder signed --part ", {"info", "algorithm", "key", "signature"}),
+    ("pkder check --ref", {"--refuse"}),
+    ("pkder check --refuse ", {"must"}),
     ("pkder check --depth ", set()),
     ("pkder signed --q", set()),
 ]
@@ -80,7 +82,7 @@ class Option:
 
     def __init__(self, letter, name, value, about):
         self.letter, self.name, self.value, self.about = letter, name, value, short(about)
-        listed = re.search(r": (\w+(?:, \w+)* or \w+)", about)
+        listed = re.search(r": (\w+(?:, \w+)* or \w+|\w+$)", about)
         self.words = re.split(", | or ", listed[1]) if value and listed else []
         self.is_file = value == "FILE"
 

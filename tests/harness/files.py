@@ -34,6 +34,12 @@ FILES = {b"der": DER, b"ber": BER, b"cut": CUT, b"a name": DER, b"qu\"o'te": CUT
          b"latin\xff1": DER, "é".encode(): DER, b"back\\slash": BER, b"\x1b[31m": DER}
 TOLD = {b"qu\"o'te": '"qu\\"o\\\'te"', b"line\nfeed": '"line\\nfeed"', b"latin\xff1": '"latin\\xff1"',
         b"back\\slash": '"back\\\\slash"', b"\x1b[31m": '"\\u{1b}[31m"'}
+# a public key under id-ecPublicKey (RFC 5480) without a curve, the same with its length in two octets, and one in DER
+# with nothing to note
+CURVELESS = bytes.fromhex("3011300b06072a8648ce3d0201050003020004")
+CURVELESS_BER = b"\x30\x81" + CURVELESS[1:]
+SOUND = bytes.fromhex("302a300506032b6570032100") + b"\xaa" * 32
+NOTED = "note must no_named_curve algorithm.algorithm: id-ecPublicKey without a named curve (RFC 5480 section 2.1.1)\n"
 SAID = {DER: "DER", BER: "not DER at 1", CUT: "fault at 20: Truncated"}
 SHOWN = ("kind: key\nversion: 0\nalgorithm: 1.3.101.112\nparameters: none\nprivate key: curve, 32 octets\n"
          "attributes: absent\npublic key: absent\n")
@@ -53,9 +59,10 @@ def is_not_regular(name):
 
 
 def element(tag, *contents):
-    """An element of DER of fewer than 256 octets of contents."""
+    """An element of DER."""
     octets = b"".join(contents)
-    return bytes([tag, *([0x81] if len(octets) > 127 else []), len(octets)]) + octets
+    length = len(octets).to_bytes((len(octets).bit_length() + 7) // 8 or 1, "big")
+    return bytes([tag, *([] if len(octets) < 128 else [0x80 + len(length)]), *length]) + octets
 
 
 def spellings():
@@ -180,6 +187,47 @@ def listed(at):
 def members(text, *names):
     """These members of the objects of JSON, each on a line."""
     return [{it: found[it] for it in names if it in found} for found in map(json.loads, text.splitlines())]
+
+
+def named_often(count):
+    """A request whose subjectAltName (RFC 5280 section 4.2.1.6) has one DNS name so many times."""
+    names = element(0x30, element(0x82, b"a.example") * count)
+    extension = element(0x30, element(0x30, bytes.fromhex("0603551d11"), element(0x04, names)))
+    asked = element(0xA0, element(0x30, bytes.fromhex("06092a864886f70d01090e"), element(0x31, extension)))
+    curve = bytes.fromhex("300506032b6570")
+    return element(0x30, element(0x30, bytes.fromhex("0201003000"), SOUND, asked), curve, element(0x03, bytes(65)))
+
+
+def noted(at):
+    """Runs of check with notes: each line has the name in front, and a note that is refused is a status of its own."""
+    for name, octets in ((b"noted", CURVELESS), (b"two\nlines", CURVELESS_BER), (b"sound", SOUND)):
+        at.write(name, octets)
+    check = ("check", "-k", "public")
+    lines = f"noted: DER\nnoted: {NOTED}" + "".join(f'"two\\nlines": {it}' for it in ("not DER at 1\n", NOTED))
+    yield "check --notes", (1, f"{lines}sound: DER\n", ""), at.run(*check, "--notes", "noted", "two\nlines", "sound")
+    yield ("check --refuse must, of several the largest status", (5, f"{lines}cut: fault at 2: WrongTag\n", ""),
+           at.run(*check, "--refuse", "must", "noted", "two\nlines", "cut"))
+    yield ("check --refuse must, nothing is refused", (3, "sound: DER\nmissing: no such file\n", ""),
+           at.run(*check, "--refuse", "must", "sound", "missing"))
+    yield ("check --notes, without what is in DER", (1, lines.replace("noted: DER\n", ""), ""),
+           at.run(*check, "--notes", "--quiet", "noted", "sound", "two\nlines"))
+    yield ("check --refuse must, standard input between files", (5, f"sound: DER\nDER\n{NOTED}sound: DER\n", ""),
+           at.run(*check, "--refuse", "must", "sound", "-", "sound", given=CURVELESS))
+    for level, due in (("--notes", 1), ("--refuse=must", 5)):
+        status, text, error = at.run(*check, "--json", level, "--quiet", "noted", "sound", "two\nlines")
+        told = [(it["file"], it["status"], [note["what"] for note in it["notes"]])
+                for it in map(json.loads, text.splitlines())]
+        found = [("noted", 0, ["no_named_curve"]), ("two\nlines", 1, ["no_named_curve"])]
+        yield f"check --json {level}", (due, found, ""), (status, told, error)
+    for count, due in ((100, 0), (101, 5)):
+        at.write(b"often", named_often(count))
+        status, text, error = at.run("check", "-k", "request", "--refuse", "must", "often")
+        levels = {it.split()[2] for it in text.splitlines()[1:]}
+        yield (f"check --refuse must, {count - 1} notes that advise", (due, count, {"should"}, ""),
+               (status, len(text.splitlines()), levels, error))
+    status, text, error = at.run(*check, "--json", "--notes", "sound", "cut")
+    yield ("check --json --notes, no notes", (2, [{"file": "sound", "status": 0}, {"file": "cut", "status": 2}], ""),
+           (status, members(text, "file", "status", "notes"), error))
 
 
 def told_in_json(at):
@@ -343,7 +391,7 @@ def closed(at):
 
 def looks(program):
     """Each run of the program, and whether it is right."""
-    for runs in (judged, listed, told_in_json, paired, agreed, made, closed):
+    for runs in (judged, listed, noted, told_in_json, paired, agreed, made, closed):
         at = Folder(program)
         try:
             for what, due, found in runs(at):

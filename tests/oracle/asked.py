@@ -243,6 +243,7 @@ FIELD = re.compile(rf"""{INFO}subject(?P<relative>\[\d+\])?(?P<item>\[\d+\])?(?P
     |{INFO}subjectPKInfo\.algorithm\.(?P<named>algorithm|parameters)
     |signatureAlgorithm\.(?P<signature>algorithm|parameters)
     |{INFO}subjectPKInfo\.(?P<key>subjectPublicKey)(\{{\d+\}})*|{INFO}attributes\[\d+\]\.(?P<attribute>type)
+    |{INFO}attributes\[\d+\]\.(?P<first>values\[0\])
     |{INFO}attributes\[\d+\]\.values\[\d+\](?P<extension>\[\d+\])(\.(?P<of_extension>\w+)(?P<segment>(\{{\d+\}})*))?""",
                    re.X)
 
@@ -253,6 +254,8 @@ class Asked:
     def __init__(self, octets, depth, limit):
         self.octets, self.limits = octets, (depth, limit)
         self.subject, self.key, self.signature, self.others, self.attribute = [], Key(octets), {}, [], None
+        # (the first value of each other attribute)
+        self.values = {}
         walk = Walk(octets, REQUEST, depth, limit)
         while element := walk.next():
             if found := FIELD.fullmatch(element.path):
@@ -274,6 +277,8 @@ class Asked:
             self.attribute = self.contents(element)
             if self.attribute != EXTENSION_REQUEST:
                 self.others.append(value_words(identifier(self.attribute)))
+        elif found["first"] and self.attribute != EXTENSION_REQUEST:
+            self.values[len(self.others) - 1] = element
         elif found["extension"] and self.attribute == EXTENSION_REQUEST:
             self.take_extension(element, found["of_extension"], found["segment"])
 
@@ -320,9 +325,18 @@ class Asked:
         """The lines under `asks for`."""
         found = [f"  subject    {self.subject_words()}", f"  key        {self.key.words(self.limits)}",
                  f"  signature  {', '.join(self.signature.values())}, not verified"]
-        for it in self.others:
-            found += it.lines(self.limits) if isinstance(it, Extension) else [f"  {it}, not shown"]
+        for number, it in enumerate(self.others):
+            if isinstance(it, Extension):
+                found += it.lines(self.limits)
+            else:
+                found.append(f"  {it}{self.size_words(number)}, not shown")
         return "".join(f"{it}\n" for it in found)
+
+    def size_words(self, number):
+        """How many octets the first value of an attribute has."""
+        value = self.values[number]
+        # (two octets end contents of indefinite length)
+        return f", {sized(value.end - value.begin - (2 if value.length is None else 0))}"
 
     # In JSON
 

@@ -8,13 +8,15 @@ names."""
 import re
 
 from tests.oracle.asked_words import first_octets, identifier, number_of, sized, value_words
-from tests.oracle.document_types import IDENTIFIER, INTEGER, TYPES, Walk
+from tests.oracle.document_types import IDENTIFIER, INSIDE, INTEGER, TYPES, Walk
 from tests.oracle.public_keys import carried_key, numbers_of
+from tests.oracle.reader import RSA_ENCRYPTION
 
 ENUMERATED = 0, 10
 NO_VALUE = {"not_der": "not in DER", "refused": "not of its type"}
 # The fields of a key and of one that is private, and the segments of a string.
 KEY_FIELD = re.compile(r"(?:privateKeyAlgorithm|algorithm)\.(algorithm|parameters)|(subjectPublicKey)(?:\{\d+\})*")
+PRIVATE_KEY = re.compile(r"privateKey(?:\{\d+\})*")
 SCHEME = "encryptionAlgorithm."
 
 
@@ -36,6 +38,8 @@ class Key:
 
     def __init__(self, octets):
         self.octets, self.names, self.algorithm, self.pieces, self.is_in_segments = octets, {}, b"", None, False
+        # (the octets of privateKey)
+        self.private = b""
 
     def take(self, field, element):
         """Takes an element of the fields algorithm, parameters and subjectPublicKey, or a segment of this."""
@@ -61,8 +65,23 @@ class Key:
             yield "constructed" if self.is_in_segments else sized(len(self.pieces[0]) - 1)
             yield from [NO_VALUE[found["verdict"]]] if found else []
 
+    def size(self, limits):
+        """How many bits the modulus of a private key of RSA has, and the exponent, or None where that isn't short."""
+        found = {}
+        if self.private and self.algorithm == RSA_ENCRYPTION:
+            walk = Walk(self.private, INSIDE[self.algorithm], *limits)
+            while element := walk.next():
+                found[element.path] = self.private[element.begin : element.end]
+        number = int.from_bytes(found.get("modulus", b"\xff"), "big", signed=True)
+        return None if number < 0 else (number.bit_length(), number_of(found["publicExponent"]))
+
+    def size_words(self, limits):
+        bits, exponent = self.size(limits) or (None, None)
+        yield from [] if bits is None else [f"{bits} bits"]
+        yield from [] if exponent is None else [f"exponent {exponent}"]
+
     def words(self, limits):
-        return ", ".join(self.parts(limits))
+        return ", ".join([*self.parts(limits), *self.size_words(limits)])
 
     def object(self, limits):
         """Its object in JSON."""
@@ -73,7 +92,9 @@ class Key:
         if found and found["verdict"] == "der":
             modulus, exponent = numbers_of(self.pieces)
             members |= modulus_members(modulus) | {"exponent": exponent_words(exponent)}
-        return members
+        bits, exponent = self.size(limits) or (None, None)
+        members |= {} if bits is None else {"bits": bits}
+        return members | ({} if exponent is None else {"exponent": str(exponent)})
 
 
 def modulus_members(contents):
@@ -106,6 +127,8 @@ class Held:
                 self.scheme += [] if number is None else [("numbers", str(number))]
         elif found := KEY_FIELD.fullmatch(element.path):
             self.key.take(found[1] or found[2], element)
+        elif PRIVATE_KEY.fullmatch(element.path):
+            self.key.private += contents
 
     def text(self):
         """The line under `holds`."""

@@ -1,6 +1,7 @@
 """Public keys of RSA that are sound as public keys, and whose BIT STRINGs carry anything: an RSAPublicKey in DER and in
 any layout that BER allows, one with a rule broken or with damage, other octets, and bits that are no octets."""
 from tests.oracle.made_documents import BIT_STRING, INTEGER, RSA_ENCRYPTION, SEQUENCE, Maker, Node
+from tests.oracle.public_keys import RSASSA_PSS
 
 # How probable departures from the layout of DER, mistakes in values and mistakes in the layout are.
 SOUND = (0, 0, 0)
@@ -45,4 +46,5 @@ class PublicKeyMaker(Maker):
         octets = self.octets_of_rsa()
         unused = self.random.randint(1, 7) if octets and self.random.random() < 0.06 else 0
         parameters = self.one_of([self.null()], [self.null()], [], [self.any()])
-        return Node(SEQUENCE, [self.algorithm(RSA_ENCRYPTION, *parameters), Node(BIT_STRING, octets, True, unused)])
+        algorithm = self.random.choice([RSA_ENCRYPTION, RSA_ENCRYPTION, RSASSA_PSS.hex()])
+        return Node(SEQUENCE, [self.algorithm(algorithm, *parameters), Node(BIT_STRING, octets, True, unused)])

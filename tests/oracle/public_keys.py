@@ -1,16 +1,17 @@
 """What `subjectPublicKey` of a public key carries, under the algorithms whose keys are values of ASN.1: a value of the
 key's type, in DER or in another encoding, or none, and by which fault.
 
-It is written from RFC 8017 appendix A.1.1, RFC 3279 section 2.3.1 and X.690 section 8.6 alone; elements are read by
-tests/oracle/reader.py, by the types of tests/oracle/extensions.py. Nothing is shared with the definitions and the code
-of pkder."""
+It is written from RFC 8017 appendix A.1.1, RFC 3279 section 2.3.1, RFC 4055 section 1.2 and X.690 section 8.6 alone;
+elements are read by tests/oracle/reader.py, by the types of tests/oracle/extensions.py. Nothing is shared with the
+definitions and the code of pkder."""
 from tests.oracle.extensions import NUMBER, judged, of
 from tests.oracle.parts import parts
 from tests.oracle.reader import DEPTH, OCTETS, RSA_ENCRYPTION
 
 # modulus, publicExponent
 RSA_PUBLIC_KEY = of(NUMBER, NUMBER)
-TYPES = {RSA_ENCRYPTION: RSA_PUBLIC_KEY}
+RSASSA_PSS = bytes.fromhex("2a864886f70d01010a")
+TYPES = {RSA_ENCRYPTION: RSA_PUBLIC_KEY, RSASSA_PSS: RSA_PUBLIC_KEY}
 
 
 def held(pieces):

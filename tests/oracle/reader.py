@@ -608,6 +608,11 @@ def answer(action, kind, octets, depth=DEPTH, limit=OCTETS, reading_fails=False,
     return 0, written[action](), ""
 
 
+def has_part_in(words):
+    """Whether the words are of a command that the reader has a part in, and ask for no notes."""
+    return bool(words) and words[0] in ACTIONS and not any(it.startswith(("--notes", "--refuse")) for it in words)
+
+
 def command_line():
     parser = argparse.ArgumentParser(description=__doc__, formatter_class=argparse.RawDescriptionHelpFormatter)
     parser.add_argument("action", choices=ACTIONS)

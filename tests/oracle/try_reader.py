@@ -2,14 +2,14 @@
 """try_reader.py TABLE.tsv..: what tests/oracle/reader.py answers to each row of the tables, compared with the row.
 
 tests/harness/rows.py tells what a row is. Rows of what the reader has no part in are left out: command lines that are
-refused, help, and actions that it hasn't. The last line is 'reader: N passed, M failed'."""
+refused, help, notes, and actions that it hasn't. The last line is 'reader: N passed, M failed'."""
 import sys
 from pathlib import Path
 
 sys.path[0] = str(Path(__file__).resolve().parents[2])
 from tests.harness.rows import rows_of
 from tests.oracle.questions import Question
-from tests.oracle.reader import ACTIONS
+from tests.oracle.reader import has_part_in
 from tools.gate.looks import counted
 
 REFUSED_LINE = 4
@@ -17,7 +17,7 @@ REFUSED_LINE = 4
 
 def is_answered(row):
     """Whether the row asks what the reader answers."""
-    return row.status != REFUSED_LINE and row.words.split()[0] in ACTIONS and row.output is not None
+    return row.status != REFUSED_LINE and has_part_in(row.words.split()) and row.output is not None
 
 
 def answer_to(row):
