@@ -28,7 +28,7 @@ ROWS = ["python3", "tests/harness/rows.py"]
 GROWTHS = ["python3", "tests/harness/growths.py"]
 TRANSCRIPTS = ["python3", "tests/harness/transcripts.py", "README.md", "docs/manual.md"]
 PAGES = ("about", "advice_words", "decisions", "identifier_names", "lists", "report_schema", "shape_names")
-EXPLAINED = ("answers", "asks", "extensions", "listing", "objects", "places", "reports")
+EXPLAINED = ("answers", "asks", "extensions", "listing", "noted", "noted_names", "objects", "places", "reports")
 ALLOCATIONS = ["sh", "tests/harness/allocations.sh"]
 # `rt ci` (every crate, a few edits by the toolchain's own means, each program's stored run), and the library
 PROOFS = ["python3", "tools/build.py", "--again"]
@@ -79,6 +79,7 @@ def allocating():
     yield "examples/p256.der", "same", "--kind", "key", "-", "examples/rfc8410-indefinite.der"
     yield "examples/p256.der", "same", "--key", "--kind", "key", "--kind", "ec", "-", "examples/p256-sec1.der"
     yield "examples/request-p256.der", "same", "--kind", "request", "--json", "-", "examples/request-rsa2048.der"
+    yield "tests/pkder/explained/note-no-curve.der", "check", "--kind", "public", "--refuse", "must"
 
 
 def parts(program=build.PROGRAM):

@@ -11,15 +11,16 @@ _pkder() {
             check:-k | check:--kind) words="key ec request public encrypted package" ;;
             check:--depth) words="" ;;
             check:--octets) words="" ;;
+            check:--refuse) words="must" ;;
             check:--places) words="" ;;
             check:--files0-from) files=yes ;;
-            check:*) words="--kind --depth --octets --quiet --json --places --files0-from --help" files=yes ;;
+            check:*) words="--kind --depth --octets --quiet --notes --refuse --json --places --files0-from --help" files=yes ;;
             explain:-k | explain:--kind) words="key ec request public encrypted package" ;;
             explain:--depth) words="" ;;
             explain:--octets) words="" ;;
             explain:--places) words="" ;;
             explain:--files0-from) files=yes ;;
-            explain:*) words="--kind --depth --octets --all --json --places --files0-from --help" files=yes ;;
+            explain:*) words="--kind --depth --octets --all --brief --json --places --files0-from --help" files=yes ;;
             show:-k | show:--kind) words="key ec request public encrypted package" ;;
             show:--depth) words="" ;;
             show:--octets) words="" ;;

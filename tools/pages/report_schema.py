@@ -143,6 +143,7 @@ SOUND = {
         "verdict": "refused", "at": 69, "reason": "Inner", "inside": {"at": 0, "reason": "PastEnd"}, "file_at": 69,
         "field": "certificationRequestInfo.subject[2][0].value", "due": "a string", "found": "16 octets", "missing": 1,
         "over": 1, "more": 1, "looks_like": "ec", "likely": "a damaged length", "do": "refuse it",
+        "brief": "It is damaged: send it again.",
         "not_der": [{"field": "signature{1}", "at": 4, "what": "long_length"}], "not_der_places": 1,
         "holds": {
             "key": {"algorithm": "rsaEncryption", "parameters": "P-256", "octets": 270,

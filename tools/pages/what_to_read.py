@@ -6,8 +6,8 @@ counts the lines of what it reaches, without comments, imports and empty lines: 
 With a CALL it lists the files, with their lines and the names that are reached; with --text it prints these definitions
 as one text, with their comments, those of a file after those of the files that it imports. How a report is worded comes
 after what is promised, and is counted apart: without it the promises stand as they are, and say less. It doesn't follow
-into std and clap, which are trusted, into the plain reading, which laws tie to the rest, nor into src/: types that are declared
-there, and what a type stands for (`ghost value`).
+into std and clap, which are trusted, into the plain reading, which laws tie to the rest, nor into src/: types that are
+declared there, and what a type stands for (`ghost value`).
 
 --check compares the table with the one in docs/definitions.md and ends in 'definitions: N passed, M failed', a line of
 the table counting once; --write puts it there."""
@@ -179,7 +179,7 @@ def joined(all_modules):
 
 
 def table():
-    """The lines of the table: a call's files and lines, and those with how reports are worded; of all calls together."""
+    """The lines of the table: a call's files and lines, and those with how reports are worded; and of all together."""
     calls = {f"`{name}`": (promised(name, file), reached(name, file)) for name, file in CALLS.items()}
     calls["all of these"] = [joined(it) for it in zip(*calls.values())]
     return [HEAD, "|---|---|---|---|", *(
