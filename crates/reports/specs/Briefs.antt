@@ -5,6 +5,7 @@ use Rattle.tlv_core.specs.declared.fault.Fault.{Fault}
 use Rattle.tlv_core.specs.declared.reason.Reason.{Reason}
 use Rattle.tlv_core.specs.declared.reason.Reason.TheVariants as reasons
 use Rattle.reports.specs.Guesses.{certificate_labels, is_among, is_request, private_labels, public_labels, unread_labels}
+use Rattle.reports.specs.Afters.{line_end}
 use Rattle.reports.specs.Hints.{is_lines}
 use Rattle.reports.specs.Notes.{has_must}
 use Rattle.reports.specs.Texts.{line_feed}
@@ -188,7 +189,7 @@ line_or line harm = cond (length line == 0) harm line
 
 abbrev pub line_brief : Report → Fault → List ℕ
 line_brief report fault =
-    line_or (lines_brief report.kind.word.now report.octets report.announced)
+    line_or (lines_brief report.kind.word.now report.octets (line_end report))
     (harm_said report.kind.word.now (harm_of report.kind.word.now fault (is_short report.octets report.announced)))
 
 -- ---- what is refused, and looks like something else

@@ -4,11 +4,12 @@ use Rattle.std.specs.Option.{option_map}
 use Rattle.std.specs.Str.{bytes_eq}
 use Rattle.tlv_core.specs.declared.fault.Fault.{Fault}
 use Rattle.tlv_core.specs.declared.reason.Reason.{Reason}
+use Rattle.reports.specs.Afters.{line_end}
 use Rattle.reports.specs.Guesses.{guess_act, guess_said}
 use Rattle.reports.specs.PlacedAdvice.{fault_act, fault_likely}
 use Rattle.pkix_shapes.specs.declared.identifiers.Identifier.{Identifier}
 use Rattle.reports.specs.Remarks.{algorithm_remark_said, attribute_remark_said, extension_remark_said, key_remark_said}
-use Rattle.reports.specs.Remarks.{name_remark_said}
+use Rattle.reports.specs.Remarks.{name_remark_said, tls_remark_said}
 use Rattle.reports.specs.Seen.{seen_of}
 use Rattle.reports.specs.Words.{place_said, sized}
 use Rattle.reports.specs.declared.report.Answer.{Answer}
@@ -42,7 +43,7 @@ likely_by guess line reason = guess_said guess
 
 unfoldable pub reason_likely : Report → Fault → List ℕ
 reason_likely report fault =
-    likely_by report.guess (line_said report.octets report.announced)
+    likely_by report.guess (line_said report.octets (line_end report))
     (fault_likely report.kind.word.now (seen_of report fault) fault)
 
 abbrev pub likely_of : Report → Answer → List ℕ
@@ -144,3 +145,4 @@ remark_said (remarks.Name remark) = name_remark_said remark
 remark_said (remarks.Extension remark) = extension_remark_said remark
 remark_said (remarks.Algorithm remark) = algorithm_remark_said remark
 remark_said (remarks.Attribute remark) = attribute_remark_said remark
+remark_said (remarks.Tls remark) = tls_remark_said remark

@@ -26,6 +26,8 @@ use Rattle.reports.specs.declared.report.NameRemark.TheVariants as names
 use Rattle.reports.specs.declared.report.Note.{Note}
 use Rattle.reports.specs.declared.report.Remark.{Remark}
 use Rattle.reports.specs.declared.report.Remark.TheVariants as remarks
+use Rattle.reports.specs.declared.report.TlsRemark.{TlsRemark}
+use Rattle.reports.specs.declared.report.TlsRemark.TheVariants as tls
 use Rattle.reports.specs.declared.report.Report.{Report}
 use Rattle.reports.specs.declared.report.Value.{Value}
 use Rattle.reports.specs.declared.report.Value.TheVariants as values
@@ -193,6 +195,18 @@ attribute_remark_members (attributes.Long characters most) =
     number_member (codes "characters") characters ++ number_member (codes "most_characters") most
 attribute_remark_members attributes.Blank = []
 
+-- and one on what a TLS server may not have
+unfoldable pub tls_remark_members : TlsRemark → List Token
+tls_remark_members (tls.ModulusBits bits) = number_member (codes "bits") bits
+tls_remark_members tls.Exponent = []
+tls_remark_members tls.Curve = []
+tls_remark_members tls.KeyAlgorithm = []
+tls_remark_members tls.CommonName = []
+tls_remark_members tls.InternalName = []
+tls_remark_members tls.ReservedAddress = []
+tls_remark_members tls.AnyUsage = []
+tls_remark_members tls.NamesNotCritical = []
+
 -- the numbers that a remark has
 unfoldable pub remark_members : Remark → List Token
 remark_members (remarks.PointSize octets) = number_member (codes "octets") octets
@@ -214,6 +228,7 @@ remark_members (remarks.Name remark) = name_remark_members remark
 remark_members (remarks.Extension remark) = []
 remark_members (remarks.Algorithm remark) = []
 remark_members (remarks.Attribute remark) = attribute_remark_members remark
+remark_members (remarks.Tls remark) = tls_remark_members remark
 
 -- its code and its level
 abbrev pub remark_words : Remark → List Token

@@ -1,4 +1,5 @@
 pub mod Advice
+pub mod Afters
 pub mod Asks
 pub mod Briefs
 pub mod Field

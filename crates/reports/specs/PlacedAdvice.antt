@@ -5,6 +5,7 @@ use Rattle.tlv_core.specs.declared.fault.Fault.{Fault}
 use Rattle.tlv_core.specs.declared.reason.Reason.{Reason}
 use Rattle.tlv_core.specs.declared.reason.Reason.TheVariants.{BadEnd, BadInteger, KeyLength, Parameters, PastEnd, Trailing, Truncated, Version, VersionRule, WrongTag}
 use Rattle.reports.specs.Advice.{advice_of}
+use Rattle.reports.specs.Afters.{after_said}
 use Rattle.reports.specs.Guesses.{is_request}
 use Rattle.reports.specs.declared.seen.Seen.{Seen}
 use Rattle.reports.specs.declared.seen.Seen.TheVariants as seen
@@ -16,7 +17,7 @@ is_ec kind = bytes_eq kind (codes "ec")
 abbrev pub is_key : List ℕ → Bool
 is_key kind = bytes_eq kind (codes "key")
 
--- by what is shown of the fault
+-- by what is shown of the fault, but for the octets after a document
 abbrev pub seen_likely : Seen → List ℕ
 seen_likely seen.Nothing = []
 seen_likely seen.NullParameters = codes "NULL beside an algorithm that has no parameters"
@@ -28,8 +29,7 @@ seen_likely seen.InSegments =
 seen_likely (seen.KeyInSegments begin) =
     codes "it is marked as a string in segments, and holds something else: a fault of its writer"
 seen_likely seen.NoSet = codes "a value without the SET around it: a fault of its writer"
-seen_likely seen.Few = codes "a line feed of an editor, padding"
-seen_likely seen.More = codes "two files in one, padding"
+seen_likely (seen.After after) = []
 
 -- an element of another type by its place in the file
 abbrev pub wrong_tag_likely : ℕ → List ℕ
@@ -77,6 +77,7 @@ place_likely kind fault = likely_by_place kind fault.at fault.why fault.inside
 -- where a document of this kind was wanted: by what is shown of the fault, else by its place
 abbrev pub fault_likely : List ℕ → Seen → Fault → List ℕ
 fault_likely kind seen.Nothing fault = place_likely kind fault
+fault_likely kind (seen.After after) fault = after_said after
 fault_likely kind what fault = seen_likely what
 
 -- with other parameters than NULL beside an algorithm that has none, and with NULL
@@ -192,7 +193,6 @@ place_act kind fault = act_by_place kind fault.at fault.why fault.inside
 -- where a document of this kind was wanted: by what is shown of the fault, else by its place
 abbrev pub fault_act : List ℕ → Seen → Fault → List ℕ
 fault_act kind seen.Nothing fault = place_act kind fault
-fault_act kind seen.Few fault = place_act kind fault
-fault_act kind seen.More fault = place_act kind fault
+fault_act kind (seen.After after) fault = place_act kind fault
 fault_act kind (seen.KeyInSegments begin) fault = held_act begin
 fault_act kind what fault = seen_act kind what

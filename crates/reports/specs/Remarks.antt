@@ -13,6 +13,8 @@ use Rattle.reports.specs.declared.report.NameRemark.{NameRemark}
 use Rattle.reports.specs.declared.report.NameRemark.TheVariants as names
 use Rattle.reports.specs.declared.report.Remark.{Remark}
 use Rattle.reports.specs.declared.report.Remark.TheVariants as remarks
+use Rattle.reports.specs.declared.report.TlsRemark.{TlsRemark}
+use Rattle.reports.specs.declared.report.TlsRemark.TheVariants as tls
 
 abbrev pub key_code : KeyRemark → List ℕ
 key_code keys.NotDer = codes "key_inside"
@@ -55,6 +57,17 @@ algorithm_code algorithms.OldDigest = codes "md5"
 algorithm_code algorithms.NoNull = codes "rsa_no_null"
 algorithm_code algorithms.AnotherKey = codes "algorithm_of_another_key"
 
+abbrev pub tls_code : TlsRemark → List ℕ
+tls_code (tls.ModulusBits bits) = codes "rsa_size"
+tls_code tls.Exponent = codes "rsa_exponent"
+tls_code tls.Curve = codes "curve"
+tls_code tls.KeyAlgorithm = codes "key_algorithm"
+tls_code tls.CommonName = codes "cn_not_in_san"
+tls_code tls.InternalName = codes "san_internal"
+tls_code tls.ReservedAddress = codes "san_internal"
+tls_code tls.AnyUsage = codes "eku_any"
+tls_code tls.NamesNotCritical = codes "san_not_critical"
+
 -- what a program knows a remark by
 abbrev pub remark_code : Remark → List ℕ
 remark_code (remarks.PointSize octets) = codes "point_size"
@@ -73,6 +86,7 @@ remark_code (remarks.Name remark) = name_code remark
 remark_code (remarks.Extension remark) = extension_code remark
 remark_code (remarks.Algorithm remark) = algorithm_code remark
 remark_code (remarks.Attribute remark) = attribute_code remark
+remark_code (remarks.Tls remark) = tls_code remark
 
 -- NIST SP 800-131A advises on lengths of keys.
 abbrev pub key_level : KeyRemark → List ℕ
@@ -122,6 +136,18 @@ algorithm_level algorithms.OldDigest = codes "should"
 algorithm_level algorithms.NoNull = codes "must"
 algorithm_level algorithms.AnotherKey = codes "must"
 
+-- Of exponents the Baseline Requirements demand an odd one from 3 on, and advise on larger ones (section 6.1.6).
+abbrev pub tls_level : TlsRemark → List ℕ
+tls_level (tls.ModulusBits bits) = codes "must"
+tls_level tls.Exponent = codes "should"
+tls_level tls.Curve = codes "must"
+tls_level tls.KeyAlgorithm = codes "must"
+tls_level tls.CommonName = codes "must"
+tls_level tls.InternalName = codes "must"
+tls_level tls.ReservedAddress = codes "must"
+tls_level tls.AnyUsage = codes "must"
+tls_level tls.NamesNotCritical = codes "must"
+
 -- whether the standard says MUST, or advises
 abbrev pub remark_level : Remark → List ℕ
 remark_level (remarks.PointSize octets) = codes "must"
@@ -140,6 +166,7 @@ remark_level (remarks.Name remark) = name_level remark
 remark_level (remarks.Extension remark) = extension_level remark
 remark_level (remarks.Algorithm remark) = algorithm_level remark
 remark_level (remarks.Attribute remark) = attribute_level remark
+remark_level (remarks.Tls remark) = tls_level remark
 
 -- what is said of a key
 unfoldable pub key_remark_said : KeyRemark → List ℕ
@@ -227,3 +254,39 @@ algorithm_remark_said algorithms.NoNull =
     codes "rsaEncryption without NULL as its parameters (RFC 8017 appendix A.1, RFC 3279 section 2.3.1)"
 algorithm_remark_said algorithms.AnotherKey =
     codes "a signature that the key in the request can't make (RFC 2986 section 3)"
+
+-- what is said for TLS servers, up to the numbers that it has
+unfoldable pub tls_words : TlsRemark → List ℕ
+tls_words (tls.ModulusBits bits) = codes "a modulus of "
+tls_words tls.Exponent =
+    codes "a public exponent that isn't from 65537 up to 2^256 - 1 (Baseline Requirements section 6.1.6)"
+tls_words tls.Curve = codes "a curve that isn't P-256, P-384 or P-521 (Baseline Requirements section 6.1.5)"
+tls_words tls.KeyAlgorithm =
+    codes "a key that is neither rsaEncryption nor id-ecPublicKey (Baseline Requirements section 7.1.3.1)"
+tls_words tls.CommonName =
+    codes "a commonName that isn't one of the names in subjectAltName (Baseline Requirements section 7.1.4.3)"
+tls_words tls.InternalName =
+    codes "a DNS name of one label, or under one that isn't in the public DNS "
+    ++ codes "(Baseline Requirements section 7.1.2.7.12)"
+tls_words tls.ReservedAddress =
+    codes "an IP address that isn't one of the Internet's (Baseline Requirements section 7.1.2.7.12)"
+tls_words tls.AnyUsage = codes "the usage anyExtendedKeyUsage (Baseline Requirements section 7.1.2.7.10)"
+tls_words tls.NamesNotCritical =
+    codes "a subjectAltName that isn't critical beside an empty subject (RFC 5280 section 4.2.1.6)"
+
+unfoldable pub tls_numbers : TlsRemark → List ℕ
+tls_numbers (tls.ModulusBits bits) =
+    decimal bits
+    ++ codes " bits, where 2048 at least are due and 8 divide them (Baseline Requirements section 6.1.5)"
+tls_numbers tls.Exponent = []
+tls_numbers tls.Curve = []
+tls_numbers tls.KeyAlgorithm = []
+tls_numbers tls.CommonName = []
+tls_numbers tls.InternalName = []
+tls_numbers tls.ReservedAddress = []
+tls_numbers tls.AnyUsage = []
+tls_numbers tls.NamesNotCritical = []
+
+-- what is said of what the certificate of a TLS server may not have
+unfoldable pub tls_remark_said : TlsRemark → List ℕ
+tls_remark_said remark = tls_words remark ++ tls_numbers remark

@@ -6,6 +6,8 @@ use Rattle.tlv_core.specs.declared.fault.Fault.{Fault}
 use Rattle.tlv_core.specs.declared.reason.Reason.{Reason}
 use Rattle.tlv_core.specs.declared.reason.Reason.TheVariants as reasons
 use Rattle.reports.specs.Asks.{from_field, is_step}
+use Rattle.reports.specs.declared.report.After.{After}
+use Rattle.reports.specs.declared.report.After.TheVariants as afters
 use Rattle.reports.specs.declared.report.Diagnosis.{Diagnosis}
 use Rattle.reports.specs.declared.report.Found.{Found}
 use Rattle.reports.specs.declared.report.Line.{Line}
@@ -119,17 +121,17 @@ wrong_tag kind at lines diagnosis =
     cond (is_written_out kind diagnosis) seen.WrittenOut
     (cond (is_bare_value diagnosis) seen.NoSet (in_key kind at lines diagnosis))
 
--- so many octets after the document
-abbrev pub after_document : Option ℕ → Seen
-after_document None = seen.Nothing
-after_document (Some more) = cond (nat_lt more 3) seen.Few seen.More
+-- what the octets after the document are
+abbrev pub after_document : After → Seen
+after_document afters.Unsaid = seen.Nothing
+after_document after = seen.After after
 
 -- what a report shows of the cause of a fault in the file, by its reason
 abbrev pub by_reason : Report → ℕ → Reason → Diagnosis → Seen
 by_reason report at reasons.Parameters diagnosis = parameters_at report.lines.items diagnosis.line
 by_reason report at reasons.WrongTag diagnosis =
     wrong_tag report.kind.word.now at report.lines.items diagnosis
-by_reason report at reasons.Trailing diagnosis = after_document diagnosis.more
+by_reason report at reasons.Trailing diagnosis = after_document report.after
 by_reason report at why diagnosis = seen.Nothing
 
 abbrev pub diagnosed : Report → Fault → Option Diagnosis → Seen

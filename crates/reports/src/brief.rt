@@ -9,6 +9,7 @@ ghost use Rattle.reports.specs.Briefs.{lost_words, notes_words, once_more, pem_f
 ghost use Rattle.reports.specs.Briefs.{refused_brief, request_act, sent_end, sent_words, sound_words, thing_labelled};
 ghost use Rattle.reports.specs.Briefs.{thing_of, thing_of_kind, thing_words, way_words, wrong_tag_harm};
 
+use crate::afters::line_end;
 use crate::guesses::{CERTIFICATE_LABELS, PRIVATE_LABELS, PUBLIC_LABELS, UNREAD_LABELS, is_among};
 use crate::hints::is_lines;
 use crate::notes::has_must;
@@ -173,7 +174,7 @@ fn push_fault(text: &mut String, report: &Report, fault: Fault) -> Result<(), Al
         ++ line_brief report.now fault) }
 {
     let kind = report.kind.word;
-    let line = lines_brief(kind, report.octets, report.announced);
+    let line = lines_brief(kind, report.octets, line_end(report));
     if line.is_empty() {
         let is_short = is_short(report.octets, report.announced);
         push_harm(text, kind, harm_of(kind, fault, is_short))

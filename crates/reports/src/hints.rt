@@ -6,11 +6,12 @@ ghost use Rattle.reports.specs.Hints.{reason_act, reason_likely, remark_said, si
 ghost use Rattle.reports.specs.Hints.{due_size_said, not_der_value_said, point_size_said, refused_value_said};
 ghost use Rattle.reports.specs.Hints.{several_values_said, zero_bits_said};
 
+use crate::afters::line_end;
 use crate::guesses::{push_guess, push_guess_act};
 use crate::placed_advice::{push_fault_act, push_fault_likely};
 use crate::remarks::{
     algorithm_remark_words, extension_remark_words, push_attribute_remark, push_key_remark,
-    push_name_remark,
+    push_name_remark, push_tls_remark,
 };
 use crate::report::{Answer, Cause, Guess, Remark, Report};
 use crate::seen::seen_of;
@@ -40,7 +41,7 @@ fn push_likely(text: &mut String, report: &Report, fault: Fault) -> Result<(), A
 {
     match report.guess {
         Guess::Unknown => {
-            let line = line_words(report.octets, report.announced);
+            let line = line_words(report.octets, line_end(report));
             if line.is_empty() {
                 push_fault_likely(text, report.kind.word, seen_of(report, fault), fault)
             } else {
@@ -177,6 +178,7 @@ fn push_remark(text: &mut String, remark: Remark) -> Result<(), AllocError>
         Remark::Extension(remark) => text.push_str(extension_remark_words(remark)),
         Remark::Algorithm(remark) => text.push_str(algorithm_remark_words(remark)),
         Remark::Attribute(remark) => push_attribute_remark(text, remark),
+        Remark::Tls(remark) => push_tls_remark(text, remark),
     }
 }
 

@@ -7,6 +7,7 @@ ghost use Rattle.reports.specs.JsonLists.{is_nothing, length_members, line_membe
 ghost use Rattle.reports.specs.JsonLists.{marked_object, not_der_members, note_members, note_object, octets_members};
 ghost use Rattle.reports.specs.JsonLists.{path_of, place_members};
 ghost use Rattle.reports.specs.JsonLists.{attribute_remark_members, key_remark_members, name_remark_members};
+ghost use Rattle.reports.specs.JsonLists.{tls_remark_members};
 ghost use Rattle.reports.specs.JsonLists.{remark_words};
 ghost use Rattle.reports.specs.JsonLists.{remark_members, some_members, tag_member, tag_members, value_member};
 ghost use Rattle.reports.specs.JsonLists.{value_members};
@@ -22,7 +23,8 @@ use crate::paths::{push_path, push_root, push_step};
 use crate::picks::{is_place_alone, line_of, path_to_line, up_to};
 use crate::remarks::{code_of, level_of};
 use crate::report::{
-    AttributeRemark, Cause, KeyRemark, Length, Line, NameRemark, Note, Remark, Report, Value,
+    AttributeRemark, Cause, KeyRemark, Length, Line, NameRemark, Note, Remark, Report, TlsRemark,
+    Value,
 };
 use asn_names::element::Step;
 use asn_names::judgement::Judgement;
@@ -199,6 +201,7 @@ fn push_remark(json: &mut JsonText, remark: Remark) -> Result<(), AllocError>
         Remark::Key(remark) => push_key_remark(json, remark),
         Remark::Name(remark) => push_name_remark(json, remark),
         Remark::Attribute(remark) => push_attribute_remark(json, remark),
+        Remark::Tls(remark) => push_tls_remark(json, remark),
     }
 }
 
@@ -246,6 +249,23 @@ fn push_attribute_remark(json: &mut JsonText, remark: AttributeRemark) -> Result
         | AttributeRemark::EmailType
         | AttributeRemark::OtherType
         | AttributeRemark::Blank => Ok(()),
+    }
+}
+
+#[tactic(auto, unfolding(crate::specs::JsonLists::tls_remark_members))]
+fn push_tls_remark(json: &mut JsonText, remark: TlsRemark) -> Result<(), AllocError>
+    ensures { OnOk result (json.new ≡ json.old ++ tls_remark_members remark) }
+{
+    match remark {
+        TlsRemark::ModulusBits(bits) => json.number("bits", bits),
+        TlsRemark::Exponent
+        | TlsRemark::Curve
+        | TlsRemark::KeyAlgorithm
+        | TlsRemark::CommonName
+        | TlsRemark::InternalName
+        | TlsRemark::ReservedAddress
+        | TlsRemark::AnyUsage
+        | TlsRemark::NamesNotCritical => Ok(()),
     }
 }
 

@@ -13,6 +13,7 @@ ghost use Rattle.std.specs.Prelude.{◌≡◌, IfOk, string_bytes};
 ghost use Rattle.reports.specs.Reports.{report_lines};
 
 mod advice;
+mod afters;
 mod asks;
 pub mod brief;
 pub mod field;

@@ -8,6 +8,7 @@ ghost use Rattle.reports.specs.PlacedAdvice.{version_likely, version_rule_act, w
 ghost use Rattle.reports.specs.PlacedAdvice.{wrong_tag_likely};
 
 use crate::advice::advice_on;
+use crate::afters::push_after;
 use crate::seen::Seen;
 use crate::text::{push_between, push_sum};
 use std::alloc::AllocError;
@@ -26,11 +27,12 @@ pub(crate) fn push_fault_likely(
 {
     match seen {
         Seen::Nothing => push_place_likely(text, kind, fault),
+        Seen::After(after) => push_after(text, after),
         _ => text.push_str(seen_likely(seen)),
     }
 }
 
-/// By what is shown.
+/// By what is shown, but for the octets after a document.
 fn seen_likely(seen: Seen) -> &'static str
     ensures { result.now ≡ seen_likely seen }
 {
@@ -43,8 +45,7 @@ fn seen_likely(seen: Seen) -> &'static str
         Seen::InSegments | Seen::KeyInSegments(_) =>
             "it is marked as a string in segments, and holds something else: a fault of its writer",
         Seen::NoSet => "a value without the SET around it: a fault of its writer",
-        Seen::Few => "a line feed of an editor, padding",
-        Seen::More => "two files in one, padding",
+        Seen::After(_) => "",
     }
 }
 
@@ -140,7 +141,7 @@ pub(crate) fn push_fault_act(
         ++ fault_act kind.now seen fault) }
 {
     match seen {
-        Seen::Nothing | Seen::Few | Seen::More => push_place_act(text, kind, fault),
+        Seen::Nothing | Seen::After(_) => push_place_act(text, kind, fault),
         Seen::KeyInSegments(begin) => push_held_act(text, begin),
         _ => text.push_str(seen_act(kind, seen)),
     }

@@ -1,14 +1,15 @@
-//! Remarks by their codes and levels, which text and JSON have, and in words those on keys, names, extensions and
-//! algorithms.
+//! Remarks by their codes and levels, which text and JSON have, and in words those on keys, names, extensions,
+//! algorithms and what TLS servers may not have.
 ghost use Rattle.std.specs.Prelude.{◌≡◌, ◌++◌, OnOk, string_bytes};
 ghost use Rattle.reports.specs.Remarks.{algorithm_code, algorithm_level, algorithm_remark_said, attribute_code};
 ghost use Rattle.reports.specs.Remarks.{attribute_level, attribute_numbers, attribute_remark_said, attribute_words};
 ghost use Rattle.reports.specs.Remarks.{extension_code, extension_level, extension_remark_said, key_code, key_level};
 ghost use Rattle.reports.specs.Remarks.{key_remark_said, name_code, name_level, name_numbers, name_words};
-ghost use Rattle.reports.specs.Remarks.{name_remark_said, remark_code, remark_level};
+ghost use Rattle.reports.specs.Remarks.{name_remark_said, remark_code, remark_level, tls_code, tls_level, tls_numbers};
+ghost use Rattle.reports.specs.Remarks.{tls_remark_said, tls_words};
 
 use crate::report::{
-    AlgorithmRemark, AttributeRemark, ExtensionRemark, KeyRemark, NameRemark, Remark,
+    AlgorithmRemark, AttributeRemark, ExtensionRemark, KeyRemark, NameRemark, Remark, TlsRemark,
 };
 use crate::text::push_number;
 use crate::text_report::push_reason;
@@ -36,6 +37,7 @@ pub(crate) fn code_of(remark: Remark) -> &'static str
         Remark::Extension(remark) => code_of_extension(remark),
         Remark::Algorithm(remark) => code_of_algorithm(remark),
         Remark::Attribute(remark) => code_of_attribute(remark),
+        Remark::Tls(remark) => code_of_tls(remark),
     }
 }
 
@@ -103,6 +105,21 @@ fn code_of_algorithm(remark: AlgorithmRemark) -> &'static str
     }
 }
 
+fn code_of_tls(remark: TlsRemark) -> &'static str
+    ensures { result.now ≡ tls_code remark }
+{
+    match remark {
+        TlsRemark::ModulusBits(_) => "rsa_size",
+        TlsRemark::Exponent => "rsa_exponent",
+        TlsRemark::Curve => "curve",
+        TlsRemark::KeyAlgorithm => "key_algorithm",
+        TlsRemark::CommonName => "cn_not_in_san",
+        TlsRemark::InternalName | TlsRemark::ReservedAddress => "san_internal",
+        TlsRemark::AnyUsage => "eku_any",
+        TlsRemark::NamesNotCritical => "san_not_critical",
+    }
+}
+
 /// Whether the standard says MUST, or advises.
 pub(crate) fn level_of(remark: Remark) -> &'static str
     ensures { result.now ≡ remark_level remark }
@@ -124,6 +141,7 @@ pub(crate) fn level_of(remark: Remark) -> &'static str
         Remark::Extension(remark) => level_of_extension(remark),
         Remark::Algorithm(remark) => level_of_algorithm(remark),
         Remark::Attribute(remark) => level_of_attribute(remark),
+        Remark::Tls(remark) => level_of_tls(remark),
     }
 }
 
@@ -183,6 +201,22 @@ fn level_of_algorithm(remark: AlgorithmRemark) -> &'static str
     match remark {
         AlgorithmRemark::Sha1 | AlgorithmRemark::Md5 | AlgorithmRemark::OldDigest => "should",
         AlgorithmRemark::NoNull | AlgorithmRemark::AnotherKey => "must",
+    }
+}
+
+fn level_of_tls(remark: TlsRemark) -> &'static str
+    ensures { result.now ≡ tls_level remark }
+{
+    match remark {
+        TlsRemark::Exponent => "should",
+        TlsRemark::ModulusBits(_)
+        | TlsRemark::Curve
+        | TlsRemark::KeyAlgorithm
+        | TlsRemark::CommonName
+        | TlsRemark::InternalName
+        | TlsRemark::ReservedAddress
+        | TlsRemark::AnyUsage
+        | TlsRemark::NamesNotCritical => "must",
     }
 }
 
@@ -361,5 +395,70 @@ pub(crate) fn algorithm_remark_words(remark: AlgorithmRemark) -> &'static str
         AlgorithmRemark::AnotherKey => {
             "a signature that the key in the request can't make (RFC 2986 section 3)"
         }
+    }
+}
+
+#[tactic(auto, unfolding(crate::specs::Remarks::tls_remark_said))]
+pub(crate) fn push_tls_remark(text: &mut String, remark: TlsRemark) -> Result<(), AllocError>
+    ensures { OnOk result (string_bytes text.new ≡ string_bytes text.old ++ tls_remark_said remark) }
+{
+    text.push_str(tls_words(remark))?;
+    push_tls_numbers(text, remark)
+}
+
+/// What is said for TLS servers, up to the numbers that it has.
+#[tactic(auto, unfolding(crate::specs::Remarks::tls_words))]
+fn tls_words(remark: TlsRemark) -> &'static str
+    ensures { result.now ≡ tls_words remark }
+{
+    match remark {
+        TlsRemark::ModulusBits(_) => "a modulus of ",
+        TlsRemark::Exponent => {
+            "a public exponent that isn't from 65537 up to 2^256 - 1 (Baseline Requirements section 6.1.6)"
+        }
+        TlsRemark::Curve => {
+            "a curve that isn't P-256, P-384 or P-521 (Baseline Requirements section 6.1.5)"
+        }
+        TlsRemark::KeyAlgorithm => {
+            "a key that is neither rsaEncryption nor id-ecPublicKey (Baseline Requirements section 7.1.3.1)"
+        }
+        TlsRemark::CommonName => {
+            "a commonName that isn't one of the names in subjectAltName (Baseline Requirements section 7.1.4.3)"
+        }
+        TlsRemark::InternalName => {
+            "a DNS name of one label, or under one that isn't in the public DNS \
+            (Baseline Requirements section 7.1.2.7.12)"
+        }
+        TlsRemark::ReservedAddress => {
+            "an IP address that isn't one of the Internet's (Baseline Requirements section 7.1.2.7.12)"
+        }
+        TlsRemark::AnyUsage => {
+            "the usage anyExtendedKeyUsage (Baseline Requirements section 7.1.2.7.10)"
+        }
+        TlsRemark::NamesNotCritical => {
+            "a subjectAltName that isn't critical beside an empty subject (RFC 5280 section 4.2.1.6)"
+        }
+    }
+}
+
+#[tactic(auto, unfolding(crate::specs::Remarks::tls_numbers))]
+fn push_tls_numbers(text: &mut String, remark: TlsRemark) -> Result<(), AllocError>
+    ensures { OnOk result (string_bytes text.new ≡ string_bytes text.old ++ tls_numbers remark) }
+{
+    match remark {
+        TlsRemark::ModulusBits(bits) => {
+            push_number(text, bits)?;
+            text.push_str(
+                " bits, where 2048 at least are due and 8 divide them (Baseline Requirements section 6.1.5)",
+            )
+        }
+        TlsRemark::Exponent
+        | TlsRemark::Curve
+        | TlsRemark::KeyAlgorithm
+        | TlsRemark::CommonName
+        | TlsRemark::InternalName
+        | TlsRemark::ReservedAddress
+        | TlsRemark::AnyUsage
+        | TlsRemark::NamesNotCritical => Ok(()),
     }
 }

@@ -190,6 +190,22 @@ pub enum Guess {
     TextLines,
 }
 
+/// What the octets after a document are.
+#[derive(Clone, Copy)]
+pub enum After {
+    /// It isn't refused for them.
+    Unsaid,
+    /// 0a alone; 0d 0a alone.
+    LineFeed,
+    CrLf,
+    /// 00 and nothing else.
+    Zeros,
+    /// Others, where no document of the kind has a private key: the document that they look like.
+    Document(Guess),
+    /// Others, where one may have.
+    NotShown,
+}
+
 /// What other standards forbid and pkder carries.
 #[derive(Clone, Copy)]
 pub enum Remark {
@@ -225,6 +241,8 @@ pub enum Remark {
     Algorithm(AlgorithmRemark),
     /// About the value of an attribute in a name.
     Attribute(AttributeRemark),
+    /// About what a certificate of a TLS server may not have.
+    Tls(TlsRemark),
 }
 
 /// What is remarked on a key.
@@ -313,6 +331,29 @@ pub enum AlgorithmRemark {
     AnotherKey,
 }
 
+/// What is remarked on what the Baseline Requirements of the CA/Browser Forum say of certificates for TLS servers.
+#[derive(Clone, Copy)]
+pub enum TlsRemark {
+    /// A modulus of RSA of so many bits, fewer than 2048 or not divided by 8 (section 6.1.5).
+    ModulusBits(u64),
+    /// A public exponent of RSA that isn't from 65537 up to 2^256 - 1 (section 6.1.6).
+    Exponent,
+    /// A curve that isn't P-256, P-384 or P-521 (section 6.1.5).
+    Curve,
+    /// A key that is neither rsaEncryption nor id-ecPublicKey (section 7.1.3.1).
+    KeyAlgorithm,
+    /// A commonName that isn't one of the names in subjectAltName (section 7.1.4.3).
+    CommonName,
+    /// A DNS name of one label, or under one that isn't in the public DNS (section 7.1.2.7.12).
+    InternalName,
+    /// An IP address that isn't one of the Internet's (the same).
+    ReservedAddress,
+    /// The usage anyExtendedKeyUsage (section 7.1.2.7.10).
+    AnyUsage,
+    /// A subjectAltName that isn't critical, where the subject is empty (RFC 5280 section 4.2.1.6).
+    NamesNotCritical,
+}
+
 /// A remark, and the number of the line that it is about.
 #[derive(Clone, Copy)]
 pub struct Note {
@@ -333,6 +374,7 @@ pub struct Report {
     /// Of a document that is refused.
     pub diagnosis: Option<Diagnosis>,
     pub guess: Guess,
+    pub after: After,
     /// Of a document that is accepted.
     pub notes: Vec<Note>,
     /// The same: how many bits the first modulus of an RSA key in it has.

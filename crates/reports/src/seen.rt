@@ -6,7 +6,7 @@ ghost use Rattle.reports.specs.Seen.{first_end, has_keys, in_key, is_bare_value,
 ghost use Rattle.reports.specs.Seen.{is_written_out, parameters_at, parameters_of, seen_of, segment, wrong_tag};
 
 use crate::asks::{from_field, is_step};
-use crate::report::{Diagnosis, Found, Line, Report, Value};
+use crate::report::{After, Diagnosis, Found, Line, Report, Value};
 use asn_names::element::Step;
 use tlv_core::fault::Fault;
 use tlv_core::reason::Reason;
@@ -29,9 +29,8 @@ pub(crate) enum Seen {
     KeyInSegments(u64),
     /// A value without the SET around it (RFC 2986 section 4.1, RFC 5958 section 2).
     NoSet,
-    /// One or two octets after the document; more of them.
-    Few,
-    More,
+    /// What the octets after the document are.
+    After(After),
 }
 
 /// What a report shows of the cause of this fault, where that is in the file.
@@ -54,7 +53,7 @@ fn by_reason(report: &Report, at: u64, why: Reason, diagnosis: &Diagnosis) -> Se
     match why {
         Reason::Parameters => parameters_at(&report.lines, diagnosis.line),
         Reason::WrongTag => wrong_tag(report.kind.word, at, &report.lines, diagnosis),
-        Reason::Trailing => after_document(diagnosis.more),
+        Reason::Trailing => after_document(report.after),
         _ => Seen::Nothing,
     }
 }
@@ -176,13 +175,13 @@ fn wrong_tag(kind: &str, at: u64, lines: &[Line], diagnosis: &Diagnosis) -> Seen
     }
 }
 
-/// Of so many octets after the document.
-fn after_document(more: Option<u64>) -> Seen
-    ensures { result ≡ after_document more }
+/// Of octets after the document.
+fn after_document(after: After) -> Seen
+    ensures { result ≡ after_document after }
 {
-    match more {
-        Some(more) => { if more < 3 { Seen::Few } else { Seen::More } }
-        None => Seen::Nothing,
+    match after {
+        After::Unsaid => Seen::Nothing,
+        _ => Seen::After(after),
     }
 }
 
