@@ -8,6 +8,7 @@ use Rattle.pk_documents.specs.Kinds.{type_of}
 use Rattle.pk_documents.specs.declared.kind.Kind.{Kind}
 use Rattle.explain.specs.Reports.{IsReportOf}
 use Rattle.explain.specs.Written.{version}
+use Rattle.explain.specs.declared.profile.Profile.TheVariants.{General}
 use Rattle.reports.specs.Picks.{first_ones}
 use Rattle.reports.specs.Texts.{line_feed}
 use Rattle.reports.specs.declared.report.Line.{Line}
@@ -47,8 +48,8 @@ pub record AreShown (limits : Limits) (kind : Kind) (encoding other : List ℕ) 
     : Type 0 where
   pub report : Report
   pub other_report : Report
-  pub reported : IsReportOf limits kind encoding report
-  pub other_reported : IsReportOf limits kind other other_report
+  pub reported : IsReportOf General limits kind encoding report
+  pub other_reported : IsReportOf General limits kind other other_report
   pub first : AreTheFirst report.kind.type_name.now encoding other report.lines.items other_report.lines.items words
       more
 

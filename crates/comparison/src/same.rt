@@ -11,6 +11,7 @@ use crate::reading::{is_any, read};
 pub use crate::sameness::Sameness;
 use crate::text::{DocumentNames, another_text, refused_text, same_line};
 use explain::explained::explain;
+use explain::profile::Profile;
 use explain::version::VERSION;
 use pk_documents::kind::Kind;
 use std::alloc::{AllocError, Global};
@@ -151,8 +152,8 @@ fn show_differences(
     ensures { IfOk result (λ it. AreShown limits kind encodings.entry.first.now
         encodings.entry.second.now (map words_of it.0.items) it.1) }
 {
-    let report = explain(alloc, encodings.first, kind, limits)?;
-    let other_report = explain(alloc, encodings.second, kind, limits)?;
+    let report = explain(alloc, encodings.first, kind, limits, Profile::General)?;
+    let other_report = explain(alloc, encodings.second, kind, limits, Profile::General)?;
     let all = differences(alloc, encodings, &report.lines, &other_report.lines)?;
     let sides = Sides {
         root: report.kind.type_name,

@@ -25,6 +25,7 @@ use Rattle.explain.specs.Reports.{IsReportOf}
 use Rattle.explain.specs.Rules.{causes_by, front_document}
 use Rattle.explain.specs.Wordings.{IsListingBy, IsWordedReport}
 use Rattle.explain.specs.declared.disclosed.Disclosed.{Disclosed}
+use Rattle.explain.specs.declared.profile.Profile.{Profile}
 use Rattle.explain.specs.declared.document.inside.Inside.{Inside}
 use Rattle.reports.specs.declared.report.Answer.{Answer}
 use Rattle.reports.specs.declared.report.Answer.TheVariants.{Der, NotDer, Refused}
@@ -414,9 +415,9 @@ is_listing limits of disclosed lines is =
     }
 
 -- What is worded so keeps what is promised of a report.
-pub promised : (limits : Limits) (of : Kind) (document : List ℕ) (report : Report)
-    → IsWordedReport limits of document report → IsReportOf limits of document report
-promised limits of document report h =
+pub promised : (profile : Profile) (limits : Limits) (of : Kind) (document : List ℕ) (report : Report)
+    → IsWordedReport profile limits of document report → IsReportOf profile limits of document report
+promised profile limits of document report h =
     let disclosed = h.disclosed in
     let same = sym h.made_of.answer in record {
       octets = h.made_of.octets ∙ h.is_disclosed.octets;

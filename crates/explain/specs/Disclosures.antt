@@ -12,6 +12,7 @@ use Rattle.tlv_core.specs.declared.reason.Reason.{Reason}
 use Rattle.tlv_core.specs.declared.reason.Reason.TheVariants as reasons
 use Rattle.pk_documents.specs.Kinds.{type_of}
 use Rattle.pk_documents.specs.declared.kind.Kind.{Kind}
+use Rattle.explain.specs.Afters.{IsAfter}
 use Rattle.explain.specs.Answers.{IsAnswer}
 use Rattle.explain.specs.Classes.{class_at}
 use Rattle.explain.specs.FaultLines.{is_between}
@@ -115,9 +116,10 @@ IsShown limits of document (NotDer place) front path class = (front ≡ document
 IsShown limits of document (Refused fault) front path class = IsRefused limits of document fault front path class
 
 -- What may be shown: how many octets the file has, what `check` answers, the front, the steps to what is refused and
--- its class, and what else the file looks like.
+-- its class, what else the file looks like, and what the octets after the document are.
 pub record IsDisclosed (limits : Limits) (of : Kind) (document : List ℕ) (disclosed : Disclosed) : Type 0 where
   pub octets : disclosed.octets ≡ length document
   pub answer : IsAnswer limits (type_of of) document disclosed.answer
   pub shown : IsShown limits of document disclosed.answer disclosed.front.now disclosed.path.items disclosed.class
   pub guess : IsGuess limits of document disclosed.answer disclosed.guess
+  pub after : IsAfter limits of document disclosed.answer disclosed.after

@@ -5,10 +5,14 @@ use Rattle.std.specs.List.{list_any}
 use Rattle.explain.specs.HostNames.{is_domain_name, is_let_dig}
 use Rattle.explain.specs.declared.notes.general_names.DottedNumbers.{DottedNumbers}
 
--- what follows the last @ (64) of these octets, or else what was found before
-abbrev pub after_last_at : List ℕ → List ℕ → List ℕ
-after_last_at found [] = found
-after_last_at found (octet ∷ octets) = after_last_at (cond (octet == 64) octets found) octets
+-- what follows the last octet of these that is this one, or else what was found before
+abbrev pub after_last : ℕ → List ℕ → List ℕ → List ℕ
+after_last mark found [] = found
+after_last mark found (octet ∷ octets) = after_last mark (cond (octet == mark) octets found) octets
+
+-- what follows the last @ (64)
+abbrev pub domain_of : List ℕ → List ℕ
+domain_of name = after_last 64 name name
 
 -- what is before the octet in front of a domain: nothing, where the domain is all
 abbrev pub before_domain : List ℕ → List ℕ → List ℕ
@@ -34,7 +38,7 @@ is_mail_domain (first ∷ octets) = (first == 91) || is_domain_name (first ∷ o
 -- A mailbox is a local part, @, and a domain.
 abbrev pub is_mailbox : List ℕ → Bool
 is_mailbox name =
-    is_local_part (before_domain name (after_last_at name name)) && is_mail_domain (after_last_at name name)
+    is_local_part (before_domain name (domain_of name)) && is_mail_domain (domain_of name)
 
 -- a letter of ASCII
 abbrev pub is_letter : ℕ → Bool

@@ -1,3 +1,4 @@
+pub mod Afters
 pub mod Answers
 pub mod FaultContainers
 pub mod Causes
@@ -20,11 +21,14 @@ pub mod NotedAlgorithms
 pub mod NotedAttributes
 pub mod NotedKeys
 pub mod NotedNames
+pub mod NotedTls
 pub mod NotedUsages
 pub mod Notes
 pub mod Places
+pub mod ProfileNotes
 pub mod Promises
 pub mod Public
+pub mod Reach
 pub mod Remarks
 pub mod ReportLaws
 pub mod Reports

@@ -18,8 +18,6 @@ use Rattle.explain.specs.NotedUsages.{held_in, remark_on_old_request, remark_on_
 use Rattle.explain.specs.Public.{is_field}
 use Rattle.explain.specs.Remarks.{remark_if}
 use Rattle.explain.specs.declared.notes.Context.{Context}
-use Rattle.reports.specs.declared.report.Answer.{Answer}
-use Rattle.reports.specs.declared.report.Answer.TheVariants.{Der, NotDer, Refused}
 use Rattle.reports.specs.declared.report.Line.{Line}
 use Rattle.reports.specs.declared.report.NameRemark.TheVariants.{Twice}
 use Rattle.reports.specs.declared.report.Note.{Note}
@@ -259,7 +257,7 @@ octets_in _ = None
 -- They are of the same type, and have the same octets.
 abbrev pub is_same_name : Line → Line → Bool
 is_same_name line other =
-    same_octets other.type_name.now line.type_name.now && are_same (octets_in other.value) (octets_in line.value)
+    are_same (octets_in other.value) (octets_in line.value) && same_octets other.type_name.now line.type_name.now
 
 abbrev pub is_same_member : Line → Line → Bool
 is_same_member line other = is_same_identifier line other || is_same_name line other
@@ -324,9 +322,3 @@ notes_on lines = take most_notes (notes_from lines (context_start lines) 0 lines
 abbrev pub add_note : List Note → ℕ → Option Remark → List Note
 add_note notes number remark =
     cond (nat_lt (length notes) most_notes) (notes ++ note_on number remark) notes
-
--- the notes of a document that is answered so: of a refused one there are none
-abbrev pub notes_by : Answer → List Line → List Note
-notes_by Der lines = notes_on lines
-notes_by (NotDer place) lines = notes_on lines
-notes_by (Refused fault) lines = []

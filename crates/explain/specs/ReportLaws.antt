@@ -5,6 +5,7 @@ use Rattle.pk_documents.specs.declared.kind.Kind.{Kind}
 use Rattle.explain.specs.Disclosures.{IsDisclosed}
 use Rattle.explain.specs.Reports.{IsReportOf}
 use Rattle.explain.specs.declared.disclosed.Disclosed.{Disclosed}
+use Rattle.explain.specs.declared.profile.Profile.{Profile}
 use Rattle.reports.specs.declared.report.Report.{Report}
 
 -- Of two documents the same may be shown: what is reported of the one may be reported of the other.
@@ -13,5 +14,6 @@ pub record DiscloseTheSame (limits : Limits) (of : Kind) (one other : List ℕ) 
 
 abbrev pub ReportsShowNothingPrivate : Type 0
 ReportsShowNothingPrivate =
-    (limits : Limits) (of : Kind) (one other : List ℕ) (report : Report) → DiscloseTheSame limits of one other
-    → IsReportOf limits of one report → IsReportOf limits of other report
+    (profile : Profile) (limits : Limits) (of : Kind) (one other : List ℕ) (report : Report)
+    → DiscloseTheSame limits of one other → IsReportOf profile limits of one report
+    → IsReportOf profile limits of other report

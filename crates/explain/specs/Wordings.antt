@@ -14,12 +14,14 @@ use Rattle.explain.specs.Faults.{Case, IsDiagnosisIf}
 use Rattle.explain.specs.Insides.{HasInsides, IsNamed}
 use Rattle.explain.specs.Listings.{IsListed}
 use Rattle.explain.specs.Moduli.{modulus_by}
-use Rattle.explain.specs.Notes.{most_notes, notes_by}
+use Rattle.explain.specs.Notes.{most_notes}
 use Rattle.explain.specs.Places.{end_by_listed}
+use Rattle.explain.specs.ProfileNotes.{notes_by}
 use Rattle.explain.specs.Rules.{front_document, search_by}
 use Rattle.explain.specs.Shapes.{IsShapeOf}
 use Rattle.explain.specs.declared.disclosed.Disclosed.{Disclosed}
 use Rattle.explain.specs.declared.document.inside.Inside.{Inside}
+use Rattle.explain.specs.declared.profile.Profile.{Profile}
 use Rattle.reports.specs.declared.report.Line.{Line}
 use Rattle.reports.specs.declared.report.Report.{Report}
 
@@ -54,7 +56,8 @@ case_by disclosed root elements mismatch lines fault = record {
 }
 
 -- The report is made of what may be shown of the document, and of nothing else.
-pub record IsReportBy (limits : Limits) (of : Kind) (disclosed : Disclosed) (report : Report) : Type 0 where
+pub record IsReportBy (profile : Profile) (limits : Limits) (of : Kind) (disclosed : Disclosed) (report : Report)
+    : Type 0 where
   pub word : report.kind.word.now ≡ word_of of
   pub type_name : report.kind.type_name.now ≡ type_name_of of
   pub octets : report.octets ≡ disclosed.octets
@@ -67,12 +70,14 @@ pub record IsReportBy (limits : Limits) (of : Kind) (disclosed : Disclosed) (rep
       disclosed.path.items report.diagnosis
   pub announced : report.announced ≡ announced_end report.lines.items
   pub guess : report.guess ≡ disclosed.guess
-  pub notes : report.notes.items ≡ notes_by disclosed.answer report.lines.items
+  pub after : report.after ≡ disclosed.after
+  pub notes : report.notes.items ≡ notes_by profile disclosed.answer report.lines.items
   pub few : length report.notes.items ≤ most_notes
   pub modulus : report.modulus ≡ modulus_by disclosed.answer is_listing.insides
 
 -- What may be shown of the document, and the report that is made of that.
-pub record IsWordedReport (limits : Limits) (of : Kind) (document : List ℕ) (report : Report) : Type 0 where
+pub record IsWordedReport (profile : Profile) (limits : Limits) (of : Kind) (document : List ℕ) (report : Report)
+    : Type 0 where
   pub disclosed : Disclosed
   pub is_disclosed : IsDisclosed limits of document disclosed
-  pub made_of : IsReportBy limits of disclosed report
+  pub made_of : IsReportBy profile limits of disclosed report

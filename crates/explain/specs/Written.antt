@@ -11,6 +11,7 @@ use Rattle.reports.specs.Texts.{line_feed}
 use Rattle.reports.specs.declared.report.Answer.{Answer}
 use Rattle.reports.specs.declared.report.Report.{Report}
 use Rattle.explain.specs.Reports.{IsReportOf}
+use Rattle.explain.specs.declared.profile.Profile.TheVariants.{General}
 use Rattle.explain.specs.declared.written.Form.{Form}
 
 -- the version, and the logic that the proofs are for
@@ -31,7 +32,7 @@ written_text form file report =
 abbrev pub IsWritten : Form → Limits → Kind → List ℕ → List ℕ → Answer → Type 0
 IsWritten form limits kind octets text answer =
     (report : Report)
-    × IsReportOf limits kind octets report
+    × IsReportOf form.profile limits kind octets report
     × (answer ≡ report.answer)
     × (text ≡ written_text form None report)
 
@@ -39,6 +40,6 @@ IsWritten form limits kind octets text answer =
 abbrev pub IsFieldOf : Limits → Kind → List ℕ → List ℕ → Answer → Type 0
 IsFieldOf limits kind octets text answer =
     (report : Report)
-    × IsReportOf limits kind octets report
+    × IsReportOf General limits kind octets report
     × (answer ≡ report.answer)
     × (text ≡ field_said report)

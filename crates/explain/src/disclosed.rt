@@ -1,11 +1,14 @@
 //! What a report may show of a document: all that one is made of.
 ghost use Rattle.std.specs.Prelude.{None, [], ◌≡◌, IfOk, OnOk, length, take};
+ghost use Rattle.explain.specs.Afters.{IsAfter};
 ghost use Rattle.explain.specs.Disclosures.{AddsFaultPath, AddsInnerPath, IsDisclosed, IsDisclosedPath, IsRefused};
 ghost use Rattle.explain.specs.Disclosures.{disclosed_class, is_near, names_in, says_field};
+ghost use Rattle.reports.specs.declared.report.After.TheVariants.{Unsaid};
 ghost use Rattle.reports.specs.declared.report.Answer.TheVariants.{Refused};
 
 use crate::document::inside::{Inside, InsideSearch, documents_inside, inside_at, named_elements};
 use crate::document::kinds::shape_of;
+use crate::fault::after::after_of;
 use crate::fault::answer::answer_of;
 use crate::fault::class::class_at;
 use crate::fault::location::{location_at, push_location_path, push_path};
@@ -15,7 +18,7 @@ use crate::listing::front::front_size;
 use asn_names::element::{NamedElement, Step};
 use asn_names::naming::NamedElements;
 use pk_documents::kind::Kind;
-use reports::report::{Answer, Guess};
+use reports::report::{After, Answer, Guess};
 use std::alloc::{AllocError, Global};
 use tlv_core::fault::Fault;
 use tlv_core::limits::Limits;
@@ -34,6 +37,8 @@ pub(crate) struct Disclosed<'a> {
     pub(crate) path: Vec<Step>,
     pub(crate) class: Option<u8>,
     pub(crate) guess: Guess,
+    /// What the octets after the document are.
+    pub(crate) after: After,
 }
 
 /// What may be shown of octets that have to be one document of the kind.
@@ -62,6 +67,7 @@ fn of_accepted(alloc: Global, octets: &[u8], answer: Answer, guess: Guess) -> Di
     ensures path { result.path.items ≡ [] }
     ensures class { result.class ≡ None }
     ensures guess { result.guess ≡ guess }
+    ensures after { result.after ≡ Unsaid }
 {
     Disclosed {
         octets: octets.len() as u64,
@@ -70,6 +76,7 @@ fn of_accepted(alloc: Global, octets: &[u8], answer: Answer, guess: Guess) -> Di
         path: Vec::new(alloc),
         class: None,
         guess,
+        after: After::Unsaid,
     }
 }
 
@@ -87,6 +94,7 @@ fn of_refused(
     ensures shown { IfOk result (λ disclosed. IsRefused limits kind octets.now fault disclosed.front.now
         disclosed.path.items disclosed.class) }
     ensures guess { IfOk result (λ disclosed. disclosed.guess ≡ guess) }
+    ensures after { IfOk result (λ disclosed. IsAfter limits kind octets.now (Refused fault) disclosed.after) }
 {
     let named = named_elements(alloc, octets, shape_of(kind), limits)?;
     let elements = named.elements.as_slice();
@@ -97,6 +105,7 @@ fn of_refused(
     let insides = documents_inside(alloc, octets, elements, &search)?;
     let size = front_size(octets, elements, &named.mismatch, fault.at);
     let front = first_octets(octets, size);
+    let after = after_of(alloc, octets, kind, limits, fault)?;
     let path = disclosed_path(alloc, &named, insides.as_slice(), fault, front)?;
     Ok(Disclosed {
         octets: octets.len() as u64,
@@ -105,6 +114,7 @@ fn of_refused(
         path,
         class: disclosed_class(octets, fault),
         guess,
+        after,
     })
 }
 

@@ -2,7 +2,8 @@
 //! report.
 ghost use Rattle.std.specs.Prelude.{◌≡◌, ◌≤◌, IfOk, length, not};
 ghost use Rattle.explain.specs.Listings.{IsListed};
-ghost use Rattle.explain.specs.Notes.{has_most_notes, most_notes, notes_by};
+ghost use Rattle.explain.specs.Notes.{has_most_notes, most_notes};
+ghost use Rattle.explain.specs.ProfileNotes.{notes_by};
 ghost use Rattle.explain.specs.Reports.{IsReportOf};
 ghost use Rattle.explain.specs.Rules.{causes_by, front_document, is_refusal};
 ghost use Rattle.explain.specs.Wordings.{IsReportBy, announced_end};
@@ -16,7 +17,8 @@ use crate::fault::diagnosis::{RefusedFront, diagnose};
 use crate::listing::causes::causes_of;
 use crate::listing::fault_line::push_fault_line;
 use crate::listing::lines_of;
-use crate::notes::{MOST_NOTES, notes_of};
+use crate::notes::MOST_NOTES;
+use crate::profile::{Profile, notes_in};
 use asn_names::element::NamedElement;
 use asn_names::naming::NamedElements;
 use pk_documents::kind::Kind;
@@ -24,17 +26,18 @@ use reports::report::{Answer, Cause, Line, Note, Report};
 use std::alloc::{AllocError, Global};
 use tlv_core::limits::Limits;
 
-/// What is reported of octets that have to be one document of the kind.
+/// What is reported of octets that have to be one document of the kind, with the notes of the profile.
 pub fn explain(
     alloc: Global,
     octets: &[u8],
     kind: Kind,
     limits: Limits,
+    profile: Profile,
 ) -> Result<Report, AllocError>
-    ensures { IfOk result (λ report. IsReportOf limits kind octets.now report) }
+    ensures { IfOk result (λ report. IsReportOf profile limits kind octets.now report) }
 {
     let disclosed = disclose(alloc, octets, kind, limits)?;
-    let report = report_of(alloc, kind, limits, disclosed)?;
+    let report = report_of(alloc, kind, limits, profile, disclosed)?;
     Ok(report)
 }
 
@@ -43,9 +46,10 @@ fn report_of(
     alloc: Global,
     kind: Kind,
     limits: Limits,
+    profile: Profile,
     disclosed: Disclosed<'_>,
 ) -> Result<Report, AllocError>
-    ensures { IfOk result (λ report. IsReportBy limits kind disclosed.entry report) }
+    ensures { IfOk result (λ report. IsReportBy profile limits kind disclosed.entry report) }
 {
     let Disclosed {
         octets,
@@ -54,6 +58,7 @@ fn report_of(
         path,
         class,
         guess,
+        after,
     } = disclosed;
     let root = shape_of(kind);
     let named = named_elements(alloc, front, root, limits)?;
@@ -73,7 +78,7 @@ fn report_of(
         lines: lines.as_slice(),
     };
     let diagnosis = diagnose(alloc, answer, shown, path)?;
-    let notes = notes_by(alloc, answer, lines.as_slice())?;
+    let notes = notes_by(alloc, profile, answer, lines.as_slice())?;
     let announced = announced_end(lines.as_slice());
     let modulus = modulus_by(answer, insides.as_slice());
     Ok(Report {
@@ -84,6 +89,7 @@ fn report_of(
         lines,
         diagnosis,
         guess,
+        after,
         notes,
         modulus,
     })
@@ -155,13 +161,18 @@ fn causes_by(
 }
 
 /// The notes, of a document that is accepted.
-fn notes_by(alloc: Global, answer: Answer, lines: &[Line]) -> Result<Vec<Note>, AllocError>
-    ensures are { IfOk result (λ notes. notes.items ≡ notes_by answer lines.now) }
+fn notes_by(
+    alloc: Global,
+    profile: Profile,
+    answer: Answer,
+    lines: &[Line],
+) -> Result<Vec<Note>, AllocError>
+    ensures are { IfOk result (λ notes. notes.items ≡ notes_by profile answer lines.now) }
     ensures few { IfOk result (λ notes. length notes.items ≤ most_notes) }
 {
     match answer {
         Answer::Refused(_) => Ok(Vec::new(alloc)),
-        _ => notes_of(alloc, lines),
+        _ => notes_in(alloc, profile, lines),
     }
 }
 

@@ -1,4 +1,5 @@
 //! A fault: what `check` answers, where it lies, in what, and what is there.
+pub(crate) mod after;
 pub(crate) mod answer;
 pub(crate) mod class;
 pub(crate) mod container;

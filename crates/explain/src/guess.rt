@@ -116,7 +116,7 @@ fn is_unknown(guess: Guess) -> bool
 }
 
 /// What a document is that isn't of the kind asked for, by its first elements.
-fn guess_document(
+pub(crate) fn guess_document(
     alloc: Global,
     octets: &[u8],
     kind: Kind,
@@ -166,7 +166,12 @@ fn first_kind(
 }
 
 /// Whether octets begin as a document of the kind does.
-fn begins_as(alloc: Global, octets: &[u8], kind: Kind, limits: Limits) -> Result<bool, AllocError>
+pub(crate) fn begins_as(
+    alloc: Global,
+    octets: &[u8],
+    kind: Kind,
+    limits: Limits,
+) -> Result<bool, AllocError>
     ensures { IfOk result (λ is. BeginsAs limits octets.now kind is) }
 {
     let named = named_elements(alloc, octets, shape_of(kind), limits)?;

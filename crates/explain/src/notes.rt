@@ -21,7 +21,9 @@ mod general_names;
 mod hosts;
 mod keys;
 mod names;
+mod reach;
 mod remarks;
+pub(crate) mod tls;
 mod usages;
 
 use crate::document::values::is_field;
@@ -91,7 +93,11 @@ pub(crate) fn notes_of(alloc: Global, lines: &[Line]) -> Result<Vec<Note>, Alloc
 }
 
 /// A remark on the line of this number, where there is one and room for it.
-fn push_note(notes: &mut Vec<Note>, line: usize, remark: Option<Remark>) -> Result<(), AllocError>
+pub(crate) fn push_note(
+    notes: &mut Vec<Note>,
+    line: usize,
+    remark: Option<Remark>,
+) -> Result<(), AllocError>
     ensures { OnOk result (notes.new.items ≡ add_note notes.old.items line remark) }
 {
     let Some(remark) = remark else {
@@ -159,7 +165,7 @@ fn context_after(context: Context, line: &Line) -> Context
 }
 
 /// An object identifier that has a usual name.
-fn identifier_in(value: &Value) -> Option<&'static Identifier>
+pub(crate) fn identifier_in(value: &Value) -> Option<&'static Identifier>
     ensures { result ≡ identifier_in value.now }
 {
     match value {
@@ -471,7 +477,7 @@ fn remark_on_values(members: u64) -> Option<Remark>
 }
 
 /// How many members an element of this depth has, by the lines after its own.
-fn members_of(depth: u64, after: &[Line]) -> u64
+pub(crate) fn members_of(depth: u64, after: &[Line]) -> u64
     ensures { result ≡ members_of depth after.now }
 {
     let mut count = 0;
@@ -574,7 +580,7 @@ fn remark_once_more(
 }
 
 /// Whether an element is an attribute of a request.
-fn is_attribute(around: Option<&Line>) -> bool
+pub(crate) fn is_attribute(around: Option<&Line>) -> bool
     ensures { result ≡ is_attribute (option_map (λ r. r.now) around.entry) }
 {
     match around {
@@ -615,7 +621,7 @@ fn list_depth(line: &Line) -> u64
     }
 }
 
-fn is_member(step: Step) -> bool
+pub(crate) fn is_member(step: Step) -> bool
     ensures { result ≡ is_member step }
 {
     match step {
@@ -655,8 +661,8 @@ fn is_same_identifier(line: &Line, other: &Line) -> bool
 fn is_same_name(line: &Line, other: &Line) -> bool
     ensures { result ≡ is_same_name line.now other.now }
 {
-    is_name(other.type_name, line.type_name)
-        && are_same(octets_in(&other.value), octets_in(&line.value))
+    are_same(octets_in(&other.value), octets_in(&line.value))
+        && is_name(other.type_name, line.type_name)
 }
 
 /// The octets of a string, or of contents that have no words.

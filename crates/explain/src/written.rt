@@ -4,6 +4,7 @@ ghost use Rattle.std.specs.Option.{option_map};
 ghost use Rattle.explain.specs.Written.{IsFieldOf, IsWritten, written_text};
 
 use crate::explained::explain;
+use crate::profile::Profile;
 use crate::version::VERSION;
 use pk_documents::kind::Kind;
 use reports::brief::brief_text;
@@ -25,6 +26,8 @@ pub struct Form {
     pub all: bool,
     /// With so many of the places that aren't in DER, at most.
     pub places: u64,
+    /// With the notes of this profile.
+    pub profile: Profile,
 }
 
 /// As many places that aren't in DER are shown, where nothing else is asked for.
@@ -41,7 +44,7 @@ pub fn explain_text(
     ensures { IfOk result (λ written. IsWritten form limits kind octets.now
         (string_bytes written.0) written.1) }
 {
-    let report = explain(alloc, octets, kind, limits)?;
+    let report = explain(alloc, octets, kind, limits, form.profile)?;
     let text = written_report(alloc, &report, None, form)?;
     Ok((text, report.answer))
 }
@@ -76,7 +79,7 @@ pub fn explained_field(
     ensures { IfOk result (λ field. IsFieldOf limits kind octets.now
         (string_bytes field.0) field.1) }
 {
-    let report = explain(alloc, octets, kind, limits)?;
+    let report = explain(alloc, octets, kind, limits, Profile::General)?;
     let text = field_text(alloc, &report)?;
     Ok((text, report.answer))
 }

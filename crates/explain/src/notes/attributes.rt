@@ -92,7 +92,7 @@ fn remark_on_type(attribute: &[u8], line: &Line) -> Option<Remark>
 }
 
 /// An attribute of X.520, 2.5.4.NUMBER.
-fn is_x520(attribute: &[u8], number: u8) -> bool
+pub(crate) fn is_x520(attribute: &[u8], number: u8) -> bool
     ensures { result ≡ same_octets attribute.now (x520 number) }
 {
     are_same_octets(attribute, &[0x55, 0x04, number])
@@ -280,7 +280,7 @@ fn is_blank(tag: Tag, octets: &[u8]) -> bool
 }
 
 /// Whether each character of a string has two octets, or four.
-fn is_wide(tag: Tag) -> bool
+pub(crate) fn is_wide(tag: Tag) -> bool
     ensures { result ≡ is_wide tag }
 {
     is_string(tag, BMP_STRING) || is_string(tag, UNIVERSAL_STRING)

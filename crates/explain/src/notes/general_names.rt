@@ -1,6 +1,6 @@
 //! The syntax of names in subjectAltName: mailboxes, URIs, and addresses among DNS names (RFC 5280 section 4.2.1.6).
 ghost use Rattle.std.specs.Prelude.{◌≡◌};
-ghost use Rattle.explain.specs.GeneralNames.{after_last_at, before_domain, goes_on, has_scheme, is_apart};
+ghost use Rattle.explain.specs.GeneralNames.{after_last, before_domain, goes_on, has_scheme, is_apart};
 ghost use Rattle.explain.specs.GeneralNames.{is_letter, is_local_part, is_mail_domain, is_mailbox, is_scheme_octet};
 ghost use Rattle.explain.specs.GeneralNames.{are_four, has_apart, is_ipv4_address, numbers_after, numbers_start};
 
@@ -24,23 +24,23 @@ struct DottedNumbers {
 pub(crate) fn is_mailbox(name: &[u8]) -> bool
     ensures { result ≡ is_mailbox name.now }
 {
-    let domain = after_last_at(name);
+    let domain = after_last(b'@', name);
     is_local_part(before_domain(name, domain)) && is_mail_domain(domain)
 }
 
-/// What follows the last `@`; all of it where there is none.
-fn after_last_at(name: &[u8]) -> &[u8]
-    ensures { result.now ≡ after_last_at name.now name.now }
+/// What follows the last octet that is this one; all of it where there is none.
+pub(crate) fn after_last(mark: u8, name: &[u8]) -> &[u8]
+    ensures { result.now ≡ after_last mark name.now name.now }
 {
-    let mut domain = name;
+    let mut found = name;
     let mut left = name;
     while let [octet, rest @ ..] = left {
-        if *octet == b'@' {
-            domain = rest;
+        if *octet == mark {
+            found = rest;
         }
         left = rest;
     }
-    domain
+    found
 }
 
 /// What is before the octet in front of a domain: nothing, where the domain is all.

@@ -38,7 +38,7 @@ fn have_ca(lines: &[Line]) -> bool
     lines.iter().any(|line| may_be_ca(line))
 }
 
-fn have_names(lines: &[Line]) -> bool
+pub(crate) fn have_names(lines: &[Line]) -> bool
     ensures { result ≡ list_any (λ line. is_named_alt line) lines.now }
 {
     lines.iter().any(|line| is_named_alt(line))
@@ -55,7 +55,7 @@ fn may_be_ca(line: &Line) -> bool
 }
 
 /// Whether a line names a subjectAltName.
-fn is_named_alt(line: &Line) -> bool
+pub(crate) fn is_named_alt(line: &Line) -> bool
     ensures { result ≡ is_named_alt line.now }
 {
     match &line.value {

@@ -4,7 +4,7 @@ use Rattle.explain.specs.Faults.{IsDiagnosisIf}
 use Rattle.explain.specs.Insides.{HasInsides}
 use Rattle.explain.specs.Listings.{IsListed}
 use Rattle.explain.specs.Moduli.{modulus_by}
-use Rattle.explain.specs.Notes.{notes_by}
+use Rattle.explain.specs.ProfileNotes.{notes_by}
 use Rattle.explain.specs.Rules.{front_document}
 use Rattle.explain.specs.Wordings.{announced_end, case_by}
 use Rattle.explain.proofs.explained.report_of.Goals as goal
@@ -52,7 +52,8 @@ returns c =
           c.as_slice-4.ensures.value c.in_ok-diagnosis.ensures;
       announced = c.announced_end-announced.ensures ∙ ap announced_end c.as_slice-6.ensures.value;
       guess = refl;
-      notes = c.in_ok-notes.ensures.are ∙ ap (notes_by c.args.disclosed.answer) c.as_slice-5.ensures.value;
+      after = refl;
+      notes = c.in_ok-notes.ensures.are ∙ ap (notes_by c.args.profile c.args.disclosed.answer) c.as_slice-5.ensures.value;
       few = c.in_ok-notes.ensures.few;
       modulus = c.modulus_by-modulus.ensures ∙ ap (modulus_by c.args.disclosed.answer) c.as_slice-7.ensures.value;
     }

@@ -1,5 +1,6 @@
-use Rattle.std.proofs.Common.{◌+◌}
-use Rattle.std.proofs.lemmas.List.{take_rest}
+use Rattle.std.proofs.Common.{ap, ◌+◌}
+use Rattle.std.proofs.lemmas.List.{drop_all, take_rest}
+use Rattle.explain.specs.Notes.{notes_from}
 use Rattle.explain.proofs.Taken.{all_taken, few_more, one_line}
 use Rattle.explain.proofs.notes.notes_of.Goals as goal
 
@@ -17,5 +18,7 @@ loop-i-preserved c = record {
 
 pub returns-clause-are : goal.returns-clause-are
 returns-clause-are c =
-    all_taken c.args.lines.now c.loop-i.i c.loop-i.context c.loop-i.notes.items _ c.loop-i-test.false
+    all_taken c.loop-i.notes.items _ _
+    (ap (notes_from c.args.lines.now c.loop-i.context c.loop-i.i)
+    (drop_all c.loop-i.i c.args.lines.now c.loop-i-test.false))
     c.loop-i.invariant.few c.loop-i.invariant.are
