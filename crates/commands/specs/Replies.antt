@@ -22,6 +22,8 @@ use Rattle.pk_documents.specs.declared.kind.Kind.{Kind}
 use Rattle.pk_documents.specs.declared.kind.Kind.TheVariants.{Request}
 use Rattle.explain.specs.Reports.{IsReportOf}
 use Rattle.explain.specs.Written.{written_text}
+use Rattle.explain.specs.declared.profile.Profile.{Profile}
+use Rattle.explain.specs.declared.profile.Profile.TheVariants.{General}
 use Rattle.reports.specs.declared.report.Report.{Report}
 use Rattle.pk_show.specs.Shown.{document_lines}
 use Rattle.commands.specs.Inputs.{StopsTaking, TakesFirst}
@@ -128,10 +130,12 @@ abbrev pub DueOfOctets : Limits → (List ℕ → Outcome → List ℕ → Type 
 DueOfOctets limits Due before after outcome text =
     (octets : List ℕ) × TakesFirst (limits.octets + 1) before after octets × Due octets outcome text
 
--- The first octets were taken, one more than the limit at most, and this is the report of them.
-abbrev pub IsReportOfInput : Limits → Kind → Option (List ℕ) → Option (List ℕ) → Report → Type 0
-IsReportOfInput limits kind before after report =
-    (octets : List ℕ) × TakesFirst (limits.octets + 1) before after octets × IsReportOf limits kind octets report
+-- The first octets were taken, one more than the limit at most, and this is the report of them, with the notes of the
+-- profile.
+abbrev pub IsReportOfInput : Profile → Limits → Kind → Option (List ℕ) → Option (List ℕ) → Report → Type 0
+IsReportOfInput profile limits kind before after report =
+    (octets : List ℕ) × TakesFirst (limits.octets + 1) before after octets
+    × IsReportOf profile limits kind octets report
 
 -- Why nothing is due of all of the input: the octets that were taken are refused, or not all could be taken.
 abbrev pub StopsShowing : Limits → Kind → ReadError → Option (List ℕ) → Option (List ℕ) → Type 0
@@ -139,12 +143,12 @@ StopsShowing limits kind error before after =
     StopsTaking (limits.octets + 1) error before after
     ⊎ ((octets : List ℕ) × TakesFirst (limits.octets + 1) before after octets × Unreported limits kind octets error)
 
--- The text is due that the report of all of the input has.
-abbrev pub RepliedReporting : (Report → List ℕ) → Limits → Kind → Outcome → Option (List ℕ) → Option (List ℕ)
-    → Option (List ℕ) → Option (List ℕ) → Type 0
-RepliedReporting text_of limits kind outcome before after old new =
+-- The text is due that the report of all of the input has, with the notes of the profile.
+abbrev pub RepliedReporting : (Report → List ℕ) → Profile → Limits → Kind → Outcome → Option (List ℕ)
+    → Option (List ℕ) → Option (List ℕ) → Option (List ℕ) → Type 0
+RepliedReporting text_of profile limits kind outcome before after old new =
     RepliedAs (λ error. StopsTaking (limits.octets + 1) error before after)
-    (DueOfOctets limits (DueOfReport text_of limits kind) before after) outcome old new
+    (DueOfOctets limits (DueOfReport text_of profile limits kind) before after) outcome old new
 
 -- What `show` writes: lines, or the report as JSON.
 abbrev pub RepliedShowing : (Document → Value) → Bool → Option (List ℕ) → Limits → Kind → Outcome → Option (List ℕ)
@@ -161,7 +165,7 @@ abbrev pub RepliedChecking : Bool → Bool → ℕ → Option (List ℕ) → Lim
 RepliedChecking false quiet places file limits kind outcome before after old new =
     RepliedWith limits (type_of kind) (DueOfCheck quiet limits (type_of kind) before after) outcome before after old new
 RepliedChecking true quiet places file limits kind outcome before after old new =
-    RepliedReporting (check_text quiet places file) limits kind outcome before after old new
+    RepliedReporting (check_text quiet places file) General limits kind outcome before after old new
 
 -- What `check` writes with notes: lines of what isn't refused, or JSON.
 abbrev pub RepliedNoting : Bool → Noting → Option (List ℕ) → Limits → Kind → Outcome → Option (List ℕ)
@@ -185,7 +189,7 @@ RepliedBy value_of (Check json quiet places) file kind limits outcome before aft
 RepliedBy value_of (Note noting) file kind limits outcome before after old new =
     RepliedNoting noting.json noting file limits kind outcome before after old new
 RepliedBy value_of (Explain form) file kind limits outcome before after old new =
-    RepliedReporting (written_text form file) limits kind outcome before after old new
+    RepliedReporting (written_text form file) form.profile limits kind outcome before after old new
 RepliedBy value_of (Signed part) file kind limits outcome before after old new =
     RepliedWith limits (type_of Request)
     (DueOfValue limits (type_of Request) (part_of part) before after) outcome before after old new

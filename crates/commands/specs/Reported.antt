@@ -12,6 +12,8 @@ use Rattle.explain.specs.Notes.{has_most_notes}
 use Rattle.explain.specs.Reports.{IsReportOf}
 use Rattle.explain.specs.Rules.{is_refusal}
 use Rattle.explain.specs.Written.{places_shown, version, written_text}
+use Rattle.explain.specs.declared.profile.Profile.{Profile}
+use Rattle.explain.specs.declared.profile.Profile.TheVariants.{General}
 use Rattle.reports.specs.Json.{check_object, noted_object}
 use Rattle.reports.specs.JsonMembers.{number_member, object, text_member}
 use Rattle.reports.specs.Notes.{has_must, notes_text}
@@ -43,11 +45,11 @@ explained_outcome answers.Der = Done
 explained_outcome (answers.NotDer at) = NotDer at
 explained_outcome (answers.Refused found) = ExplainedFault found
 
--- The text is due that the report of these octets has.
-abbrev pub DueOfReport : (Report → List ℕ) → Limits → Kind → List ℕ → Outcome → List ℕ → Type 0
-DueOfReport text_of limits kind octets outcome text =
+-- The text is due that the report of these octets has, with the notes of a profile.
+abbrev pub DueOfReport : (Report → List ℕ) → Profile → Limits → Kind → List ℕ → Outcome → List ℕ → Type 0
+DueOfReport text_of profile limits kind octets outcome text =
     (report : Report)
-    × IsReportOf limits kind octets report
+    × IsReportOf profile limits kind octets report
     × (outcome ≡ explained_outcome report.answer)
     × (text ≡ text_of report)
 
@@ -83,7 +85,7 @@ noted_outcome refuse report =
 abbrev pub DueOfNoted : Noting → Option (List ℕ) → Limits → Kind → List ℕ → Outcome → List ℕ → Type 0
 DueOfNoted noting file limits kind octets outcome text =
     (report : Report)
-    × IsReportOf limits kind octets report
+    × IsReportOf noting.profile limits kind octets report
     × (outcome ≡ noted_outcome noting.refuse report)
     × (text ≡ noted_text noting file report)
 
@@ -91,7 +93,7 @@ DueOfNoted noting file limits kind octets outcome text =
 abbrev pub DueOfNotedLines : Noting → Limits → Kind → List ℕ → Outcome → List ℕ → Type 0
 DueOfNotedLines noting limits kind octets outcome text =
     (report : Report)
-    × IsReportOf limits kind octets report
+    × IsReportOf noting.profile limits kind octets report
     × (is_refusal report.answer ≡ false)
     × (outcome ≡ noted_outcome noting.refuse report)
     × (text ≡ noted_lines noting.quiet report)
@@ -102,10 +104,12 @@ DueOfNotedLines noting limits kind octets outcome text =
 abbrev pub DueOfShownReport : Option (List ℕ) → Limits → Kind → List ℕ → Outcome → List ℕ → Type 0
 DueOfShownReport file limits kind octets outcome text =
     (report : Report)
-    × IsReportOf limits kind octets report
+    × IsReportOf General limits kind octets report
     × (is_refusal report.answer ≡ false)
     × (outcome ≡ Done)
-    × (text ≡ written_text (record { json = true; brief = false; all = true; places = places_shown }) file report)
+    × (text
+    ≡ written_text (record { json = true; brief = false; all = true; places = places_shown; profile = General }) file
+    report)
 
 -- why no report of these octets is due: they are refused, or memory ran out
 abbrev pub Unreported : Limits → Kind → List ℕ → ReadError → Type 0

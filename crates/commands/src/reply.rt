@@ -15,6 +15,7 @@ use crate::outcome::{Outcome, verdict_text};
 use crate::reported::{check_text, explained, json_with_notes, lines_with_notes, noted, refusal};
 use crate::task::{Noting, Task};
 use explain::explained::explain;
+use explain::profile::Profile;
 use explain::written::{Form, PLACES, written_report};
 use pk_documents::check::check_whole_document;
 use pk_documents::document::{Document, Valued, read_whole_document};
@@ -73,7 +74,7 @@ pub(crate) fn show_report<R: Source>(
     ensures read { MatchResult result (λ _. R.has_failed src.new ≡ false)
         (IsFailedRead (R.has_failed src.new)) }
 {
-    let report = report_of_input(alloc, src, task)?;
+    let report = report_of_input(alloc, src, task, Profile::General)?;
     if let Some(fault) = refusal(report.answer) {
         return Err(ReadError::Fault(fault));
     }
@@ -82,6 +83,7 @@ pub(crate) fn show_report<R: Source>(
         brief: false,
         all: true,
         places: PLACES,
+        profile: Profile::General,
     };
     let text = written_report(alloc, &report, file, form)?;
     Ok(Reply {
@@ -126,15 +128,15 @@ pub(crate) fn check_report<R: Source>(
     requires readable { R.has_failed src.old ≡ false }
     ensures replied { MatchResult result
         (λ it. DueOfOctets task.now.limits
-        (DueOfReport (check_text quiet places (option_map (λ r. r.now) file.entry)) task.now.limits
-        task.now.kind)
+        (DueOfReport (check_text quiet places (option_map (λ r. r.now) file.entry)) Profile.General
+        task.now.limits task.now.kind)
         (R.remaining src.old) (R.remaining src.new) it.whole (string_bytes it.text))
         (λ error. StopsTaking (task.now.limits.octets + 1) error (R.remaining src.old)
         (R.remaining src.new)) }
     ensures read { MatchResult result (λ _. R.has_failed src.new ≡ false)
         (IsFailedRead (R.has_failed src.new)) }
 {
-    let report = report_of_input(alloc, src, task)?;
+    let report = report_of_input(alloc, src, task, Profile::General)?;
     let text = check_text(alloc, &report, file, quiet, places)?;
     Ok(Reply {
         text,
@@ -158,7 +160,7 @@ pub(crate) fn note_lines<R: Source>(
     ensures read { MatchResult result (λ _. R.has_failed src.new ≡ false)
         (IsFailedRead (R.has_failed src.new)) }
 {
-    let report = report_of_input(alloc, src, task)?;
+    let report = report_of_input(alloc, src, task, noting.profile)?;
     if let Some(fault) = refusal(report.answer) {
         return Err(ReadError::Fault(fault));
     }
@@ -187,7 +189,7 @@ pub(crate) fn note_report<R: Source>(
     ensures read { MatchResult result (λ _. R.has_failed src.new ≡ false)
         (IsFailedRead (R.has_failed src.new)) }
 {
-    let report = report_of_input(alloc, src, task)?;
+    let report = report_of_input(alloc, src, task, noting.profile)?;
     let text = json_with_notes(alloc, &report, file, noting)?;
     Ok(Reply {
         text,
@@ -206,15 +208,15 @@ pub(crate) fn explain_report<R: Source>(
     requires readable { R.has_failed src.old ≡ false }
     ensures replied { MatchResult result
         (λ it. DueOfOctets task.now.limits
-        (DueOfReport (written_text form (option_map (λ r. r.now) file.entry)) task.now.limits
-        task.now.kind)
+        (DueOfReport (written_text form (option_map (λ r. r.now) file.entry)) form.profile
+        task.now.limits task.now.kind)
         (R.remaining src.old) (R.remaining src.new) it.whole (string_bytes it.text))
         (λ error. StopsTaking (task.now.limits.octets + 1) error (R.remaining src.old)
         (R.remaining src.new)) }
     ensures read { MatchResult result (λ _. R.has_failed src.new ≡ false)
         (IsFailedRead (R.has_failed src.new)) }
 {
-    let report = report_of_input(alloc, src, task)?;
+    let report = report_of_input(alloc, src, task, form.profile)?;
     let text = written_report(alloc, &report, file, form)?;
     Ok(Reply {
         text,
@@ -222,18 +224,25 @@ pub(crate) fn explain_report<R: Source>(
     })
 }
 
-/// Takes all of the input, or one octet more than the limit, and makes the report of that.
-fn report_of_input<R: Source>(alloc: Global, src: &mut R, task: &Task) -> Result<Report, ReadError>
+/// Takes all of the input, or one octet more than the limit, and makes the report of that, with the notes of the
+/// profile.
+fn report_of_input<R: Source>(
+    alloc: Global,
+    src: &mut R,
+    task: &Task,
+    profile: Profile,
+) -> Result<Report, ReadError>
     requires readable { R.has_failed src.old ≡ false }
     ensures reports { MatchResult result
-        (IsReportOfInput task.now.limits task.now.kind (R.remaining src.old) (R.remaining src.new))
+        (IsReportOfInput profile task.now.limits task.now.kind (R.remaining src.old)
+        (R.remaining src.new))
         (λ error. StopsTaking (task.now.limits.octets + 1) error (R.remaining src.old)
         (R.remaining src.new)) }
     ensures read { MatchResult result (λ _. R.has_failed src.new ≡ false)
         (IsFailedRead (R.has_failed src.new)) }
 {
     let octets = read_all(alloc, src, task.limits.octets() as usize + 1)?;
-    let report = explain(alloc, octets.as_slice(), task.kind, task.limits)?;
+    let report = explain(alloc, octets.as_slice(), task.kind, task.limits, profile)?;
     Ok(report)
 }
 

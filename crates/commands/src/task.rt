@@ -1,4 +1,5 @@
 //! What a command is to do.
+use explain::profile::Profile;
 use explain::written::Form;
 use pk_documents::kind::Kind;
 use pk_documents::request_part::Part;
@@ -36,6 +37,8 @@ pub struct Noting {
     /// Without what is in DER, but for its notes.
     pub quiet: bool,
     pub places: u64,
+    /// With the notes of this profile.
+    pub profile: Profile,
     pub refuse: Refuse,
 }
 

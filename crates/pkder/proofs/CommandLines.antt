@@ -13,9 +13,11 @@ use Rattle.clap.specs.declared.parser.matches.Found.{Found}
 use Rattle.clap.proofs.WalkLemmas.{first_value-rows, raw_values-rows}
 use Rattle.pkder.proofs.OneCommand.{MeansSame}
 use Rattle.pkder.proofs.PlainTexts.{controls_plain}
-use Rattle.pkder.specs.CommandLines.{Invokes, InvokesNothing, BadAction, BadInvocation, BadKinds, BadOther, BadPart, BadPlaces, BadRefuse, IsFaultOf, IsPlainLine, MeansInvocation, MeansBy, MeansNothing, MeansTask, ReadsAction, ReadsPair, ReadsPlaces, ReadsRefuse, ShowsPlaces, ShowsOwn, ShowsWhy, advice_for_command, advised_line, are_of_same, asks_reasons, bad_value_line, both_kinds, command_advised, command_name, controls_line, has_control, is_same, kinds_given, kinds_of, missing_line, no_kind_line, option_advised, other_taken, part_name, program, refuses, taken_kind, value_of}
+use Rattle.pkder.specs.CommandLines.{Invokes, InvokesNothing, BadAction, BadInvocation, BadKinds, BadOther, BadPart, BadPlaces, BadProfile, BadRefuse, IsFaultOf, IsPlainLine, MeansInvocation, MeansBy, MeansNothing, MeansTask, ReadsAction, ReadsNotedProfile, ReadsPair, ReadsPlaces, ReadsProfile, ReadsRefuse, ShowsPlaces, ShowsOwn, ShowsWhy, advice_for_command, advised_line, are_of_same, asks_reasons, bad_value_line, both_kinds, command_advised, command_name, controls_line, has_control, is_for_tls, is_same, kinds_given, kinds_of, missing_line, no_kind_line, option_advised, other_taken, part_name, program, refuses, taken_kind, value_of}
 use Rattle.pk_documents.specs.declared.kind.Kind.{Kind}
 use Rattle.pk_documents.specs.declared.request_part.Part.{Part}
+use Rattle.explain.specs.declared.profile.Profile.{Profile}
+use Rattle.explain.specs.declared.profile.Profile.TheVariants.{General, Tls}
 use Rattle.pkder.specs.declared.refusal.BadValue.{BadValue}
 use Rattle.pkder.specs.declared.line.LineFault.{LineFault}
 use Rattle.pkder.specs.declared.line.LineFault.TheVariants as faults
@@ -236,19 +238,32 @@ no_part rows bad part b r = b.1 part r
 no_refuse : (rows : List Row) (bad : BadValue) (refuse : Refuse) → BadRefuse rows bad → ReadsRefuse rows refuse → ⊥
 no_refuse rows bad refuse b r = cc (b.1, r)
 
+no_profile : (rows : List Row) (bad : BadValue) (profile : Profile) → BadProfile rows bad → ReadsProfile rows profile
+    → ⊥
+no_profile rows bad profile b r = cc (b.1, r)
+
+no_noted_profile : (rows : List Row) (bad : BadValue) (profile : Profile) → BadProfile rows bad
+    → ReadsNotedProfile rows profile → ⊥
+no_noted_profile rows bad profile b r = no_profile rows bad r.0 b r.1
+
 -- where nothing is refused
 pub nothing_refused : (refuse : Refuse) → refuses refuse ≡ false → refuse ≡ Nothing
 nothing_refused Nothing e = refl
 nothing_refused Must e = cc
 
--- a command that says places, and one of this name
+-- where no profile is asked for
+pub for_anything : (profile : Profile) → is_for_tls profile ≡ false → profile ≡ General
+for_anything General e = refl
+for_anything Tls e = cc
+
+-- a command that says places and notes, and one of this name
 shows_none : (name other : Text) → ShowsPlaces name → name ≡ other → (codes "check" ≡ other → ⊥)
     → (codes "explain" ≡ other → ⊥) → ⊥
 shows_none name other t e check explain = elim t [ inl h ↦ check (sym h ∙ e) | inr h ↦ explain (sym h ∙ e) ]
 
 bad_action : (name : Text) (rows : List Row) (bad : BadValue) (action : Action) → BadAction name rows bad
     → name ≡ command_name action → ReadsAction action rows → ⊥
-bad_action name rows bad action (inr (inr (inr h))) e r = h.1 action e
+bad_action name rows bad action (inr (inr (inr (inr h)))) e r = h.1 action e
 bad_action name rows bad (Show json) (inl h) e r = cc
 bad_action name rows bad (Check json quiet places) (inl h) e r = cc
 bad_action name rows bad (Note noting) (inl h) e r = cc
@@ -267,6 +282,14 @@ bad_action name rows bad (Note noting) (inr (inr (inl h))) e r = no_refuse rows 
 bad_action name rows bad (Explain form) (inr (inr (inl h))) e r = cc
 bad_action name rows bad Normalise (inr (inr (inl h))) e r = cc
 bad_action name rows bad (Signed part) (inr (inr (inl h))) e r = cc
+bad_action name rows bad (Show json) (inr (inr (inr (inl h)))) e r = shows_none name _ h.0 e (λ z. cc) (λ z. cc)
+bad_action name rows bad (Check json quiet places) (inr (inr (inr (inl h)))) e r =
+    no_noted_profile rows bad General h.1 r.4
+bad_action name rows bad (Note noting) (inr (inr (inr (inl h)))) e r =
+    no_noted_profile rows bad noting.profile h.1 r.0.4
+bad_action name rows bad (Explain form) (inr (inr (inr (inl h)))) e r = no_profile rows bad form.profile h.1 r.4
+bad_action name rows bad Normalise (inr (inr (inr (inl h)))) e r = shows_none name _ h.0 e (λ z. cc) (λ z. cc)
+bad_action name rows bad (Signed part) (inr (inr (inr (inl h)))) e r = shows_none name _ h.0 e (λ z. cc) (λ z. cc)
 
 -- a command whose action can't be read has no task
 pub no_action : (name : Text) (rows : List Row) (bad : BadValue) (task : Task) → BadAction name rows bad

@@ -18,6 +18,8 @@ use Rattle.pk_documents.specs.declared.kind.Kind.TheVariants as kinds
 use Rattle.pk_documents.specs.declared.kind.TheConstants.{KEY_WORDS, WORDS}
 use Rattle.pk_documents.specs.declared.request_part.Part.{Part}
 use Rattle.pk_documents.specs.declared.request_part.Part.TheVariants as parts
+use Rattle.explain.specs.declared.profile.Profile.{Profile}
+use Rattle.explain.specs.declared.profile.Profile.TheVariants.{General, Tls}
 use Rattle.explain.specs.declared.written.Form.{Form}
 use Rattle.commands.specs.Names.{IsPrintable, escaped, quoted}
 use Rattle.commands.specs.Outcomes.{line_feed}
@@ -69,6 +71,10 @@ places_rule =
 abbrev pub refuse_rule : Rule
 refuse_rule = record (new_rule (codes "refuse")) { long = Some (codes "refuse"); value_names = 1 }
 
+-- what a document is for
+abbrev pub profile_rule : Rule
+profile_rule = record (new_rule (codes "profile")) { long = Some (codes "profile"); value_names = 1 }
+
 abbrev pub flag_rule : Text → Rule
 flag_rule name = record (new_rule name) { long = Some name; action = Some SetTrue }
 
@@ -114,20 +120,21 @@ with_name app = with_rule (with_rule app (file_rule (codes "to"))) name_rule
 abbrev pub with_json_and_places : App → App
 with_json_and_places app = with_rule (with_flag app (codes "json")) places_rule
 
--- with notes, and with those that no document is to have
+-- with notes, with those that no document is to have, and with a profile
 abbrev pub with_notes : App → App
-with_notes app = with_rule (with_flag app (codes "notes")) refuse_rule
+with_notes app = with_rule (with_rule (with_flag app (codes "notes")) refuse_rule) profile_rule
 
 abbrev pub check_shape : Shape
 check_shape =
     (with_names (with_json_and_places (with_notes (with_flag (on_kind (codes "check")) (codes "quiet"))))).top
 
--- with all elements, or with the answer for whoever sent the file alone
-abbrev pub explain_flags : App
-explain_flags = with_flag (with_flag (on_kind (codes "explain")) (codes "all")) (codes "brief")
+-- with the answer for whoever sent the file alone, or with a profile
+abbrev pub with_brief : App → App
+with_brief app = with_rule (with_flag app (codes "brief")) profile_rule
 
 abbrev pub explain_shape : Shape
-explain_shape = (with_names (with_json_and_places explain_flags)).top
+explain_shape =
+    (with_names (with_json_and_places (with_brief (with_flag (on_kind (codes "explain")) (codes "all"))))).top
 
 abbrev pub show_shape : Shape
 show_shape = (with_names (with_flag (on_kind (codes "show")) (codes "json"))).top
@@ -208,7 +215,7 @@ ReadsPlaces rows places = IsNumber (value_of (codes "places") rows) places × (1
 -- the notes that no document is to have, by the value of their option, if it is one
 unfoldable pub refuse_by : Option Text → Option Refuse
 refuse_by None = Some Nothing
-refuse_by (Some word) = if bytes_eq word (codes "must") then Some Must else None
+refuse_by (Some word) = if bytes_eq word (codes "must") || bytes_eq word (codes "tls") then Some Must else None
 
 abbrev pub ReadsRefuse : List Row → Refuse → Type 0
 ReadsRefuse rows refuse = refuse_by (first_of (codes "refuse") rows) ≡ Some refuse
@@ -218,9 +225,29 @@ abbrev pub refuses : Refuse → Bool
 refuses Nothing = false
 refuses Must = true
 
--- Notes are asked for: by themselves, or by what no document is to have.
-abbrev pub asks_notes : Refuse → List Row → Bool
-asks_notes refuse rows = is_given (codes "notes") rows || refuses refuse
+-- what a document is for, by the value of its option, if it is one
+unfoldable pub profile_by : Option Text → Option Profile
+profile_by None = Some General
+profile_by (Some word) = if bytes_eq word (codes "tls") then Some Tls else None
+
+abbrev pub ReadsProfile : List Row → Profile → Type 0
+ReadsProfile rows profile = profile_by (first_of (codes "profile") rows) ≡ Some profile
+
+-- the profile of a check by the value of `--refuse`, which may say it, too
+abbrev pub noted_profile : Text → Profile → Profile
+noted_profile refused named = if bytes_eq refused (codes "tls") then Tls else named
+
+abbrev pub ReadsNotedProfile : List Row → Profile → Type 0
+ReadsNotedProfile rows profile =
+    (named : Profile) × ReadsProfile rows named × (profile ≡ noted_profile (value_of (codes "refuse") rows) named)
+
+abbrev pub is_for_tls : Profile → Bool
+is_for_tls General = false
+is_for_tls Tls = true
+
+-- Notes are asked for: by themselves, by what no document is to have, or by a profile.
+abbrev pub asks_notes : Noting → List Row → Bool
+asks_notes noting rows = is_given (codes "notes") rows || (refuses noting.refuse || is_for_tls noting.profile)
 
 -- how `check` writes, and how it ends
 abbrev pub ReadsNoting : List Row → Noting → Type 0
@@ -229,6 +256,7 @@ ReadsNoting rows noting =
     × (noting.quiet ≡ is_given (codes "quiet") rows)
     × ReadsPlaces rows noting.places
     × ReadsRefuse rows noting.refuse
+    × ReadsNotedProfile rows noting.profile
 
 abbrev pub ReadsForm : List Row → Form → Type 0
 ReadsForm rows form =
@@ -236,6 +264,7 @@ ReadsForm rows form =
     × (form.brief ≡ is_given (codes "brief") rows)
     × (form.all ≡ is_given (codes "all") rows)
     × ReadsPlaces rows form.places
+    × ReadsProfile rows form.profile
 
 abbrev pub ReadsAction : Action → List Row → Type 0
 ReadsAction (Show json) rows = json ≡ is_given (codes "json") rows
@@ -244,8 +273,9 @@ ReadsAction (Check json quiet places) rows =
     × (quiet ≡ is_given (codes "quiet") rows)
     × ReadsPlaces rows places
     × ReadsRefuse rows Nothing
+    × ReadsNotedProfile rows General
     × (is_given (codes "notes") rows ≡ false)
-ReadsAction (Note noting) rows = ReadsNoting rows noting × (asks_notes noting.refuse rows ≡ true)
+ReadsAction (Note noting) rows = ReadsNoting rows noting × (asks_notes noting rows ≡ true)
 ReadsAction (Explain form) rows = ReadsForm rows form
 ReadsAction Normalise rows = Unit {0}
 ReadsAction (Signed part) rows = value_of (codes "part") rows ≡ part_name part
@@ -522,20 +552,26 @@ BadPlaces rows bad =
 
 abbrev pub BadRefuse : List Row → BadValue → Type 0
 BadRefuse rows bad =
-    Names bad (codes "--refuse <LEVEL>") (value_of (codes "refuse") rows) (codes "must")
+    Names bad (codes "--refuse <LEVEL>") (value_of (codes "refuse") rows) (codes "must or tls")
     × (refuse_by (first_of (codes "refuse") rows) ≡ None)
     × (bad.advice.now ≡ [])
 
--- these commands say places
+abbrev pub BadProfile : List Row → BadValue → Type 0
+BadProfile rows bad =
+    Names bad (codes "--profile <PROFILE>") (value_of (codes "profile") rows) (codes "tls")
+    × (profile_by (first_of (codes "profile") rows) ≡ None)
+    × (bad.advice.now ≡ [])
+
+-- these commands say places, and notes
 abbrev pub ShowsPlaces : Text → Type 0
 ShowsPlaces name = (name ≡ codes "check") ⊎ (name ≡ codes "explain")
 
--- what is wrong with the command of this name, with the part that `signed` is to write, with the number of places, or
--- with the notes that `check` is to refuse
+-- what is wrong with the command of this name, with the part that `signed` is to write, with the number of places, with
+-- the notes that `check` is to refuse, or with the profile
 abbrev pub BadAction : Text → List Row → BadValue → Type 0
 BadAction name rows bad =
     ((name ≡ codes "signed") × BadPart rows bad) ⊎ (ShowsPlaces name × BadPlaces rows bad)
-    ⊎ ((name ≡ codes "check") × BadRefuse rows bad) ⊎ BadCommand name bad
+    ⊎ ((name ≡ codes "check") × BadRefuse rows bad) ⊎ (ShowsPlaces name × BadProfile rows bad) ⊎ BadCommand name bad
 
 -- a kind that the action doesn't take
 abbrev pub BadKindOf : Action → List Row → BadValue → Type 0

@@ -5,13 +5,13 @@ ghost use Rattle.clap.specs.declared.builder.command.Command.TheViews.{out-Comma
 ghost use Rattle.pkder.specs.CommandLines.{check_shape, command_named as command_shape, depth_rule, explain_shape};
 ghost use Rattle.pkder.specs.CommandLines.{file_rule, flag_rule, kind_rule, name_rule, names_rule, normalise_shape};
 ghost use Rattle.pkder.specs.CommandLines.{octets_rule, pair_kinds_rule, part_rule, places_rule, program};
-ghost use Rattle.pkder.specs.CommandLines.{program_for, refuse_rule, request_rule, required_rule, same_shape};
-ghost use Rattle.pkder.specs.CommandLines.{show_shape, signed_shape, top, with_limit_rules};
-ghost use Rattle.pkder.specs.CommandLines.{with_name as app_with_name};
+ghost use Rattle.pkder.specs.CommandLines.{profile_rule, program_for, refuse_rule, request_rule, required_rule};
+ghost use Rattle.pkder.specs.CommandLines.{same_shape, show_shape, signed_shape, top, with_limit_rules};
+ghost use Rattle.pkder.specs.CommandLines.{with_brief as app_with_brief, with_name as app_with_name};
 ghost use Rattle.pkder.specs.CommandLines.{with_names as app_with_names, with_pair as app_with_pair};
 ghost use Rattle.pkder.specs.CommandLines.{with_json_and_places as app_with_places, with_notes as app_with_notes};
 
-use crate::help::{CHECK, EXPLAIN, NORMALISE, PROGRAM, SAME, SHOW, SIGNED};
+use crate::help::{CHECK, EXPLAIN, NORMALISE, PROFILE, PROGRAM, SAME, SHOW, SIGNED};
 use clap::{Arg, ArgAction, Command};
 use explain::version::VERSION;
 use std::alloc::{AllocError, Global};
@@ -112,11 +112,7 @@ fn explain<'a>(alloc: Global) -> Result<Command<'a>, AllocError>
         .after_help(EXPLAIN);
     let on_kind = on_kind(alloc, command)?;
     let with_all = on_kind.arg(flag(alloc, "all", "list all elements, however many there are"))?;
-    let with_brief = with_all.arg(flag(
-        alloc,
-        "brief",
-        "say it briefly, for whoever sent the file",
-    ))?;
+    let with_brief = with_brief(alloc, with_all)?;
     let with_places = with_json_and_places(alloc, with_brief)?;
     with_names(alloc, with_places)
 }
@@ -216,7 +212,7 @@ fn with_json_and_places<'a>(alloc: Global, command: Command<'a>) -> Result<Comma
     with_json.arg(places(alloc))
 }
 
-/// The command with notes, and with those that no document is to have.
+/// The command with notes, with those that no document is to have, and with a profile.
 fn with_notes<'a>(alloc: Global, command: Command<'a>) -> Result<Command<'a>, AllocError>
     requires { (fields_of command).has_globals ≡ false }
     ensures shape { IfOk result (λ new. app_of new ≡ app_with_notes (app_of command.entry)) }
@@ -227,7 +223,18 @@ fn with_notes<'a>(alloc: Global, command: Command<'a>) -> Result<Command<'a>, Al
         "notes",
         "write notes on what other standards say against it",
     ))?;
-    with_flag.arg(refuse(alloc))
+    let with_refuse = with_flag.arg(refuse(alloc))?;
+    with_refuse.arg(profile(alloc))
+}
+
+/// The command with the answer for whoever sent the file alone, and with a profile.
+fn with_brief<'a>(alloc: Global, command: Command<'a>) -> Result<Command<'a>, AllocError>
+    requires { (fields_of command).has_globals ≡ false }
+    ensures shape { IfOk result (λ new. app_of new ≡ app_with_brief (app_of command.entry)) }
+    ensures local { IfOk result (λ new. (fields_of new).has_globals ≡ false) }
+{
+    let with_flag = command.arg(flag(alloc, "brief", "say it briefly, for whoever sent the file"))?;
+    with_flag.arg(profile(alloc))
 }
 
 /// The command on any number of files.
@@ -387,7 +394,19 @@ fn refuse<'a>(alloc: Global) -> Arg<'a>
     Arg::new(alloc, "refuse")
         .long("refuse")
         .value_name("LEVEL")
-        .help("write notes, and end with status 5 where one has\nthis level: must")
+        .help(
+            "write notes, and end with status 5 where one has\nthe level must; tls names the profile: must or tls",
+        )
+}
+
+fn profile<'a>(alloc: Global) -> Arg<'a>
+    ensures rule { rule_of result ≡ profile_rule }
+    ensures local { result.global ≡ false }
+{
+    Arg::new(alloc, "profile")
+        .long("profile")
+        .value_name("PROFILE")
+        .help(PROFILE)
 }
 
 fn depth<'a>(alloc: Global) -> Arg<'a>

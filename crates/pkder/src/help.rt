@@ -17,11 +17,17 @@ Exit statuses, of several files the greatest:
   2  refused: 'fault at PLACE: REASON', the place an octet counted from 0
   3  reading or writing failed, or memory ran out
   4  the command line is refused
-  5  of check --refuse must: a note has the level must
+  5  of check --refuse: a note has the level must
 
 Say what a request is, and what a reason means:
   pkder show --kind request request.der
   pkder help reasons";
+
+/// What the option `--profile` does.
+pub const PROFILE: &str = "\
+with the notes of what a certificate of a TLS
+server may not have (Baseline Requirements of the
+CA/Browser Forum): tls";
 
 pub const CHECK: &str = "\
 It says 'DER', 'not DER at PLACE' (status 1) or 'fault at PLACE: REASON'
@@ -30,15 +36,18 @@ It says 'DER', 'not DER at PLACE' (status 1) or 'fault at PLACE: REASON'
 With --notes lines 'note LEVEL CODE PATH: WORDS' come after that, of what is
 not refused: LEVEL is must where another standard forbids what stands at PATH,
 and should where one advises against it. With --refuse must the status is 5
-where there is a note of that level.
+where there is a note of that level. With --profile tls there are notes as
+with --notes, and those for TLS servers after them.
 
-  pkder check --kind request --refuse must request.der";
+  pkder check --kind request --refuse must request.der
+  pkder check --kind request --refuse tls request.der";
 
 pub const EXPLAIN: &str = "\
 The report has no octets of private keys and no values of attributes. It is
 written of a document that is refused, too. Kinds and statuses: pkder help.
 
-  pkder explain --kind request request.der";
+  pkder explain --kind request request.der
+  pkder explain --kind request --profile tls request.der";
 
 pub const SHOW: &str = "\
 It shows all that is in the document but private octets, as the

@@ -4,8 +4,10 @@ ghost use Rattle.std.specs.Prelude.{option_map, string_bytes};
 ghost use Rattle.clap.specs.Words.{first_of, found_of, kind_of, rows_of, subcommand_rows_of};
 ghost use Rattle.pk_documents.specs.KindRows.{kind_named};
 ghost use Rattle.pkder.specs.CommandLines.{Invokes, InvokesNothing, BadAction, BadInvocation, BadOrder, BadKind};
-ghost use Rattle.pkder.specs.CommandLines.{BadKindOf, BadLimit, BadPart, BadPlaces, BadRefuse, BadRequest, BadTask};
-ghost use Rattle.pkder.specs.CommandLines.{DoesAction, ReadsNoting, ReadsRefuse, refuse_by, refuses};
+ghost use Rattle.pkder.specs.CommandLines.{BadKindOf, BadLimit, BadPart, BadPlaces, BadProfile, BadRefuse};
+ghost use Rattle.pkder.specs.CommandLines.{BadRequest, BadTask};
+ghost use Rattle.pkder.specs.CommandLines.{DoesAction, ReadsNotedProfile, ReadsNoting, ReadsProfile, ReadsRefuse};
+ghost use Rattle.pkder.specs.CommandLines.{is_for_tls, noted_profile, profile_by, refuse_by, refuses};
 ghost use Rattle.pkder.specs.CommandLines.{IsFaultOf, IsNumber, Means, MeansInvocation, MeansBy, MeansNothing};
 ghost use Rattle.pkder.specs.CommandLines.{MeansTask, ReadsForm, ReadsKind, ReadsLimits, ReadsPlaces, asks_reasons};
 ghost use Rattle.pkder.specs.CommandLines.{has_second_dash as has_dash_again, is_given, names_of, part_name};
@@ -20,6 +22,7 @@ use crate::refusal::{BadValue, advice_for_kind, refusal_text};
 use clap::error::ErrorKind;
 use clap::{ArgMatches, Error};
 use commands::task::{Action, Noting, Refuse, Task};
+use explain::profile::Profile;
 use explain::written::Form;
 use pk_documents::kind::{Kind, WORDS};
 use pk_documents::request_part::Part;
@@ -254,7 +257,7 @@ fn read_action<'a>(name: &'a str, options: &ArgMatches<'a>) -> Result<Action, Ba
         return read_check(options);
     }
     if name == "explain" {
-        return Ok(Action::Explain(read_form(options)?));
+        return read_explain(options);
     }
     if name == "show" {
         return Ok(Action::Show {
@@ -289,7 +292,7 @@ fn check_action(options: &ArgMatches<'_>, noting: Noting) -> Action
     requires { ReadsNoting (rows_of (found_of options.now)) noting }
     ensures { DoesAction (codes "check") (rows_of (found_of options.now)) result }
 {
-    if is_flagged(options, "notes") || refuses(noting.refuse) {
+    if is_flagged(options, "notes") || refuses(noting.refuse) || is_for_tls(noting.profile) {
         return Action::Note(noting);
     }
     Action::Check {
@@ -309,6 +312,16 @@ fn refuses(refuse: Refuse) -> bool
     }
 }
 
+/// Whether notes are asked for by the profile.
+fn is_for_tls(profile: Profile) -> bool
+    ensures { result ≡ is_for_tls profile }
+{
+    match profile {
+        Profile::General => false,
+        Profile::Tls => true,
+    }
+}
+
 /// How `check` writes, and how it ends.
 fn read_noting<'a>(options: &ArgMatches<'a>) -> Result<Noting, BadValue<'a>>
     ensures { MatchResult result (ReadsNoting (rows_of (found_of options.now)))
@@ -316,10 +329,12 @@ fn read_noting<'a>(options: &ArgMatches<'a>) -> Result<Noting, BadValue<'a>>
 {
     let places = read_places(options)?;
     let refuse = read_refuse(options)?;
+    let profile = read_noted_profile(options)?;
     Ok(Noting {
         json: is_flagged(options, "json"),
         quiet: is_flagged(options, "quiet"),
         places,
+        profile,
         refuse,
     })
 }
@@ -334,7 +349,7 @@ fn read_refuse<'a>(options: &ArgMatches<'a>) -> Result<Refuse, BadValue<'a>>
         None => Err(BadValue {
             option: "--refuse <LEVEL>",
             value: value(options, "refuse"),
-            wanted: "must",
+            wanted: "must or tls",
             advice: "",
         }),
     }
@@ -348,8 +363,58 @@ fn refuse_by(word: Option<&str>) -> Option<Refuse>
     let Some(word) = word else {
         return Some(Refuse::Nothing);
     };
-    if word == "must" {
+    if word == "must" || word == "tls" {
         Some(Refuse::Must)
+    } else {
+        None
+    }
+}
+
+/// The profile of a check, which `--refuse` may say, too.
+fn read_noted_profile<'a>(options: &ArgMatches<'a>) -> Result<Profile, BadValue<'a>>
+    ensures { MatchResult result (ReadsNotedProfile (rows_of (found_of options.now)))
+        (BadProfile (rows_of (found_of options.now))) }
+{
+    let named = read_profile(options)?;
+    Ok(noted_profile(value(options, "refuse"), named))
+}
+
+/// The profile of a check by the value of `--refuse`, where this one is named.
+fn noted_profile(refused: &str, named: Profile) -> Profile
+    ensures { result ≡ noted_profile refused.now named }
+{
+    if refused == "tls" {
+        return Profile::Tls;
+    }
+    named
+}
+
+/// The profile that is named.
+fn read_profile<'a>(options: &ArgMatches<'a>) -> Result<Profile, BadValue<'a>>
+    ensures { MatchResult result (ReadsProfile (rows_of (found_of options.now)))
+        (BadProfile (rows_of (found_of options.now))) }
+{
+    match profile_by(given(options, "profile")) {
+        Some(profile) => Ok(profile),
+        None => Err(BadValue {
+            option: "--profile <PROFILE>",
+            value: value(options, "profile"),
+            wanted: "tls",
+            advice: "",
+        }),
+    }
+}
+
+/// The profile by the value of its option.
+#[tactic(auto, unfolding(crate::specs::CommandLines::profile_by))]
+fn profile_by(word: Option<&str>) -> Option<Profile>
+    ensures { result ≡ profile_by (option_map (λ word. word.now) word.entry) }
+{
+    let Some(word) = word else {
+        return Some(Profile::General);
+    };
+    if word == "tls" {
+        Some(Profile::Tls)
     } else {
         None
     }
@@ -415,17 +480,28 @@ fn read_part<'a>(options: &ArgMatches<'a>) -> Result<Part, BadValue<'a>>
     })
 }
 
+/// What `explain` does.
+fn read_explain<'a>(options: &ArgMatches<'a>) -> Result<Action, BadValue<'a>>
+    ensures { MatchResult result (DoesAction (codes "explain") (rows_of (found_of options.now)))
+        (BadAction (codes "explain") (rows_of (found_of options.now))) }
+{
+    let form = read_form(options)?;
+    Ok(Action::Explain(form))
+}
+
 /// The form that the options ask for.
 fn read_form<'a>(options: &ArgMatches<'a>) -> Result<Form, BadValue<'a>>
     ensures { MatchResult result (ReadsForm (rows_of (found_of options.now)))
-        (BadPlaces (rows_of (found_of options.now))) }
+        (BadAction (codes "explain") (rows_of (found_of options.now))) }
 {
     let places = read_places(options)?;
+    let profile = read_profile(options)?;
     Ok(Form {
         json: is_flagged(options, "json"),
         brief: is_flagged(options, "brief"),
         all: is_flagged(options, "all"),
         places,
+        profile,
     })
 }
 

@@ -3,6 +3,7 @@ use Rattle.std.specs.Option.{option_map}
 use Rattle.pk_documents.specs.Kinds.{type_of}
 use Rattle.pk_documents.proofs.DocumentValues.{valued}
 use Rattle.explain.specs.Written.{written_text}
+use Rattle.explain.specs.declared.profile.Profile.TheVariants.{General}
 use Rattle.commands.specs.Inputs.{StopsTaking}
 use Rattle.commands.specs.Replies.{DueOfCheck, DueOfOctets, DueOfShow, RepliedBy, StopsShowing, Unreadable}
 use Rattle.commands.specs.Reported.{DueOfReport, DueOfShownReport, check_text}
@@ -65,7 +66,8 @@ returns-in-Check-true-default-default-clause-replied g c =
     (contents new)) is
     (reply_replies old new contents (g.W.Target.has_failed new) c.write_reply-in-Check-true-default-default.result
     (λ error. StopsTaking (l.octets + 1) error before after)
-    (DueOfOctets l (DueOfReport (check_text arm.quiet arm.places file) l kind) before after) c.check_report-reply.result
+    (DueOfOctets l (DueOfReport (check_text arm.quiet arm.places file) General l kind) before after)
+    c.check_report-reply.result
     c.check_report-reply.ensures.replied c.write_reply-in-Check-true-default-default.ensures.wrote)
 
 pub returns-in-Check-false-default-default-clause-replied : goal.returns-in-Check-false-default-default-clause-replied
@@ -104,5 +106,6 @@ returns-in-Explain-clause-replied g c =
     RepliedBy valued action file kind l c.write_reply-in-Explain.result before after (contents old) (contents new)) is
     (reply_replies old new contents (g.W.Target.has_failed new) c.write_reply-in-Explain.result
     (λ error. StopsTaking (l.octets + 1) error before after)
-    (DueOfOctets l (DueOfReport (written_text arm.form file) l kind) before after) c.explain_report.result
+    (DueOfOctets l (DueOfReport (written_text arm.form file) arm.form.profile l kind) before after)
+    c.explain_report.result
     c.explain_report.ensures.replied c.write_reply-in-Explain.ensures.wrote)
