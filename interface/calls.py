@@ -4,9 +4,10 @@
 Each line has six cells between tabs: rule, words, input, status, output, error. The words are a command and its
 options, none left out, as
   normalise --kind key --depth 32 --octets 1048576
-(check and show the same; signed has --part in place of --kind; explain may have --all and --json after them). Input
-and output are in hex, and the error is a line. tests/harness/rows.py reads such a table too. Left out are help and
-command lines that are refused, which no call has, rows whose reads or writes fail, and rows that state no answer.
+(check and show the same; signed has --part in place of --kind; explain may have --all, --json and --profile=tls after
+them). Input and output are in hex, and the error is a line. tests/harness/rows.py reads such a table too. Left out are
+help and command lines that are refused, which no call has, rows whose reads or writes fail, and rows that state no
+answer.
 
 The program has no command `field`. A row of it stands after each row of explain, with what that says after `field`,
 and after each row of check whose document is in DER, of which nothing is said. The last rows are of the documents that
@@ -21,7 +22,8 @@ from tests.explained.reports import FOLDER, blocks
 from tests.harness import rows
 
 USUAL = {"depth": "32", "octets": "1048576"}
-FLAGS = ("--all", "--json")
+PROFILE = "--profile=tls"
+FLAGS = ("--all", "--json", PROFILE)
 # (a long line is broken at a blank, and goes on after 8 of them)
 FIELD = re.compile(r"^field   (.*(?:\n {8}.*)*)", re.M)
 
@@ -46,6 +48,9 @@ def call_of(words):
     options = options_of(it for it in words[1:] if it not in flags)
     if options is None:
         return None
+    if words[0] == "explain" and options.get("profile") == "tls":
+        del options["profile"]
+        flags.append(PROFILE)
     options = {**({"part": "info"} if what == "part" else {}), **USUAL, **options}
     if {*options} != {what, *USUAL}:
         return None

@@ -84,9 +84,11 @@ extern "C" {
 #define PKDER_MOST_DEPTH 64u
 #define PKDER_MOST_OCTETS UINT64_C(2147483647)
 
-/* The form of a report (pkder_explain): text with the elements that matter, or one of these, or both of them added. */
+/* The form of a report (pkder_explain): text with the elements that matter, or one of these, or several of them added,
+ * each once. */
 #define PKDER_ALL 1u  /* with all elements */
 #define PKDER_JSON 2u /* as one object of JSON, in one line: docs/report.schema.json states it */
+#define PKDER_TLS 4u  /* with the notes for TLS servers, after the others: docs/formats.md, "What is noted" */
 
 /* Octets of stack that are enough for a call. Tested and not proved. It grows with the depth that is allowed: half of
  * it is enough up to PKDER_DEPTH. Nothing checks it: a call with less runs past the end of its thread's stack. So look

@@ -28,9 +28,15 @@ REPORT_CALL(explain_text, 0)
 REPORT_CALL(explain_all, PKDER_ALL)
 REPORT_CALL(explain_json, PKDER_JSON)
 REPORT_CALL(explain_all_json, PKDER_ALL | PKDER_JSON)
+REPORT_CALL(explain_text_tls, PKDER_TLS)
+REPORT_CALL(explain_all_tls, PKDER_ALL | PKDER_TLS)
+REPORT_CALL(explain_json_tls, PKDER_JSON | PKDER_TLS)
+REPORT_CALL(explain_all_json_tls, PKDER_ALL | PKDER_JSON | PKDER_TLS)
 
 /* The calls that tell of any octets: reports by the numbers of their forms, and the field that a report is about. */
-static text_call *const reports[] = {explain_text, explain_all, explain_json, explain_all_json, pkder_field};
+static text_call *const reports[] = {explain_text,     explain_all,          explain_json,
+                                     explain_all_json, explain_text_tls,     explain_all_tls,
+                                     explain_json_tls, explain_all_json_tls, pkder_field};
 #define REPORTS (sizeof reports / sizeof *reports)
 
 static inline int is_report(text_call *call) {
@@ -40,6 +46,10 @@ static inline int is_report(text_call *call) {
         }
     }
     return 0;
+}
+
+static inline int is_json(text_call *call) {
+    return call == explain_json || call == explain_all_json || call == explain_json_tls || call == explain_all_json_tls;
 }
 
 /* What a document is handed over for. */
@@ -70,11 +80,14 @@ static inline uint32_t number_of(const char *name, const char *const *names) {
 
 /* Takes a command and a kind, or a part under "signed", or else NULL for the part "info"; 0 where they are none. */
 static inline int is_task(struct task *task, const char *command, const char *what) {
-    static const char *const commands[] = {"check",   "normalise",   "show",         "signed",           "field",
-                                           "explain", "explain-all", "explain-json", "explain-all-json", NULL};
+    static const char *const commands[] = {
+        "check",   "normalise",   "show",         "signed",           "field",
+        "explain", "explain-all", "explain-json", "explain-all-json", "explain-all-json-tls",
+        NULL};
     static const char *const parts[] = {"info", "algorithm", "key", "signature", NULL};
-    static text_call *const calls[] = {NULL,         pkder_normalise, pkder_show,   pkder_signed,    pkder_field,
-                                       explain_text, explain_all,     explain_json, explain_all_json};
+    static text_call *const calls[] = {
+        NULL,         pkder_normalise, pkder_show,   pkder_signed,     pkder_field,
+        explain_text, explain_all,     explain_json, explain_all_json, explain_all_json_tls};
     uint32_t number = number_of(command, commands);
     if (number == 0) {
         return 0;

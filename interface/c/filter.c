@@ -1,6 +1,6 @@
-/* filter COMMAND [--kind KIND | --part PART] [--depth N] [--octets N] [--all] [--json]: the program pkder again, over
- * the library, from standard input to standard output. It passes the tables of the program's tests. A command of its own
- * is field, which writes the field that the report is about, and nothing after it. */
+/* filter COMMAND [--kind KIND | --part PART] [--depth N] [--octets N] [--all] [--json] [--profile=tls]: the program
+ * pkder again, over the library, from standard input to standard output. It passes the tables of the program's tests. A
+ * command of its own is field, which writes the field that the report is about, and nothing after it. */
 #include "common.h"
 
 /* The number that a word says; one that is out of range for all limits where it says none. */
@@ -12,7 +12,10 @@ static uint64_t limit_of(const char *word) {
 
 /* The part of a report's form that a word asks for, 0 for none. */
 static uint32_t form_of(const char *word) {
-    return strcmp(word, "--all") == 0 ? PKDER_ALL : strcmp(word, "--json") == 0 ? PKDER_JSON : 0;
+    return strcmp(word, "--all") == 0           ? PKDER_ALL
+           : strcmp(word, "--json") == 0        ? PKDER_JSON
+           : strcmp(word, "--profile=tls") == 0 ? PKDER_TLS
+                                                : 0;
 }
 
 /* Takes the words; 0 where they are none. */
@@ -105,7 +108,8 @@ static int say_whether_der(const struct task *task, const uint8_t *src, size_t l
 int main(int count, char **words) {
     struct task task;
     if (!read_words(&task, count, words)) {
-        fputs("filter COMMAND [--kind KIND | --part PART] [--depth N] [--octets N] [--all] [--json]\n", stderr);
+        fputs("filter COMMAND [--kind KIND | --part PART] [--depth N] [--octets N] [--all] [--json] [--profile=tls]\n",
+              stderr);
         return BAD_LINE;
     }
     size_t len;

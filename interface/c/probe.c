@@ -112,10 +112,9 @@ static void one(const struct task *task, const uint8_t *given, size_t len) {
 /* Whether octets are lines of printable ASCII, or none; in a report there may be letters beyond ASCII, in JSON any that
  * RFC 8259 has as they are, and a field has no end of a line. */
 static int are_lines(text_call *call, const uint8_t *text, size_t size) {
-    int is_json = call == explain_json || call == explain_all_json;
-    int is_ascii = call == pkder_show || call == pkder_field;
+    int has_delete = is_json(call), is_ascii = call == pkder_show || call == pkder_field;
     for (size_t i = 0; i < size; i++) {
-        if (text[i] != '\n' && (text[i] < ' ' || (text[i] == 127 && !is_json) || (text[i] > 127 && is_ascii))) {
+        if (text[i] != '\n' && (text[i] < ' ' || (text[i] == 127 && !has_delete) || (text[i] > 127 && is_ascii))) {
             return 0;
         }
     }
@@ -318,7 +317,7 @@ static void try_bad_calls(void) {
         check_calls(&of_two, 1, &rows[i], src, sizeof src, &due);
         check_calls(&of_two, 1, &rows[i], NULL, 0, &due);
     }
-    static const uint32_t forms[] = {4, 5, 6, 7, 8, 256, 257, 0x10001, 0x80000002u, UINT32_MAX};
+    static const uint32_t forms[] = {8, 9, 12, 15, 16, 256, 257, 0x10001, 0x80000002u, UINT32_MAX};
     for (size_t i = 0; i < sizeof forms / sizeof *forms; i++) {
         fill(dst_room.at, dst_room.size);
         pkder_outcome said =

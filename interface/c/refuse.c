@@ -1,8 +1,8 @@
 /* refuse COMMAND KIND-OR-PART FILE: a call with each of its allocations refused in turn, linked to libpkder.a with
  * -Wl,--wrap=malloc,--wrap=realloc,--wrap=free. A refusal gives PKDER_NO_MEMORY and leaves the room as it was, or
  * changes nothing (a block that isn't made smaller); and whatever comes, nothing stays allocated. A command is one of
- * the program's, or field; of explain explain-all, explain-json and explain-all-json, too; same is a document beside
- * itself. */
+ * the program's, or field; of explain explain-all, explain-json, explain-all-json and explain-all-json-tls, too; same
+ * is a document beside itself. */
 #include "trial.h"
 
 #define ROOM 65536

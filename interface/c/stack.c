@@ -94,8 +94,9 @@ static size_t written(size_t size, struct task *task) {
 
 /* Calls at this depth take no more than `enough`, beside what the thread itself takes. */
 static void try_depth(uint32_t depth, size_t enough) {
-    static text_call *const calls[] = {NULL,        same_as_itself, pkder_normalise,  pkder_show,  explain_text,
-                                       explain_all, explain_json,   explain_all_json, pkder_field, pkder_signed};
+    static text_call *const calls[] = {
+        NULL,         same_as_itself,   pkder_normalise,      pkder_show,  explain_text, explain_all,
+        explain_json, explain_all_json, explain_all_json_tls, pkder_field, pkder_signed};
     size_t number = sizeof calls / sizeof *calls, most = 0, idle = written(1 << 16, NULL);
     for (size_t i = 0; i < sizeof shapes / sizeof *shapes; i++) {
         make_deep(&shapes[i], depth);

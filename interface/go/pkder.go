@@ -169,6 +169,7 @@ func (form Form) String() string {
 type ReportForm struct {
 	All  bool // with all elements
 	JSON bool // as one object of JSON, in a line
+	TLS  bool // with the notes for TLS servers, too
 }
 
 // number is the form's number in pkder.h.
@@ -179,6 +180,9 @@ func (form ReportForm) number() C.uint32_t {
 	}
 	if form.JSON {
 		number |= C.PKDER_JSON
+	}
+	if form.TLS {
+		number |= C.PKDER_TLS
 	}
 	return number
 }

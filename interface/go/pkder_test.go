@@ -47,7 +47,8 @@ func said(t *testing.T, words []string, given []byte) (string, []byte, string) {
 		text = []byte(lines)
 	case "explain":
 		var report Report
-		report, err = Explain(kinds[words[2]], limits, given, ReportForm{All: has(words, "--all"), JSON: has(words, "--json")})
+		form := ReportForm{All: has(words, "--all"), JSON: has(words, "--json"), TLS: has(words, "--profile=tls")}
+		report, err = Explain(kinds[words[2]], limits, given, form)
 		text, status = []byte(report.Text), statusOf(report)
 	case "field":
 		var path string
@@ -242,7 +243,7 @@ func TestCareless(t *testing.T) {
 func TestReports(t *testing.T) {
 	key := append(octetsOf(t, "302a300506032b6570032100"), make([]byte, 32)...)
 	inBER := append([]byte{0x30, 0x81}, key[1:]...)
-	for _, form := range []ReportForm{{}, {All: true}, {JSON: true}, {All: true, JSON: true}} {
+	for _, form := range []ReportForm{{}, {All: true}, {JSON: true}, {All: true, JSON: true}, {TLS: true}} {
 		report, err := Explain(Public, Usual(), inBER, form)
 		if err != nil || report.Fault != nil || (report.Form != Form{At: 1}) {
 			t.Error(form, report, err)
@@ -252,6 +253,9 @@ func TestReports(t *testing.T) {
 			t.Error(form, report.Text)
 		}
 		if strings.HasPrefix(report.Text, "{") != form.JSON {
+			t.Error(form, report.Text)
+		}
+		if strings.Contains(report.Text, "key_algorithm") != form.TLS {
 			t.Error(form, report.Text)
 		}
 		report, err = Explain(Public, Usual(), key[:20], form)

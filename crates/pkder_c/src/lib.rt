@@ -120,8 +120,8 @@ pub extern "C" fn pkder_show(
     deliver(lines_of(alloc, kind, depth, octets, src), src, dst)
 }
 
-/// Writes the report of the octets where `dst` begins, if it fits there: by the number of its form 1 with all elements,
-/// 2 in JSON, 3 both.
+/// Writes the report of the octets where `dst` begins, if it fits there: the number of its form is the sum of 1 with
+/// all elements, 2 in JSON, and 4 with the notes for TLS servers.
 #[unsafe(no_mangle)]
 pub extern "C" fn pkder_explain(
     alloc: Global,

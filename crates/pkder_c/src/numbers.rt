@@ -5,6 +5,7 @@ ghost use Rattle.tlv_core.specs.Reasons.{number_of};
 ghost use Rattle.pk_documents.specs.KindRows.{IsKindNumber, number_of as kind_number};
 ghost use Rattle.pkder_c.specs.Numbers.{IsFormNumber, IsFormOf, IsPartNumber, IsReasonNumber, part_number};
 
+use explain::profile::Profile;
 use explain::written::{Form, PLACES};
 use pk_documents::kind::Kind;
 use pk_documents::request_part::Part;
@@ -38,11 +39,15 @@ pub fn form_of(number: u32) -> Option<Form>
     ensures form { IfSome result (IsFormOf number) }
     ensures exactly { IsSome result ↔ IsFormNumber number }
 {
-    let (json, all) = match number {
-        0 => (false, false),
-        1 => (false, true),
-        2 => (true, false),
-        3 => (true, true),
+    let (json, all, profile) = match number {
+        0 => (false, false, Profile::General),
+        1 => (false, true, Profile::General),
+        2 => (true, false, Profile::General),
+        3 => (true, true, Profile::General),
+        4 => (false, false, Profile::Tls),
+        5 => (false, true, Profile::Tls),
+        6 => (true, false, Profile::Tls),
+        7 => (true, true, Profile::Tls),
         _ => return None,
     };
     Some(Form {
@@ -50,6 +55,7 @@ pub fn form_of(number: u32) -> Option<Form>
         brief: false,
         all,
         places: PLACES,
+        profile,
     })
 }
 

@@ -1,5 +1,5 @@
-/* What stands between the library and the C library's heap in libpkder_jni.so, by -Wl,--wrap=free,--wrap=realloc: each
- * block is wiped before it is freed. Not proved. */
+/* What stands between the library and the C library's heap in libpkder_jni.so, and in mod_pkder.so for SQLite, by
+ * -Wl,--wrap=free,--wrap=realloc: each block is wiped before it is freed. Not proved. */
 #define _DEFAULT_SOURCE
 #include <malloc.h>
 #include <stdlib.h>

@@ -91,8 +91,13 @@ final class Header {
     private static void putForms(Map<String, Integer> found) {
         found.put("ALL", ReportForm.ALL.number());
         found.put("JSON", ReportForm.JSON.number());
+        found.put("TLS", ReportForm.TLS.number());
         Claims.equal(ReportForm.TEXT.number(), 0, "the usual form");
         Claims.equal(ReportForm.ALL_JSON.number(), ReportForm.ALL.number() + ReportForm.JSON.number(), "both forms");
+        for (ReportForm form : new ReportForm[] {ReportForm.ALL, ReportForm.JSON, ReportForm.ALL_JSON}) {
+            int due = form.number() + ReportForm.TLS.number();
+            Claims.equal(ReportForm.valueOf(form.name() + "_TLS").number(), due, form + " with notes");
+        }
     }
 
     /** The library's name of each reason is the constant's, in other letters. */

@@ -108,10 +108,14 @@ final class Rows {
     }
 
     private ReportForm form() {
+        ReportForm form = words.contains("--all") ? ReportForm.ALL : ReportForm.TEXT;
         if (words.contains("--json")) {
-            return words.contains("--all") ? ReportForm.ALL_JSON : ReportForm.JSON;
+            form = words.contains("--all") ? ReportForm.ALL_JSON : ReportForm.JSON;
         }
-        return words.contains("--all") ? ReportForm.ALL : ReportForm.TEXT;
+        if (!words.contains("--profile=tls")) {
+            return form;
+        }
+        return form == ReportForm.TEXT ? ReportForm.TLS : ReportForm.valueOf(form + "_TLS");
     }
 
     /** The line of what requireDer does that is asked for as check is. */

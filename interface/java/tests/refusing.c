@@ -1,5 +1,5 @@
 /* refusing.so, to be loaded before a program (LD_PRELOAD): malloc refuses blocks of just the octets that Refused.java
- * hands over. */
+ * and interface/sqlite/tests/refused.py hand over. */
 #include <stddef.h>
 
 #define REFUSED_SIZE 234567

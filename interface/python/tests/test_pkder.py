@@ -17,6 +17,8 @@ PARTS = dict(zip(("info", "algorithm", "key", "signature"), pkder.Part))
 KEY = bytes.fromhex("302e020100300506032b657004220420") + bytes(range(32))
 # (its outer length has two octets)
 KEY_IN_BER = b"\x30\x81" + KEY[1:]
+# a public key of an algorithm that no certificate of a TLS server has
+ED25519 = bytes.fromhex("302a300506032b6570032100") + bytes(range(32))
 # the first octets of a public key, with its algorithm
 ALGORITHM = bytes.fromhex("302a300506032b6570")
 
@@ -34,7 +36,8 @@ def said(words, document):
         if command == "show":
             return 0, pkder.show(kind, document, **limits).encode(), ""
         if command in ("explain", "field"):
-            report = pkder.explain(kind, document, all="--all" in words, json="--json" in words, **limits)
+            form = {"all": "--all" in words, "json": "--json" in words, "tls": "--profile=tls" in words}
+            report = pkder.explain(kind, document, **form, **limits)
             text = report.text if command == "explain" else pkder.field(kind, document, **limits)
             return 0 if report.is_der else 2 if report.fault else 1, text.encode(), ""
         form = pkder.check(kind, document, **limits)
@@ -181,6 +184,12 @@ class Reports(unittest.TestCase):
         # (with all elements it lists privateKey too, at 13)
         whole = pkder.explain(pkder.Kind.KEY, KEY_IN_BER, all=True)
         self.assertEqual([bool(re.search("^13 ", it.text, re.M)) for it in (report, whole)], [False, True])
+
+    def test_notes_for_tls_servers(self):
+        texts = [pkder.explain(pkder.Kind.PUBLIC, ED25519, tls=tls).text for tls in (False, True)]
+        self.assertEqual([it.count("key_algorithm") for it in texts], [0, 1])
+        told = json.loads(pkder.explain(pkder.Kind.PUBLIC, ED25519, json=True, tls=True).text)
+        self.assertEqual([it["what"] for it in told["notes"]], ["key_algorithm"])
 
     def test_a_refused_document_does_not_raise(self):
         report = pkder.explain(pkder.Kind.KEY, KEY[:20])

@@ -275,12 +275,14 @@ pub struct ReportForm {
     pub all: bool,
     /// As one object of JSON, in a line.
     pub json: bool,
+    /// With the notes for TLS servers, too.
+    pub tls: bool,
 }
 
 impl ReportForm {
     /// Its number in pkder.h.
     fn number(self) -> u32 {
-        u32::from(self.all) | u32::from(self.json) << 1
+        u32::from(self.all) | u32::from(self.json) << 1 | u32::from(self.tls) << 2
     }
 }
 
@@ -436,7 +438,7 @@ impl Limits {
 
     /// What the report of a sound document tells.
     fn told<T>(self, kind: Kind, document: &[u8], of: fn(&Json<'_>) -> Option<T>) -> Result<T, Error> {
-        let report = self.explain(kind, document, ReportForm { all: false, json: true })?;
+        let report = self.explain(kind, document, ReportForm { json: true, ..ReportForm::default() })?;
         match report.verdict {
             Ok(_) => Json::read(&report.text).as_ref().and_then(of).ok_or(Error::Report),
             Err(fault) => Err(Error::Fault(fault)),

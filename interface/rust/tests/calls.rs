@@ -57,7 +57,8 @@ fn said(words: &str, given: &[u8]) -> Said {
             format!("{form}\n").into_bytes()
         }),
         "explain" => {
-            let form = ReportForm { all: words.contains(&"--all"), json: words.contains(&"--json") };
+            let has = |flag| words.contains(&flag);
+            let form = ReportForm { all: has("--all"), json: has("--json"), tls: has("--profile=tls") };
             limits.explain(kind_of(words[2]), given, form).map(|report| {
                 status = status_of(&report);
                 report.text.into_bytes()
@@ -185,10 +186,12 @@ fn reports_have_forms_and_verdicts() {
     let verdict = |document: &[u8]| explain(Kind::Public, document, ReportForm::default()).unwrap().verdict;
     assert_eq!((verdict(&key), verdict(&in_ber)), (Ok(Form::Der), Ok(Form::DiffersAt(1))));
     assert_eq!(verdict(&key[..20]).unwrap_err().reason, Reason::TRUNCATED);
-    let text = |all, json| explain(Kind::Public, &in_ber, ReportForm { all, json }).unwrap().text;
+    let text = |all, json| explain(Kind::Public, &in_ber, ReportForm { all, json, tls: false }).unwrap().text;
     // (with all elements it lists subjectPublicKey too, at 10)
     assert_eq!([text(false, false), text(true, false)].map(|it| it.contains("\n10  03 21")), [false, true]);
     assert!(text(false, true).starts_with('{') && text(true, true).starts_with('{'));
+    let noted = |tls| explain(Kind::Public, &key, ReportForm { tls, ..ReportForm::default() }).unwrap().text;
+    assert_eq!([noted(false), noted(true)].map(|it| it.contains("key_algorithm")), [false, true]);
 }
 
 #[test]
@@ -209,7 +212,7 @@ fn a_long_report_is_whole() {
     // (the octets end after the algorithm of the public key, without which no subject is listed)
     let algorithm = octets("302a300506032b6570");
     let request = [octets("30827fff30827ff0020100308214").as_slice(), &[0x50], &names, &algorithm].concat();
-    let report = explain(Kind::Request, &request, ReportForm { all: true, json: true }).unwrap();
+    let report = explain(Kind::Request, &request, ReportForm { all: true, json: true, tls: false }).unwrap();
     assert!(report.text.len() > 16384 && report.text.ends_with("}\n"), "{} octets", report.text.len());
     assert_eq!(report.verdict.unwrap_err().at, request.len() as u64);
 }

@@ -74,7 +74,7 @@ function judge() {
 }
 
 function report(kind) {
-    const form = element("all").checked ? FORMS.ALL : 0;
+    const form = (element("all").checked ? FORMS.ALL : 0) + (element("tls").checked ? FORMS.TLS : 0);
     const {text} = library.explain(kind, given.octets, limits(), form);
     element("report").textContent = new TextDecoder().decode(text);
     element("report").hidden = false;
@@ -170,7 +170,9 @@ function listen() {
         const [file] = element("file").files;
         if (file) takeFile(file);
     });
-    for (const id of ["kind", "all", "depth", "octets"]) element(id).addEventListener("change", () => attempt(judge));
+    for (const id of ["kind", "all", "tls", "depth", "octets"]) {
+        element(id).addEventListener("change", () => attempt(judge));
+    }
     element("forget").addEventListener("click", () => {
         forget();
         element("text").focus();

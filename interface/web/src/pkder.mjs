@@ -14,7 +14,7 @@ export const STATUS = Object.freeze({
     UNREPORTED: 7,
     ANOTHER: 8,
 });
-export const FORMS = Object.freeze({ALL: 1, JSON: 2});
+export const FORMS = Object.freeze({ALL: 1, JSON: 2, TLS: 4});
 export const USUAL = Object.freeze({depth: 32, octets: 1048576});
 export const INTERFACE = 1;
 

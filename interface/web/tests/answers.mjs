@@ -19,7 +19,8 @@ function answer(library, answered) {
 }
 
 function formOf(flags) {
-    return (flags.includes("--all") ? FORMS.ALL : 0) + (flags.includes("--json") ? FORMS.JSON : 0);
+    const numbers = {"--all": FORMS.ALL, "--json": FORMS.JSON, "--profile=tls": FORMS.TLS};
+    return flags.reduce((form, flag) => form + numbers[flag], 0);
 }
 
 // Status, output in hex, and line on standard error, as the program would have them.

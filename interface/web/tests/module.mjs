@@ -170,7 +170,7 @@ function edges() {
         assert.throws(() => library.check(wrong, KEY), NotJudged);
         assert.throws(() => library.signed(wrong, KEY), NotJudged);
     }
-    assert.throws(() => library.explain("key", KEY, USUAL, 4), NotJudged);
+    assert.throws(() => library.explain("key", KEY, USUAL, 8), NotJudged);
     for (const length of [2 ** 32, 2 ** 37]) {
         assert.throws(() => library.check("key", {length}), {message: "memory ran out"});
     }

@@ -25,8 +25,8 @@ KEY = bytes.fromhex("302e020100300506032b657004220420") + SECRET
 # (its outer length has two octets)
 KEY_IN_BER = b"\x30\x81" + KEY[1:]
 CONTROLS = "textarea, button, input, select, pre[tabindex]"
-ROLES = {"text": "textbox", "kind": "combobox", "all": "checkbox", "depth": "spinbutton", "octets": "spinbutton",
-         "report": "region"}
+ROLES = {"text": "textbox", "kind": "combobox", "all": "checkbox", "tls": "checkbox", "depth": "spinbutton",
+         "octets": "spinbutton", "report": "region"}
 
 
 def pem(label, octets):
@@ -168,11 +168,19 @@ class Documents(Page):
             self.assertTrue(self.text("verdict").startswith(f"{kind}: "), f"{name}: {self.text('verdict')}")
 
     def test_a_text_that_is_pasted_anywhere(self):
-        for name in ("read", "kind", "all"):
+        for name in ("read", "kind", "all", "tls"):
             self.browser.value("document.getElementById('forget').click()")
             self.paste(pem("PRIVATE KEY", KEY), name)
             self.assertEqual(self.text("verdict"), "key: DER", name)
             self.assertEqual(self.text("came-as"), "PEM, PRIVATE KEY, 48 octets (bytes)")
+
+    def test_notes_for_tls_servers(self):
+        note = "\nnote    must key_algorithm algorithm.algorithm: "
+        self.paste(self.example("public-ed25519.der").hex())
+        self.assertNotIn(note, self.text("report"))
+        self.browser.value("document.getElementById('tls').click()")
+        self.assertIn(note, self.text("report"))
+        self.assertEqual(self.text("verdict"), "public: DER")
 
     def test_a_refused_document(self):
         self.paste(pem("PRIVATE KEY", KEY[:20]))

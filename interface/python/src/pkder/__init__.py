@@ -172,7 +172,7 @@ class _Outcome(ctypes.Structure):
 
 
 _ACCEPTED, _FAULT, _NO_ROOM, _NO_MEMORY, _BAD_CALL, _NOT_DER, _REPORTED, _UNREPORTED, _ANOTHER = range(9)
-_ALL, _JSON = 1, 2
+_ALL, _JSON, _TLS = 1, 2, 4
 # Room for a report or a field at first; reports of all elements may need more.
 _REPORT = 8192
 _INTERFACE = 1
@@ -319,15 +319,15 @@ def signed(part: Part, document: Octets, *, depth: int = DEPTH, octets: int = OC
     return _text("pkder_signed", Part(part), document, depth, octets)
 
 
-def explain(kind: Kind, document: Octets, *, all: bool = False, json: bool = False, depth: int = DEPTH,
-            octets: int = OCTETS) -> Report:
+def explain(kind: Kind, document: Octets, *, all: bool = False, json: bool = False, tls: bool = False,
+            depth: int = DEPTH, octets: int = OCTETS) -> Report:
     """The report of a document, refused or not: the elements with their places in it, and of a refused one which field
     is at fault, the usual cause and what to do. No octets of private keys and no values of attributes are in it, but
-    the known extensions that an accepted request asks for. By all it lists all elements, and by json it is one object
-    of JSON."""
+    the known extensions that an accepted request asks for. By all it lists all elements, by json it is one object of
+    JSON, and by tls it has the notes for TLS servers, too."""
     _check_limits(depth, octets)
     src = _octets(document)
-    form = (_ALL if all else 0) | (_JSON if json else 0)
+    form = (_ALL if all else 0) | (_JSON if json else 0) | (_TLS if tls else 0)
     statuses = _REPORTED, _UNREPORTED
     text, outcome = _written("pkder_explain", (Kind(kind), depth, octets, form), src, _REPORT, statuses)
     if outcome.reason:
