@@ -1,7 +1,7 @@
 #!/bin/sh
-# test.sh: the library, built by build.sh, and tried from C, C++, Python, Rust, Go and Java. What the machine has no
-# compiler or interpreter for is left out, and said. The last line is 'interface: N passed, M failed', a command
-# counting once. LIBRARY=built takes the library that stands in interface/out.
+# test.sh: the library, built by build.sh, and tried from C, C++, Python, Rust, Go, Java, SQLite and PostgreSQL. What
+# the machine has no compiler, interpreter or server for is left out, and said. The last line is 'interface: N passed,
+# M failed', a command counting once. LIBRARY=built takes the library that stands in interface/out.
 # By hand: ROUNDS=5000 DOCUMENTS=20000 sh interface/test.sh probes for minutes (200 and 500 unless said otherwise);
 # HEAP=wiping has the wiping heap tried.
 # shellcheck disable=SC2086 # (lists of flags)
@@ -31,6 +31,13 @@ try() {
 # has TOOL PACKAGE: whether the tool is there; Debian has it in the package
 has() {
     command -v "$1" > /dev/null && return
+    echo "left out: no $1 (Debian: apt-get install $2)"
+    return 1
+}
+
+# has_header HEADER PACKAGE: whether cc finds the header
+has_header() {
+    echo "#include <$1>" | cc -E - > /dev/null 2>&1 && return
     echo "left out: no $1 (Debian: apt-get install $2)"
     return 1
 }
@@ -131,7 +138,7 @@ same_reports() {
     count=0
     for file in "$top"/tests/pkder/explained/*.der "$top"/examples/*.der; do
         for kind in key ec request public encrypted package; do
-            for form in "" --all --json "--all --json"; do
+            for form in "" --all --json "--all --json" --profile=tls "--all --json --profile=tls"; do
                 "$work/filter_watched" explain --kind $kind $form < "$file" > "$work/report"
                 status=$?
                 "$top/crates/pkder/out/pkder" explain --kind $kind $form < "$file" > "$work/due"
@@ -165,7 +172,7 @@ files() (
 
 refused() {
     while read -r kind file; do
-        for command in check same normalise show field explain explain-all-json; do
+        for command in check same normalise show field explain explain-all-json explain-all-json-tls; do
             try "allocations of $command, $kind" "$work/refuse" $command "$kind" "$top/examples/$file.der"
         done
     done << END
@@ -181,7 +188,7 @@ END
     done
     # (documents that are refused)
     while read -r kind file; do
-        for command in field explain explain-all explain-json explain-all-json; do
+        for command in field explain explain-all explain-json explain-all-json explain-all-json-tls; do
             try "allocations of $command, $file" "$work/refuse" $command "$kind" "$top/tests/pkder/explained/$file.der"
         done
     done << END
@@ -198,7 +205,7 @@ is_wiping() {
 # The usual heap frees blocks that hold octets of a key; heap_wiping.c, if the library was built with it, none.
 secrets() {
     sum=0
-    for command in check same normalise show field explain explain-all-json; do
+    for command in check same normalise show field explain explain-all-json explain-all-json-tls; do
         blocks=$("$work/secrets" $command key "$top/examples/ed25519.der" 16 32) || return 1
         sum=$((sum + blocks))
     done
@@ -327,6 +334,138 @@ in_java() {
         -cp "$jar:$work/java_tests"
 }
 
+# The first Python whose sqlite3 loads extensions, as some are built without that.
+python_of_sqlite() {
+    for python in python3 /usr/bin/python3; do
+        if "$python" -c 'import sqlite3; sqlite3.connect(":memory:").enable_load_extension(True)' 2> /dev/null; then
+            echo "$python"
+            return
+        fi
+    done
+    return 1
+}
+
+# in_tables FOLDER WORD..: tests in Python of the extension for SQLite that was built in this folder
+in_tables() {
+    extension=$work/$1/mod_pkder.so
+    shift
+    env PYTHONDONTWRITEBYTECODE=1 "PKDER_CALLS=$work/calls.tsv" "PKDER_PAIRS=$work/pairs.tsv" \
+        "PKDER_SQLITE=$extension" "$@"
+}
+
+# No octets of a key stay in blocks that the extension frees: as many do as where it isn't called. (Where nothing is
+# wiped it frees some, so the look at blocks finds what there is.)
+sqlite_copies() (
+    COPIES_SECRET=a1b2c3d4e5f60718293a4b5c6d7e8f901f2e3d4c5b6a798897a6b5c4d3e2f10f
+    export COPIES_SECRET
+    mkdir -p "$work/sqlite_unwiped" || exit
+    cc -std=c11 -O2 -fPIC -shared -fvisibility=hidden -I"$here" -o "$work/sqlite_unwiped/mod_pkder.so" \
+        "$here/sqlite/src/mod_pkder.c" "$out/libpkder.a" -Wl,--exclude-libs,ALL || exit
+    cc -std=c11 $warnings -O2 -fPIC -shared -o "$work/sqlite_freed.so" "$here/java/tests/freed.c" || exit
+    for each in "sqlite none" "sqlite functions" "sqlite_unwiped functions"; do
+        in_tables "${each% *}" "LD_PRELOAD=$work/sqlite_freed.so" "$1" "$here/sqlite/tests/copies.py" "${each#* }" ||
+            exit
+    done > "$work/freed" 2>&1
+    cat "$work/freed"
+    awk '{ blocks[NR] = $1 } END { exit !(NR == 3 && blocks[1] == blocks[2] && blocks[2] < blocks[3]) }' "$work/freed"
+)
+
+# Want of memory is told, of the extension's own and of SQLite's.
+sqlite_refused() {
+    cc -std=c11 $warnings -O2 -fPIC -shared -o "$work/sqlite_refusing.so" "$here/java/tests/refusing.c" || return
+    in_tables sqlite "LD_PRELOAD=$work/sqlite_refusing.so" "$1" "$here/sqlite/tests/refused.py"
+}
+
+# The extension has one name, so that it meets no other libpkder, and needs the C library alone.
+sqlite_symbols() {
+    [ "$(names_of --defined-only -D "$work/sqlite/mod_pkder.so")" = sqlite3_modpkder_init ] || return 1
+    objdump -p "$work/sqlite/mod_pkder.so" | grep NEEDED | grep -v 'libc\.so' && return 1
+    echo "one name"
+}
+
+sqlite_in_python() {
+    tests="$here/sqlite/tests"
+    try "rows in SQLite" in_tables sqlite "$1" -m unittest discover -s "$tests"
+    try "stand-in in SQLite" in_tables sqlite_stand_in "$1" "$tests/stand_in.py"
+    try "copies in SQLite" sqlite_copies "$1"
+    try "want of memory in SQLite" sqlite_refused "$1"
+    if [ -f "$(cc -print-file-name=libasan.so)" ]; then
+        try "built for SQLite, watched" env "CFLAGS=$warnings $watched" sh "$here/sqlite/build.sh" "$out" \
+            "$work/sqlite_watched"
+        # (what leaks is looked for by valgrind, since Python frees not all of its own)
+        try "rows in SQLite under ASan and UBSan" in_tables sqlite_watched ASAN_OPTIONS=detect_leaks=0 \
+            "LD_PRELOAD=$(cc -print-file-name=libasan.so) $(cc -print-file-name=libubsan.so)" \
+            "$1" -m unittest discover -s "$tests"
+    else
+        echo "left out: no libasan.so of cc, so SQLite isn't tried under ASan and UBSan"
+    fi
+}
+
+sqlite_under_valgrind() (
+    cd "$top/examples" || exit
+    # (statements of it are refused, so that the shell's own status is 1)
+    valgrind -q --error-exitcode=9 --leak-check=full sqlite3 -cmd ".load $work/sqlite/mod_pkder" :memory: \
+        < "$here/sqlite/tests/calls.sql" > "$work/sqlite_said" 2>&1
+    status=$?
+    cat "$work/sqlite_said"
+    [ $status -le 1 ] && [ "$(grep -c 'UNIQUE constraint failed' "$work/sqlite_said")" = 2 ] || exit 1
+    echo "no error"
+)
+
+in_sqlite() {
+    set -- sh "$here/sqlite/build.sh"
+    watched="-O1 -g -fsanitize=address,undefined -fno-sanitize-recover=all"
+    try "built for SQLite" env "CFLAGS=$warnings" "$@" "$out" "$work/sqlite"
+    try "built for SQLite again" "$@" "$out" "$work/sqlite_again"
+    try "symbols for SQLite" sqlite_symbols
+    try "the same extension" cmp "$work/sqlite_again/mod_pkder.so" "$work/sqlite/mod_pkder.so"
+    try "stand-in for SQLite" env "CFLAGS=$warnings" "$@" "$work/stand_in" "$work/sqlite_stand_in"
+    try "compiled with SQLite" cc -std=c11 $warnings $watched -DSQLITE_CORE -I"$here" -o "$work/linked" \
+        "$here/sqlite/tests/linked.c" "$here/sqlite/src/mod_pkder.c" "$here/java/native/wiping.c" "$out/libpkder.a" \
+        -Wl,--wrap=free,--wrap=realloc -lsqlite3
+    try "linked with SQLite" "$work/linked"
+    if python=$(python_of_sqlite); then
+        sqlite_in_python "$python"
+    else
+        echo "left out: no Python whose sqlite3 loads extensions (Debian: apt-get install python3)"
+    fi
+    if has sqlite3 sqlite3 && has valgrind valgrind; then try "SQLite under valgrind" sqlite_under_valgrind; fi
+}
+
+# has_postgres: whether there is a server of PostgreSQL, 15 or later, and what builds for it
+has_postgres() {
+    has make make && has pg_config postgresql-server-dev-15 || return 1
+    for file in "$(pg_config --bindir)/postgres" "$(pg_config --includedir-server)/postgres.h"; do
+        [ -f "$file" ] && continue
+        echo "left out: no $file (Debian: apt-get install postgresql-15 postgresql-server-dev-15)"
+        return 1
+    done
+    version=$(pg_config --version | sed 's/^[^0-9]*\([0-9]*\).*/\1/')
+    [ "$version" -ge 15 ] || { echo "left out: PostgreSQL is of version $version" && return 1; }
+}
+
+# for_postgres FOLDER WORD..: makes what the words say of the module for PostgreSQL, in a folder of its own
+for_postgres() (
+    mkdir -p "$work/$1" && cd "$work/$1" || exit
+    shift
+    warnings_of_module="-isystem $(pg_config --includedir-server) $warnings"
+    make -s -f "$here/postgres/Makefile" "WARNINGS=$warnings_of_module" "$@"
+)
+
+in_postgres() {
+    pg=$work/postgres tests=$here/postgres/tests
+    try "built for PostgreSQL" for_postgres postgres "LIBRARY=$out"
+    try "installed for PostgreSQL" for_postgres postgres "LIBRARY=$out" install "DESTDIR=$pg/tree"
+    try "stand-in for PostgreSQL" for_postgres postgres_stand_in "LIBRARY=$work/stand_in"
+    # (all names are seen outside, as they are where nothing is said of them)
+    try "naive for PostgreSQL" for_postgres postgres_naive "LIBRARY=$out" OBJS=pkder_sql.o \
+        "SHLIB_LINK=$out/libpkder.a"
+    try "other for PostgreSQL" cc -fPIC -shared -I"$here" -isystem "$(pg_config --includedir-server)" $warnings \
+        -o "$pg/other.so" "$tests/other.c"
+    try "PostgreSQL" python3 "$tests/run.py" "$pg/tree" "$work/calls.tsv" "$work/pairs.tsv" \
+        "$work/postgres_stand_in/pkder.so" "$pg/other.so" "$work/postgres_naive/pkder.so"
+}
+
 in_valgrind() {
     try "compiled for valgrind" cc -std=c11 -O1 -g -I"$here" -o "$work/probe_plain" "$here/c/probe.c" \
         "$out/libpkder.a" -lpthread
@@ -355,15 +494,15 @@ installed() {
     echo "found"
 }
 
-# What stands in docs/library.md and in the READMEs of the packages, as it stands there. pip puts the package into
+# What stands in docs/library.md, docs/intake.md and in the READMEs of the packages, as it stands there. pip puts the package into
 # a folder of its own and asks no network; without pip it is found where it lies. (rustup looks for itself at home)
 documents() {
     site=$work/documents
     set -- "PKG_CONFIG_PATH=$out" "LD_LIBRARY_PATH=$out" "PYTHONPATH=$site:$here/python/src" "PIP_TARGET=$site" \
         PIP_NO_INDEX=1 PIP_NO_BUILD_ISOLATION=0 PIP_QUIET=1 PIP_ROOT_USER_ACTION=ignore PYTHONDONTWRITEBYTECODE=1 \
         CARGO_NET_OFFLINE=true "RUSTUP_HOME=${RUSTUP_HOME:-$HOME/.rustup}" GOPROXY=off "GOCACHE=$work/gocache"
-    env "$@" python3 "$top/tests/harness/transcripts.py" "$top/docs/library.md" "$here/python/README.md" \
-        "$here/java/README.md" "$work/filter"
+    env "$@" python3 "$top/tests/harness/transcripts.py" "$top/docs/library.md" "$top/docs/intake.md" \
+        "$here/python/README.md" "$here/java/README.md" "$here/sqlite/README.md" "$work/filter"
 }
 
 man_page() {
@@ -403,6 +542,8 @@ if [ "$failed" = 0 ] && tools; then
     if has cargo cargo; then in_rust; fi
     if has go golang-go && has pkg-config pkg-config; then in_go; fi
     if has javac default-jdk-headless; then in_java; fi
+    if has_header sqlite3ext.h libsqlite3-dev; then in_sqlite; fi
+    if has_postgres; then in_postgres; fi
     if has valgrind valgrind; then in_valgrind; fi
     try "documents" documents
     if has mandoc mandoc; then try "man page" man_page "$top/docs/pkder.3"; fi
