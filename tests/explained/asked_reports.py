@@ -11,12 +11,14 @@ from tests.oracle.secret_documents import KINDS
 
 DEPTH, OCTETS = 32, 1048576
 # Reports as the library makes them: their names, and the numbers of their forms.
-FORMS = {"explain": 0, "explain --all": 1, "explain --json": 2, "explain --json --all": 3}
+FORMS = {"explain": 0, "explain --all": 1, "explain --json": 2, "explain --json --all": 3,
+         "explain --json --profile tls": 6}
 WHOLE = "explain --json --all"
 ACCEPTED, NOT_DER = 0, 5
 # What the program is asked for beside its line.
 COMMANDS = ("explain", "explain --all", "explain --json", "explain --json --all", "explain --places 1",
-            "explain --json --places 2", "check --json", "check --json --places 1", "show --json")
+            "explain --json --places 2", "explain --json --profile tls", "check --json", "check --json --places 1",
+            "check --json --profile tls", "show --json")
 # What `same` is asked for of two files; the last of keys alone.
 SAME = ("@00000 @00001", "@00001 @00000", "--json @00000 @00001", "--json @00001 @00000", "--key @00000 @00001")
 ROOM = 1 << 20

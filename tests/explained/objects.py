@@ -23,7 +23,8 @@ from tests.explained.documents import SECONDS, Document, documents, try_all
 from tools.pages.report_schema import known_schema, line_faults
 
 SCHEMA = known_schema()
-COMMANDS = ("check --json", "explain --json", "explain --json --all", "show --json")
+COMMANDS = ("check --json", "check --json --profile tls", "explain --json", "explain --json --all",
+            "explain --json --profile tls", "show --json")
 # What is asked of: the document, standard input with the same octets, and what can't be read, with the reason.
 FILE, OTHER, INPUT = "document", "other", "-"
 UNREAD = {"nothing": "no such file", ".": "is a directory"}

@@ -3,7 +3,8 @@
 Of an accepted document nothing may. Of a refused one: the path of the field, but for numbers in it, and so how deep the
 line of the fault's place is; the class of what is found, which is one of few and has no size; what the file looks like,
 where private octets are among the first LOOKED_AT of the file, anywhere in a damaged one, or letters of a text; and
-with each of these `likely` and `do`."""
+with each of these `likely` and `do`; of octets after the document `likely` and the brief answer, by whether these are a
+line feed, an end of line or zeros."""
 import json
 import re
 from itertools import groupby
@@ -24,6 +25,8 @@ CLASSES = {"INTEGER", "BIT STRING", "OCTET STRING", "NULL", "OBJECT IDENTIFIER",
            "[1]"}
 PLACE = re.compile(r"^( *[0-9]+) +\(not shown\)", re.M)
 INDEX = re.compile(r"[\[{]([0-9]+)[\]}]")
+# (a place and a reason inside privateKey come first in their object)
+TRAILING = re.compile(r'^fault at [0-9]+: Trailing$|,"at":[0-9]+,"reason":"Trailing"', re.M)
 RUN, MORE = 4, 6
 HEXADECIMAL = re.compile(r"[0-9A-Fa-f]{2}(?:[ :]?[0-9A-Fa-f]{2}){3,}")
 NUMBERS = re.compile(r"[0-9]+(?:[., ]+[0-9]+)*")
@@ -90,6 +93,8 @@ def differences(one, other, is_accepted, is_looked_at):
     if {"field", "found"} & {*allowed}:
         # (words on where the fault is, and on what stands there)
         allowed += [it for it in ("likely", "do", "brief") if it in keys and it not in allowed]
+    if TRAILING.search(one):
+        allowed += [it for it in ("likely", "brief") if it in keys and it not in allowed]
     wrong = [it for it in keys if it not in allowed]
     if "field" in allowed:
         rest, other_rest = without_depth(rest), without_depth(other_rest)
@@ -115,6 +120,9 @@ def rules_that_fail():
     deep = "fault at 9: Extra\n\n9  {}(not shown)\n\nfield   {}\n"
     cases += [(deep.format("", "privateKey"), deep.format("  ", "version"), []),
               (deep.format("", "privateKey"), deep.format("  ", "privateKey"), ["text"])]
+    followed = "key, 9 octets\nfault at 8: Trailing\n\nlikely  {}\ndo      {}\n"
+    cases += [(followed.format("one", "it"), followed.format("two", "it"), []),
+              (followed.format("one", "it"), followed.format("one", "that"), ["do"])]
     of_sound = [(one, report.format("version", "INTEGER", "one"), ["field"])]
     return [f"{mine!r} and {others!r} aren't judged as {due}" for is_sound, those in ((False, cases), (True, of_sound))
             for mine, others, due in those if differences(mine, others, is_sound, False)[1] != due]

@@ -5,6 +5,7 @@ In tests/pkder/explained/reports.txt a block tells a document, and what its repo
 to stand there each, in small or capital letters:
   document   the file, and what it shows
   kind       of the document
+  profile    under which it is explained
   line       the line of `check`
   field      the path; any of those between bars; where the block has none, the report has none either
   due, found, likely, do   words that stand after this label
@@ -199,7 +200,7 @@ def wrong(program, block):
     with open(f"{FOLDER}/{block['document'][0].partition(': ')[0]}", "rb") as it:
         octets = it.read()
     kind, line = block["kind"][0], block["line"][0]
-    words = ["explain", "--kind", kind]
+    words = ["explain", "--kind", kind, *(f"--profile={it}" for it in block.get("profile", []))]
     report, whole = (Report(answer(program, [*words, *more], octets)[1].decode()) for more in ([], ["--all"]))
     if (report.first, report.line) != (f"{kind}, {len(octets)} octets", line):
         yield f"{report.first!r}, {report.line!r}"

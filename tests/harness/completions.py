@@ -71,7 +71,9 @@ TYPED = [
     ("pkder normalise --kind=e", {"ec", "encrypted"}),
     ("pkder signed --part ", {"info", "algorithm", "key", "signature"}),
     ("pkder check --ref", {"--refuse"}),
-    ("pkder check --refuse ", {"must"}),
+    ("pkder check --refuse ", {"must", "tls"}),
+    ("pkder check --pro", {"--profile"}),
+    ("pkder explain --profile ", {"tls"}),
     ("pkder check --depth ", set()),
     ("pkder signed --q", set()),
 ]

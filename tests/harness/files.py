@@ -35,11 +35,13 @@ FILES = {b"der": DER, b"ber": BER, b"cut": CUT, b"a name": DER, b"qu\"o'te": CUT
 TOLD = {b"qu\"o'te": '"qu\\"o\\\'te"', b"line\nfeed": '"line\\nfeed"', b"latin\xff1": '"latin\\xff1"',
         b"back\\slash": '"back\\\\slash"', b"\x1b[31m": '"\\u{1b}[31m"'}
 # a public key under id-ecPublicKey (RFC 5480) without a curve, the same with its length in two octets, and one in DER
-# with nothing to note
+# with nothing to note but for TLS servers
 CURVELESS = bytes.fromhex("3011300b06072a8648ce3d0201050003020004")
 CURVELESS_BER = b"\x30\x81" + CURVELESS[1:]
 SOUND = bytes.fromhex("302a300506032b6570032100") + b"\xaa" * 32
 NOTED = "note must no_named_curve algorithm.algorithm: id-ecPublicKey without a named curve (RFC 5480 section 2.1.1)\n"
+NOTED_TLS = ("note must key_algorithm algorithm.algorithm: a key that is neither rsaEncryption nor id-ecPublicKey "
+             "(Baseline Requirements section 7.1.3.1)\n")
 SAID = {DER: "DER", BER: "not DER at 1", CUT: "fault at 20: Truncated"}
 SHOWN = ("kind: key\nversion: 0\nalgorithm: 1.3.101.112\nparameters: none\nprivate key: curve, 32 octets\n"
          "attributes: absent\npublic key: absent\n")
@@ -230,6 +232,30 @@ def noted(at):
            (status, members(text, "file", "status", "notes"), error))
 
 
+def noted_tls(at):
+    """Runs of check and explain under the profile tls: its notes come after the others."""
+    for name, octets in ((b"noted", CURVELESS), (b"sound", SOUND)):
+        at.write(name, octets)
+    check = ("check", "-k", "public")
+    lines = f"noted: DER\nnoted: {NOTED}sound: DER\nsound: {NOTED_TLS}"
+    for words, status in ((("--profile", "tls"), 0), (("--refuse", "tls"), 5)):
+        yield f"check {' '.join(words)}", (status, lines, ""), at.run(*check, *words, "noted", "sound")
+    yield ("check --profile tls, standard input", (0, f"sound: DER\nsound: {NOTED_TLS}DER\n{NOTED_TLS}", ""),
+           at.run(*check, "--profile", "tls", "sound", "-", given=SOUND))
+    whats = [("noted", ["no_named_curve"]), ("sound", ["key_algorithm"])]
+    for command, words, due in (("check", ["--refuse", "tls"], 5), ("explain", ["--profile", "tls"], 0)):
+        status, text, error = at.run(command, "-k", "public", "--json", *words, "noted", "sound")
+        told = [(it["file"], [note["what"] for note in it["notes"]]) for it in map(json.loads, text.splitlines())]
+        yield f"{command} --json {' '.join(words)}", (due, whats, ""), (status, told, error)
+    # (100 notes are told at most)
+    for count, levels in ((100, {"should", "must"}), (101, {"should"})):
+        at.write(b"often", named_often(count))
+        status, text, error = at.run("check", "-k", "request", "--refuse", "tls", "often")
+        found = {it.split()[2] for it in text.splitlines()[1:]}
+        yield (f"check --refuse tls, {count - 1} notes that advise", (5, 101, levels, ""),
+               (status, len(text.splitlines()), found, error))
+
+
 def told_in_json(at):
     """Runs of check and show that write objects of JSON."""
     at.write(b"names", b"der\0ber\0cut\0line\nfeed\0missing\0latin\xff1\0")
@@ -391,7 +417,7 @@ def closed(at):
 
 def looks(program):
     """Each run of the program, and whether it is right."""
-    for runs in (judged, listed, noted, told_in_json, paired, agreed, made, closed):
+    for runs in (judged, listed, noted, noted_tls, told_in_json, paired, agreed, made, closed):
         at = Folder(program)
         try:
             for what, due, found in runs(at):

@@ -610,7 +610,8 @@ def answer(action, kind, octets, depth=DEPTH, limit=OCTETS, reading_fails=False,
 
 def has_part_in(words):
     """Whether the words are of a command that the reader has a part in, and ask for no notes."""
-    return bool(words) and words[0] in ACTIONS and not any(it.startswith(("--notes", "--refuse")) for it in words)
+    noting = ("--notes", "--refuse", "--profile")
+    return bool(words) and words[0] in ACTIONS and not any(it.startswith(noting) for it in words)
 
 
 def command_line():
