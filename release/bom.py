@@ -22,12 +22,18 @@ KIT = os.path.dirname(said("rt", "doc"))
 PORT = re.compile(r"Rust crate `([\w-]+)` ([0-9]+\.[0-9]+\.[0-9]+)")
 LICENCE = re.compile(r"\((MIT or Apache[- ]2\.0|MIT|Apache[- ]2\.0)\b")
 # what the program and the library begin with
-ROOTS = {"pkder": "pkder", "libpkder.so.0": "pkder_c", "libpkder.a": "pkder_c"}
+ROOTS = {"pkder": "pkder", "libpkder.so.0": "pkder_c", "libpkder.a": "pkder_c", "mod_pkder.so": "pkder_c"}
 
 
 def text_of(name):
     with open(name, encoding="utf-8") as file:
         return file.read()
+
+
+def packed_in(folder):
+    """The programs and libraries of an archive that lies in the folder."""
+    names = ("bin/pkder", "lib/libpkder.so.0", "lib/libpkder.a", "lib/mod_pkder.so")
+    return [it for it in names if os.path.isfile(f"{folder}/{it}")]
 
 
 def told_by(name):

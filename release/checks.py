@@ -79,6 +79,7 @@ def opened_archive(name, work):
     rows = f"{packing.sum_of(f'{folder}/bin/pkder')}  pkder\n{packing.sum_of(f'{folder}/lib/libpkder.a')}  libpkder.a\n"
     yield "PROVED-BY has the sums", rows in octets_of(f"{folder}/PROVED-BY").decode()
     yield from by_pkg_config(folder)
+    yield from in_sqlite(f"{folder}/lib/mod_pkder.so")
     yield from of_bill(f"{folder}/sbom.cdx.json", folder)
 
 
@@ -93,6 +94,21 @@ def by_pkg_config(folder):
         print("left out: no pkg-config (Debian: pkg-config)")
 
 
+def in_sqlite(extension):
+    """Whether the extension for SQLite answers, and needs what tools/pages/about.toml says of it."""
+    if not os.path.isfile(extension):
+        return
+    due, found = ABOUT["lowest"]["mod_pkder.so"], lowest.needs(extension)
+    yield f"mod_pkder.so needs {found}, and should need {due}", found == due
+    if not shutil.which("sqlite3"):
+        print("left out: no sqlite3 (Debian: sqlite3)")
+        return
+    ask = f"select pkder_check('key', readfile('{KEY}'))"
+    ran = subprocess.run(["sqlite3", "-cmd", f".load {extension.removesuffix('.so')}", ":memory:", ask],
+                         capture_output=True, text=True)
+    yield f"the extension for SQLite: {ran.stdout}{ran.stderr}", ran.stdout == "not DER at 1\n"
+
+
 def of_bill(name, folder):
     """Whether the bill of materials is whole: each part is there once, and all that is named is a part."""
     bill = json.loads(octets_of(name))
@@ -101,7 +117,7 @@ def of_bill(name, folder):
     named = {it for row in bill["dependencies"] for it in [row["ref"], *row["dependsOn"]]}
     yield "the bill has what it names, and no other part", named == {*refs}
     sums = {it["name"]: it["hashes"][0]["content"] for it in bill["components"] if it["type"] == "file"}
-    due = {name: packing.sum_of(f"{folder}/{name}") for name in ("bin/pkder", "lib/libpkder.so.0", "lib/libpkder.a")}
+    due = {name: packing.sum_of(f"{folder}/{name}") for name in bom.packed_in(folder)}
     yield "the bill has the files", sums == {os.path.basename(it): total for it, total in due.items()}
     crates = {it for it in bom.own_crates() if it != "rows"}
     yield "the bill has the crates", crates - {*refs} <= {"x690_laws"}
@@ -122,6 +138,10 @@ def opened_wheel(name, work):
     due = f"{place}/pkder/libpkder.so.0\nnot DER at 1\n"
     yield f"the wheel's library: {ran.stdout}{ran.stderr}", ran.stdout == due
     yield "the wheel has the type marker", "pkder/py.typed" in names
+    ran = subprocess.run([sys.executable, "-m", "pkder_intake", KEY], env=told, capture_output=True, text=True)
+    yield f"the wheel's command: {ran.stdout}{ran.stderr}", ran.stdout == f"{KEY}: octets: key: not DER at 1\n"
+    scripts = octets_of(f"{place}/{wheel.INFO}/entry_points.txt").decode()
+    yield "the wheel has the command", "\npkder-intake = pkder_intake:main\n" in scripts
 
 
 def opened_sources(name):
@@ -164,10 +184,22 @@ def of_debian(work):
     """Whether Debian's lists have what tools/install.sh puts in place: each file in one, and no other."""
     root = f"{work}/root"
     told = {**os.environ, "DESTDIR": root, "PREFIX": "/usr", "LIBDIR": "/usr/lib/x86_64-linux-gnu"}
-    subprocess.run(["sh", f"{TOP}/tools/install.sh", "program", "library"], env=told, check=True)
+    what = ["program", "library"]
+    if making.has_sqlite():
+        making.make_sqlite(TOP)
+        what.append("sqlite")
+    else:
+        packing.write(f"{root}/usr/lib/x86_64-linux-gnu/mod_pkder.so", "")
+        packing.write(f"{root}/usr/share/doc/pkder/sqlite.md", "")
+    subprocess.run(["sh", f"{TOP}/tools/install.sh", *what], env=told, check=True)
     wheel.write_unpacked(f"{root}/usr/lib/python3/dist-packages")
-    for name in ("pkder", "libpkder0"):
+    wheel.write_commands(f"{root}/usr")
+    for name in ("pkder", "libpkder0", "libsqlite3-mod-pkder", "postgresql-15-pkder"):
         packing.write(f"{root}/usr/share/doc/{name}/licences/one", "")
+    # (what 'make install' of interface/postgres puts in place)
+    packing.write(f"{root}/usr/lib/postgresql/15/lib/pkder.so", "")
+    for name in ("pkder.control", "pkder--1.0.sql"):
+        packing.write(f"{root}/usr/share/postgresql/15/extension/{name}", "")
     taken = set()
     for name in sorted(glob.glob(f"{TOP}/debian/*.install") + glob.glob(f"{TOP}/debian/*.manpages")):
         for line in octets_of(name).decode().splitlines():

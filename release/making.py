@@ -17,9 +17,13 @@ LIBRARIES = tuple(f"{TOP}/{it}" for it in build.MADE[1:])
 # what packing needs, and the package of Debian that has it
 TOOLS = {"musl-gcc": "musl-tools", "objcopy": "binutils", "cc": "gcc", "dpkg-buildpackage": "dpkg-dev",
          "dh": "debhelper", "dh_python3": "dh-python"}
+# the same of files that a package has and that are no tools
+FILES = {"/usr/include/postgresql/15/server/postgres.h": "postgresql-server-dev-15"}
 JAVA = f"{TOP}/interface/java/build.sh"
 if os.path.isfile(JAVA):
     TOOLS["javac"] = "default-jdk-headless"
+SQLITE = "interface/sqlite/build.sh"
+SQLITE_HEADER = "/usr/include/sqlite3ext.h"
 # what of the repository a packager's tree has
 TREE = ("CHANGELOG.md", "README.md", "SECURITY.md", "crates.txt", build.logic.SOURCE, "debian", "docs", "examples",
         "interface", "release", "tests/harness", "tools")
@@ -32,8 +36,20 @@ TRIAL = "trial: nothing says what proved these files\n"
 
 def missing():
     """How Debian's packages of the tools that aren't there are got, or nothing."""
-    lacking = sorted({package for tool, package in TOOLS.items() if not shutil.which(tool)})
+    lacking = {package for tool, package in TOOLS.items() if not shutil.which(tool)}
+    lacking |= {package for file, package in FILES.items() if not os.path.isfile(file)}
+    lacking = sorted(lacking | (set() if has_sqlite() else {"libsqlite3-dev"}))
     return f"apt-get install {' '.join(lacking)}" if lacking else None
+
+
+def has_sqlite():
+    """Whether the machine has what the extension for SQLite is compiled with."""
+    return os.path.isfile(SQLITE_HEADER)
+
+
+def make_sqlite(tree):
+    """Makes the extension for SQLite in a tree that has the libraries, where install.sh takes it."""
+    subprocess.run(["sh", f"{tree}/{SQLITE}", f"{tree}/interface/out"], check=True, stdout=subprocess.DEVNULL)
 
 
 def of_static():
@@ -106,13 +122,19 @@ def archive(work, out, program, is_trial):
     tree = f"{work}/of-archive"
     stage(tree, program, is_trial)
     told = {**os.environ, "DESTDIR": work, "PREFIX": f"/{ARCHIVE}"}
-    subprocess.run(["sh", f"{tree}/tools/install.sh", "program", "library"], env=told, check=True)
+    what = ["program", "library"]
+    if has_sqlite():
+        make_sqlite(tree)
+        what.append("sqlite")
+    else:
+        print("left out of the archive: mod_pkder.so (Debian: libsqlite3-dev)")
+    subprocess.run(["sh", f"{tree}/tools/install.sh", *what], env=told, check=True)
     folder = f"{work}/{ARCHIVE}"
     write_pc(folder)
     for name in ("CHANGELOG.md", "SECURITY.md", "docs/install.md"):
         shutil.copy(f"{TOP}/{name}", folder)
     shutil.move(f"{folder}/share/doc/pkder/PROVED-BY", folder)
-    packed = [f"{folder}/{it}" for it in ("bin/pkder", "lib/libpkder.so.0", "lib/libpkder.a")]
+    packed = [f"{folder}/{it}" for it in bom.packed_in(folder)]
     packing.write(f"{folder}/sbom.cdx.json", bom.text(packed))
     bom.copy_licences(f"{folder}/licences", packed)
     write_sums(folder)
@@ -149,8 +171,9 @@ def java(work, out):
 def made(out, work, static, dynamic, is_trial):
     """Makes all files, and returns what each is by its name."""
     debs = {"pkder_": "Debian: the program", "libpkder0_": "Debian: the shared library",
-            "libpkder-dev_": "Debian: header, static library, pages", "python3-pkder_": "Debian: for Python"}
-    found = {archive(work, out, static, is_trial): "program, libraries, header, pages, completions, papers"}
+            "libpkder-dev_": "Debian: header, static library, pages", "python3-pkder_": "Debian: for Python",
+            "libsqlite3-mod-pkder_": "Debian: for SQLite", "postgresql-15-pkder_": "Debian: for PostgreSQL 15"}
+    found = {archive(work, out, static, is_trial): "program, libraries, header, for SQLite, pages, completions, papers"}
     for name in debian(work, out, dynamic, is_trial):
         found[name] = next(what for begin, what in debs.items() if os.path.basename(name).startswith(begin))
     found |= {it: "Java, with the library" for it in java(work, out)}

@@ -1,5 +1,6 @@
 #!/usr/bin/env python3
-"""wheel.py --unpacked FOLDER: the package for Python with what pip is told of it, as Debian has it in the folder.
+"""wheel.py --unpacked FOLDER PREFIX: the package for Python with what pip is told of it, as Debian has it in the
+folder, and below PREFIX its command with its man page and its page.
 
 tools/release.py makes the wheel by this, which has the library inside, and the source archive, which has none."""
 import base64
@@ -20,6 +21,13 @@ from release.packing import NUMBER
 PYTHON = "interface/python"
 SOURCES = f"{PYTHON}/src"
 INFO = f"pkder-{NUMBER}.dist-info"
+COMMAND = """#!/usr/bin/python3
+import sys
+
+from {module} import {function}
+
+sys.exit({function}())
+"""
 
 
 def metadata():
@@ -30,6 +38,12 @@ def metadata():
             "Requires-Python": project["requires-python"], "Description-Content-Type": "text/markdown"}
     head = "".join(f"{name}: {text}\n" for name, text in said.items())
     return f"{head}\n{packing.text_of(f'{PYTHON}/README.md')}"
+
+
+def entry_points():
+    """The commands of the package, as pip is told of them (its entry points specification)."""
+    scripts = tomllib.loads(packing.text_of(f"{PYTHON}/pyproject.toml"))["project"]["scripts"]
+    return "[console_scripts]\n" + "".join(f"{name} = {call}\n" for name, call in scripts.items())
 
 
 def package_files():
@@ -60,6 +74,7 @@ def wheel_contents(library, more):
             contents[name] = file.read()
     lines = ["Wheel-Version: 1.0", "Generator: release/wheel.py", "Root-Is-Purelib: false", f"Tag: {tag(library)}"]
     contents[f"{INFO}/METADATA"] = metadata().encode()
+    contents[f"{INFO}/entry_points.txt"] = entry_points().encode()
     contents[f"{INFO}/WHEEL"] = "".join(f"{it}\n" for it in lines).encode()
     record = "".join(row(*it) for it in sorted(contents.items())) + f"{INFO}/RECORD,,\n"
     # (RECORD is last, as PEP 427 has it)
@@ -98,13 +113,26 @@ def write_unpacked(folder):
         os.makedirs(os.path.dirname(f"{folder}/{name}"), exist_ok=True)
         shutil.copy(path, f"{folder}/{name}")
     packing.write(f"{folder}/{INFO}/METADATA", metadata())
+    packing.write(f"{folder}/{INFO}/entry_points.txt", entry_points())
+
+
+def write_commands(prefix):
+    """Writes the commands of the package below the folder, with their pages, as a packager of a system has them."""
+    for line in entry_points().splitlines()[1:]:
+        name, call = line.split(" = ")
+        module, function = call.split(":")
+        packing.write(f"{prefix}/bin/{name}", COMMAND.format(module=module, function=function))
+        os.chmod(f"{prefix}/bin/{name}", 0o755)
+        packing.write(f"{prefix}/share/man/man1/{name}.1", packing.text_of(f"docs/{name}.1"))
+    packing.write(f"{prefix}/share/doc/python3-pkder/intake.md", packing.text_of("docs/intake.md"))
 
 
 def main(words):
-    if len(words) != 2 or words[0] != "--unpacked":
+    if len(words) != 3 or words[0] != "--unpacked":
         print(__doc__)
         return 0 if words == ["--help"] else 1
     write_unpacked(words[1])
+    write_commands(words[2])
     return 0
 
 
