@@ -1,8 +1,10 @@
 #!/bin/sh
-# Puts the program in place, or the library, or both, as tools/build.py made them:
-#   [DESTDIR=FOLDER] [PREFIX=/usr/local] [LIBDIR=PREFIX/lib] sh tools/install.sh [program] [library]
+# Puts the program in place, or the library, or both, as tools/build.py made them, or the extension for SQLite, which
+# interface/sqlite/build.sh makes:
+#   [DESTDIR=FOLDER] [PREFIX=/usr/local] [LIBDIR=PREFIX/lib] sh tools/install.sh [program] [library] [sqlite]
 # The library is libpkder.a, libpkder.so.0, pkder.h and pkder.pc. With either go its man pages, the pages of docs/ that
-# they name, and PROVED-BY, which says what proved it; with the program completions for bash, zsh and fish.
+# they name, and PROVED-BY, which says what proved it; with the program completions for bash, zsh and fish. The
+# extension is mod_pkder.so, in LIBDIR, and its page.
 set -eu
 top=$(cd "$(dirname "$0")/.." && pwd)
 prefix=${PREFIX:-/usr/local}
@@ -69,12 +71,20 @@ put_library() {
     done
 }
 
+put_sqlite() {
+    from=$top/interface/sqlite docs=$root$prefix/share/doc/pkder
+    needs "$from/out/mod_pkder.so" "run 'sh interface/sqlite/build.sh interface/out'"
+    mkdir -p "$root$libdir" "$docs"
+    install -m 644 "$from/out/mod_pkder.so" "$root$libdir"
+    install -m 644 "$from/README.md" "$docs/sqlite.md"
+}
+
 for what in "${@:-program}"; do
     case $what in
-        program | library) ;;
+        program | library | sqlite) ;;
         --help) sed -n '2,/^set /s/^# //p' "$0" && exit ;;
         *)
-            echo "install.sh: $what can't be put in place: program or library" >&2
+            echo "install.sh: $what can't be put in place: program, library or sqlite" >&2
             sed -n '2,/^set /s/^# //p' "$0" >&2
             exit 1
             ;;

@@ -28,7 +28,8 @@ ROWS = ["python3", "tests/harness/rows.py"]
 GROWTHS = ["python3", "tests/harness/growths.py"]
 TRANSCRIPTS = ["python3", "tests/harness/transcripts.py", "README.md", "docs/manual.md"]
 PAGES = ("about", "advice_words", "decisions", "identifier_names", "lists", "report_schema", "shape_names")
-EXPLAINED = ("answers", "asks", "extensions", "listing", "noted", "noted_names", "objects", "places", "reports")
+EXPLAINED = ("answers", "asks", "extensions", "listing", "noted", "noted_names", "noted_tls", "objects", "places",
+             "reports")
 ALLOCATIONS = ["sh", "tests/harness/allocations.sh"]
 # `rt ci` (every crate, a few edits by the toolchain's own means, each program's stored run), and the library
 PROOFS = ["python3", "tools/build.py", "--again"]
@@ -80,6 +81,7 @@ def allocating():
     yield "examples/p256.der", "same", "--key", "--kind", "key", "--kind", "ec", "-", "examples/p256-sec1.der"
     yield "examples/request-p256.der", "same", "--kind", "request", "--json", "-", "examples/request-rsa2048.der"
     yield "tests/pkder/explained/note-no-curve.der", "check", "--kind", "public", "--refuse", "must"
+    yield "examples/request-web.der", "check", "--kind", "request", "--refuse", "tls"
 
 
 def parts(program=build.PROGRAM):
@@ -96,8 +98,8 @@ def parts(program=build.PROGRAM):
         # (a folder of tests/ is of the program whose crate has its name, or else of what reads it below)
         "rows": lambda: [rows_of(it, program) for it in sorted(os.listdir("tests")) if os.path.isdir(f"crates/{it}")],
         "transcripts": lambda: [[*TRANSCRIPTS, *builds(program)]],
-        "spellings": lambda: [["python3", "tests/harness/spellings.py", "tests/manual/spellings.tsv"],
-                              ["python3", "examples/test_intake.py", program]],
+        "spellings": lambda: [["python3", "tests/harness/spellings.py", "tests/manual/spellings.tsv"]],
+        "intake": lambda: [["python3", "tests/intake/run.py", *library_of(program)]],
         "completions": lambda: [["python3", "tests/harness/completions.py", program]],
         "files": lambda: [["python3", "tests/harness/files.py", *builds(program)]],
         "allocations": lambda: [[*ALLOCATIONS, program, *words] for words in allocating()],
@@ -128,7 +130,7 @@ def quick_parts(program):
     if program:
         # (what else stands here need not be of one build with it)
         found["rows"] = lambda: [rows_of("pkder", program)]
-        left_out += ["interface", "growths", "release", "rows of other programs"]
+        left_out += ["interface", "intake", "growths", "release", "rows of other programs"]
     if not shutil.which("rt"):
         left_out += ["logic"]
     print(f"left out: {', '.join(left_out)}", flush=True)

@@ -16,7 +16,7 @@ from pathlib import Path
 TOP = str(Path(__file__).resolve().parents[2])
 PARSED = "import ast, sys; [ast.parse(open(it).read(), it) for it in sys.argv[1:]]"
 RUSTFMT = ("rustfmt", "--config-path", "interface/rust", "--check", "--color", "never", "--edition")
-SHELL = ("debian/tests/completions", "debian/tests/library", "debian/tests/program")
+SHELL = tuple(f"debian/tests/{it}" for it in ("completions", "library", "postgres", "program", "sqlite"))
 # the files, the command, and the package of Debian that has it
 LOOKS = [
     (("*.py", "debian/tests/python"), ("python3", "-c", PARSED), "python3"),

@@ -4,7 +4,8 @@ It rests on the function's own code and answers, on the contracts of what it cal
 that those name: so on its file of src/ with the folder of proofs/ that belongs to it, and on all that imports lead to
 from there. Of the other files of src/ only what stands outside the bodies of functions counts. Always among them are
 the top of the crate, whose attributes hold for all files, and each file with an impl for another file's type that isn't
-of a trait of its own, since no import leads to it."""
+of a trait of its own, since no import leads to it. Which modules a file has doesn't count: an import leads to those
+that do."""
 import functools
 import os
 import re
@@ -13,6 +14,7 @@ PARTS = ("src", "specs", "proofs")
 FUNCTION = re.compile(r"( *)(?:pub(?:\([^)]*\))? )?(?:(?:final|const|unsafe|extern \"C\") )*fn ")
 IMPL = re.compile(r"^impl\b(.*?)\{", re.M | re.S)
 COMMENT = {".rt": re.compile(r"(?m)^ *//.*\n?"), ".antt": re.compile(r"(?m)^ *--.*\n?")}
+MODULE = re.compile(r"(?m)^(?:pub(?:\([^)]*\))? )?mod \w+;\n")
 IMPORT = re.compile(r"(?m)^( *(?:ghost )?use [\w.:]+[.:])\{([^{}]*)\};?\n")
 
 
@@ -22,10 +24,11 @@ def text_of(file):
 
 
 def bare(file, text):
-    """A file without what no proof rests on: lines of comments, and how imports are laid out, each of which has a line
-    of its own."""
+    """A file without what no proof rests on: lines of comments, those that name its modules, and how imports are laid
+    out, each of which has a line of its own."""
     for ending, comment in COMMENT.items():
         text = comment.sub("", text) if file.endswith(ending) else text
+    text = MODULE.sub("", text) if file.endswith(".rt") else text
     names = lambda it: [name.strip() for name in it[2].split(",") if name.strip()]
     return IMPORT.sub(lambda it: "".join(f"{it[1]}{name}\n" for name in names(it)), text)
 

@@ -16,7 +16,7 @@ PAGES = ("README.md", "docs/install.md", "interface/python/README.md", "SECURITY
 # what a file says of itself, and how often
 SAID = [
     *((name, ABOUT["summary"], 1) for name in MANIFESTS),
-    ("debian/control", f"\nDescription: {ABOUT['summary']}", 4),
+    ("debian/control", f"\nDescription: {ABOUT['summary']}", 6),
     *((name, ABOUT["licence"], 1) for name in ("README.md", "debian/copyright", "interface/go/go.mod", *MANIFESTS[1:])),
     ("debian/control", f"Maintainer: {ABOUT['maintainer']}\n", 1),
     ("debian/changelog", f"\n -- {ABOUT['maintainer']}  ", 1),

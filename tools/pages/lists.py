@@ -74,12 +74,12 @@ def reasons():
 
 
 def remarks():
-    """The remarks of notes, by their codes and levels."""
+    """The remarks of notes, by their codes and levels; under a profile a code may have another level."""
     text = text_of("crates/reports/specs/Remarks.antt")
     codes, levels = (re.findall(rf'(?m)^\w+_{word} \(?(\w+\.\w+)[^=]*= codes "(\w+)"$', text)
                      for word in ("code", "level"))
-    several = {code: dict(levels)[variant] for variant, code in codes}
-    yield from ({"code": code, "level": level} for code, level in several.items())
+    several = dict.fromkeys((code, dict(levels)[variant]) for variant, code in codes)
+    yield from ({"code": code, "level": level} for code, level in several)
 
 
 LISTS = {it.__name__: it for it in (kinds, parts, statuses, endings, reasons, remarks)}
