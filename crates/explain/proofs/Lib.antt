@@ -4,6 +4,7 @@ pub mod Ordered
 pub mod Outlined
 pub mod Pieces
 pub mod Promised
+pub mod Receiving
 pub mod Repeats
 pub mod Sound
 pub mod Steps

@@ -88,6 +88,11 @@ abbrev pub FoundBy : Bool → Kind → Option Kind → Type 0 → Type 0
 FoundBy false kind found Later = Later
 FoundBy true kind found Later = found ≡ Some kind
 
+-- It is the first of these kinds that passes a test.
+abbrev pub FirstBy : (Kind → Bool → Type 0) → List Kind → Option Kind → Type 0
+FirstBy Test [] found = found ≡ None
+FirstBy Test (kind ∷ later) found = (is : Bool) × Test kind is × FoundBy is kind found (FirstBy Test later found)
+
 -- It is the first of these kinds, other than the one asked for, as whose documents the octets begin.
 abbrev pub IsFirst : Limits → List ℕ → Kind → List Kind → Option Kind → Type 0
 IsFirst limits octets wanted [] found = found ≡ None

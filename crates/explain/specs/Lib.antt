@@ -8,6 +8,7 @@ pub mod Disclosures
 pub mod Dues
 pub mod FaultLines
 pub mod Faults
+pub mod FoundKinds
 pub mod Fronts
 pub mod Heads
 pub mod HostNames
@@ -29,6 +30,7 @@ pub mod ProfileNotes
 pub mod Promises
 pub mod Public
 pub mod Reach
+pub mod Received
 pub mod Remarks
 pub mod ReportLaws
 pub mod Reports

@@ -6,11 +6,12 @@ use Rattle.tlv_core.specs.declared.fault.Fault.{Fault}
 use Rattle.asn_names.specs.declared.element.NamedElement.{NamedElement}
 use Rattle.asn_names.specs.declared.element.Mismatch.{Mismatch}
 use Rattle.pkix_shapes.specs.declared.shape.Shape.{Shape}
-use Rattle.pk_documents.specs.KindRows.{type_name_of, word_of}
+use Rattle.pk_documents.specs.KindRows.{kinds, type_name_of, word_of}
 use Rattle.pk_documents.specs.declared.kind.Kind.{Kind}
 use Rattle.explain.specs.Disclosures.{IsDisclosed}
 use Rattle.explain.specs.FaultLines.{AddsFault}
 use Rattle.explain.specs.Faults.{Case, IsDiagnosisIf}
+use Rattle.explain.specs.Guesses.{BeginsAs, FirstBy}
 use Rattle.explain.specs.Insides.{HasInsides, IsNamed}
 use Rattle.explain.specs.Listings.{IsListed}
 use Rattle.explain.specs.Moduli.{modulus_by}
@@ -81,3 +82,7 @@ pub record IsWordedReport (profile : Profile) (limits : Limits) (of : Kind) (doc
   pub disclosed : Disclosed
   pub is_disclosed : IsDisclosed limits of document disclosed
   pub made_of : IsReportBy profile limits of disclosed report
+
+-- Of octets that are of no kind, it is the first kind as whose documents they begin.
+abbrev pub IsBegun : Limits → List ℕ → Option Kind → Type 0
+IsBegun limits octets begun = FirstBy (BeginsAs limits octets) kinds begun

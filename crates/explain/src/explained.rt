@@ -102,7 +102,8 @@ pub fn has_most_notes(notes: &[Note]) -> bool
     notes.len() >= MOST_NOTES
 }
 
-fn is_accepted(answer: Answer) -> bool
+/// Whether the answer is that the document isn't refused.
+pub(crate) fn is_accepted(answer: Answer) -> bool
     ensures { result ≡ not (is_refusal answer) }
 {
     match answer {

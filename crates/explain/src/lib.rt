@@ -9,7 +9,10 @@
 //! shown, and what OCTET STRINGs contain; `listing` the lines of the front, and why an element isn't in DER; `fault`
 //! what a fault is about; `guess` what else the file may be; `notes` what other standards say to the document, and
 //! `profile` which of these are told.
-//! `written` has the report as it is written, `laws` what is proved of all reports.
+//! `kinds` finds the kind of a document. `written` has the report as it is written, `laws` what is proved of all
+//! reports.
+//!
+//! `received` is no report: it has the octets of a certification request that its signature is over, as they came.
 #![tactic(auto)]
 
 mod disclosed;
@@ -17,9 +20,11 @@ mod document;
 pub mod explained;
 mod fault;
 mod guess;
+pub mod kinds;
 pub mod laws;
 mod listing;
 mod notes;
 pub mod profile;
+pub mod received;
 pub mod version;
 pub mod written;
