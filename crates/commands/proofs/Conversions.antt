@@ -10,7 +10,7 @@ use Rattle.commands.specs.Standards.{Ends, Seen}
 use Rattle.commands.specs.declared.new_file.Unmade.{Unmade}
 use Rattle.commands.specs.declared.opener.Unopened.{Unopened as Why}
 use Rattle.commands.specs.declared.outcome.Outcome.{Outcome}
-use Rattle.commands.specs.declared.outcome.Outcome.TheVariants.{Done, Explained, Fault, Memory, NotDer, Noted, ReadFailed, WriteFailed}
+use Rattle.commands.specs.declared.outcome.Outcome.TheVariants.{Done, Explained, Fault, Memory, NoKind, NotDer, Noted, ReadFailed, WriteFailed}
 use Rattle.commands.specs.declared.task.Task.{Task}
 
 pub done_is : (outcome : Outcome) → is_done outcome ≡ true → outcome ≡ Done
@@ -18,6 +18,7 @@ done_is Done done = refl
 done_is (NotDer at) done = absurd cc
 done_is Noted done = absurd cc
 done_is (Fault found) done = absurd cc
+done_is (NoKind likely) done = absurd cc
 done_is (Explained found) done = absurd cc
 done_is (ReadFailed at) done = absurd cc
 done_is (WriteFailed count) done = absurd cc

@@ -1,3 +1,4 @@
+pub mod AnyReplies
 pub mod BlockTargets
 pub mod Comparisons
 pub mod Conversions
@@ -7,6 +8,7 @@ pub mod Inputs
 pub mod Judgements
 pub mod NameLists
 pub mod Pairs
+pub mod Received
 pub mod Replies
 pub mod ReplyLaws
 pub mod ShortWords

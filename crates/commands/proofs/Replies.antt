@@ -16,10 +16,9 @@ use Rattle.asn_documents.specs.WholeInputs.{RefusedWhole}
 use Rattle.asn_documents.specs.WrittenValues.{WritesText}
 use Rattle.asn_documents.specs.declared.normalise.NormaliseError.TheVariants.{Read}
 use Rattle.asn_documents.proofs.Normalising.{took_as}
-use Rattle.commands.specs.Endings.{IsWhole}
 use Rattle.commands.specs.declared.outcome.Outcome.{Outcome}
 use Rattle.commands.specs.declared.outcome.Outcome.TheVariants as outcomes
-use Rattle.commands.specs.Outcomes.{words_of}
+use Rattle.commands.specs.Outcomes.{IsWhole, words_of}
 use Rattle.commands.specs.declared.reply.Reply.{Reply}
 use Rattle.commands.specs.Replies.{DueOfValue, FailedBy, IsSilent, RepliedAs, RepliedTo, Unreadable, WroteText, unread_outcome, written_outcome}
 
@@ -55,6 +54,7 @@ replies_as Stopped Halted Due Owed old new halts owes (outcomes.Explained found)
 replies_as Stopped Halted Due Owed old new halts owes (outcomes.WriteFailed count) h =
     (h.0, h.1, owes h.1 h.0 h.2, h.3, h.4)
 replies_as Stopped Halted Due Owed old new halts owes (outcomes.Fault found) h = halts (FaultRead found) h
+replies_as Stopped Halted Due Owed old new halts owes (outcomes.NoKind likely) h = absurd h
 replies_as Stopped Halted Due Owed old new halts owes (outcomes.ReadFailed at) h = halts (ReadAt at) h
 replies_as Stopped Halted Due Owed old new halts owes outcomes.Memory h = halts MemoryRead h
 
@@ -102,6 +102,7 @@ written_replies Stopped Due old new text count failed outcome whole is ends writ
     go (Ok n) outcomes.Noted ends writes due = (text, due, writes.1)
     go (Ok n) (outcomes.Explained found) ends writes due = (text, due, writes.1)
     go (Ok n) (outcomes.Fault found) ends writes due = absurd ends
+    go (Ok n) (outcomes.NoKind likely) ends writes due = absurd ends
     go (Ok n) (outcomes.ReadFailed at) ends writes due = absurd ends
     go (Ok n) (outcomes.WriteFailed count) ends writes due = absurd ends
     go (Ok n) outcomes.Memory ends writes due = absurd ends
@@ -117,6 +118,7 @@ written_speaks count outcome whole is ends silent = go count whole ends (subst I
     go (Ok n) outcomes.Noted ends h = h
     go (Ok n) (outcomes.Explained found) ends h = h
     go (Ok n) (outcomes.Fault found) ends h = ends
+    go (Ok n) (outcomes.NoKind likely) ends h = ends
     go (Ok n) (outcomes.ReadFailed at) ends h = ends
     go (Ok n) (outcomes.WriteFailed count) ends h = ends
     go (Ok n) outcomes.Memory ends h = ends
@@ -136,6 +138,7 @@ written_fails text old new count outcome whole source target is ends writes fine
     go (Ok n) outcomes.Noted ends writes = (fine, writes.2)
     go (Ok n) (outcomes.Explained found) ends writes = (fine, writes.2)
     go (Ok n) (outcomes.Fault found) ends writes = absurd ends
+    go (Ok n) (outcomes.NoKind likely) ends writes = absurd ends
     go (Ok n) (outcomes.ReadFailed at) ends writes = absurd ends
     go (Ok n) (outcomes.WriteFailed count) ends writes = absurd ends
     go (Ok n) outcomes.Memory ends writes = absurd ends
@@ -256,6 +259,8 @@ whole_says (outcomes.NotDer at) says = tt
 whole_says outcomes.Noted says = tt
 whole_says (outcomes.Explained found) says = tt
 whole_says (outcomes.Fault found) says = absurd cc
+whole_says (outcomes.NoKind None) says = absurd cc
+whole_says (outcomes.NoKind (Some likely)) says = absurd cc
 whole_says (outcomes.ReadFailed at) says = absurd cc
 whole_says (outcomes.WriteFailed count) says = absurd cc
 whole_says outcomes.Memory says = absurd cc

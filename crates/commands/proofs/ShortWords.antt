@@ -3,6 +3,9 @@ use Rattle.std.proofs.Common.{◌<◌, ◌≤◌, arith, length}
 use Rattle.tlv_core.specs.Reasons.{name_of}
 use Rattle.tlv_core.specs.declared.reason.Reason.{Reason}
 use Rattle.tlv_core.specs.declared.reason.Reason.TheVariants as reasons
+use Rattle.pk_documents.specs.KindRows.{word_of}
+use Rattle.pk_documents.specs.declared.kind.Kind.{Kind}
+use Rattle.pk_documents.specs.declared.kind.Kind.TheVariants as kinds
 use Rattle.commands.specs.NameLists.{fault_of}
 use Rattle.commands.specs.Openings.{why_of}
 use Rattle.commands.specs.declared.names.NamesFault.{NamesFault}
@@ -46,6 +49,7 @@ whys_are_short whys.NotDirectory = omega arith
 whys_are_short whys.Denied = omega arith
 whys_are_short whys.NotUtf8 = omega arith
 whys_are_short whys.TooLong = omega arith
+whys_are_short whys.Irregular = omega arith
 whys_are_short whys.Memory = omega arith
 whys_are_short whys.Other = omega arith
 
@@ -54,3 +58,11 @@ faults_are_short faults.Read = omega arith
 faults_are_short faults.TooLong = omega arith
 faults_are_short faults.TooMany = omega arith
 faults_are_short faults.Memory = omega arith
+
+pub words_are_short : (kind : Kind) → length (word_of kind) ≤ 9
+words_are_short kinds.Key = omega arith
+words_are_short kinds.Ec = omega arith
+words_are_short kinds.Request = omega arith
+words_are_short kinds.Public = omega arith
+words_are_short kinds.Encrypted = omega arith
+words_are_short kinds.Package = omega arith

@@ -10,30 +10,20 @@ use Rattle.commands.specs.declared.question.Compared.{Compared}
 use Rattle.commands.specs.declared.question.Compared.TheVariants as compared
 use Rattle.commands.specs.declared.names.NamesFault.{NamesFault}
 use Rattle.commands.specs.declared.opener.Unopened.{Unopened as Why}
-use Rattle.commands.specs.Outcomes.{line_of, words_of}
+use Rattle.commands.specs.Outcomes.{IsWhole, line_of, words_of}
 use Rattle.commands.specs.Replies.{FailedBy, IsSilent, Replied, written_outcome}
 use Rattle.commands.specs.declared.files.FilesEnd.{FilesEnd}
 use Rattle.commands.specs.declared.files.FilesEnd.TheVariants as ends
 use Rattle.commands.specs.declared.task.Task.{Task}
 use Rattle.commands.specs.declared.outcome.Outcome.{Outcome}
-use Rattle.commands.specs.declared.outcome.Outcome.TheVariants.{Done, NotDer, Noted, Fault, Explained, ReadFailed, WriteFailed, Memory}
-
--- it says that all that was due is written
-abbrev pub IsWhole : Outcome → Type 0
-IsWhole Done = Unit {0}
-IsWhole (NotDer at) = Unit {0}
-IsWhole Noted = Unit {0}
-IsWhole (Fault found) = ⊥
-IsWhole (Explained found) = Unit {0}
-IsWhole (ReadFailed at) = ⊥
-IsWhole (WriteFailed count) = ⊥
-IsWhole Memory = ⊥
+use Rattle.commands.specs.declared.outcome.Outcome.TheVariants.{Done, NotDer, Noted, Fault, NoKind, Explained, ReadFailed, WriteFailed, Memory}
 
 abbrev pub is_done : Outcome → Bool
 is_done Done = true
 is_done (NotDer at) = false
 is_done Noted = false
 is_done (Fault found) = false
+is_done (NoKind likely) = false
 is_done (Explained found) = false
 is_done (ReadFailed at) = false
 is_done (WriteFailed count) = false

@@ -4,6 +4,7 @@ use Rattle.std.specs.Io.KnownBytes.{Appends}
 use Rattle.std.specs.List.{flat_map, fold}
 use Rattle.x690.specs.Values.{Value}
 use Rattle.pk_documents.specs.declared.document.Document.{Document}
+use Rattle.commands.specs.Fronted.{fronted}
 use Rattle.commands.specs.NameLists.{BeginsWith, IsListOf, TakesNames, fault_of}
 use Rattle.commands.specs.Names.{file_name, shown_name}
 use Rattle.commands.specs.Openings.{why_of}
@@ -18,7 +19,7 @@ use Rattle.commands.specs.declared.names.NamesFault.{NamesFault}
 use Rattle.commands.specs.declared.names.NamesFault.TheVariants.{TooMany}
 use Rattle.commands.specs.declared.opener.Unopened.{Unopened as Why}
 use Rattle.commands.specs.declared.outcome.Outcome.{Outcome}
-use Rattle.commands.specs.declared.outcome.Outcome.TheVariants.{Done, NotDer, Noted, Fault, Explained, ReadFailed, WriteFailed, Memory}
+use Rattle.commands.specs.declared.outcome.Outcome.TheVariants.{Done, NotDer, Noted, Fault, NoKind, Explained, ReadFailed, WriteFailed, Memory}
 use Rattle.commands.specs.declared.task.Action.{Action}
 use Rattle.commands.specs.declared.task.Action.TheVariants as actions
 use Rattle.commands.specs.declared.task.Task.{Task}
@@ -31,6 +32,7 @@ kept Done = Done
 kept (NotDer at) = NotDer at
 kept Noted = Noted
 kept (Fault found) = Fault found
+kept (NoKind likely) = NoKind likely
 kept (Explained found) = Explained found
 kept (ReadFailed at) = ReadFailed at
 kept (WriteFailed count) = Memory
@@ -42,6 +44,7 @@ has_failed_read Done = false
 has_failed_read (NotDer at) = false
 has_failed_read Noted = false
 has_failed_read (Fault found) = false
+has_failed_read (NoKind likely) = false
 has_failed_read (Explained found) = false
 has_failed_read (ReadFailed at) = true
 has_failed_read (WriteFailed count) = false
@@ -103,11 +106,6 @@ front_of action name = cond (is_json action) [] (text_front action name)
 abbrev pub fronts_lines : Action → Bool
 fronts_lines (actions.Note noting) = true
 fronts_lines _ = false
-
--- Lines with this in front of each, where one begins, or goes on.
-abbrev pub fronted : List ℕ → Bool → List ℕ → List ℕ
-fronted front begins [] = []
-fronted front begins (octet ∷ octets) = cond begins front [] ++ (octet ∷ fronted front (octet == 10) octets)
 
 -- a text that an action writes with what is in front
 abbrev pub named_text : Action → List ℕ → List ℕ → List ℕ

@@ -18,7 +18,7 @@ use Rattle.commands.specs.declared.names.NamesFault.TheVariants.{Memory as NoMem
 use Rattle.commands.specs.declared.names.Words.{Words}
 use Rattle.commands.specs.declared.opener.Unopened.{Unopened as Why}
 use Rattle.commands.specs.declared.outcome.Outcome.{Outcome}
-use Rattle.commands.specs.declared.outcome.Outcome.TheVariants.{Done, Explained, Fault, Memory, NotDer, Noted, ReadFailed, WriteFailed}
+use Rattle.commands.specs.declared.outcome.Outcome.TheVariants.{Done, Explained, Fault, Memory, NoKind, NotDer, Noted, ReadFailed, WriteFailed}
 use Rattle.commands.specs.declared.task.Task.{Task}
 
 -- ---- the parts of a run
@@ -53,6 +53,7 @@ status_after Done = Some (status_of Done)
 status_after (NotDer at) = Some (status_of (NotDer at))
 status_after Noted = Some (status_of Noted)
 status_after (Fault found) = Some (status_of (Fault found))
+status_after (NoKind likely) = Some (status_of (NoKind likely))
 status_after (Explained found) = Some (status_of (Explained found))
 status_after (ReadFailed at) = Some (status_of (ReadFailed at))
 status_after (WriteFailed after) = None

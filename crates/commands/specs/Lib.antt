@@ -4,6 +4,7 @@ pub mod Conversions
 pub mod Endings
 pub mod Files
 pub mod Flushed
+pub mod Fronted
 pub mod Inputs
 pub mod Judgements
 pub mod KnownOctets

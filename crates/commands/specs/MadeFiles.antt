@@ -1,6 +1,7 @@
 -- What can be said of a new file, and of making one.
 use Rattle.std.specs.Prelude.{◌≡◌, ◌⊎◌, Bool, List, None, Option, Some, [], codes, cond, true, ℕ}
 use Rattle.pk_documents.specs.KindRows.{has_plain_keys}
+use Rattle.pk_documents.specs.declared.kind.Kind.{Kind}
 use Rattle.commands.specs.Endings.{is_done}
 use Rattle.commands.specs.declared.new_file.Stage.{Stage}
 use Rattle.commands.specs.declared.new_file.Stage.TheVariants.{Beside, Gone, InPlace}
@@ -34,12 +35,17 @@ placed_with made octets =
 abbrev pub removed : Made → Made
 removed made = record { name = made.name; is_private = made.is_private; stage = Gone; octets = made.octets }
 
+-- private keys may stand in a document as they are: where its kind isn't told, too
+abbrev pub may_hold_keys : Option Kind → Bool
+may_hold_keys None = true
+may_hold_keys (Some kind) = has_plain_keys kind
+
 -- It has its place where all that was due is in it, and otherwise it is gone; of a kind with private keys
 -- its owner alone may read it.
 abbrev pub IsMade : List ℕ → Task → Outcome → Made → Type 0
 IsMade name task outcome made =
     (made.name ≡ name)
-    × (made.is_private ≡ has_plain_keys task.kind)
+    × (made.is_private ≡ may_hold_keys task.kind)
     × (made.stage ≡ cond (is_done outcome) InPlace Gone)
 
 -- The task is answered over what was empty: what it contained and contains, whether it has failed, and whether it is

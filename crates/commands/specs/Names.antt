@@ -1,5 +1,5 @@
 -- How a name is shown: as it is, or in quotes and escaped.
-use Rattle.std.specs.Prelude.{All, Bool, List, codes, cond, false, length, not, ℕ, ◌++◌, ◌==◌, ◌||◌}
+use Rattle.std.specs.Prelude.{All, Bool, List, [], codes, cond, false, length, not, ℕ, ◌++◌, ◌==◌, ◌||◌, ◌∷◌}
 use Rattle.std.specs.Char.{is_control}
 use Rattle.std.specs.Char.Escape.{escape_ascii, escape_default}
 use Rattle.std.specs.Int.{IsInRange}
@@ -34,9 +34,17 @@ shown_text name = cond (is_plain name) name (quoted name)
 abbrev pub shown_name : List ℕ → List ℕ
 shown_name name = cond (is_utf8 name) (shown_text name) (quoted_octets name)
 
--- the same in JSON, which escapes by itself
+abbrev pub begins_quoted : List ℕ → Bool
+begins_quoted [] = false
+begins_quoted (first ∷ others) = first == 34
+
+-- A name in JSON that is UTF-8: as it is, since JSON escapes by itself, but where it begins with a quote, as what is
+-- shown of one does that isn't UTF-8.
+abbrev pub file_text : List ℕ → List ℕ
+file_text name = cond (begins_quoted name) (quoted name) name
+
 abbrev pub file_name : List ℕ → List ℕ
-file_name name = cond (is_utf8 name) name (quoted_octets name)
+file_name name = cond (is_utf8 name) (file_text name) (quoted_octets name)
 
 -- printable ASCII
 abbrev pub IsPrintable : List ℕ → Type 0

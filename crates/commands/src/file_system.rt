@@ -3,7 +3,7 @@ ghost use Rattle.std.specs.Prelude.{None};
 
 use crate::opener::{Opener, Unopened};
 use std::alloc::Global;
-use std::fs::{File, Files, OpenFile};
+use std::fs::{self, File, Files, OpenFile};
 use std::io::{BufReader, ErrorKind};
 use tlv_core::source::FromRead;
 
@@ -42,6 +42,28 @@ impl<R: Files> Opener for FileSystem<'_, R> {
             Ok(reader) => Ok(FromRead::new(reader)),
             Err(_) => Err(Unopened::Memory),
         }
+    }
+
+    fn open_regular(
+        &self,
+        alloc: Global,
+        name: &[u8],
+    ) -> Result<FromRead<BufReader<R::File>>, Unopened> {
+        if is_irregular(self.files, name) {
+            return Err(Unopened::Irregular);
+        }
+        self.open(alloc, name)
+    }
+}
+
+/// Whether a name is known to be that of a FIFO, a socket or a device.
+fn is_irregular<R: Files>(files: &R, name: &[u8]) -> bool {
+    let Ok(path) = std::str::from_utf8(name) else {
+        return false;
+    };
+    match fs::metadata(files, path) {
+        Ok(found) => !found.is_file() && !found.is_dir(),
+        Err(_) => false,
     }
 }
 

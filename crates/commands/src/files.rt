@@ -3,12 +3,13 @@ ghost use Rattle.std.specs.Prelude.{◌≡◌, ◌+◌, ◌<◌, ◌≤◌, ◌+
 ghost use Rattle.std.specs.Prelude.{[], cond, length, true};
 ghost use Rattle.arrayvec.specs.ArrayString.{array_string_len};
 ghost use Rattle.commands.specs.Files.{CameAs, Entry, FilesSaid, IsLeft, IsSaid, Went, after_front, front_of};
-ghost use Rattle.commands.specs.Files.{fronted, fronts_lines, has_failed_write, is_json, kept, named_line, named_text};
+ghost use Rattle.commands.specs.Files.{fronts_lines, has_failed_write, is_json, kept, named_line, named_text};
 ghost use Rattle.commands.specs.Files.{said_line, said_text, status_of_came, status_of_end, words_of_came};
 ghost use Rattle.commands.specs.NameLists.{HasStopped};
 ghost use Rattle.commands.specs.Names.{shown_name};
 ghost use Rattle.commands.specs.Openings.{why_of};
 
+use crate::fronted::in_front_of_each;
 use crate::lines::{LineWords, NamedLine};
 use crate::name::{file_name, shown_name};
 use crate::names::{Names, NamesFault};
@@ -168,7 +169,7 @@ fn came_of<O: Opener>(
 }
 
 /// How a run ended whose text is kept in memory.
-fn kept(outcome: Outcome) -> Outcome
+pub(crate) fn kept(outcome: Outcome) -> Outcome
     ensures { result ≡ kept outcome }
 {
     match outcome {
@@ -179,7 +180,7 @@ fn kept(outcome: Outcome) -> Outcome
 
 /// Words after a name, as a line, if there are any.
 fn after_name(alloc: Global, name: &[u8], words: &str) -> Result<Vec<u8>, AllocError>
-    requires { length words.now ≤ 128 }
+    requires { length words.now ≤ 192 }
     ensures { IfOk result (λ text. text.items ≡ named_line name.now words.now) }
 {
     Ok(NamedLine::new(alloc, name)?.line(words).into_bytes())
@@ -219,7 +220,7 @@ fn named_text(
     let mut front = Vec::new(alloc);
     push_front_of(alloc, &mut front, action, name)?;
     if fronts_lines(action) {
-        return fronted(alloc, front.as_slice(), written);
+        return in_front_of_each(alloc, front.as_slice(), written);
     }
     front.extend_from_slice(written)?;
     Ok(front)
@@ -232,22 +233,6 @@ fn fronts_lines(action: Action) -> bool
     matches!(action, Action::Note(_))
 }
 
-/// Lines with this in front of each.
-fn fronted(alloc: Global, front: &[u8], lines: &[u8]) -> Result<Vec<u8>, AllocError>
-    ensures { IfOk result (λ text. text.items ≡ fronted front.now true lines.now) }
-{
-    let mut text = Vec::new(alloc);
-    let mut begins = true;
-    let mut left = lines;
-    while let [octet, rest @ ..] = left {
-        push_begin(&mut text, begins, front)?;
-        text.push(*octet)?;
-        begins = *octet == b'\n';
-        left = rest;
-    }
-    Ok(text)
-}
-
 /// What is said of a document of which not all that was asked for is written: why, in words.
 fn said_line(
     alloc: Global,
@@ -257,7 +242,7 @@ fn said_line(
     came: &Came,
     words: &str,
 ) -> Result<Vec<u8>, AllocError>
-    requires { length words.now ≤ 128 }
+    requires { length words.now ≤ 192 }
     ensures { IfOk result (λ text. text.items
         ≡ said_line action name.now file.now came.now words.now) }
 {
@@ -266,16 +251,6 @@ fn said_line(
         return Ok(text.into_bytes());
     }
     after_name(alloc, name, words)
-}
-
-/// Appends what is in front of a line, where one begins.
-fn push_begin(text: &mut Vec<u8>, begins: bool, front: &[u8]) -> Result<(), AllocError>
-    ensures { OnOk result (text.new.items ≡ text.old.items ++ cond begins front.now []) }
-{
-    if begins {
-        return text.extend_from_slice(front);
-    }
-    Ok(())
 }
 
 /// Whether what an action writes is JSON.
@@ -330,7 +305,7 @@ fn push_front(alloc: Global, text: &mut Vec<u8>, name: &[u8], after: &str) -> Re
 /// Why not all that was asked for is written of a document; empty where what is written says all.
 pub fn words_of_came(came: &Came) -> LineWords
     ensures words { result.bytes ≡ words_of_came came.now }
-    ensures short { array_string_len result < 128 }
+    ensures short { array_string_len result < 192 }
 {
     match came {
         Came::Ran(outcome) => outcome_words(outcome),

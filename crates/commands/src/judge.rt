@@ -18,7 +18,7 @@ use crate::files::{Came, FilesEnd};
 use crate::flush::Flush;
 use crate::lines::NamedLine;
 use crate::names::{Names, Words};
-use crate::opener::Opener;
+use crate::opener::{Opener, RegularFiles};
 use crate::outcome::{Outcome, status};
 use crate::pair::finish_taken;
 use crate::standard::{Standard, is_dash};
@@ -239,7 +239,8 @@ fn judge_named<R: Source + Drop, W: Flush, E: Target, O: Opener>(
     )
 }
 
-/// Says what the task has to say of the documents whose names a file has, or standard input.
+/// Says what the task has to say of the documents whose names a file has, or standard input, where they are regular
+/// files.
 fn judge_list<R: Source + Drop, W: Flush, E: Target, O: Opener>(
     alloc: Global,
     task: &Task,
@@ -271,7 +272,7 @@ fn judge_list<R: Source + Drop, W: Flush, E: Target, O: Opener>(
             named,
             &mut EndedNames::new(src),
             standard,
-            opener,
+            &RegularFiles { opener },
         );
     }
     match opener.open(alloc, list.as_bytes()) {
@@ -282,7 +283,7 @@ fn judge_list<R: Source + Drop, W: Flush, E: Target, O: Opener>(
                 named,
                 &mut EndedNames::new(src),
                 standard,
-                opener,
+                &RegularFiles { opener },
             )
         }
         Err(why) => {

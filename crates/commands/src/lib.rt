@@ -11,6 +11,7 @@
 //! `convert` writes what it makes of one, and `pair` compares two.
 #![tactic(auto)]
 
+mod any;
 mod block_target;
 pub mod closing;
 pub mod compare;
@@ -19,6 +20,7 @@ pub mod ended_names;
 pub mod file_system;
 pub mod files;
 pub mod flush;
+mod fronted;
 mod input;
 pub mod judge;
 pub mod laws;

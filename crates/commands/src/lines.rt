@@ -8,16 +8,16 @@ use arrayvec::ArrayString;
 use std::alloc::{AllocError, Global};
 
 /// The words of a line, which ask for no memory.
-pub type LineWords = ArrayString<128>;
+pub type LineWords = ArrayString<192>;
 
 /// As much room is kept after a name.
-const ROOM: usize = 160;
+const ROOM: usize = 224;
 
 /// A name as it is shown, and the memory for a line that begins with it.
 #[derive(Drop)]
 pub struct NamedLine {
     text: String,
-    ghost room: { string_len text + 160 ≤ string_capacity text },
+    ghost room: { string_len text + 224 ≤ string_capacity text },
 }
 
 impl NamedLine {
@@ -34,7 +34,7 @@ impl NamedLine {
 
     /// The line of these words, if there are any. No memory is asked for.
     pub fn line(self, words: &str) -> String
-        requires { length words.now ≤ 128 }
+        requires { length words.now ≤ 192 }
         ensures { string_bytes result ≡ line_after (name_of_line self) words.now }
     {
         let mut text = self.text;

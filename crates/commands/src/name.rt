@@ -3,8 +3,8 @@ ghost use Rattle.std.specs.Prelude.{◌≡◌, ◌++◌, IfOk, OnOk, string_byte
 ghost use Rattle.std.specs.Char.Escape.{escape_ascii, escape_default};
 ghost use Rattle.std.specs.List.{list_any};
 ghost use Rattle.std.specs.Str.{chars};
-ghost use Rattle.commands.specs.Names.{escaped, file_name, is_plain, needs_quotes, quoted, quoted_octets, shown_name};
-ghost use Rattle.commands.specs.Names.{shown_text};
+ghost use Rattle.commands.specs.Names.{begins_quoted, escaped, file_name, file_text, is_plain, needs_quotes, quoted};
+ghost use Rattle.commands.specs.Names.{quoted_octets, shown_name, shown_text};
 
 use std::alloc::{AllocError, Global};
 
@@ -19,13 +19,36 @@ pub fn shown_name(alloc: Global, name: &[u8]) -> Result<String, AllocError>
     }
 }
 
-/// The same as JSON says it, which escapes by itself: in quotes and escaped only where it isn't UTF-8.
+/// The same as JSON says it, which escapes by itself: in quotes and escaped only where it isn't UTF-8, or begins with a
+/// quote as if it were such a one.
 pub fn file_name(alloc: Global, name: &[u8]) -> Result<String, AllocError>
     ensures { IfOk result (λ text. string_bytes text ≡ file_name name.now) }
 {
     match std::str::from_utf8(name) {
-        Ok(text) => String::from_str(alloc, text),
+        Ok(text) => file_text(alloc, text),
         Err(_) => octets_text(alloc, name),
+    }
+}
+
+/// A name in JSON that is UTF-8.
+fn file_text(alloc: Global, name: &str) -> Result<String, AllocError>
+    ensures { IfOk result (λ text. string_bytes text ≡ file_text name.now) }
+{
+    if !begins_quoted(name.as_bytes()) {
+        return String::from_str(alloc, name);
+    }
+    let mut text = String::new(alloc);
+    push_quoted(&mut text, name)?;
+    Ok(text)
+}
+
+/// Whether its first character is `"`.
+fn begins_quoted(name: &[u8]) -> bool
+    ensures { result ≡ begins_quoted name.now }
+{
+    match name {
+        [first, ..] => *first == 34,
+        [] => false,
     }
 }
 

@@ -2,13 +2,14 @@
 ghost use Rattle.std.specs.Prelude.{◌≡◌, IfErr, IfOk, List, MatchResult, OnOk, false, true, ℕ};
 ghost use Rattle.commands.specs.Endings.{Served};
 ghost use Rattle.commands.specs.MadeFiles.{IsEmpty, IsMade, IsNew, Made, Unmakes, WroteMade, placed_with, removed};
-ghost use Rattle.commands.specs.MadeFiles.{why_unmade};
+ghost use Rattle.commands.specs.MadeFiles.{may_hold_keys, why_unmade};
 
 use crate::flush::Flush;
 use crate::outcome::Outcome;
 use crate::streams::answer;
 use crate::task::Task;
 use pk_documents::document::{Document, Valued};
+use pk_documents::kind::Kind;
 use std::alloc::{AllocError, Global};
 use std::io::{self, ErrorKind};
 use tlv_core::source::Source;
@@ -134,7 +135,7 @@ pub fn make_file<R: Source, M: NewFiles>(
         (R.remaining src.old) (R.remaining src.new) (R.has_failed src.new) it.0) it.0
         (M.File.made it.1)) }
 {
-    let mut file = files.make(name, task.kind.has_plain_keys())?;
+    let mut file = files.make(name, may_hold_keys(task.kind))?;
     let mut dst = match file.writer() {
         Ok(dst) => dst,
         Err(why) => {
@@ -148,4 +149,14 @@ pub fn make_file<R: Source, M: NewFiles>(
         _ => file.remove(),
     }
     Ok((outcome, file))
+}
+
+/// Whether private keys may stand in the document as they are: where its kind isn't told, too.
+fn may_hold_keys(kind: Option<Kind>) -> bool
+    ensures { result ≡ may_hold_keys kind }
+{
+    match kind {
+        Some(kind) => kind.has_plain_keys(),
+        None => true,
+    }
 }

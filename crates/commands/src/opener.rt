@@ -23,6 +23,35 @@ pub trait Opener {
             ≡ known self.now name.now) }
         ensures readable { IfOk result (λ source. Self.Document.has_failed source ≡ false) }
         ensures refused { IfErr result (refuses self.now name.now) };
+
+    /// The same, but what is known to be no regular file isn't opened: reading a FIFO waits for whoever writes it.
+    fn open_regular(&self, alloc: Global, name: &[u8]) -> Result<Self::Document, Unopened>
+        ensures opened { IfOk result (λ source. Self.Document.remaining source
+            ≡ known self.now name.now) }
+        ensures readable { IfOk result (λ source. Self.Document.has_failed source ≡ false) }
+        ensures refused { IfErr result (refuses self.now name.now) };
+}
+
+/// Opens regular files alone, as the names of a list are to be: nobody may have looked at what they are of.
+#[derive(Drop)]
+pub struct RegularFiles<'a, O: Opener> {
+    pub opener: &'a O,
+}
+
+impl<O: Opener> Opener for RegularFiles<'_, O> {
+    type Document = O::Document;
+
+    ghost known = { λ it. O.known it.opener.now };
+
+    ghost refuses = { λ it. O.refuses it.opener.now };
+
+    fn open(&self, alloc: Global, name: &[u8]) -> Result<O::Document, Unopened> {
+        self.opener.open_regular(alloc, name)
+    }
+
+    fn open_regular(&self, alloc: Global, name: &[u8]) -> Result<O::Document, Unopened> {
+        self.opener.open_regular(alloc, name)
+    }
 }
 
 /// Why a document isn't opened.
@@ -34,6 +63,8 @@ pub enum Unopened {
     Denied,
     NotUtf8,
     TooLong,
+    /// A FIFO, a socket or a device, where a regular file is due.
+    Irregular,
     Memory,
     Other,
 }
@@ -50,6 +81,7 @@ impl Unopened {
             Unopened::Denied => "permission denied",
             Unopened::NotUtf8 => "the name is not UTF-8",
             Unopened::TooLong => "the name is too long",
+            Unopened::Irregular => "not a regular file",
             Unopened::Memory => "out of memory",
             Unopened::Other => "can't be opened",
         }

@@ -1,11 +1,15 @@
 //! How a run ends.
-ghost use Rattle.std.specs.Prelude.{◌≡◌, ◌+◌, ◌<◌, ◌≤◌, ◌++◌, [], codes, decimal, IfOk, length, string_bytes};
+ghost use Rattle.std.specs.Prelude.{◌≡◌, ◌+◌, ◌<◌, ◌≤◌, ◌++◌, [], codes, decimal, IfOk, MatchBool};
+ghost use Rattle.std.specs.Prelude.{length, string_bytes};
 ghost use Rattle.arrayvec.specs.ArrayString.{array_string_len};
 ghost use Rattle.tlv_core.specs.Reasons.{name_of};
-ghost use Rattle.commands.specs.Outcomes.{inside_text, line_of, place_text, said_verdict, status_of, words_of};
+ghost use Rattle.commands.specs.Outcomes.{IsWhole, fault_text, line_of, none_text, place_text};
+ghost use Rattle.commands.specs.Outcomes.{said_verdict, status_of, words_of};
+ghost use Rattle.pk_documents.specs.KindRows.{word_of};
 
 use crate::lines::LineWords;
 use itoa::Buffer;
+use pk_documents::kind::Kind;
 use std::alloc::{AllocError, Global};
 use tlv_core::fault::Fault as DocumentFault;
 use tlv_core::reason::Reason;
@@ -20,6 +24,9 @@ pub enum Outcome {
     Noted,
     /// The document is refused, and nothing is written.
     Fault(DocumentFault),
+    /// The octets are a document of no kind, and nothing is written: which kind is likely, and their fault as its
+    /// document.
+    NoKind(Option<(Kind, DocumentFault)>),
     /// The document is refused, and the report that says so is written.
     Explained(DocumentFault),
     /// The reader failed after so many octets, and nothing is written.
@@ -37,7 +44,7 @@ pub fn status(outcome: &Outcome) -> u8
     match outcome {
         Outcome::Done => 0,
         Outcome::NotDer(_) => 1,
-        Outcome::Fault(_) | Outcome::Explained(_) => 2,
+        Outcome::Fault(_) | Outcome::NoKind(_) | Outcome::Explained(_) => 2,
         Outcome::ReadFailed(_) | Outcome::WriteFailed(_) | Outcome::Memory => 3,
         Outcome::Noted => 5,
     }
@@ -46,15 +53,26 @@ pub fn status(outcome: &Outcome) -> u8
 /// Why not all that was asked for is written; empty where what is written says all.
 pub fn outcome_words(outcome: &Outcome) -> LineWords
     ensures words { result.bytes ≡ words_of outcome.now }
-    ensures short { array_string_len result < 128 }
+    ensures short { array_string_len result < 192 }
 {
     match outcome {
         Outcome::Done | Outcome::NotDer(_) | Outcome::Noted | Outcome::Explained(_) => no_words(),
         Outcome::Fault(fault) => fault_words(fault),
+        Outcome::NoKind(likely) => none_words(*likely),
         Outcome::ReadFailed(at) => number_words("read failed at ", *at),
         Outcome::WriteFailed(after) => number_words("write failed after ", *after),
         Outcome::Memory => plain_words("out of memory"),
     }
+}
+
+/// Whether a run that ended so wrote all that was due.
+pub fn is_whole(outcome: &Outcome) -> bool
+    ensures { MatchBool result (IsWhole outcome.now) (IsWhole outcome.now → ⊥) }
+{
+    matches!(
+        outcome,
+        Outcome::Done | Outcome::NotDer(_) | Outcome::Noted | Outcome::Explained(_)
+    )
 }
 
 /// The same as a line for standard error, ended by a line feed.
@@ -112,9 +130,39 @@ fn number_words(words: &str, number: u64) -> LineWords
     text
 }
 
+/// That octets are of no kind, and the likely one.
+fn none_words(likely: Option<(Kind, DocumentFault)>) -> LineWords
+    ensures words { result.bytes ≡ none_text likely }
+    ensures short { array_string_len result < 192 }
+{
+    match likely {
+        Some((kind, fault)) => likely_words(kind, &fault),
+        None => plain_words("none of these"),
+    }
+}
+
+fn likely_words(kind: Kind, fault: &DocumentFault) -> LineWords
+    ensures words { result.bytes ≡ codes "none of these; likely "
+        ++ word_of kind ++ codes ": " ++ fault_text fault.now }
+    ensures short { array_string_len result < 192 }
+{
+    let mut text = plain_words("none of these; likely ");
+    text.push_str(word(kind));
+    text.push_str(": ");
+    text.push_str(fault_words(fault).as_str());
+    text
+}
+
+/// The word of a kind, which is short.
+fn word(kind: Kind) -> &'static str
+    ensures word { result.now ≡ word_of kind }
+    ensures short { length result.now ≤ 9 }
+{
+    kind.row().word
+}
+
 fn fault_words(fault: &DocumentFault) -> LineWords
-    ensures words { result.bytes ≡ codes "fault at "
-        ++ place_text fault.now.at fault.now.why ++ inside_text fault.now.inside }
+    ensures words { result.bytes ≡ fault_text fault.now }
     ensures short { array_string_len result < 128 }
 {
     let mut text = plain_words("fault at ");

@@ -13,7 +13,7 @@ ghost use Rattle.explain.specs.Written.{written_text};
 use crate::input::read_all;
 use crate::outcome::{Outcome, verdict_text};
 use crate::reported::{check_text, explained, json_with_notes, lines_with_notes, noted, refusal};
-use crate::task::{Noting, Task};
+use crate::task::{KindTask, Noting};
 use explain::explained::explain;
 use explain::profile::Profile;
 use explain::written::{Form, PLACES, written_report};
@@ -37,7 +37,7 @@ pub(crate) struct Reply {
 pub(crate) fn show_lines<R: Source>(
     alloc: Global,
     src: &mut R,
-    task: &Task,
+    task: &KindTask,
 ) -> Result<Reply, ReadError>
     requires readable { R.has_failed src.old ≡ false }
     ensures replied { MatchResult result
@@ -61,7 +61,7 @@ pub(crate) fn show_lines<R: Source>(
 pub(crate) fn show_report<R: Source>(
     alloc: Global,
     src: &mut R,
-    task: &Task,
+    task: &KindTask,
     file: Option<&str>,
 ) -> Result<Reply, ReadError>
     requires readable { R.has_failed src.old ≡ false }
@@ -96,7 +96,7 @@ pub(crate) fn show_report<R: Source>(
 pub(crate) fn check_line<R: Source>(
     alloc: Global,
     src: &mut R,
-    task: &Task,
+    task: &KindTask,
     quiet: bool,
 ) -> Result<Reply, ReadError>
     requires readable { R.has_failed src.old ≡ false }
@@ -120,7 +120,7 @@ pub(crate) fn check_line<R: Source>(
 pub(crate) fn check_report<R: Source>(
     alloc: Global,
     src: &mut R,
-    task: &Task,
+    task: &KindTask,
     file: Option<&str>,
     quiet: bool,
     places: u64,
@@ -148,7 +148,7 @@ pub(crate) fn check_report<R: Source>(
 pub(crate) fn note_lines<R: Source>(
     alloc: Global,
     src: &mut R,
-    task: &Task,
+    task: &KindTask,
     noting: Noting,
 ) -> Result<Reply, ReadError>
     requires readable { R.has_failed src.old ≡ false }
@@ -175,7 +175,7 @@ pub(crate) fn note_lines<R: Source>(
 pub(crate) fn note_report<R: Source>(
     alloc: Global,
     src: &mut R,
-    task: &Task,
+    task: &KindTask,
     file: Option<&str>,
     noting: Noting,
 ) -> Result<Reply, ReadError>
@@ -201,7 +201,7 @@ pub(crate) fn note_report<R: Source>(
 pub(crate) fn explain_report<R: Source>(
     alloc: Global,
     src: &mut R,
-    task: &Task,
+    task: &KindTask,
     file: Option<&str>,
     form: Form,
 ) -> Result<Reply, ReadError>
@@ -229,7 +229,7 @@ pub(crate) fn explain_report<R: Source>(
 fn report_of_input<R: Source>(
     alloc: Global,
     src: &mut R,
-    task: &Task,
+    task: &KindTask,
     profile: Profile,
 ) -> Result<Report, ReadError>
     requires readable { R.has_failed src.old ≡ false }

@@ -6,20 +6,26 @@ ghost use Rattle.asn_documents.specs.WrittenValues.{WritesText};
 ghost use Rattle.pk_documents.specs.Kinds.{type_of};
 ghost use Rattle.pk_documents.specs.RequestParts.{part_of};
 ghost use Rattle.pk_documents.specs.declared.kind.Kind.TheVariants as kinds;
-ghost use Rattle.commands.specs.Replies.{DueOfValue, FailedBy, IsSilent, Replied, RepliedNoting, RepliedTo};
-ghost use Rattle.commands.specs.Replies.{RepliedWith, WroteText, unread_outcome, written_outcome};
+ghost use Rattle.commands.specs.Replies.{DueOfValue, FailedBy, IsSilent, Replied, RepliedBy, RepliedNoting};
+ghost use Rattle.commands.specs.Replies.{RepliedReceived, RepliedSigning, RepliedTo, RepliedWith, WroteText};
+ghost use Rattle.commands.specs.Replies.{unread_outcome};
+ghost use Rattle.commands.specs.Replies.{written_outcome};
 
+use crate::any::run_on_any;
 use crate::block_target::{BlockTarget, Start, new_block};
+use crate::input::read_all;
 use crate::outcome::Outcome;
 use crate::reply::{
     Reply, check_line, check_report, explain_report, note_lines, note_report, show_lines,
     show_report,
 };
-use crate::task::{Action, Noting, Task};
+use crate::task::{Action, KindTask, Noting, Task};
 use asn_documents::value::write_octets;
 use asn_documents::whole::read_whole_input;
 use asn_values::der_text::DerText;
+use explain::received::{RequestPart, received};
 use pk_documents::document::{Document, Valued};
+use pk_documents::kind::Kind;
 use pk_documents::normalise::{NormaliseError, normalise_whole_document};
 use pk_documents::request_part::{Part, write_part};
 use pkcs10::request::CertificationRequest;
@@ -50,6 +56,41 @@ pub fn run<R: Source, W: Target>(
     // A failed read or write is answered where the source or the target failed, and nowhere else.
     ensures failed { FailedBy result (R.has_failed src.new) (W.has_failed dst.new) }
 {
+    match task.kind {
+        Some(kind) => run_on_kind(alloc, src, dst, &task_on(task, kind), file),
+        None => run_on_any(alloc, src, dst, task, file),
+    }
+}
+
+/// The task where its documents are of this kind.
+fn task_on(task: &Task, kind: Kind) -> KindTask
+    ensures action { result.action ≡ task.now.action }
+    ensures kind { result.kind ≡ kind }
+    ensures limits { result.limits ≡ task.now.limits }
+{
+    KindTask {
+        action: task.action,
+        kind,
+        limits: task.limits,
+    }
+}
+
+/// Does a task with a document of a kind.
+pub(crate) fn run_on_kind<R: Source, W: Target>(
+    alloc: Global,
+    src: &mut R,
+    dst: &mut W,
+    task: &KindTask,
+    file: Option<&str>,
+) -> Outcome
+    requires readable { R.has_failed src.old ≡ false }
+    requires writable { W.has_failed dst.old ≡ false }
+    ensures replied { RepliedBy ⟦<Document as Valued>⟧.value task.now.action
+        (option_map (λ r. r.now) file.entry) task.now.kind task.now.limits result (R.remaining src.old)
+        (R.remaining src.new) (W.contents dst.old) (W.contents dst.new) }
+    ensures unwritten { IsSilent result → dst.new ≡ dst.old }
+    ensures failed { FailedBy result (R.has_failed src.new) (W.has_failed dst.new) }
+{
     match task.action {
         Action::Show { json: false } => write_reply(show_lines(alloc, src, task), dst),
         Action::Show { json: true } => write_reply(show_report(alloc, src, task, file), dst),
@@ -78,7 +119,7 @@ fn note<R: Source, W: Target>(
     alloc: Global,
     src: &mut R,
     dst: &mut W,
-    task: &Task,
+    task: &KindTask,
     file: Option<&str>,
     noting: Noting,
 ) -> Outcome
@@ -114,7 +155,12 @@ fn write_reply<W: Target>(reply: Result<Reply, ReadError>, dst: &mut W) -> Outco
 }
 
 /// Writes the document's DER text.
-fn normalise<R: Source, W: Target>(alloc: Global, src: &mut R, dst: &mut W, task: &Task) -> Outcome
+fn normalise<R: Source, W: Target>(
+    alloc: Global,
+    src: &mut R,
+    dst: &mut W,
+    task: &KindTask,
+) -> Outcome
     requires readable { R.has_failed src.old ≡ false }
     requires writable { W.has_failed dst.old ≡ false }
     ensures replied { RepliedTo task.now.limits (type_of task.now.kind) result
@@ -134,7 +180,7 @@ fn normalise_in_blocks<'a, R: Source, W: Target, K: Start>(
     src: &mut R,
     dst: &'a mut W,
     block: Vec<u8>,
-    task: &Task,
+    task: &KindTask,
 ) -> (Outcome, &'a mut W)
     requires readable { R.has_failed src.old ≡ false }
     requires writable { W.has_failed dst.now ≡ false }
@@ -169,6 +215,61 @@ fn normalise_in_blocks<'a, R: Source, W: Target, K: Start>(
 
 /// Writes a part of a request.
 fn extract<R: Source, W: Target>(
+    alloc: Global,
+    src: &mut R,
+    dst: &mut W,
+    part: RequestPart,
+    limits: Limits,
+) -> Outcome
+    requires readable { R.has_failed src.old ≡ false }
+    requires writable { W.has_failed dst.old ≡ false }
+    ensures replied { RepliedSigning part limits result (R.remaining src.old)
+        (R.remaining src.new) (W.contents dst.old) (W.contents dst.new) }
+    ensures unwritten { IsSilent result → dst.new ≡ dst.old }
+    ensures failed { FailedBy result (R.has_failed src.new) (W.has_failed dst.new) }
+{
+    match part {
+        RequestPart::Written(part) => extract_written(alloc, src, dst, part, limits),
+        RequestPart::Received => extract_received(alloc, src, dst, limits),
+    }
+}
+
+/// Writes the octets of certificationRequestInfo as they came. All of the input is taken first, or one octet more than
+/// the limit.
+fn extract_received<R: Source, W: Target>(
+    alloc: Global,
+    src: &mut R,
+    dst: &mut W,
+    limits: Limits,
+) -> Outcome
+    requires readable { R.has_failed src.old ≡ false }
+    requires writable { W.has_failed dst.old ≡ false }
+    ensures replied { RepliedReceived limits result (R.remaining src.old) (R.remaining src.new)
+        (W.contents dst.old) (W.contents dst.new) }
+    ensures unwritten { IsSilent result → dst.new ≡ dst.old }
+    ensures failed { FailedBy result (R.has_failed src.new) (W.has_failed dst.new) }
+{
+    match read_all(alloc, src, limits.octets() as usize + 1) {
+        Ok(octets) => write_received(received(alloc, octets.as_slice(), limits), dst),
+        Err(error) => unread(&error),
+    }
+}
+
+/// Writes octets that there are, and answers how the run ends.
+fn write_received<W: Target>(octets: Result<&[u8], ReadError>, dst: &mut W) -> Outcome
+    requires { W.has_failed dst.old ≡ false }
+    ensures { WroteText (λ octets. octets.now) (λ _. Outcome.Done) (λ error. unread_outcome error)
+        octets.entry result (W.contents dst.old) (W.contents dst.new) (W.has_failed dst.new)
+        (dst.new ≡ dst.old) }
+{
+    match octets {
+        Ok(octets) => written(write_octets(octets, dst), Outcome::Done),
+        Err(error) => unread(&error),
+    }
+}
+
+/// Writes a part of a request that is written of what the request says.
+fn extract_written<R: Source, W: Target>(
     alloc: Global,
     src: &mut R,
     dst: &mut W,
@@ -247,7 +348,7 @@ pub fn written(count: Result<u64, WriteError>, whole: Outcome) -> Outcome
 }
 
 /// The outcome of a document that was not read.
-fn unread(error: &ReadError) -> Outcome
+pub(crate) fn unread(error: &ReadError) -> Outcome
     ensures { result ≡ unread_outcome error.now }
 {
     match error {

@@ -1,16 +1,17 @@
 //! What the program does with its streams, over any of them.
-ghost use Rattle.std.specs.Prelude.{◌≡◌, Bool, MatchBool, false, true};
+ghost use Rattle.std.specs.Prelude.{◌≡◌, Bool, false, true};
 ghost use Rattle.std.specs.Io.KnownBytes.{Keeps};
-ghost use Rattle.commands.specs.Endings.{AnsweredAs, AnsweredFiles, EndsAs, FilesEndAs, IsWhole, SaysText};
+ghost use Rattle.commands.specs.Endings.{AnsweredAs, AnsweredFiles, EndsAs, FilesEndAs, SaysText};
 ghost use Rattle.commands.specs.Files.{IsLeft, has_failed_write};
 ghost use Rattle.commands.specs.NameLists.{HasStopped};
+ghost use Rattle.commands.specs.Outcomes.{IsWhole};
 ghost use Rattle.commands.specs.Replies.{FailedBy, IsSilent};
 
 use crate::files::{FilesEnd, run_files};
 use crate::flush::Flush;
 use crate::names::Names;
 use crate::opener::Opener;
-use crate::outcome::Outcome;
+use crate::outcome::{Outcome, is_whole};
 use crate::run::{run, written};
 use crate::task::Task;
 use asn_documents::value::write_octets;
@@ -101,16 +102,6 @@ fn flushed<W: Flush>(dst: &mut W, outcome: Outcome) -> Outcome
         Ok(()) => outcome,
         Err(Failed) => unflushed(),
     }
-}
-
-/// Whether a run that ended so wrote all that was due.
-fn is_whole(outcome: &Outcome) -> bool
-    ensures { MatchBool result (IsWhole outcome.now) (IsWhole outcome.now → ⊥) }
-{
-    matches!(
-        outcome,
-        Outcome::Done | Outcome::NotDer(_) | Outcome::Noted | Outcome::Explained(_)
-    )
 }
 
 /// The outcome where a target isn't flushed: how many octets it kept back isn't known.

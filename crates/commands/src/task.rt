@@ -1,8 +1,8 @@
 //! What a command is to do.
 use explain::profile::Profile;
+use explain::received::RequestPart;
 use explain::written::Form;
 use pk_documents::kind::Kind;
-use pk_documents::request_part::Part;
 use tlv_core::limits::Limits;
 
 /// What to do with the document.
@@ -26,7 +26,7 @@ pub enum Action {
     /// Write its DER text.
     Normalise,
     /// Write a part of a certification request.
-    Signed(Part),
+    Signed(RequestPart),
 }
 
 /// How a check with notes is written, and ends.
@@ -54,7 +54,15 @@ pub enum Refuse {
 #[derive(Clone, Copy, Debug, PartialEq, Eq)]
 pub struct Task {
     pub action: Action,
-    /// What the document is: a request under `Signed`.
+    /// What the document is: a request under `Signed`. Where it isn't told, the one kind is found that accepts it.
+    pub kind: Option<Kind>,
+    pub limits: Limits,
+}
+
+/// The same of a document of this kind.
+#[derive(Clone, Copy, Debug, PartialEq, Eq)]
+pub struct KindTask {
+    pub action: Action,
     pub kind: Kind,
     pub limits: Limits,
 }

@@ -13,10 +13,10 @@ use Rattle.clap.specs.declared.parser.matches.Found.{Found}
 use Rattle.clap.proofs.WalkLemmas.{first_value-rows, raw_values-rows}
 use Rattle.pkder.proofs.OneCommand.{MeansSame}
 use Rattle.pkder.proofs.PlainTexts.{controls_plain}
-use Rattle.pkder.specs.CommandLines.{Invokes, InvokesNothing, BadAction, BadInvocation, BadKinds, BadOther, BadPart, BadPlaces, BadProfile, BadRefuse, IsFaultOf, IsPlainLine, MeansInvocation, MeansBy, MeansNothing, MeansTask, ReadsAction, ReadsNotedProfile, ReadsPair, ReadsPlaces, ReadsProfile, ReadsRefuse, ShowsPlaces, ShowsOwn, ShowsWhy, advice_for_command, advised_line, are_of_same, asks_reasons, bad_value_line, both_kinds, command_advised, command_name, controls_line, has_control, is_for_tls, is_same, kinds_given, kinds_of, missing_line, no_kind_line, option_advised, other_taken, part_name, program, refuses, taken_kind, value_of}
+use Rattle.pkder.specs.CommandLines.{Invokes, InvokesNothing, BadAction, BadInvocation, BadKindOf, BadKinds, BadNamedKind, BadOther, BadPart, BadPlaces, BadProfile, BadRefuse, IsFaultOf, IsPlainLine, MeansInvocation, MeansBy, MeansNothing, MeansTask, ReadsAction, ReadsKind, ReadsNamedKind, ReadsNotedProfile, ReadsPair, ReadsPlaces, ReadsProfile, ReadsRefuse, ShowsPlaces, ShowsOwn, ShowsWhy, advice_for_command, advised_line, are_of_same, asks_reasons, bad_value_line, both_kinds, command_advised, command_name, controls_line, has_control, is_for_tls, is_same, kinds_given, kinds_of, missing_line, no_kind_line, option_advised, other_taken, part_name, program, refuses, taken_kind, value_of}
 use Rattle.pk_documents.specs.declared.kind.Kind.{Kind}
-use Rattle.pk_documents.specs.declared.request_part.Part.{Part}
 use Rattle.explain.specs.declared.profile.Profile.{Profile}
+use Rattle.explain.specs.declared.received.RequestPart.{RequestPart}
 use Rattle.explain.specs.declared.profile.Profile.TheVariants.{General, Tls}
 use Rattle.pkder.specs.declared.refusal.BadValue.{BadValue}
 use Rattle.pkder.specs.declared.line.LineFault.{LineFault}
@@ -231,7 +231,7 @@ shown_why sub name rows bad line met none why is = (
 no_places : (rows : List Row) (bad : BadValue) (places : ℕ) → BadPlaces rows bad → ReadsPlaces rows places → ⊥
 no_places rows bad places b r = b.1 places r.0 r.1 r.2
 
-no_part : (rows : List Row) (bad : BadValue) (part : Part) → BadPart rows bad
+no_part : (rows : List Row) (bad : BadValue) (part : RequestPart) → BadPart rows bad
     → value_of (codes "part") rows ≡ part_name part → ⊥
 no_part rows bad part b r = b.1 part r
 
@@ -295,6 +295,34 @@ bad_action name rows bad (Signed part) (inr (inr (inr (inl h)))) e r = shows_non
 pub no_action : (name : Text) (rows : List Row) (bad : BadValue) (task : Task) → BadAction name rows bad
     → MeansTask name rows task → ⊥
 no_action name rows bad task h m = bad_action name rows bad task.action h m.0 m.1
+
+-- ---- the kind
+
+no_named : (rows : List Row) (bad : BadValue) (action other : Action) (kind : Kind)
+    → command_name action ≡ command_name other → BadNamedKind action rows bad → ReadsNamedKind other rows kind → ⊥
+no_named rows bad (Signed part) (Signed written) kind e b r = b.1 (r.0 ∙ ap Some r.1)
+no_named rows bad (Signed part) (Show json) kind e b r = cc
+no_named rows bad (Signed part) (Check json quiet places) kind e b r = cc
+no_named rows bad (Signed part) (Note noting) kind e b r = cc
+no_named rows bad (Signed part) (Explain form) kind e b r = cc
+no_named rows bad (Signed part) Normalise kind e b r = cc
+no_named rows bad (Show json) other kind e b r = cc (b.1, r.0)
+no_named rows bad (Check json quiet places) other kind e b r = cc (b.1, r.0)
+no_named rows bad (Note noting) other kind e b r = cc (b.1, r.0)
+no_named rows bad (Explain form) other kind e b r = cc (b.1, r.0)
+no_named rows bad Normalise other kind e b r = cc (b.1, r.0)
+
+no_kind_of : (rows : List Row) (bad : BadValue) (action other : Action) (kind : Option Kind)
+    → command_name action ≡ command_name other → BadKindOf action rows bad → ReadsKind other rows kind → ⊥
+no_kind_of rows bad action other None e (inl h) r = h.1.1 r.1
+no_kind_of rows bad action other None e (inr h) r = cc (h.0, r.0)
+no_kind_of rows bad action other (Some kind) e (inl h) r = cc (h.0, r.0)
+no_kind_of rows bad action other (Some kind) e (inr h) r = no_named rows bad action other kind e h.1 r.1
+
+-- a command whose kind can't be read has no task
+pub no_kind : (name : Text) (rows : List Row) (bad : BadValue) (action : Action) (task : Task)
+    → name ≡ command_name action → BadKindOf action rows bad → MeansTask name rows task → ⊥
+no_kind name rows bad action task is h m = no_kind_of rows bad action task.action task.kind (sym is ∙ m.0) h m.2
 
 -- ---- the kinds of two documents
 

@@ -1,6 +1,6 @@
 -- The commands and options of the program, and what a command line asks for. What clap makes of the words of a
 -- command is `subcommand_of`.
-use Rattle.std.specs.Prelude.{◌≡◌, ◌≤◌, ◌⊎◌, ◌&&◌, ◌||◌, ◌++◌, ℕ, Bool, IfSome, List, [], ◌∷◌, None, Option, Some, codes, false, if◌then◌else◌, map, option_map, string_bytes, true, unwrap_or}
+use Rattle.std.specs.Prelude.{◌≡◌, ◌≤◌, ◌⊎◌, ◌&&◌, ◌||◌, ◌++◌, ◌==◌, ℕ, Bool, IfSome, List, [], ◌∷◌, None, Option, Some, codes, false, if◌then◌else◌, length, map, option_map, string_bytes, true, unwrap_or}
 use Rattle.std.specs.Char.{is_control}
 use Rattle.std.specs.List.{filter, find, flat_map, fold, list_any}
 use Rattle.std.specs.Option.{option_or}
@@ -16,10 +16,11 @@ use Rattle.pk_documents.specs.KindRows.{is_key, kind_named, word_of}
 use Rattle.pk_documents.specs.declared.kind.Kind.{Kind}
 use Rattle.pk_documents.specs.declared.kind.Kind.TheVariants as kinds
 use Rattle.pk_documents.specs.declared.kind.TheConstants.{KEY_WORDS, WORDS}
-use Rattle.pk_documents.specs.declared.request_part.Part.{Part}
 use Rattle.pk_documents.specs.declared.request_part.Part.TheVariants as parts
 use Rattle.explain.specs.declared.profile.Profile.{Profile}
 use Rattle.explain.specs.declared.profile.Profile.TheVariants.{General, Tls}
+use Rattle.explain.specs.declared.received.RequestPart.{RequestPart}
+use Rattle.explain.specs.declared.received.RequestPart.TheVariants.{Received, Written}
 use Rattle.explain.specs.declared.written.Form.{Form}
 use Rattle.commands.specs.Names.{IsPrintable, escaped, quoted}
 use Rattle.commands.specs.Outcomes.{line_feed}
@@ -46,6 +47,10 @@ use Rattle.comparison.specs.declared.same.Style.TheVariants.{Json, Text as TextF
 abbrev pub kind_rule : Rule
 kind_rule =
     record (new_rule (codes "kind")) { long = Some (codes "kind"); short = Some 107; value_names = 1; required = true }
+
+-- the kind of a command that finds it by itself with `--any`
+abbrev pub optional_kind_rule : Rule
+optional_kind_rule = record kind_rule { required = false }
 
 -- the kind that `signed` may have
 abbrev pub request_rule : Rule
@@ -108,6 +113,12 @@ on_kind name = with_limit_rules (with_rule (new_app name) kind_rule)
 abbrev pub with_flag : App → Text → App
 with_flag app name = with_rule app (flag_rule name)
 
+abbrev pub with_kind_or_any : App → App
+with_kind_or_any app = with_limit_rules (with_flag (with_rule app optional_kind_rule) (codes "any"))
+
+abbrev pub on_kind_or_any : Text → App
+on_kind_or_any name = with_kind_or_any (new_app name)
+
 -- of any number of files
 abbrev pub with_names : App → App
 with_names app = with_rule (with_rule app (file_rule (codes "files0-from"))) names_rule
@@ -126,7 +137,7 @@ with_notes app = with_rule (with_rule (with_flag app (codes "notes")) refuse_rul
 
 abbrev pub check_shape : Shape
 check_shape =
-    (with_names (with_json_and_places (with_notes (with_flag (on_kind (codes "check")) (codes "quiet"))))).top
+    (with_names (with_json_and_places (with_notes (with_flag (on_kind_or_any (codes "check")) (codes "quiet"))))).top
 
 -- with the answer for whoever sent the file alone, or with a profile
 abbrev pub with_brief : App → App
@@ -134,10 +145,10 @@ with_brief app = with_rule (with_flag app (codes "brief")) profile_rule
 
 abbrev pub explain_shape : Shape
 explain_shape =
-    (with_names (with_json_and_places (with_brief (with_flag (on_kind (codes "explain")) (codes "all"))))).top
+    (with_names (with_json_and_places (with_brief (with_flag (on_kind_or_any (codes "explain")) (codes "all"))))).top
 
 abbrev pub show_shape : Shape
-show_shape = (with_names (with_flag (on_kind (codes "show")) (codes "json"))).top
+show_shape = (with_names (with_flag (on_kind_or_any (codes "show")) (codes "json"))).top
 
 -- of two documents of a kind, or of two kinds
 abbrev pub on_kinds : Text → App
@@ -190,11 +201,12 @@ command_name (Explain form) = codes "explain"
 command_name Normalise = codes "normalise"
 command_name (Signed part) = codes "signed"
 
-abbrev pub part_name : Part → Text
-part_name parts.Info = codes "info"
-part_name parts.Algorithm = codes "algorithm"
-part_name parts.Key = codes "key"
-part_name parts.Signature = codes "signature"
+abbrev pub part_name : RequestPart → Text
+part_name (Written parts.Info) = codes "info"
+part_name (Written parts.Algorithm) = codes "algorithm"
+part_name (Written parts.Key) = codes "key"
+part_name (Written parts.Signature) = codes "signature"
+part_name Received = codes "received"
 
 -- decimal digits, perhaps after a plus sign, that say the number
 abbrev pub IsNumber : Text → ℕ → Type 0
@@ -291,8 +303,13 @@ ReadsLimits rows limits =
     × IsNumber (value_of (codes "octets") rows) limits.octets
     × IsLimits limits
 
-abbrev pub ReadsKind : Action → List Row → Kind → Type 0
-ReadsKind action rows kind = (kind_named (value_of (codes "kind") rows) ≡ Some kind) × TakesKind action kind
+abbrev pub ReadsNamedKind : Action → List Row → Kind → Type 0
+ReadsNamedKind action rows kind = (kind_named (value_of (codes "kind") rows) ≡ Some kind) × TakesKind action kind
+
+-- A kind is named, or is to be found.
+abbrev pub ReadsKind : Action → List Row → Option Kind → Type 0
+ReadsKind action rows (Some kind) = (is_given (codes "any") rows ≡ false) × ReadsNamedKind action rows kind
+ReadsKind action rows None = (is_given (codes "any") rows ≡ true) × (first_of (codes "kind") rows ≡ None)
 
 -- the command of this name with these values of its options does the task
 abbrev pub MeansTask : Text → List Row → Task → Type 0
@@ -519,9 +536,13 @@ BadOctets rows bad =
 abbrev pub BadLimit : List Row → BadValue → Type 0
 BadLimit rows bad = BadDepth rows bad ⊎ (IsDepth (value_of (codes "depth") rows) × BadOctets rows bad)
 
+-- the option of a kind; nothing where no kind is named
+abbrev pub kind_option : Text → Text
+kind_option text = if length text == 0 then [] else codes "--kind <KIND>"
+
 abbrev pub BadKind : List Row → BadValue → Type 0
 BadKind rows bad =
-    Names bad (codes "--kind <KIND>") (value_of (codes "kind") rows) WORDS.now
+    Names bad (kind_option (value_of (codes "kind") rows)) (value_of (codes "kind") rows) WORDS.now
     × (kind_named (value_of (codes "kind") rows) ≡ None)
     × (bad.advice.now ≡ advice_for_kind (value_of (codes "kind") rows))
 
@@ -534,8 +555,9 @@ BadRequest rows bad =
 
 abbrev pub BadPart : List Row → BadValue → Type 0
 BadPart rows bad =
-    Names bad (codes "--part <PART>") (value_of (codes "part") rows) (codes "info, algorithm, key or signature")
-    × ((part : Part) → value_of (codes "part") rows ≡ part_name part → ⊥)
+    Names bad (codes "--part <PART>") (value_of (codes "part") rows)
+    (codes "info, algorithm, key, signature or received")
+    × ((part : RequestPart) → value_of (codes "part") rows ≡ part_name part → ⊥)
     × (bad.advice.now ≡ [])
 
 abbrev pub BadCommand : Text → BadValue → Type 0
@@ -574,9 +596,21 @@ BadAction name rows bad =
     ⊎ ((name ≡ codes "check") × BadRefuse rows bad) ⊎ (ShowsPlaces name × BadProfile rows bad) ⊎ BadCommand name bad
 
 -- a kind that the action doesn't take
+abbrev pub BadNamedKind : Action → List Row → BadValue → Type 0
+BadNamedKind (Signed part) rows bad = BadRequest rows bad
+BadNamedKind _ rows bad = BadKind rows bad
+
+-- a kind that is named and to be found
+abbrev pub BadAny : List Row → BadValue → Type 0
+BadAny rows bad =
+    Names bad (codes "--any") (codes "--kind") (codes "one of the two")
+    × (first_of (codes "kind") rows ≡ None → ⊥)
+    × (bad.advice.now ≡ [])
+
 abbrev pub BadKindOf : Action → List Row → BadValue → Type 0
-BadKindOf (Signed part) rows bad = BadRequest rows bad
-BadKindOf _ rows bad = BadKind rows bad
+BadKindOf action rows bad =
+    ((is_given (codes "any") rows ≡ true) × BadAny rows bad)
+    ⊎ ((is_given (codes "any") rows ≡ false) × BadNamedKind action rows bad)
 
 abbrev pub DoesAction : Text → List Row → Action → Type 0
 DoesAction name rows action = (name ≡ command_name action) × ReadsAction action rows
@@ -657,11 +691,15 @@ abbrev pub BadInvocation : Text → List Row → BadValue → Type 0
 BadInvocation name rows bad =
     ((is_same name ≡ false) × BadOrder name rows bad) ⊎ ((is_same name ≡ true) × BadPair rows bad)
 
-abbrev pub bad_value_line : BadValue → Text
-bad_value_line bad =
+abbrev pub invalid_value_line : BadValue → Text
+invalid_value_line bad =
     codes "error: invalid value '" ++ shown bad.value.now ++ codes "' for '" ++ bad.option.now ++ codes "': "
     ++ bad.wanted.now
     ++ (codes " is wanted" ++ line_feed ++ line_feed) ++ tip bad.advice.now ++ more
+
+-- of no option, that no kind is named
+abbrev pub bad_value_line : BadValue → Text
+bad_value_line bad = if length bad.option.now == 0 then no_kind_line else invalid_value_line bad
 
 -- why the subcommand that was met means no task
 abbrev pub ShowsWhy : Option (Text × List Row) → Text → Type 0

@@ -4,10 +4,10 @@ use Rattle.std.specs.Option.{option_map}
 use Rattle.x690.specs.Values.{Value}
 use Rattle.pk_documents.specs.declared.document.Document.{Document}
 use Rattle.commands.specs.Conversions.{Converts}
-use Rattle.commands.specs.Endings.{IsWhole, SaysText}
+use Rattle.commands.specs.Endings.{SaysText}
 use Rattle.commands.specs.Judgements.{JudgesAll, Sources}
 use Rattle.commands.specs.MadeFiles.{Made}
-use Rattle.commands.specs.Outcomes.{line_of, status_of}
+use Rattle.commands.specs.Outcomes.{IsWhole, line_of, status_of}
 use Rattle.commands.specs.Pairs.{ComparesNamed}
 use Rattle.commands.specs.Replies.{FailedBy}
 use Rattle.commands.specs.Standards.{Ends, EndsAlone, Seen, file_named}

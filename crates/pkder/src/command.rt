@@ -4,9 +4,10 @@ ghost use Rattle.clap.specs.Words.{app_of, rule_of, shape_of, with_rule};
 ghost use Rattle.clap.specs.declared.builder.command.Command.TheViews.{out-Command as fields_of};
 ghost use Rattle.pkder.specs.CommandLines.{check_shape, command_named as command_shape, depth_rule, explain_shape};
 ghost use Rattle.pkder.specs.CommandLines.{file_rule, flag_rule, kind_rule, name_rule, names_rule, normalise_shape};
-ghost use Rattle.pkder.specs.CommandLines.{octets_rule, pair_kinds_rule, part_rule, places_rule, program};
+ghost use Rattle.pkder.specs.CommandLines.{octets_rule, optional_kind_rule, pair_kinds_rule, part_rule, places_rule};
 ghost use Rattle.pkder.specs.CommandLines.{profile_rule, program_for, refuse_rule, request_rule, required_rule};
-ghost use Rattle.pkder.specs.CommandLines.{same_shape, show_shape, signed_shape, top, with_limit_rules};
+ghost use Rattle.pkder.specs.CommandLines.{program, same_shape, show_shape, signed_shape, top};
+ghost use Rattle.pkder.specs.CommandLines.{with_kind_or_any, with_limit_rules};
 ghost use Rattle.pkder.specs.CommandLines.{with_brief as app_with_brief, with_name as app_with_name};
 ghost use Rattle.pkder.specs.CommandLines.{with_names as app_with_names, with_pair as app_with_pair};
 ghost use Rattle.pkder.specs.CommandLines.{with_json_and_places as app_with_places, with_notes as app_with_notes};
@@ -95,7 +96,7 @@ fn check<'a>(alloc: Global) -> Result<Command<'a>, AllocError>
     let command = Command::new(alloc, "check")
         .about("say whether it is in DER, or the first place where it is not")
         .after_help(CHECK);
-    let on_kind = on_kind(alloc, command)?;
+    let on_kind = on_kind_or_any(alloc, command)?;
     let with_quiet = on_kind.arg(flag(alloc, "quiet", "write only what is not in DER"))?;
     let with_notes = with_notes(alloc, with_quiet)?;
     let with_places = with_json_and_places(alloc, with_notes)?;
@@ -110,7 +111,7 @@ fn explain<'a>(alloc: Global) -> Result<Command<'a>, AllocError>
     let command = Command::new(alloc, "explain")
         .about("say where and why it is refused or not in DER, with its elements")
         .after_help(EXPLAIN);
-    let on_kind = on_kind(alloc, command)?;
+    let on_kind = on_kind_or_any(alloc, command)?;
     let with_all = on_kind.arg(flag(alloc, "all", "list all elements, however many there are"))?;
     let with_brief = with_brief(alloc, with_all)?;
     let with_places = with_json_and_places(alloc, with_brief)?;
@@ -125,7 +126,7 @@ fn show<'a>(alloc: Global) -> Result<Command<'a>, AllocError>
     let command = Command::new(alloc, "show")
         .about("say what it is, in lines; of private octets the number alone")
         .after_help(SHOW);
-    let on_kind = on_kind(alloc, command)?;
+    let on_kind = on_kind_or_any(alloc, command)?;
     let with_json = on_kind.arg(flag(alloc, "json", "write an object of JSON for each document"))?;
     with_names(alloc, with_json)
 }
@@ -179,6 +180,17 @@ fn on_kind<'a>(alloc: Global, command: Command<'a>) -> Result<Command<'a>, Alloc
 {
     let with_kind = command.arg(kind(alloc))?;
     with_limits(alloc, with_kind)
+}
+
+/// The command with a kind, or one that it finds by itself, and with limits.
+fn on_kind_or_any<'a>(alloc: Global, command: Command<'a>) -> Result<Command<'a>, AllocError>
+    requires { (fields_of command).has_globals ≡ false }
+    ensures shape { IfOk result (λ new. app_of new ≡ with_kind_or_any (app_of command.entry)) }
+    ensures local { IfOk result (λ new. (fields_of new).has_globals ≡ false) }
+{
+    let with_kind = command.arg(optional_kind(alloc))?;
+    let with_any = with_kind.arg(flag(alloc, "any", "find out which kind it is, if it is one"))?;
+    with_limits(alloc, with_any)
 }
 
 /// The command with a kind, or with two, and with limits.
@@ -293,6 +305,14 @@ fn kind<'a>(alloc: Global) -> Arg<'a>
         .required(true)
 }
 
+/// The kind of a command that finds it by itself with `--any`.
+fn optional_kind<'a>(alloc: Global) -> Arg<'a>
+    ensures rule { rule_of result ≡ optional_kind_rule }
+    ensures local { result.global ≡ false }
+{
+    kind(alloc).required(false)
+}
+
 /// The kind of a command that reads requests alone.
 fn request<'a>(alloc: Global) -> Arg<'a>
     ensures rule { rule_of result ≡ request_rule }
@@ -319,7 +339,7 @@ fn part<'a>(alloc: Global) -> Arg<'a>
     Arg::new(alloc, "part")
         .long("part")
         .value_name("PART")
-        .help("the part: info, algorithm, key or signature")
+        .help("the part: info, algorithm, key, signature\nor received")
         .default_value("info")
 }
 

@@ -33,6 +33,10 @@ pub const CHECK: &str = "\
 It says 'DER', 'not DER at PLACE' (status 1) or 'fault at PLACE: REASON'
 (status 2), of a file after its name. Kinds and statuses: pkder help.
 
+With --any in the place of --kind the kind that accepts it stands in front, as
+'request: DER'. Where no kind does, it is 'none of these' (status 2), and after
+that the likely kind, which the first elements name, with its fault.
+
 With --notes lines 'note LEVEL CODE PATH: WORDS' come after that, of what is
 not refused: LEVEL is must where another standard forbids what stands at PATH,
 and should where one advises against it. With --refuse must the status is 5
@@ -80,6 +84,7 @@ Parts of a request (RFC 2986 section 4), all of them binary:
   algorithm  signatureAlgorithm in DER
   key        subjectPKInfo in DER, the public key
   signature  the octets of the signature, without the number of unused bits
+  received   certificationRequestInfo as it came, which some signers sign
 No signature is verified. Statuses: pkder help.
 
   pkder signed --part signature request.der > signature";

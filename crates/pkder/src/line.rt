@@ -1,15 +1,16 @@
 //! What a command line asks for.
-ghost use Rattle.std.specs.Prelude.{◌≡◌, ◌≤◌, ℕ, IfErr, IfOk, MatchOption, MatchResult, Some, codes, map};
+ghost use Rattle.std.specs.Prelude.{◌≡◌, ◌≤◌, ℕ, IfErr, IfOk, MatchOption, MatchResult, None, Some, codes, map};
 ghost use Rattle.std.specs.Prelude.{option_map, string_bytes};
 ghost use Rattle.clap.specs.Words.{first_of, found_of, kind_of, rows_of, subcommand_rows_of};
 ghost use Rattle.pk_documents.specs.KindRows.{kind_named};
 ghost use Rattle.pkder.specs.CommandLines.{Invokes, InvokesNothing, BadAction, BadInvocation, BadOrder, BadKind};
-ghost use Rattle.pkder.specs.CommandLines.{BadKindOf, BadLimit, BadPart, BadPlaces, BadProfile, BadRefuse};
-ghost use Rattle.pkder.specs.CommandLines.{BadRequest, BadTask};
+ghost use Rattle.pkder.specs.CommandLines.{BadAny, BadKindOf, BadLimit, BadNamedKind, BadPart, BadPlaces};
+ghost use Rattle.pkder.specs.CommandLines.{BadProfile, BadRefuse, BadRequest, BadTask};
 ghost use Rattle.pkder.specs.CommandLines.{DoesAction, ReadsNotedProfile, ReadsNoting, ReadsProfile, ReadsRefuse};
 ghost use Rattle.pkder.specs.CommandLines.{is_for_tls, noted_profile, profile_by, refuse_by, refuses};
 ghost use Rattle.pkder.specs.CommandLines.{IsFaultOf, IsNumber, Means, MeansInvocation, MeansBy, MeansNothing};
-ghost use Rattle.pkder.specs.CommandLines.{MeansTask, ReadsForm, ReadsKind, ReadsLimits, ReadsPlaces, asks_reasons};
+ghost use Rattle.pkder.specs.CommandLines.{MeansTask, ReadsForm, ReadsKind, ReadsLimits, ReadsNamedKind, ReadsPlaces};
+ghost use Rattle.pkder.specs.CommandLines.{asks_reasons, kind_option};
 ghost use Rattle.pkder.specs.CommandLines.{has_second_dash as has_dash_again, is_given, names_of, part_name};
 ghost use Rattle.pkder.specs.CommandLines.{value_of};
 ghost use Rattle.pkder.specs.declared.line.LineFault.TheVariants.{Memory};
@@ -23,6 +24,7 @@ use clap::error::ErrorKind;
 use clap::{ArgMatches, Error};
 use commands::task::{Action, Noting, Refuse, Task};
 use explain::profile::Profile;
+use explain::received::RequestPart;
 use explain::written::Form;
 use pk_documents::kind::{Kind, WORDS};
 use pk_documents::request_part::Part;
@@ -420,10 +422,44 @@ fn profile_by(word: Option<&str>) -> Option<Profile>
     }
 }
 
-/// The kind that is named, where the action takes it.
-fn read_kind<'a>(action: Action, options: &ArgMatches<'a>) -> Result<Kind, BadValue<'a>>
+/// The kind that is named, or that it is to be found.
+fn read_kind<'a>(action: Action, options: &ArgMatches<'a>) -> Result<Option<Kind>, BadValue<'a>>
     ensures { MatchResult result (ReadsKind action (rows_of (found_of options.now)))
         (BadKindOf action (rows_of (found_of options.now))) }
+{
+    if is_flagged(options, "any") {
+        return match no_named_kind(options) {
+            Ok(()) => Ok(None),
+            Err(bad) => Err(bad),
+        };
+    }
+    match read_named_kind(action, options) {
+        Ok(kind) => Ok(Some(kind)),
+        Err(bad) => Err(bad),
+    }
+}
+
+/// That no kind is named, where it is to be found.
+fn no_named_kind<'a>(options: &ArgMatches<'a>) -> Result<(), BadValue<'a>>
+    ensures { MatchResult result
+        (λ _. first_of (codes "kind") (rows_of (found_of options.now)) ≡ None)
+        (BadAny (rows_of (found_of options.now))) }
+{
+    match given(options, "kind") {
+        None => Ok(()),
+        Some(_) => Err(BadValue {
+            option: "--any",
+            value: "--kind",
+            wanted: "one of the two",
+            advice: "",
+        }),
+    }
+}
+
+/// The kind that is named, where the action takes it.
+fn read_named_kind<'a>(action: Action, options: &ArgMatches<'a>) -> Result<Kind, BadValue<'a>>
+    ensures { MatchResult result (ReadsNamedKind action (rows_of (found_of options.now)))
+        (BadNamedKind action (rows_of (found_of options.now))) }
 {
     match action {
         Action::Signed(_) => read_request(options),
@@ -439,11 +475,18 @@ fn read_any_kind<'a>(options: &ArgMatches<'a>) -> Result<Kind, BadValue<'a>>
 {
     let text = value(options, "kind");
     Kind::named(text).ok_or(BadValue {
-        option: "--kind <KIND>",
+        option: kind_option(text),
         value: text,
         wanted: WORDS,
         advice: advice_for_kind(text),
     })
+}
+
+/// The option of a kind; nothing where no kind is named.
+fn kind_option(text: &str) -> &'static str
+    ensures { result.now ≡ kind_option text.now }
+{
+    if text.is_empty() { "" } else { "--kind <KIND>" }
 }
 
 /// The kind that is named, where it is that of requests.
@@ -466,7 +509,7 @@ fn read_request<'a>(options: &ArgMatches<'a>) -> Result<Kind, BadValue<'a>>
 }
 
 /// The part that is named.
-fn read_part<'a>(options: &ArgMatches<'a>) -> Result<Part, BadValue<'a>>
+fn read_part<'a>(options: &ArgMatches<'a>) -> Result<RequestPart, BadValue<'a>>
     ensures { MatchResult result
         (λ part. value_of (codes "part") (rows_of (found_of options.now)) ≡ part_name part)
         (BadPart (rows_of (found_of options.now))) }
@@ -475,7 +518,7 @@ fn read_part<'a>(options: &ArgMatches<'a>) -> Result<Part, BadValue<'a>>
     part_named(text).ok_or(BadValue {
         option: "--part <PART>",
         value: text,
-        wanted: "info, algorithm, key or signature",
+        wanted: "info, algorithm, key, signature or received",
         advice: "",
     })
 }
@@ -544,18 +587,20 @@ pub fn value<'a>(options: &ArgMatches<'a>, id: &str) -> &'a str
 }
 
 /// The part of this name.
-fn part_named(name: &str) -> Option<Part>
+fn part_named(name: &str) -> Option<RequestPart>
     ensures { MatchOption result ((part : _) → name.now ≡ part_name part → ⊥)
         (λ part. name.now ≡ part_name part) }
 {
     if name == "info" {
-        Some(Part::Info)
+        Some(RequestPart::Written(Part::Info))
     } else if name == "algorithm" {
-        Some(Part::Algorithm)
+        Some(RequestPart::Written(Part::Algorithm))
     } else if name == "key" {
-        Some(Part::Key)
+        Some(RequestPart::Written(Part::Key))
     } else if name == "signature" {
-        Some(Part::Signature)
+        Some(RequestPart::Written(Part::Signature))
+    } else if name == "received" {
+        Some(RequestPart::Received)
     } else {
         None
     }

@@ -5,7 +5,7 @@ ghost use Rattle.clap.specs.Words.{kind_of};
 ghost use Rattle.pkder.specs.CommandLines.{ShowsOwn, advice_for_command as command_advice};
 ghost use Rattle.pkder.specs.CommandLines.{advice_for_kind as kind_advice, advice_for_option as option_advice};
 ghost use Rattle.pkder.specs.CommandLines.{advised_line, are_of_same, bad_value_line, command_advised, controls_line};
-ghost use Rattle.pkder.specs.CommandLines.{has_control, no_kind_line, option_advised, shown, tip};
+ghost use Rattle.pkder.specs.CommandLines.{has_control, invalid_value_line, no_kind_line, option_advised, shown, tip};
 
 use clap::Error;
 use clap::error::ErrorKind;
@@ -16,6 +16,7 @@ use std::alloc::{AllocError, Global};
 /// A value that its option doesn't have.
 #[derive(Clone, Copy)]
 pub struct BadValue<'a> {
+    /// Empty where no kind is named.
     pub option: &'a str,
     pub value: &'a str,
     /// What the option has for values.
@@ -27,6 +28,15 @@ pub struct BadValue<'a> {
 impl BadValue<'_> {
     pub fn text(self, alloc: Global) -> Result<String, AllocError>
         ensures { IfOk result (λ text. string_bytes text ≡ bad_value_line self.entry) }
+    {
+        if self.option.is_empty() {
+            return no_kind_text(alloc);
+        }
+        self.invalid_text(alloc)
+    }
+
+    fn invalid_text(self, alloc: Global) -> Result<String, AllocError>
+        ensures { IfOk result (λ text. string_bytes text ≡ invalid_value_line self.entry) }
     {
         let mut text = String::from_str(alloc, "error: invalid value '")?;
         push_shown(&mut text, self.value)?;

@@ -1,7 +1,7 @@
 use Rattle.std.proofs.Common.{◌++◌, ◌∙◌, ap, codes}
 use Rattle.commands.specs.Outcomes.{line_feed}
 use Rattle.pkder.specs.CommandLines.{more, shown, tip}
-use Rattle.pkder.proofs.refusal.BadValue.text.Goals as goal
+use Rattle.pkder.proofs.refusal.BadValue.invalid_text.Goals as goal
 
 pub returns : goal.returns
 returns c =

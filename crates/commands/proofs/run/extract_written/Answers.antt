@@ -9,11 +9,11 @@ use Rattle.pk_documents.specs.declared.kind.Kind.TheVariants.{Request}
 use Rattle.pkcs10.specs.Requests.{request_value_of}
 use Rattle.pk_documents.proofs.LawfulKinds.{kinds_are_lawful}
 use Rattle.pk_documents.proofs.RequestParts.{part_same}
-use Rattle.commands.specs.Endings.{IsWhole}
+use Rattle.commands.specs.Outcomes.{IsWhole}
 use Rattle.commands.specs.Replies.{DueOfValue, FailedBy, Unreadable}
 use Rattle.commands.specs.declared.outcome.Outcome.TheVariants as outcomes
 use Rattle.commands.proofs.Replies.{due_of_value, no_memory, text_fails, text_replies, text_silent, unread_fails, unread_replies}
-use Rattle.commands.proofs.run.extract.Goals as goal
+use Rattle.commands.proofs.run.extract_written.Goals as goal
 
 -- one text, whatever the block
 with_or_without : {S E : Type 0} (P Q : Type 0) (block : Result S E) → P → Q → MatchResult block (λ _. P) (λ _. Q)
