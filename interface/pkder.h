@@ -75,6 +75,7 @@ extern "C" {
 #define PKDER_ALGORITHM 2u   /* signatureAlgorithm: its DER text */
 #define PKDER_SUBJECT_KEY 3u /* subjectPKInfo: its DER text, a document of the kind PKDER_PUBLIC */
 #define PKDER_SIGNATURE 4u   /* signature: its octets, without the number of unused bits; unused bits are 0 */
+#define PKDER_RECEIVED 5u    /* certificationRequestInfo as it came, in DER or not, which some signers sign instead */
 
 /* The limits of a call: the depth of nesting, 1 to PKDER_MOST_DEPTH, the outermost element being at depth 1; and the
  * octets of a document, and of its DER text, 1 to PKDER_MOST_OCTETS. Usual ones are PKDER_DEPTH and PKDER_OCTETS, which
@@ -207,7 +208,8 @@ pkder_outcome pkder_same(uint32_t kind, uint32_t depth, uint64_t octets, const u
  *
  * Promised: as of pkder_normalise with the kind PKDER_REQUEST, but that what is written is that part of the request,
  * and `size` the number of its octets (no bound on it is proved: a call with a dst_len of 0 tells it); and that
- * PKDER_BAD_CALL comes exactly where no part has that number or the limits are out of range. */
+ * PKDER_BAD_CALL comes exactly where no part has that number or the limits are out of range. PKDER_RECEIVED writes what
+ * PKDER_INFO does exactly where certificationRequestInfo is in DER. */
 pkder_outcome pkder_signed(uint32_t part, uint32_t depth, uint64_t octets, const uint8_t *src, size_t src_len,
                            uint8_t *dst, size_t dst_len);
 

@@ -84,7 +84,7 @@ static inline int is_task(struct task *task, const char *command, const char *wh
         "check",   "normalise",   "show",         "signed",           "field",
         "explain", "explain-all", "explain-json", "explain-all-json", "explain-all-json-tls",
         NULL};
-    static const char *const parts[] = {"info", "algorithm", "key", "signature", NULL};
+    static const char *const parts[] = {"info", "algorithm", "key", "signature", "received", NULL};
     static text_call *const calls[] = {
         NULL,         pkder_normalise, pkder_show,   pkder_signed,     pkder_field,
         explain_text, explain_all,     explain_json, explain_all_json, explain_all_json_tls};

@@ -1,32 +1,7 @@
 /* pairs TABLE: the pairs of a table that interface/pairs.py makes, handed to pkder_same; prints its answers, a line
  * each: "the same", "another", or which one is refused, as "second: fault at 20: Truncated". */
 #define _DEFAULT_SOURCE
-#include "trial.h"
-
-/* The number that a hexadecimal digit says. */
-static unsigned digit_of(char digit) {
-    const char *const digits = "0123456789abcdef", *at = strchr(digits, digit);
-    CHECK(digit != 0 && at != NULL);
-    return (unsigned)(at - digits);
-}
-
-/* The octets that are written so, in a block of just their length. */
-static uint8_t *octets_of(const char *hex, size_t *len) {
-    *len = strlen(hex) / 2;
-    uint8_t *octets = malloc(*len != 0 ? *len : 1);
-    CHECK(octets != NULL && strlen(hex) % 2 == 0);
-    for (size_t i = 0; i < *len; i++) {
-        octets[i] = (uint8_t)(16 * digit_of(hex[2 * i]) + digit_of(hex[2 * i + 1]));
-    }
-    return octets;
-}
-
-/* The next cell of a row. */
-static char *cell_of(char **row) {
-    char *cell = strsep(row, "\t");
-    CHECK(cell != NULL);
-    return cell;
-}
+#include "table.h"
 
 static void say(const pkder_outcome *said) {
     CHECK(said->taken == 0 && said->size == 0);
@@ -55,16 +30,5 @@ static void do_row(char *row) {
 }
 
 int main(int count, char **words) {
-    FILE *table = count == 2 ? fopen(words[1], "r") : NULL;
-    if (table == NULL) {
-        fputs("pairs TABLE\n", stderr);
-        return 2;
-    }
-    char *row = NULL;
-    size_t room = 0;
-    while (getline(&row, &room, table) > 0) {
-        do_row(row);
-    }
-    free(row);
-    return fclose(table);
+    return do_rows(count, words, do_row);
 }

@@ -33,6 +33,9 @@ static const struct shape shapes[] = {
 };
 /* clang-format on */
 
+/* (glibc takes no smaller one on ARM64) */
+enum { LEAST_STACK = 1 << 17 };
+
 static uint8_t deep[300000];
 static size_t deep_len;
 
@@ -97,7 +100,7 @@ static void try_depth(uint32_t depth, size_t enough) {
     static text_call *const calls[] = {
         NULL,         same_as_itself,   pkder_normalise,      pkder_show,  explain_text, explain_all,
         explain_json, explain_all_json, explain_all_json_tls, pkder_field, pkder_signed};
-    size_t number = sizeof calls / sizeof *calls, most = 0, idle = written(1 << 16, NULL);
+    size_t number = sizeof calls / sizeof *calls, most = 0, idle = written(LEAST_STACK, NULL);
     for (size_t i = 0; i < sizeof shapes / sizeof *shapes; i++) {
         make_deep(&shapes[i], depth);
         for (size_t j = 0; j < (shapes[i].kind == PKDER_REQUEST ? number : number - 1); j++) {

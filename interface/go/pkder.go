@@ -62,6 +62,7 @@ const (
 	Algorithm  Part = C.PKDER_ALGORITHM   // the DER text of the signature's algorithm
 	SubjectKey Part = C.PKDER_SUBJECT_KEY // the DER text of the public key
 	Signature  Part = C.PKDER_SIGNATURE   // the octets of the signature
+	Received   Part = C.PKDER_RECEIVED    // what the signature covers as it came, which some signers sign instead
 )
 
 // Limits are the depth of nesting, 1 to 64, and the octets of a document and of its DER text, 1 to 2147483647.

@@ -18,7 +18,8 @@ import (
 var kinds = map[string]Kind{
 	"key": Key, "ec": EC, "request": Request, "public": Public, "encrypted": Encrypted, "package": Package,
 }
-var parts = map[string]Part{"info": Info, "algorithm": Algorithm, "key": SubjectKey, "signature": Signature}
+var parts = map[string]Part{"info": Info, "algorithm": Algorithm, "key": SubjectKey, "signature": Signature,
+	"received": Received}
 
 // limitsOf are the limits that the words ask for.
 func limitsOf(t *testing.T, words []string) Limits {
@@ -219,7 +220,7 @@ func TestBadCalls(t *testing.T) {
 	if _, err := Field(7, Usual(), nil); err != ErrCall {
 		t.Error(err)
 	}
-	if _, err := Signed(5, Usual(), nil); err != ErrCall {
+	if _, err := Signed(6, Usual(), nil); err != ErrCall {
 		t.Error(err)
 	}
 }

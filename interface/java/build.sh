@@ -1,7 +1,8 @@
 #!/bin/sh
 # build.sh LIBRARY [OUT]: makes OUT/pkder.jar (OUT is interface/java/out unless said otherwise), with the classes, for
 # Java 17 and later, and the native library. LIBRARY is the folder that libpkder.a stands in, as interface/out. It takes
-# a JDK (javac, jar) and cc; by the environment JAVAC_FLAGS and CFLAGS are more words for these.
+# a JDK (javac, jar) and cc; by the environment JAVAC_FLAGS and CFLAGS are more words for these, and ARM64 is the folder
+# of a libpkder.a for ARM64, whose native library goes in as well, by aarch64-linux-gnu-gcc.
 # shellcheck disable=SC2086 # (lists of flags)
 set -eu
 here=$(cd "$(dirname "$0")" && pwd)
@@ -20,11 +21,17 @@ trap 'rm -rf "$work"' EXIT
 
 javac --release 17 -encoding UTF-8 -d "$work/classes" -h "$work/headers" ${JAVAC_FLAGS:-} \
     "$here/src/module-info.java" "$here"/src/pkder/*.java
-native=$work/classes/native/Linux-amd64
-mkdir -p "$native"
-cc -O2 -fPIC -shared -s -fvisibility=hidden ${CFLAGS:-} -I"$here/.." -I"$work/headers" -I"$jdk/include" \
-    -I"$jdk/include/linux" -o "$native/libpkder_jni.so" "$here"/native/*.c "$library/libpkder.a" -lpthread \
-    -Wl,--wrap=free,--wrap=realloc -Wl,--exclude-libs,ALL -Wl,-z,relro,-z,now,-z,noexecstack -Wl,--no-undefined
+
+# native COMPILER FOLDER MACHINE: the native library over the libpkder.a of the folder, for what Java calls the machine
+native() {
+    mkdir -p "$work/classes/native/Linux-$3"
+    "$1" -O2 -fPIC -shared -s -fvisibility=hidden ${CFLAGS:-} -I"$here/.." -I"$work/headers" -I"$jdk/include" \
+        -I"$jdk/include/linux" -o "$work/classes/native/Linux-$3/libpkder_jni.so" "$here"/native/*.c \
+        "$2/libpkder.a" -lpthread -Wl,--wrap=free,--wrap=realloc -Wl,--exclude-libs,ALL \
+        -Wl,-z,relro,-z,now,-z,noexecstack -Wl,--no-undefined
+}
+native cc "$library" amd64
+[ -z "${ARM64:-}" ] || native aarch64-linux-gnu-gcc "$ARM64" aarch64
 
 cat > "$work/manifest" << END
 Implementation-Title: pkder

@@ -31,7 +31,7 @@ COMMENT ON FUNCTION pkder_show IS 'what a document says, in lines; of what is re
 CREATE FUNCTION pkder_signed(part text, document bytea, depth integer DEFAULT 32, octets bigint DEFAULT 1048576)
     RETURNS bytea LANGUAGE C IMMUTABLE STRICT PARALLEL SAFE COST 100 AS 'MODULE_PATHNAME', 'pkder_sql_signed';
 COMMENT ON FUNCTION pkder_signed IS
-    'a part of a certification request: info, algorithm, key or signature; of what is refused an error';
+    'a part of a certification request: info, algorithm, key, signature or received; of what is refused an error';
 
 CREATE FUNCTION pkder_explain(kind text, document bytea, form text DEFAULT '', depth integer DEFAULT 32,
         octets bigint DEFAULT 1048576)

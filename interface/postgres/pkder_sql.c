@@ -39,8 +39,9 @@ struct words {
 static const struct words kinds = {"kind",
                                    "Kinds are key, ec, request, public, encrypted and package.",
                                    {"key", "ec", "request", "public", "encrypted", "package", NULL}};
-static const struct words parts = {
-    "part", "Parts are info, algorithm, key and signature.", {"info", "algorithm", "key", "signature", NULL}};
+static const struct words parts = {"part",
+                                   "Parts are info, algorithm, key, signature and received.",
+                                   {"info", "algorithm", "key", "signature", "received", NULL}};
 static const struct words forms = {
     "form", "Forms are all, json and tls, each once, with a blank between.", {"all", "json", "tls", NULL}};
 

@@ -7,8 +7,8 @@ use Rattle.pk_documents.specs.Kinds.{type_of}
 use Rattle.pk_documents.specs.declared.document.Document.{Document}
 use Rattle.pk_documents.specs.declared.kind.Kind.{Kind}
 use Rattle.pk_documents.specs.declared.kind.Kind.TheVariants.{Request}
-use Rattle.pk_documents.specs.declared.request_part.Part.{Part}
 use Rattle.explain.specs.Written.{IsFieldOf, IsWritten}
+use Rattle.explain.specs.declared.received.RequestPart.{RequestPart}
 use Rattle.explain.specs.declared.written.Form.{Form}
 use Rattle.reports.specs.declared.report.Answer.{Answer}
 use Rattle.pkder_c.specs.Calls.{AreLines, Checked, Compared, FieldRefused, IsField, IsPartText, IsPlace, IsReport, IsSame, IsText, KindRefused, PairRefused, PartRefused, Put, PutReport, ReportRefused, Reported, Wrote}
@@ -69,7 +69,7 @@ lines_for (Ok v) items value_of number kind made limits given k e fine h =
     (kind, k, fine, subst (λ z. WholeLines value_of z kind given (items v)) e h)
 lines_for (Err refusal) items value_of number kind made limits given k e fine h = tt
 
-pub part_for : {V : Type 0} (r : Result V Refusal) (items : V → List ℕ) (number : ℕ) (part : Part)
+pub part_for : {V : Type 0} (r : Result V Refusal) (items : V → List ℕ) (number : ℕ) (part : RequestPart)
     (made limits : Limits) (given : List ℕ)
     → part_number part ≡ number → made ≡ limits → IsLimits limits
     → IfOk r (λ v. WholePart made part given (items v)) → IfOk r (λ v. IsPartText number limits given (items v))
@@ -87,7 +87,7 @@ kind_refused (Err (refusals.Fault found)) number kind made limits given k e fine
     (kind, k, fine, subst (λ z. WholeFault z (type_of kind) found given) e h)
 kind_refused (Err refusals.Memory) number kind made limits given k e fine h = (kind, k, fine, tt)
 
-pub part_refused : {V : Type 0} (r : Result V Refusal) (number : ℕ) (part : Part) (made limits : Limits)
+pub part_refused : {V : Type 0} (r : Result V Refusal) (number : ℕ) (part : RequestPart) (made limits : Limits)
     (given : List ℕ)
     → part_number part ≡ number → made ≡ limits → IsLimits limits
     → IfErr r (WholeRefused made (type_of Request) given) → IfErr r (PartRefused number limits given)

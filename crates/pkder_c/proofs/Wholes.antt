@@ -1,5 +1,5 @@
 -- Octets that are one document, all of them: what is said where the source ends after it.
-use Rattle.std.proofs.Common.{◌≡◌, ◌↔◌, ◌∙◌, ◌⊎◌, ◌++◌, ◌*◌, ◌≤◌, Bool, Err, IfErr, IfOk, IsTrue, List, Ok, Option, Result, Some, [], ℕ, ap, append-nil, append_assoc, arith, inl, inr, length, subst, sym}
+use Rattle.std.proofs.Common.{◌≡◌, ◌↔◌, ◌∙◌, ◌⊎◌, ◌++◌, ◌*◌, ◌≤◌, Bool, Err, IfErr, IfOk, IsTrue, List, None, Ok, Option, Result, Some, [], ℕ, ap, append-nil, append_assoc, arith, inl, inr, length, subst, sym}
 use Rattle.std.proofs.lemmas.List.{length-append}
 use Rattle.tlv_core.specs.Limits.{IsLimits, Limits}
 use Rattle.tlv_core.specs.declared.fault.ReadError.{ReadError}
@@ -26,8 +26,9 @@ use Rattle.pk_documents.specs.declared.request_part.Part.{Part}
 use Rattle.pk_documents.proofs.LawfulKinds.{kinds_are_lawful}
 use Rattle.pk_documents.proofs.RequestParts.{part_same}
 use Rattle.pk_show.specs.Shown.{document_lines}
+use Rattle.explain.specs.Received.{NotReceived, Received}
 use Rattle.pkder_c.specs.Refusals.{first_refusal, unread_refusal, unwritten_refusal}
-use Rattle.pkder_c.specs.Wholes.{WholeChecked, WholeLines, WholePairRefused, WholePart, WholeRefused, WholeSame, WholeText}
+use Rattle.pkder_c.specs.Wholes.{WholeChecked, WholeLines, WholePairRefused, WholeRefused, WholeSame, WholeText, WholeWritten}
 use Rattle.pkder_c.specs.declared.refusal.PairRefusal.{PairRefusal}
 use Rattle.pkder_c.specs.declared.refusal.Refusal.{Refusal}
 use Rattle.pkder_c.specs.declared.refusal.Refusal.TheVariants as refusals
@@ -146,18 +147,25 @@ lines_made (Ok text) items value_of l kind given rest document taken k ends r is
     (document, k, reads_all l (type_of kind) (value_of document) given rest taken ends r, is)
 lines_made (Err refusal) items value_of l kind given rest document taken k ends r is = tt
 
-pub part_made : {V : Type 0} (made : Result V Refusal) (items : V → List ℕ) (l : Limits) (part : Part)
+pub written_made : {V : Type 0} (made : Result V Refusal) (items : V → List ℕ) (l : Limits) (part : Part)
     (given rest : List ℕ) (value : Value) (taken : ℕ)
     → IsLimits l → rest ≡ []
     → ReadsValue l (type_of Request) value (Some given) (Some rest) taken
-    → IfOk made (λ text. items text ≡ part_of part value) → IfOk made (λ text. WholePart l part given (items text))
-part_made (Ok text) items l part given rest value taken fine ends r is =
+    → IfOk made (λ text. items text ≡ part_of part value) → IfOk made (λ text. WholeWritten l part given (items text))
+written_made (Ok text) items l part given rest value taken fine ends r is =
     let took = took_as l (type_of Request) value (Some given) (Some rest) taken (kinds_are_lawful Request) fine r in (
       r.spelled,
       took_all l (type_of Request) r.spelled given rest taken ends took,
       is ∙ sym (part_same part r.spelled value r.same),
     )
-part_made (Err refusal) items l part given rest value taken fine ends r is = tt
+written_made (Err refusal) items l part given rest value taken fine ends r is = tt
+
+-- the copy of what came
+pub copied : {V : Type 0} (made : Result V Refusal) (items : V → List ℕ) (l : Limits) (given octets : List ℕ)
+    → Received l given octets → IfOk made (λ copy. items copy ≡ octets)
+    → IfOk made (λ copy. Received l given (items copy))
+copied (Ok copy) items l given octets came is = subst (Received l given) (sym is) came
+copied (Err refusal) items l given octets came is = tt
 
 -- nothing but memory was wanting
 pub only_memory : {V : Type 0} (made : Result V Refusal) (l : Limits) (T : TypeTerm) (given : List ℕ)
@@ -188,6 +196,25 @@ pub unread_made : (l : Limits) (T : TypeTerm) (error : ReadError) (refusal : Ref
     → Unchecked l T error (Some given) (Some rest) ⊎ Followed l T error (Some given) (Some rest)
     → WholeRefused l T given refusal
 unread_made l T error refusal given rest is h = subst (WholeRefused l T given) (sym is) (unread l T error given rest h)
+
+not_received : (l : Limits) (error : ReadError) (given : List ℕ) → NotReceived l given error
+    → WholeRefused l (type_of Request) given (unread_refusal error)
+not_received l (errors.Fault found) given h = go h.0 h.1
+  where
+    go : (after : Option (List ℕ))
+        → Unchecked l (type_of Request) (errors.Fault found) (Some given) after
+        ⊎ Followed l (type_of Request) (errors.Fault found) (Some given) after
+        → WholeRefused l (type_of Request) given (refusals.Fault found)
+    go None (inl u) = absurd u.0
+    go None (inr f) = absurd f.takes
+    go (Some rest) h = unread l (type_of Request) (errors.Fault found) given rest h
+not_received l (errors.Read at) given h = absurd h
+not_received l errors.Memory given h = tt
+
+pub not_received_made : (l : Limits) (error : ReadError) (refusal : Refusal) (given : List ℕ)
+    → refusal ≡ unread_refusal error → NotReceived l given error → WholeRefused l (type_of Request) given refusal
+not_received_made l error refusal given is h =
+    subst (WholeRefused l (type_of Request) given) (sym is) (not_received l error given h)
 
 unwritten : (l : Limits) (T : TypeTerm) (error : NormaliseError) (given rest : List ℕ) (old new : Option (List ℕ))
     → RefusedWhole l T error (Some given) (Some rest) old new → WholeRefused l T given (unwritten_refusal error)

@@ -9,8 +9,8 @@ use Rattle.pk_documents.specs.Kinds.{type_of}
 use Rattle.pk_documents.specs.declared.document.Document.{Document}
 use Rattle.pk_documents.specs.declared.kind.Kind.{Kind}
 use Rattle.pk_documents.specs.declared.kind.Kind.TheVariants.{Request}
-use Rattle.pk_documents.specs.declared.request_part.Part.{Part}
 use Rattle.explain.specs.Written.{IsFieldOf, IsWritten}
+use Rattle.explain.specs.declared.received.RequestPart.{RequestPart}
 use Rattle.explain.specs.declared.written.Form.{Form}
 use Rattle.reports.specs.declared.report.Answer.{Answer}
 use Rattle.pkder_c.specs.Numbers.{IsFormNumber, IsFormOf, IsPartNumber, IsReasonNumber, part_number}
@@ -27,8 +27,8 @@ abbrev pub ForKind : ℕ → Limits → (Limits → Kind → Type 0) → Type 0
 ForKind number limits P = (kind : Kind) × (kind_number kind ≡ number) × IsLimits limits × P limits kind
 
 -- So with the parts of a request.
-abbrev pub ForPart : ℕ → Limits → (Limits → Part → Type 0) → Type 0
-ForPart number limits P = (part : Part) × (part_number part ≡ number) × IsLimits limits × P limits part
+abbrev pub ForPart : ℕ → Limits → (Limits → RequestPart → Type 0) → Type 0
+ForPart number limits P = (part : RequestPart) × (part_number part ≡ number) × IsLimits limits × P limits part
 
 -- The octets are a document, and this is its DER text, which twice as much room always has room for.
 abbrev pub IsText : ℕ → Limits → List ℕ → List ℕ → Type 0

@@ -1,20 +1,22 @@
 -- The numbers of parts, forms and reasons.
 use Rattle.std.specs.Prelude.{ℕ, ◌+◌, ◌≡◌, ◌≤◌, cond, false}
-use Rattle.pk_documents.specs.declared.request_part.Part.{Part}
 use Rattle.pk_documents.specs.declared.request_part.Part.TheVariants as parts
 use Rattle.explain.specs.Written.{places_shown}
 use Rattle.explain.specs.declared.profile.Profile.{Profile}
 use Rattle.explain.specs.declared.profile.Profile.TheVariants.{General, Tls}
+use Rattle.explain.specs.declared.received.RequestPart.{RequestPart}
+use Rattle.explain.specs.declared.received.RequestPart.TheVariants.{Received, Written}
 use Rattle.explain.specs.declared.written.Form.{Form}
 
-abbrev pub part_number : Part → ℕ
-part_number parts.Info = 1
-part_number parts.Algorithm = 2
-part_number parts.Key = 3
-part_number parts.Signature = 4
+abbrev pub part_number : RequestPart → ℕ
+part_number (Written parts.Info) = 1
+part_number (Written parts.Algorithm) = 2
+part_number (Written parts.Key) = 3
+part_number (Written parts.Signature) = 4
+part_number Received = 5
 
 abbrev pub IsPartNumber : ℕ → Type 0
-IsPartNumber number = (1 ≤ number) × (number ≤ 4)
+IsPartNumber number = (1 ≤ number) × (number ≤ 5)
 
 abbrev pub profile_number : Profile → ℕ
 profile_number General = 0

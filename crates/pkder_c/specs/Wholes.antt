@@ -21,6 +21,9 @@ use Rattle.pk_documents.specs.declared.kind.Kind.{Kind}
 use Rattle.pk_documents.specs.declared.kind.Kind.TheVariants.{Request}
 use Rattle.pk_documents.specs.declared.request_part.Part.{Part}
 use Rattle.pk_show.specs.Shown.{document_lines}
+use Rattle.explain.specs.Received.{Received}
+use Rattle.explain.specs.declared.received.RequestPart.{RequestPart}
+use Rattle.explain.specs.declared.received.RequestPart.TheVariants.{Received as AsReceived, Written}
 use Rattle.pkder_c.specs.declared.refusal.PairRefusal.{PairRefusal}
 use Rattle.pkder_c.specs.declared.refusal.PairRefusal.TheVariants as pairs
 use Rattle.pkder_c.specs.declared.refusal.Refusal.{Refusal}
@@ -46,12 +49,17 @@ WholeLines value_of limits kind given text =
     × ReadsValue limits (type_of kind) (value_of document) (Some given) (Some []) (length given)
     × (text ≡ document_lines document)
 
--- They spell one request, and the text is a part of it.
-abbrev pub WholePart : Limits → Part → List ℕ → List ℕ → Type 0
-WholePart limits part given text =
+-- They spell one request, and the text is a part of what it says.
+abbrev pub WholeWritten : Limits → Part → List ℕ → List ℕ → Type 0
+WholeWritten limits part given text =
     (value : Value)
     × Took limits (type_of Request) value (Some given) (Some []) (length given)
     × (text ≡ part_of part value)
+
+-- They spell one request, and the text is a part of it, written of what it says or as it came.
+abbrev pub WholePart : Limits → RequestPart → List ℕ → List ℕ → Type 0
+WholePart limits (Written part) given text = WholeWritten limits part given text
+WholePart limits AsReceived given text = Received limits given text
 
 -- They spell one value.
 abbrev pub IsWhole : Limits → TypeTerm → List ℕ → Type 0

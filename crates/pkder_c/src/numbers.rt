@@ -6,6 +6,7 @@ ghost use Rattle.pk_documents.specs.KindRows.{IsKindNumber, number_of as kind_nu
 ghost use Rattle.pkder_c.specs.Numbers.{IsFormNumber, IsFormOf, IsPartNumber, IsReasonNumber, part_number};
 
 use explain::profile::Profile;
+use explain::received::RequestPart;
 use explain::written::{Form, PLACES};
 use pk_documents::kind::Kind;
 use pk_documents::request_part::Part;
@@ -21,15 +22,16 @@ pub fn kind_of(number: u32) -> Option<Kind>
 }
 
 /// The part of a request that has this number.
-pub fn request_part_of(number: u32) -> Option<Part>
+pub fn request_part_of(number: u32) -> Option<RequestPart>
     ensures part { IfSome result (λ part. part_number part ≡ number) }
     ensures exactly { IsSome result ↔ IsPartNumber number }
 {
     match number {
-        1 => Some(Part::Info),
-        2 => Some(Part::Algorithm),
-        3 => Some(Part::Key),
-        4 => Some(Part::Signature),
+        1 => Some(RequestPart::Written(Part::Info)),
+        2 => Some(RequestPart::Written(Part::Algorithm)),
+        3 => Some(RequestPart::Written(Part::Key)),
+        4 => Some(RequestPart::Written(Part::Signature)),
+        5 => Some(RequestPart::Received),
         _ => None,
     }
 }

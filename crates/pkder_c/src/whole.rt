@@ -4,14 +4,16 @@ ghost use Rattle.pk_documents.specs.Kinds.{type_of};
 ghost use Rattle.pk_documents.specs.RequestParts.{part_of};
 ghost use Rattle.pk_documents.specs.declared.kind.Kind.TheVariants.{Request as request_kind};
 ghost use Rattle.pk_show.specs.Shown.{document_lines};
+ghost use Rattle.explain.specs.Received.{Received};
 ghost use Rattle.explain.specs.Written.{IsFieldOf, IsWritten};
 ghost use Rattle.pkder_c.specs.Wholes.{WholeChecked, WholeLines, WholePairRefused, WholePart, WholeRefused};
-ghost use Rattle.pkder_c.specs.Wholes.{WholeSame, WholeText};
+ghost use Rattle.pkder_c.specs.Wholes.{WholeSame, WholeText, WholeWritten};
 ghost use Rattle.pkder_c.specs.declared.refusal.Refusal.TheVariants.{Memory};
 
 use crate::refusal::{PairRefusal, Refusal, first_refused, second_refused, unread, unwritten};
 use asn_documents::whole::read_whole_input;
 use asn_values::der_text::DerText;
+use explain::received::{RequestPart, received};
 use explain::written::{Form, explain_text, explained_field};
 use pk_documents::check::check_whole_document;
 use pk_documents::document::{Document, Valued, read_whole_document};
@@ -110,8 +112,47 @@ fn lines_text(alloc: Global, document: &Document) -> Result<Vec<u8>, Refusal>
 }
 
 /// A part of the request.
-pub fn whole_part(alloc: Global, part: Part, limits: Limits, src: &[u8]) -> Result<Vec<u8>, Refusal>
+pub fn whole_part(
+    alloc: Global,
+    part: RequestPart,
+    limits: Limits,
+    src: &[u8],
+) -> Result<Vec<u8>, Refusal>
     ensures part { IfOk result (λ text. WholePart limits part src.now text.items) }
+    ensures refused { IfErr result (WholeRefused limits (type_of request_kind) src.now) }
+{
+    match part {
+        RequestPart::Written(part) => whole_written(alloc, part, limits, src),
+        RequestPart::Received => whole_received(alloc, limits, src),
+    }
+}
+
+/// The octets of certificationRequestInfo as they came.
+fn whole_received(alloc: Global, limits: Limits, src: &[u8]) -> Result<Vec<u8>, Refusal>
+    ensures part { IfOk result (λ text. Received limits src.now text.items) }
+    ensures refused { IfErr result (WholeRefused limits (type_of request_kind) src.now) }
+{
+    match received(alloc, src, limits) {
+        Ok(octets) => copy_of(alloc, octets),
+        Err(error) => Err(unread(&error)),
+    }
+}
+
+/// The same octets.
+fn copy_of(alloc: Global, octets: &[u8]) -> Result<Vec<u8>, Refusal>
+    ensures same { IfOk result (λ copy. copy.items ≡ octets.now) }
+    ensures memory { IfErr result (λ refusal. refusal ≡ Memory) }
+{
+    let mut copy = Vec::new(alloc);
+    match copy.extend_from_slice(octets) {
+        Ok(()) => Ok(copy),
+        Err(_) => Err(Refusal::Memory),
+    }
+}
+
+/// A part of the request that is written of what it says.
+fn whole_written(alloc: Global, part: Part, limits: Limits, src: &[u8]) -> Result<Vec<u8>, Refusal>
+    ensures part { IfOk result (λ text. WholeWritten limits part src.now text.items) }
     ensures refused { IfErr result (WholeRefused limits (type_of request_kind) src.now) }
 {
     let mut rest = src;

@@ -17,8 +17,8 @@ import pkder.Verdict;
 
 /** The rows that PKDER_CALLS names; interface/calls.py makes them. */
 final class Rows {
-    private static final Map<String, Part> PARTS =
-        Map.of("info", Part.INFO, "algorithm", Part.ALGORITHM, "key", Part.SUBJECT_KEY, "signature", Part.SIGNATURE);
+    private static final Map<String, Part> PARTS = Map.of("info", Part.INFO, "algorithm", Part.ALGORITHM, "key",
+        Part.SUBJECT_KEY, "signature", Part.SIGNATURE, "received", Part.RECEIVED);
 
     private final List<String> words;
     private final byte[] document;

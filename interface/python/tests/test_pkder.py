@@ -13,7 +13,7 @@ import unittest
 import pkder
 
 # by the program's words
-PARTS = dict(zip(("info", "algorithm", "key", "signature"), pkder.Part))
+PARTS = dict(zip(("info", "algorithm", "key", "signature", "received"), pkder.Part))
 KEY = bytes.fromhex("302e020100300506032b657004220420") + bytes(range(32))
 # (its outer length has two octets)
 KEY_IN_BER = b"\x30\x81" + KEY[1:]

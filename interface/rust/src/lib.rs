@@ -127,6 +127,8 @@ numbered! {
         SubjectKey = 3,
         /// The octets of the signature.
         Signature = 4,
+        /// The octets of what its signature covers as they came, in DER or not: some signers sign these instead.
+        Received = 5,
     }
 }
 

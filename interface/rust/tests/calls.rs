@@ -30,6 +30,7 @@ fn part_of(name: &str) -> Part {
         "algorithm" => Part::Algorithm,
         "key" => Part::SubjectKey,
         "signature" => Part::Signature,
+        "received" => Part::Received,
         _ => panic!("no part {name}"),
     }
 }

@@ -22,12 +22,12 @@ SQLITE_EXTENSION_INIT1
 #define LINE_ROOM 128
 
 static const char *const kinds[] = {"key", "ec", "request", "public", "encrypted", "package", NULL};
-static const char *const parts[] = {"info", "algorithm", "key", "signature", NULL};
+static const char *const parts[] = {"info", "algorithm", "key", "signature", "received", NULL};
 /* Those of PKDER_ALL, PKDER_JSON and PKDER_TLS, which are 1, 2 and 4. */
 static const char *const forms[] = {"all", "json", "tls", NULL};
 
 #define NO_KIND "pkder: a kind is 'key', 'ec', 'request', 'public', 'encrypted' or 'package'"
-#define NO_PART "pkder: a part is 'info', 'algorithm', 'key' or 'signature'"
+#define NO_PART "pkder: a part is 'info', 'algorithm', 'key', 'signature' or 'received'"
 #define NO_DOCUMENT "pkder: a document is a BLOB of its octets, not a text of them (PEM, base64, hex)"
 #define NO_FORM "pkder: a form is words of 'all', 'json' and 'tls', each once, with a blank between two"
 #define NO_DEPTH "pkder: a depth is an INTEGER from 1 to 64"

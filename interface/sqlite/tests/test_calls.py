@@ -20,7 +20,7 @@ CALLS = {
     "pkder_explain": (("key", KEY), ("key", KEY, "json"), ("key", KEY, "json", 32, 1048576)),
 }
 NO_KIND = "pkder: a kind is 'key', 'ec', 'request', 'public', 'encrypted' or 'package'"
-NO_PART = "pkder: a part is 'info', 'algorithm', 'key' or 'signature'"
+NO_PART = "pkder: a part is 'info', 'algorithm', 'key', 'signature' or 'received'"
 NO_DOCUMENT = "pkder: a document is a BLOB of its octets, not a text of them (PEM, base64, hex)"
 NO_FORM = "pkder: a form is words of 'all', 'json' and 'tls', each once, with a blank between two"
 NO_DEPTH = "pkder: a depth is an INTEGER from 1 to 64"

@@ -9,7 +9,9 @@ public enum Part {
     /** The DER encoding of subjectPKInfo, a document of {@link Kind#PUBLIC}. */
     SUBJECT_KEY(3),
     /** The octets of signature, without the number of unused bits. */
-    SIGNATURE(4);
+    SIGNATURE(4),
+    /** The octets of certificationRequestInfo as they came, in DER or not, which some signers sign instead. */
+    RECEIVED(5);
 
     private final int number;
 

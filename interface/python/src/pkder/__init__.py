@@ -54,12 +54,13 @@ class Kind(enum.IntEnum):
 
 
 class Part(enum.IntEnum):
-    """A part of a request; INFO is what its signature covers."""
+    """A part of a request; INFO is what its signature covers, RECEIVED the same as it came, in DER or not."""
 
     INFO = 1
     ALGORITHM = 2
     SUBJECT_KEY = 3
     SIGNATURE = 4
+    RECEIVED = 5
 
 
 class Reason(str, enum.Enum):
@@ -315,7 +316,7 @@ def show(kind: Kind, document: Octets, *, depth: int = DEPTH, octets: int = OCTE
 
 def signed(part: Part, document: Octets, *, depth: int = DEPTH, octets: int = OCTETS) -> bytes:
     """A part of a request: the DER text of what its signature covers, of the signature's algorithm or of the public
-    key; or the octets of the signature."""
+    key; the octets of the signature; or those of what it covers as they came, which some signers sign instead."""
     return _text("pkder_signed", Part(part), document, depth, octets)
 
 
