@@ -10,6 +10,7 @@ import os
 import pty
 import re
 import shutil
+import socket
 import stat
 import subprocess
 import sys
@@ -46,6 +47,7 @@ SAID = {DER: "DER", BER: "not DER at 1", CUT: "fault at 20: Truncated"}
 SHOWN = ("kind: key\nversion: 0\nalgorithm: 1.3.101.112\nparameters: none\nprivate key: curve, 32 octets\n"
          "attributes: absent\npublic key: absent\n")
 NOTE = "private key: the same octets\n"
+OTHER = "not a regular file\n"
 BINARY = ("error: what is written is binary, and standard output is a terminal\n\n"
           "  tip: --to NEW-FILE; with --to - it is written all the same\n\nFor more information, try '--help'.\n")
 
@@ -102,6 +104,8 @@ class Folder:
         self.write(b"secret", DER)
         os.chmod(f"{self.path}/secret", 0)
         os.mkfifo(f"{self.path}/pipe")
+        with socket.socket(socket.AF_UNIX) as it:
+            it.bind(f"{self.path}/socket")
 
     def write(self, name, octets):
         with open(os.path.join(os.fsencode(self.path), name), "wb") as file:
@@ -121,6 +125,15 @@ class Folder:
                              umask=0o022, **how)
         text = lambda octets: octets if octets is None else octets.decode("utf-8", "surrogateescape")
         return ran.returncode, text(ran.stdout), text(ran.stderr)
+
+    def run_list(self, words, given):
+        """A run with one more word, the name of a pipe to which this is written, as `<(..)` of bash has it."""
+        reader, writer = os.pipe()
+        os.write(writer, given)
+        os.close(writer)
+        ran = self.run(*words, f"/dev/fd/{reader}", pass_fds=(reader,))
+        os.close(reader)
+        return ran
 
 
 def judged(at):
@@ -171,6 +184,9 @@ def listed(at):
     yield "an empty name", (3, '"": no such file\nder: DER\n', ""), at.run(*check, "-", given=b"\0der\0")
     yield ("names of the line before those of a list", (2, "cut: fault at 20: Truncated\nder: DER\n", ""),
            at.run(*check, "-", "cut", given=b"der\0"))
+    yield ("what is no regular file isn't read", (3, f"pipe: {OTHER}link: DER\n/dev/null: {OTHER}socket: {OTHER}", ""),
+           at.run(*check, "-", given=b"pipe\0link\0/dev/null\0socket\0"))
+    yield ("the name of a list may be of a pipe", (0, "der: DER\n", ""), at.run_list(check, b"der\0"))
     yield "no such list", (3, "", "missing: no such file\n"), at.run(*check, "missing")
     yield ("a name that is too long", (3, "der: DER\n", "-: a name is longer than 65536 octets\n"),
            at.run(*check, "-", given=b"der\0" + b"x" * 65537 + b"\0"))
@@ -258,13 +274,14 @@ def noted_tls(at):
 
 def told_in_json(at):
     """Runs of check and show that write objects of JSON."""
-    at.write(b"names", b"der\0ber\0cut\0line\nfeed\0missing\0latin\xff1\0")
+    at.write(b"names", b'der\0ber\0cut\0line\nfeed\0missing\0latin\xff1\0"latin\\xff1"\0')
     status, text, error = at.run("check", "-k", "key", "--json", "--files0-from", "names")
     due = [{"file": "der", "status": 0, "verdict": "der"}, {"file": "ber", "status": 1, "verdict": "not_der", "at": 1},
            {"file": "cut", "status": 2, "verdict": "refused", "at": 20, "reason": "Truncated"},
            {"file": "line\nfeed", "status": 2, "verdict": "refused", "at": 20, "reason": "Truncated"},
            {"file": "missing", "status": 3, "error": "no such file"},
-           {"file": '"latin\\xff1"', "status": 3, "error": "the name is not UTF-8"}]
+           {"file": '"latin\\xff1"', "status": 3, "error": "the name is not UTF-8"},
+           {"file": '"\\"latin\\\\xff1\\""', "status": 3, "error": "no such file"}]
     yield ("check, objects of JSON", (3, due, ""),
            (status, members(text, "file", "status", "verdict", "at", "reason", "error"), error))
     status, text, error = at.run("check", "-k", "key", "--json", "--quiet", "der", "ber")
@@ -280,6 +297,26 @@ def told_in_json(at):
     status, text, error = at.run("show", "-k", "key", "--json", "der", "missing")
     due = [{"file": "der", "octets": 48}, {"file": "missing", "error": "no such file"}]
     yield ("show, objects of JSON", (3, due, ""), (status, members(text, "file", "octets", "error"), error))
+
+
+def kinds_found(at):
+    """Runs that find the kind of each document."""
+    at.write(b"public", SOUND)
+    at.write(b"noted", CURVELESS)
+    at.write(b"text", b"none")
+    due = ("der: key: DER\nber: key: not DER at 1\npublic: public: DER\n"
+           "cut: none of these; likely key: fault at 20: Truncated\ntext: none of these\n")
+    yield "check --any", (2, due, ""), at.run("check", "--any", "der", "ber", "public", "cut", "text")
+    due = f"noted: public: DER\nnoted: public: {NOTED}"
+    yield "check --any --notes", (0, due, ""), at.run("check", "--any", "--notes", "noted")
+    yield "show --any", (0, f"der:\n{SHOWN}", ""), at.run("show", "--any", "der")
+    status, text, error = at.run("check", "--any", "--json", "der", "cut")
+    due = [{"file": "der", "kind": "key", "status": 0},
+           {"file": "cut", "status": 2, "error": "none of these; likely key: fault at 20: Truncated"}]
+    yield "check --any --json", (2, due, ""), (status, members(text, "file", "kind", "status", "error"), error)
+    status, text, error = at.run("explain", "--any", "cut")
+    _, report, _ = at.run("explain", "-k", "key", given=CUT)
+    yield "explain --any", (2, f"cut:\nnone of these\n\n{report}", ""), (status, text, error)
 
 
 def paired(at):
@@ -417,7 +454,7 @@ def closed(at):
 
 def looks(program):
     """Each run of the program, and whether it is right."""
-    for runs in (judged, listed, noted, noted_tls, told_in_json, paired, agreed, made, closed):
+    for runs in (judged, listed, noted, noted_tls, told_in_json, kinds_found, paired, agreed, made, closed):
         at = Folder(program)
         try:
             for what, due, found in runs(at):

@@ -3,7 +3,7 @@
 
 A row is a line of cells between tabs, and a line that begins with # is a title:
   rule     what the row shows
-  recipe   the words of the recipe; pem is handed the text as a file, any other one as standard input
+  recipe   the words of the recipe; pem and from_openssh are handed the text as a file, others as standard input
   text     the spelling: \\n, \\r, \\t and \\xNN, the octet NN, are written so
   octets   what it stands for, in hex; none where it is refused
   by       whose reading that is: a clause of a standard; openssl, which is asked, too, where the machine has it; or the
@@ -26,6 +26,8 @@ from tools.gate.looks import counted
 MANUAL, SECTION = f"{TOP}/docs/manual.md", "pem() ("
 # (with the words that make them a POSIX shell)
 SHELLS = (("dash",), ("bash",), ("busybox", "sh"), ("zsh", "--emulate", "sh"))
+# Recipes that call xxd.
+BY_XXD = ("from_hex", "from_ssh", "from_openssh")
 AWKS = ("mawk", "gawk", "original-awk", "busybox")
 
 
@@ -57,7 +59,7 @@ def recipes():
 
 def has_tool(row):
     """Whether the machine has the tool that the row's recipe needs, beside those of every POSIX system and base64."""
-    needed = "xxd" if row.recipe == "from_hex" else "base64"
+    needed = "xxd" if row.recipe in BY_XXD else "base64"
     if not shutil.which(needed):
         print(f"left out: {row.rule}: no {needed}")
     return shutil.which(needed)
@@ -82,7 +84,7 @@ def wrong(row, shell, path, script):
     with tempfile.TemporaryDirectory() as folder:
         with open(f"{folder}/came", "wb") as file:
             file.write(row.text)
-        given = "came" if row.recipe.startswith("pem ") else "< came"
+        given = "came" if row.recipe.startswith(("pem ", "from_openssh")) else "< came"
         words = [*shell, "-c", f"{script}\n{row.recipe} {given}"]
         ran = subprocess.run(words, cwd=folder, env={**os.environ, "PATH": path}, capture_output=True)
     lines = ran.stderr.decode(errors="replace").splitlines()

@@ -8,9 +8,9 @@ transcripts after it call. It ends with status 0 and prints nothing. A block mar
 file of that name. Other blocks are left alone.
 
 The blocks of a section run in one shell, bash where one is marked so, in a folder of their own with the program as
-pkder, pkder-intake over the library that was built or that PKDER_LIBRARY names, the files of examples/, and examples/,
-crates/, docs/ and tools/ themselves, interface/ as a copy. From where a tool is named that isn't installed a section is
-left out, which is told. Each text has a line for each program, and the
+pkder, pkder-intake over the library that was built or that PKDER_LIBRARY names, the package for npm that PKDER_PACKAGE
+names, the files of examples/, and examples/, crates/, docs/ and tools/ themselves, interface/ as a copy. From where a
+tool is named that isn't installed a section is left out, which is told. Each text has a line for each program, and the
 last line is 'transcripts: N passed, M failed', a command, a recipe and a file counting once for each program."""
 import importlib.util
 import os
@@ -25,12 +25,13 @@ from pathlib import Path
 TOP = str(Path(__file__).resolve().parents[2])
 SECONDS = 120
 # what a POSIX system may lack, and what pip builds with
-TOOLS = ("openssl", "xxd", "jq", "mandoc", "cc", "pkg-config", "cargo", "go", "javac", "pip", "sqlite3")
+TOOLS = ("openssl", "xxd", "jq", "mandoc", "cc", "pkg-config", "cargo", "go", "javac", "pip", "sqlite3", "node", "npm")
 BUILT_WITH = {"pip": ("setuptools", "wheel")}
 # (a section that has SQLite builds what it loads)
 HEADERS = {"sqlite3": "/usr/include/sqlite3ext.h"}
 MARK = "-- step"
 PROVED_BY = "crates/pkder/out/PROVED-BY"
+PACKAGE = os.environ.get("PKDER_PACKAGE", "")
 LIBRARY = os.environ.get("PKDER_LIBRARY", f"{TOP}/interface/out/libpkder.so.0")
 INTAKE = f"""#!/bin/sh
 PYTHONPATH='{TOP}/interface/python/src' PKDER_LIBRARY='{LIBRARY}' exec '{sys.executable}' -m pkder_intake "$@"
@@ -49,6 +50,8 @@ class Step:
             return PROVED_BY
         if re.search(r"\bpkder-intake\b", self.text) and not os.path.isfile(LIBRARY):
             return LIBRARY
+        if ".tgz" in self.text and not os.path.isfile(PACKAGE):
+            return "package for npm"
         return next((it for it in TOOLS if re.search(rf"\b{it}\b", self.text) and not is_installed(it)), None)
 
 
@@ -106,6 +109,8 @@ def folder_with(folder, program):
         os.symlink(f"{TOP}/{name}", f"{place}/{name}")
     # (pip builds in it)
     shutil.copytree(f"{TOP}/interface", f"{place}/interface", ignore=shutil.ignore_patterns("out", "build", "target"))
+    if PACKAGE:
+        os.symlink(PACKAGE, f"{place}/{os.path.basename(PACKAGE)}")
     os.mkdir(f"{folder}/bin")
     os.symlink(os.path.abspath(program), f"{folder}/bin/pkder")
     with open(os.open(f"{folder}/bin/pkder-intake", os.O_WRONLY | os.O_CREAT, 0o755), "w", encoding="utf-8") as file:

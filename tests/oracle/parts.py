@@ -1,8 +1,8 @@
 """What `pkder show` and `pkder signed` write, by docs/formats.md alone: functions of the DER text of a document, which
-tests/oracle/reader.py finds."""
+tests/oracle/reader.py finds, and of the octets of a request where these are written as they came."""
 from collections import namedtuple
 
-PARTS = ("info", "algorithm", "key", "signature")
+PARTS = ("info", "algorithm", "key", "signature", "received")
 # The first octets of elements.
 BOOLEAN, SEQUENCE, TAG_0, PRIMITIVE_TAG_1, CONSTRUCTED_TAG_1 = 0x01, 0x30, 0xA0, 0x81, 0xA1
 RFC_8410 = ("1.3.101.110", "1.3.101.111", "1.3.101.112", "1.3.101.113")
@@ -13,25 +13,50 @@ EXTENSION_REQUEST = "1.2.840.113549.1.9.14"
 Part = namedtuple("Part", "first octets contents")
 
 
+def header(octets, at):
+    """Where the contents of an element begin, and their number, None of the indefinite form (X.690 8.1)."""
+    first = octets[at]
+    at += 1
+    if first & 31 == 31:
+        while octets[at] & 128:
+            at += 1
+        at += 1
+    length = octets[at]
+    at += 1
+    if length == 128:
+        return at, None
+    if length > 127:
+        count = length - 128
+        length = int.from_bytes(octets[at : at + count], "big")
+        at += count
+    return at, length
+
+
 def parts(octets):
     """The elements that stand after one another in octets that are DER (X.690 8.1, 10.1)."""
     found, at = [], 0
     while at < len(octets):
         begin, first = at, octets[at]
-        at += 1
-        if first & 31 == 31:
-            while octets[at] & 128:
-                at += 1
-            at += 1
-        length = octets[at]
-        at += 1
-        if length > 127:
-            count = length - 128
-            length = int.from_bytes(octets[at : at + count], "big")
-            at += count
+        at, length = header(octets, begin)
         found.append(Part(first, octets[begin : at + length], octets[at : at + length]))
         at += length
     return found
+
+
+def end_of(octets, at):
+    """Where an element of whatever form ends."""
+    at, length = header(octets, at)
+    if length is not None:
+        return at + length
+    while octets[at : at + 2] != bytes(2):
+        at = end_of(octets, at)
+    return at + 2
+
+
+def received(octets):
+    """The first member of a request as it came."""
+    begin, _ = header(octets, 0)
+    return octets[begin : end_of(octets, begin)]
 
 
 def part_of(text, part):

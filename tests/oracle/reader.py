@@ -13,7 +13,7 @@ from collections import namedtuple
 from pathlib import Path
 
 sys.path[0] = str(Path(__file__).resolve().parents[2])
-from tests.oracle.parts import PARTS, part_of, shown
+from tests.oracle.parts import PARTS, part_of, received, shown
 
 # A tag is its class and its number (X.690 8.1.2.2).
 UNIVERSAL, CONTEXT = 0, 2
@@ -592,6 +592,10 @@ def compared(octets, text):
 
 def answer(action, kind, octets, depth=DEPTH, limit=OCTETS, reading_fails=False, part=PARTS[0]):
     """Returns the status, standard output and the line on standard error, without its end."""
+    as_it_came = action == "signed" and part == "received"
+    if as_it_came and reading_fails and len(octets) <= limit:
+        # (all of the input is read first, or one octet more than the limit)
+        return 3, b"", f"read failed at {len(octets)}"
     reader = Reader(octets, depth, limit, reading_fails)
     try:
         text = reader.document(SEQUENCE, KINDS[kind])
@@ -604,14 +608,16 @@ def answer(action, kind, octets, depth=DEPTH, limit=OCTETS, reading_fails=False,
         return 3, b"", f"read failed at {failure.place}"
     if action == "check":
         return compared(octets, text)
+    if as_it_came:
+        return 0, received(octets), ""
     written = {"show": lambda: shown(kind, text), "signed": lambda: part_of(text, part), "normalise": lambda: text}
     return 0, written[action](), ""
 
 
 def has_part_in(words):
-    """Whether the words are of a command that the reader has a part in, and ask for no notes."""
-    noting = ("--notes", "--refuse", "--profile")
-    return bool(words) and words[0] in ACTIONS and not any(it.startswith(noting) for it in words)
+    """Whether the words are of a command that the reader has a part in, ask for no notes, and name the kind."""
+    others = ("--notes", "--refuse", "--profile", "--any")
+    return bool(words) and words[0] in ACTIONS and not any(it.startswith(others) for it in words)
 
 
 def command_line():
