@@ -51,6 +51,12 @@ MADE = [
     (b"ssh-ed25519 AAAAC3NzaC1lZDI1NTE5AAAAIBcU user@host\n", "ssh_public_key"),
     (b"ecdsa-sha2-nistp256 AAAAE2VjZHNhLXNoYTItbmlzdHAyNTY user@host\n", "ssh_public_key"),
     (b"---- BEGIN SSH2 PUBLIC KEY ----\nComment: x\nAAAAC3Nz\n---- END SSH2 PUBLIC KEY ----\n", "ssh2_public_key"),
+    (b"ssh-ed448 AAAACXNzaC1lZDQ0OAAAADkXFCX user@host\n", "ssh_public_key"),
+    (b"---- BEGIN SSH2 ENCRYPTED PRIVATE KEY ----\nComment: \"x\"\nP2/56wAAA+4AAAA3\n", "sshcom_key"),
+    (b"<RSAKeyValue>\n  <Modulus>q+riDw==</Modulus>\n  <Exponent>AQAB</Exponent>\n</RSAKeyValue>\n", "xml_key"),
+    (b"<RSAKeyPair>\n  <Modulus>q+riDw==</Modulus>\n  <D>ZW5k</D>\n</RSAKeyPair>\n", "xml_private_key"),
+    # (an EncryptedObjectStoreData by PBES2, and a PbkdMacIntegrityCheck, with as much in them as tells them)
+    (bytes.fromhex("3022 3017 300f 06092a864886f70d01050d 3002 0500 0404 01020304 3007 3003 06012a 0400"), "bcfks"),
     (b"openssh-key-v1\0\0\0\0\4none", "openssh_key"), (b"%PDF-1.7\n", "pdf"), (b"\x89PNG\r\n\x1a\n\0\0", "image"),
     (json.dumps({"kty": "EC", "crv": "P-256", "x": "AAAA", "y": "AAAA", "d": "AAAA"}).encode(), "jwk_private"),
     (json.dumps({"keys": [{"kty": "OKP", "crv": "Ed25519", "x": "AAAA"}]}).encode(), "jwk"),
@@ -74,12 +80,14 @@ MADE = [
     (b"    0:d=0  hl=4 l= 316 cons: SEQUENCE          \n    4:d=1  hl=3 l= 227 cons: SEQUENCE\n", "listing"),
     (b"Certificate Request:\n    Data:\n        Version: 1 (0x0)\n", "request_text"),
 ]
-PRIVATE = ("jks", "jceks", "nss", "putty_key", "openssh_key", "jwk_private", "rsa_private_key", "dsa_private_key",
-           "tss2_private_key", "sm2_private_key", "old_encrypted", "pkcs12")
+PRIVATE = ("jks", "jceks", "bcfks", "nss", "putty_key", "sshcom_key", "xml_private_key", "openssh_key", "jwk_private",
+           "rsa_private_key", "dsa_private_key", "tss2_private_key", "sm2_private_key", "old_encrypted", "pkcs12")
 # Those that a command makes a kind of ours of, as docs/manual.md has it.
 COMMANDS = {"jks": "keytool -importkeystore", "pkcs12": "openssl pkcs12", "rsa_private_key": "openssl pkcs8 -topk8",
             "dsa_private_key": "openssl pkcs8 -topk8", "openssh_key": "ssh-keygen -p -m PKCS8", "putty_key": "puttygen",
+            "sshcom_key": "puttygen", "bcfks": "keytool -importkeystore", "jwk": "node -p", "jwk_private": "node -p",
             "rsa_public_key": "openssl rsa -RSAPublicKey_in", "certificate": "openssl x509", "zip": "unzip",
+            "pkcs7": "openssl pkcs7 -print_certs",
             "sm2_private_key": "openssl pkcs8 -topk8", "old_encrypted": "openssl pkcs8 -topk8", "nss": "pk12util"}
 # Files of tools that the commands make a kind of ours of: the tool, the file, that kind, and what makes the file.
 LEADING = [
@@ -97,6 +105,11 @@ LEADING = [
     ("ssh-keygen", "ssh2", "public", "ssh-keygen -e -f ssh.pub > ssh2"),
     ("ssh-keygen", "ssh-rsa", "key", "ssh-keygen -q -N '' -t rsa -b 1024 -f ssh-rsa"),
     ("puttygen", "x.ppk", "key", "ssh-keygen -q -N '' -t rsa -b 1024 -m PEM -f p && puttygen p -O private -o x.ppk"),
+    ("puttygen", "x.com", "key", "puttygen p -O private-sshcom -o x.com"),
+    ("node", "jwk", "key", """node -p 'JSON.stringify(crypto.generateKeyPairSync("ec", {namedCurve: "P-256"})
+        .privateKey.export({format: "jwk"}))' > jwk"""),
+    ("node", "jwk.pub", "public", """node -p 'JSON.stringify(crypto.generateKeyPairSync("rsa", {modulusLength: 1024})
+        .publicKey.export({format: "jwk"}))' > jwk.pub"""),
     *(("keytool", f"x.{form}", "key", f"keytool -genkeypair -keyalg EC -keystore x.{form} -storetype {form} "
        "-storepass changeit -keypass changeit -dname CN=x -alias a") for form in ("JKS", "JCEKS", "PKCS12")),
 ]

@@ -153,7 +153,8 @@ def hostile(size):
              "elements": b"<a>" + b"M" * 30 + b"</a>",
              "percents": b"%41", "delimiters": b"--x\nA: b\n\nc\n", "headers": b"A: b\n", "spaced": b"0x30  ",
              "dashes": b"-- " + b" " * 80 + b"x\n", "names of tags": b"<" + b"a" * 99 + b" ", "encoded": b"%2525",
-             "backslashes": b"\\",
+             "backslashes": b"\\", "base64 beside": b"-----BEGIN X-----\n-----END X-----\n" + b"MIIB" * 20 + b"\n",
+             "octets beside": b"-----BEGIN X-----\n-----END X-----\n0\x82\1\0",
              "0x": b"0x30, ", "pairs": b"30:", "arrays": b"{0x30,", "dots": b"aaaaaaaaa.", "references": b"&#10;"}
     first = {"names": b"<x>\n", "percents": b"a=", "delimiters": b"Content-Type: x; boundary=x\n\n", "tags": b"<a>",
              "headers": b"Content-Type: x\n", "spaced": b"{", "dashes": b"Content-Type: x; boundary=x\n\n",

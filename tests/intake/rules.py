@@ -62,7 +62,8 @@ class Verdicts(unittest.TestCase):
     def test_a_field_that_claims_and_one_that_does_not(self):
         octets = base64.b64encode(octets_of("request-version-1")).decode()
         self.assertEqual([it.form for it in find(json.dumps({"csr": octets}).encode())], ["fault at 5: Version"])
-        for name in ("CSR", "certificateRequest", "certificate-request", "tls.key", "pem"):
+        # (Go's encoding/json takes the last two for csr and key)
+        for name in ("CSR", "certificateRequest", "certificate-request", "tls.key", "pem", "c\u017fr", "\u212aey"):
             self.assertEqual([it.status for it in find(json.dumps({name: octets}).encode())], [2])
         self.assertEqual([it.verdict for it in find(json.dumps({"x": octets}).encode())], ["none"])
 
@@ -149,6 +150,40 @@ class PrivateKeys(unittest.TestCase):
                 for each in (PEM + came + b"\n", (PEM + came + b"\n").decode().encode("utf-16")):
                     found = [it for it in find(each) if it.name == "request"]
                     self.assertEqual([(it.with_private_key, it.status) for it in found], [(True, 2)])
+
+    def test_beside_pem_in_octets_base64_or_hexadecimal(self):
+        for kind in PRIVATE:
+            key = octets_of(KINDS[kind][0])
+            text, digits = base64.encodebytes(key), key.hex().encode()
+            for came, form in ((PEM + key, "octets"), (PEM + b"\r\n" + key + b"\n", "octets"), (PEM + text, "base64"),
+                               (text + PEM, "base64"), (PEM + text + PEM, "base64"), (PEM + digits, "hexadecimal"),
+                               (digits + b"\n" + PEM, "hexadecimal")):
+                with self.subTest(kind=kind, came=came[:30]):
+                    found = {it.came_as: it for it in find(came)}
+                    self.assertEqual({*found}, {"PEM", form})
+                    self.assertEqual((found["PEM"].status, found["PEM"].with_private_key), (2, True))
+                    self.assertEqual((found[form].name, found[form].octets[: len(key)]), (kind, key))
+
+    def test_beside_pem_in_other_formats(self):
+        member, number = b"A" * 43, b"AQAB" * 9
+        jwk = b'{"kty":"EC","crv":"P-256","x":"%s","y":"%s","d":"%s"}' % (member, member, member)
+        xml = b"<RSAKeyValue><Modulus>%s</Modulus><D>%s</D></RSAKeyValue>" % (number, number)
+        for key, name in ((jwk, "jwk_private"), (xml, "xml_private_key"), (b"\xfe\xed\xfe\xed\0\0\0\2", "jks"),
+                          (json.dumps({"x": base64.b64encode(octets_of("p256")).decode()}).encode(), None),
+                          (bytes.fromhex("3016020103301106092a864886f70d010701a0040402fefe"), "pkcs12")):
+            for came in (PEM + key, PEM + b"\n" + key + b"\n", key + b"\n" + PEM):
+                with self.subTest(name=name, came=came[:30]):
+                    found = find(came)
+                    self.assertIn(name, [it.what for it in found])
+                    # (an input that begins as a key store does is told as that, whatever follows)
+                    is_all = name == "jks" and came.startswith(key)
+                    self.assertEqual([(it.status, it.with_private_key) for it in found if it.kind == Kind.REQUEST],
+                                     [] if is_all else [(2, True)])
+                    self.assertEqual(max(it.status for it in found), 2)
+
+    def test_what_is_no_document_beside_pem(self):
+        for came in (PEM + b"text", b"text\n" + PEM, PEM + b"AAAA" * 20, PEM + b"00:11\n", b"0\n" + PEM + b"0"):
+            self.assertEqual([(it.name, it.status) for it in find(came, Rules(one=True))], [("request", 0)], came)
 
     def test_a_label_alone(self):
         for label in ("PRIVATE KEY", "RSA PRIVATE KEY", "OPENSSH PRIVATE KEY", "ANY PRIVATE KEY"):

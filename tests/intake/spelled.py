@@ -82,7 +82,8 @@ def array(octets, _=None):
 
 def mail(octets, label, text=None):
     """A mail with an attachment in base64, by Python's email."""
-    whole = MIMEMultipart()
+    # (a boundary of Python's own is by chance, and random inputs are to come again by their seed)
+    whole = MIMEMultipart(boundary="===============0123456789==")
     whole["Subject"] = "our request"
     part = MIMEBase("application", "octet-stream")
     part.set_payload(text or octets)

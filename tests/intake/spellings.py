@@ -1,6 +1,7 @@
 """The spellings of tests/manual/spellings.tsv, on which the manual's recipes are tried, as intake reads them: the same
 octets, or a refusal. What is read more freely here is said by its rule."""
 import base64
+import json
 import unittest
 
 from made import CERTIFICATE, TOP, octets_of, pem_of
@@ -16,18 +17,31 @@ OF_OTHER_FORMS = ("base64 alone", "a second block", "the same block twice", "ano
                   "base64url where base64 is due", "base64 without its padding", "base64url with padding",
                   "base64 where base64url is due", "a plus where base64url is due", "hexadecimal after 0x")
 
+# RFC 7468 reads it, and OpenSSL what stands behind the blank line alone: two readers have other octets.
+OF_TWO_READERS = ("a line without anything in mid-block",)
+# What these recipes read isn't ours, and is named.
+OF_OTHERS = {"from_ssh": "ssh_public_key", "from_openssh": "openssh_key"}
+
+
+def with_blank_line(text, at=3):
+    """A text with a blank line before this one of its lines, counted from 0."""
+    lines = text.splitlines(True)
+    return b"".join([*lines[:at], b"\n", *lines[at:]])
+
 
 class Spellings(unittest.TestCase):
     def rows(self, recipe):
         found = [it for it in spellings.rows_of(TABLE) if it.recipe.startswith(recipe)]
-        return [it for it in found if it.rule not in OF_OTHER_FORMS]
+        return [it for it in found if it.rule not in OF_OTHER_FORMS and it.recipe not in OF_OTHERS]
 
     def assert_read(self, row):
         """That it is read as the row says, or refused."""
         of_label = ("CERTIFICATE REQUEST", "NEW CERTIFICATE REQUEST", None)
         read = [it for it in pieces_of(row.text) if it.label in of_label or not row.octets]
         octets = [it.octets for it in read if it.octets]
-        if row.octets:
+        if row.rule in OF_TWO_READERS:
+            self.assertEqual((octets, [it.why for it in read]), ([], ["a blank line in a block"]))
+        elif row.octets:
             self.assertEqual((octets, [it.why for it in read]), ([row.octets], [None]))
         else:
             self.assertTrue(any(it.why or it.what for it in read), read)
@@ -46,6 +60,13 @@ class Spellings(unittest.TestCase):
         for row in rows:
             with self.subTest(rule=row.rule):
                 self.assert_read(row)
+
+    def test_keys_of_ssh_are_named(self):
+        rows = [it for it in spellings.rows_of(TABLE) if it.recipe in OF_OTHERS and it.octets]
+        self.assertGreater(len(rows), 4)
+        for row in rows:
+            with self.subTest(rule=row.rule):
+                self.assertEqual([it.what for it in find(row.text)], [OF_OTHERS[row.recipe]])
 
     def test_what_is_neither(self):
         for came in (b"MAMCAQU=MAMCAQU=", b"MAMCAQV=", b"MAMC*QU=", b"MAQEAvv_=", b"MA+_", b"MAMCA", b"", b"\n",
@@ -102,6 +123,17 @@ class Spellings(unittest.TestCase):
         for came in (b"the lines between BEGIN and END\n", b"M\n" * 99, b"M" * 60 + b"\n\nM\n"):
             self.assertNotIn("nearly", find(came)[0].why)
 
+    def test_blank_lines_that_no_reader_takes_for_the_end_of_headers(self):
+        good = pem_of(octets_of("request-p256"))
+        lines = good.splitlines(True)
+        for came in (lines[0] + b"\n" + b"".join(lines[1:]), b"".join(lines[:-1]) + b"\n" + lines[-1],
+                     b"".join(lines[:3]) + b"\n\n" + b"".join(lines[3:]), with_blank_line(good, 1) + b"\n",
+                     with_blank_line(with_blank_line(good), 5)):
+            self.assertEqual([(it.status, it.octets) for it in find(came)], [(0, octets_of("request-p256"))], came)
+        # (it is still known as what it isn't)
+        found = find(good + with_blank_line(pem_of(b"0" * 99, "CERTIFICATE"), 2))
+        self.assertEqual([(it.status, it.what) for it in found], [(0, None), (0, "certificate")])
+
     def test_why_there_are_no_octets(self):
         good = pem_of(octets_of("request-p256"))
         label = b"-----BEGIN CERTIFICATE REQUEST-----\n"
@@ -110,6 +142,11 @@ class Spellings(unittest.TestCase):
                           (good.partition(b"\n")[2], "an END line without its BEGIN line"),
                           (good.replace(b"END C", b"END NEW C"), "an END line of another label"),
                           (good.replace(b"-----\nM", b"-----\nComment: x\n\nM"), "headers in a block"),
+                          (with_blank_line(good), "a blank line in a block"),
+                          (with_blank_line(good).replace(b"\n", b"  \r\n"), "a blank line in a block"),
+                          (b"> " + with_blank_line(good).replace(b"\n", b"\n> "), "a blank line in a block"),
+                          (json.dumps({"csr": with_blank_line(good).decode()}).encode(), "a blank line in a block"),
+                          (b'CSR="%s"' % with_blank_line(good).replace(b"\n", b"\\n"), "a blank line in a block"),
                           (good.replace(b"M", b"*", 1), "not base64: another character in a block"),
                           (label + label.replace(b"BEGIN", b"END"), "an empty block"),
                           (good.replace(b"\n", b""), "a block in one line"),

@@ -60,7 +60,8 @@ class Open:
 
 def opened(line: bytes, begin: int) -> Optional[Open]:
     """The value that begins in a line which begins at a place."""
-    found = FIELD.fullmatch(line)
+    # (most lines have neither, as those of PEM, and this is the faster way to see it)
+    found = FIELD.fullmatch(line) if b":" in line or b"=" in line else None
     if found is None:
         return None
     at, rest, indent = begin + found.start(3), found[3].strip(), len(found[1].expandtabs())

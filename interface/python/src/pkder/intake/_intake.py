@@ -53,7 +53,8 @@ def has_private_key(octets: bytes, found: List[Found]) -> bool:
     """Whether a private key came, whole or not: as what was found, or by a BEGIN line in whatever dress."""
     if any(it.is_private for it in found):
         return True
-    return any(PRIVATE.search(it) for it in (octets, text_of(octets).octets))
+    text = text_of(octets).octets
+    return bool(PRIVATE.search(octets) or text is not octets and PRIVATE.search(text))
 
 
 def by_all(octets: bytes, found: List[Found], rules: Rules) -> List[Found]:

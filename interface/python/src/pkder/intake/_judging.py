@@ -12,6 +12,8 @@ from ._texts import Lines
 KINDS = {it.name.lower(): it for it in Kind}
 # (a document may stand before a private key in one file)
 PRIVATE_SHAPES = ("key", "ec", "encrypted", "package", *(word for word, it in OTHERS.items() if it.is_private))
+# (how the words begin that say why a block has no octets which has both its lines)
+OF_WHOLE_BLOCKS = ("headers", "not base64", "an empty", "a blank", "a block in one")
 SENT = "a private key that was sent counts as lost: make a new one"
 
 
@@ -81,7 +83,7 @@ def of_other(piece: Piece, word: str) -> Dict[str, Any]:
     other, claimed = OTHERS[word], LABELS.get(piece.label or "")
     der = "" if "PEM" in piece.came_as else " -inform DER"
     told: Dict[str, Any] = {"status": 0, "verdict": "other", "what": word,
-                            "do": other.do.format(der=der) if other.do else None}
+                            "do": other.do.replace("{der}", der) if other.do else None}
     labelled = OTHER_LABELS.get(piece.label or "")
     if claimed or labelled and labelled != word and other.is_private and not OTHERS[labelled].is_private:
         do = SENT if other.is_private and claimed in (Kind.REQUEST, Kind.PUBLIC) else told["do"]
@@ -92,11 +94,13 @@ def of_other(piece: Piece, word: str) -> Dict[str, Any]:
 def of_octets(piece: Piece, limits: Limits) -> Optional[Dict[str, Any]]:
     """What is said of a piece that has octets; None where nothing says that they are a document."""
     octets = piece.octets or b""
-    shape, claimed = shape_of(octets), LABELS.get(piece.label or "") or piece.kind
-    guess = KINDS.get(shape or "")
-    found = accepted(octets, guess or claimed, limits)
+    claimed = LABELS.get(piece.label or "") or piece.kind
+    shape = None if claimed else shape_of(octets)
+    found = accepted(octets, claimed or KINDS.get(shape or ""), limits)
     if found:
         return of_accepted(piece, found, limits)
+    shape = shape_of(octets) if claimed else shape
+    guess = KINDS.get(shape or "")
     if shape and not guess:
         return of_other(piece, shape)
     word = OTHER_LABELS.get(piece.label or "")
@@ -115,7 +119,7 @@ def of_octets(piece: Piece, limits: Limits) -> Optional[Dict[str, Any]]:
 def without_octets(piece: Piece) -> Dict[str, Any]:
     """What is said of a piece that has none."""
     word = piece.what or OTHER_LABELS.get(piece.label or "")
-    is_whole = piece.what or piece.why and piece.why.startswith(("headers", "not base64", "an empty", "a block in one"))
+    is_whole = piece.what or piece.why and piece.why.startswith(OF_WHOLE_BLOCKS)
     if word and is_whole:
         return of_other(piece, word)
     verdict = "none" if piece.why in (NOTHING, NO_DOCUMENT) else "refused"

@@ -101,7 +101,7 @@ def in_plain(text: Text, name: Optional[bytes]) -> Iterator[Piece]:
         is_any = True
         yield block
     whole = [] if is_any else [*as_whole(text, name)]
-    yield from whole
+    yield from beside_blocks(text) if is_any else whole
     if whole:
         return
     if ENCODED.search(text.octets):
@@ -115,6 +115,27 @@ def in_plain(text: Text, name: Optional[bytes]) -> Iterator[Piece]:
         is_long = len(array.octets) >= LEAST
         if is_long:
             yield Piece(text.place(array.at), text.came_as("hexadecimal"), array.octets, is_claimed=False)
+
+
+def beside_blocks(text: Text) -> Iterator[Piece]:
+    """The pieces that stand beside blocks of PEM, as a key that was put behind its request: a document in octets, JSON,
+    base64 or hexadecimal that is one, and what else has private keys."""
+    for begin, end in _pem.beside(text.octets):
+        part = text.part(begin, end)
+        bare = part.octets.lstrip(BLANKS)
+        if not bare:
+            continue
+        at = end - len(bare)
+        word = _others.by_beginning(bare) or _others.by_text(bare)
+        if word and _others.OTHERS[word].is_private:
+            yield Piece(text.place(at), text.came_as("text"), what=word)
+        elif at and is_der(bare):
+            # (what an input begins with is told of the whole input)
+            yield Piece(text.place(at), text.came_as("octets"), bare)
+        elif _json.BEGINS.match(bare) and _json.is_sound(bare):
+            yield from in_json(part)
+        else:
+            yield from as_whole(part, None)
 
 
 def in_value(text: Text, name: bytes) -> Iterator[Piece]:

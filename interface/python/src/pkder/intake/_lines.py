@@ -10,6 +10,8 @@ from ._found import PRIVATE_KINDS, Found
 
 ESCAPES = {"\t": "\\t", "\r": "\\r", "\n": "\\n", "'": "\\'", '"': '\\"', "\\": "\\\\"}
 PLAIN = re.compile("[ -~]")
+# (most names are such ones, which look like themselves)
+UNQUOTED = re.compile(r"[ !#-\[\]-~]+")
 
 
 def escaped(character: str, form: str) -> str:
@@ -27,6 +29,8 @@ def of_octets(name: bytes) -> str:
 def shown_name(name: str) -> str:
     """A name as lines say it and as the program pkder does: in quotes and escaped where it is empty, isn't UTF-8 or has
     a control character, " or a backslash."""
+    if UNQUOTED.fullmatch(name):
+        return name
     try:
         text = os.fsencode(name).decode("utf-8")
     except UnicodeDecodeError:

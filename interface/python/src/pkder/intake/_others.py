@@ -17,12 +17,16 @@ class Other(NamedTuple):
 TO_PKCS_8 = "openssl pkcs8 -topk8 -nocrypt{der} -in FILE"
 TO_PKCS_12 = ("keytool -importkeystore -srckeystore FILE -destkeystore NEW -deststoretype PKCS12, "
               "then openssl pkcs12 -nodes -nocerts -in NEW")
-TO_PUBLIC = "ssh-keygen -e -m PKCS8 -f {}, of RSA and ECDSA"
+TO_PUBLIC = "ssh-keygen -e -m PKCS8 -f {0}, of RSA and ECDSA; of Ed25519 the manual's recipe from_ssh < {0}"
+OF_PUTTY = ("puttygen FILE -O private-openssh -o NEW, then openssl pkcs8 -topk8 -nocrypt -in NEW, of RSA, DSA and "
+            "ECDSA; of Ed25519 hand in NEW")
+OF_JWK = ("node -p 'crypto.create{}Key({{format:\"jwk\",key:JSON.parse(fs.readFileSync(\"FILE\"))}})"
+          ".export({{format:\"pem\",type:\"{}\"}})', of a set after jq .keys[0]")
 UNPACKED = "{} FILE, then hand in what was in it"
 OTHERS: Dict[str, Other] = {
     "certificate": Other("certificate", False, "openssl x509 -pubkey -noout{der} -in FILE writes its public key"),
     "crl": Other("certificate revocation list"),
-    "pkcs7": Other("PKCS #7 or CMS"),
+    "pkcs7": Other("PKCS #7 or CMS", False, "openssl pkcs7 -print_certs{der} -in FILE writes its certificates"),
     "pkcs12": Other("PKCS #12", True, "openssl pkcs12 -nodes -nocerts -in FILE, of an old one with -legacy"),
     "rsa_private_key": Other("RSA private key of PKCS #1", True, TO_PKCS_8),
     "rsa_public_key": Other("RSA public key of PKCS #1", False, "openssl rsa -RSAPublicKey_in{der} -in FILE -pubout"),
@@ -33,19 +37,25 @@ OTHERS: Dict[str, Other] = {
     "old_encrypted": Other("private key encrypted in an old form", True, "openssl pkcs8 -topk8 -in FILE, which asks "
                            "for its password"),
     "openssh_key": Other("private key of OpenSSH", True, "ssh-keygen -p -m PKCS8 -f COPY, which writes over the copy; "
-                         "none where it is of Ed25519"),
+                         "of Ed25519 the manual's recipe from_openssh FILE, with a password after "
+                         "ssh-keygen -p -f COPY"),
     "ssh_public_key": Other("public key of OpenSSH", False, TO_PUBLIC.format("FILE")),
     "ssh2_public_key": Other("public key of SSH (RFC 4716)", False, "ssh-keygen -i -f FILE > NEW, then "
                              + TO_PUBLIC.format("NEW")),
-    "putty_key": Other("private key of PuTTY", True, "puttygen FILE -O private-openssh -o NEW, then "
-                       "openssl pkcs8 -topk8 -nocrypt -in NEW"),
+    "putty_key": Other("private key of PuTTY", True, OF_PUTTY),
+    "sshcom_key": Other("private key of ssh.com", True, OF_PUTTY),
     "jks": Other("key store of Java (JKS)", True, TO_PKCS_12),
     "jceks": Other("key store of Java (JCEKS)", True, TO_PKCS_12),
+    "bcfks": Other("key store of BouncyCastle (BCFKS)", True, TO_PKCS_12.replace(
+        "-destkeystore", "-srcstoretype BCFKS -providerpath JAR -providerclass "
+        "org.bouncycastle.jce.provider.BouncyCastleProvider -destkeystore")),
     "nss": Other("key store of NSS", True, "pk12util -o NEW -d sql:FOLDER -n NAME, then "
                  "openssl pkcs12 -nodes -nocerts -in NEW"),
     "spkac": Other("signed public key of a browser (SPKAC)", False, "openssl spkac -in FILE -noout -pubkey"),
-    "jwk_private": Other("private key as a JWK (RFC 7517)", True),
-    "jwk": Other("key as a JWK (RFC 7517)"),
+    "jwk_private": Other("private key as a JWK (RFC 7517)", True, OF_JWK.format("Private", "pkcs8")),
+    "jwk": Other("key as a JWK (RFC 7517)", False, OF_JWK.format("Public", "spki")),
+    "xml_private_key": Other("private RSA key in XML", True),
+    "xml_key": Other("RSA key in XML"),
     "pgp": Other("OpenPGP"),
     "pgp_private": Other("private key of OpenPGP", True),
     "age": Other("file encrypted by age"),
@@ -96,7 +106,9 @@ BEGINNINGS: Tuple[Tuple[str, bytes], ...] = (
 # The same of texts, behind blanks.
 TEXT_BEGINNINGS: Tuple[Tuple[str, bytes], ...] = (
     ("putty_key", rb"PuTTY-User-Key-File-[0-9]+:"), ("ssh2_public_key", rb"---- BEGIN SSH2 PUBLIC KEY ----"),
-    ("ssh_public_key", rb"(sk-)?(ssh-(rsa|dss|ed25519)|ecdsa-sha2-nistp[0-9]+)(@openssh\.com)? AAAA"),
+    ("sshcom_key", rb"---- BEGIN SSH2 ENCRYPTED PRIVATE KEY ----"),
+    ("xml_private_key", rb"<RSAKey(?:Pair|Value)>(?s:.){0,8192}?<D>"), ("xml_key", rb"<RSAKey(?:Pair|Value)>"),
+    ("ssh_public_key", rb"(sk-)?(ssh-(rsa|dss|ed25519|ed448)|ecdsa-sha2-nistp[0-9]+)(@openssh\.com)? AAAA"),
     ("age", rb"age-encryption\.org/v1\n"), ("spkac", rb"SPKAC="),
     ("listing", rb"0:d=0  hl=[0-9]+ l= *([0-9]+|inf) +(cons|prim):"), ("request_text", rb"Certificate Request:\r?\n"),
 )

@@ -4,7 +4,7 @@ times at most, however many BEGIN lines there are."""
 import binascii
 import html
 import re
-from typing import Callable, Iterator, List, Match, NamedTuple, Optional
+from typing import Callable, Iterator, List, Match, NamedTuple, Optional, Tuple
 
 from ._base64 import ALPHABET, from_base64, without_blanks
 from ._others import known_label, nearly_known
@@ -29,7 +29,13 @@ QUOTED = re.compile(rb"=(?:3D|0D|0A|20|2B|2F)")
 ENCRYPTED = re.compile(rb"\s{0,8}Proc-Type:")
 HEADER = re.compile(rb"\s{0,8}[A-Za-z][A-Za-z0-9-]{0,40}: ")
 NESTED, NO_END = "a block begins in another one", "a block without its END line"
+BLANK_LINE = re.compile(rb"(?:\r\n|\r(?!\n)|\n)[ \t\v\f]*(?=[\r\n])")
 NO_BEGIN, OTHER_END = "an END line without its BEGIN line", "an END line of another label"
+
+
+class Cut(Exception):
+    """A block with one blank line among the others: OpenSSL's PEM_read_bio takes what stands before it for headers, and
+    other readers don't."""
 
 
 class Body(NamedTuple):
@@ -86,6 +92,15 @@ def undressed(lines: List[bytes], mark: bytes) -> Optional[List[bytes]]:
     return [it[len(mark) :].strip(IN_LINE) for it in bare] if all(with_mark) else None
 
 
+def uncut(octets: Optional[bytes], lines: List[bytes]) -> Optional[bytes]:
+    """The octets of a block of these lines; Cut is raised where one of them is blank, and isn't the first or the last
+    one. (OpenSSL refuses a block with two, so there is nothing else that it reads.)"""
+    blank = [at for at, it in enumerate(lines) if not it.strip(IN_LINE)] if octets else []
+    if len(blank) == 1 and 0 < blank[0] < len(lines) - 1:
+        raise Cut
+    return octets
+
+
 def plain(body: Body) -> Optional[bytes]:
     """The octets of a block whose boundaries have lines of their own, or stand in one line with blanks for ends."""
     end = LINE_END.search(body.text)
@@ -96,9 +111,12 @@ def plain(body: Body) -> Optional[bytes]:
         return None
     if not body.mark:
         is_apart = body.text.rstrip(IN_LINE)[-1:] in (b"\r", b"\n")
-        return from_base64(without_blanks(body.text)) if is_apart else None
+        octets = from_base64(without_blanks(body.text)) if is_apart else None
+        return uncut(octets, LINE_END.split(body.text)[1:-1]) if BLANK_LINE.search(body.text) else octets
     found = undressed(LINE_END.split(body.text[end.end() :]), body.mark)
-    return None if found is None or found[-1] else from_base64(b"".join(found).translate(None, IN_LINE))
+    if found is None or found[-1]:
+        return None
+    return uncut(from_base64(b"".join(found).translate(None, IN_LINE)), found[:-1])
 
 
 def unescaped(found: Match[bytes]) -> bytes:
@@ -168,8 +186,22 @@ def block(text: Text, begin: Match[bytes], end: int) -> Piece:
     meant = None if known_label(label) else nearly_known(label)
     if meant:
         return Piece(at, came_as, why=f"a label that isn't written {meant}", label=meant)
-    octets = octets_of(body)
+    try:
+        octets = octets_of(body)
+    except Cut:
+        return Piece(at, came_as, why="a blank line in a block", label=label)
     return Piece(at, came_as, octets, None if octets else why_not(body.text), label=label)
+
+
+def beside(octets: bytes) -> Iterator[Tuple[int, int]]:
+    """Where what stands before, between and behind blocks begins and ends."""
+    at = 0
+    while at >= 0:
+        begin = octets.find(b"-----BEGIN ", at)
+        yield at, begin if begin >= 0 else len(octets)
+        mark = octets.find(b"-----END ", begin) if begin >= 0 else -1
+        end = octets.find(b"-----", mark + 9) if mark >= 0 else -1
+        at = end + 5 if end >= 0 else -1
 
 
 def fault(text: Text, mark: Match[bytes], why: str) -> Piece:

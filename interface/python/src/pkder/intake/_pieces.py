@@ -29,5 +29,6 @@ class Piece:
 
 def claim_of(name: Optional[bytes]) -> Optional[str]:
     """The claim that the name of a field makes, if it makes one."""
-    plain = BETWEEN.sub(b"", name or b"")[:32].lower().decode("latin-1")
+    # (as Go's encoding/json compares names, which takes U+017F for s)
+    plain = BETWEEN.sub(b"", name or b"")[:32].decode("utf-8", "replace").casefold()
     return plain if plain in CLAIMS else None

@@ -108,6 +108,10 @@ def of_sequence(octets: bytes, first: List[Element]) -> Optional[str]:
         return numbered(tags) if is_algorithm else "request"
     if tags[:2] == bytes([SEQUENCE, IA5]):
         return "spkac"
+    if tags[:2] == bytes([SEQUENCE, OCTETS]):
+        # (what is encrypted, and how its integrity is checked)
+        is_store = around[:2] == bytes([SEQUENCE] * 2) and tags_of(elements_in(octets, inner[0]))[:1] == bytes([OID])
+        return "bcfks" if is_store else None
     is_dated = len(tags) > 2 and tags[2] in (UTC_TIME, TIME)
     return "crl" if tags[:2] == bytes([SEQUENCE] * 2) and is_dated else None
 
