@@ -2,7 +2,7 @@
 // each call as it is in pkder.h. Not proved; what it calls is the proved library, by a way that isn't proved either.
 
 export const KINDS = Object.freeze({key: 1, ec: 2, request: 3, public: 4, encrypted: 5, package: 6});
-export const PARTS = Object.freeze({info: 1, algorithm: 2, key: 3, signature: 4});
+export const PARTS = Object.freeze({info: 1, algorithm: 2, key: 3, signature: 4, received: 5});
 export const STATUS = Object.freeze({
     ACCEPTED: 0,
     FAULT: 1,

@@ -158,6 +158,9 @@ class Documents(Page):
             self.assertIn(octets, request)
             self.assertEqual(self.text(f"size-{part}"), f"{len(octets)} octets")
         self.assertEqual(self.saved("algorithm.der", "save-algorithm").hex(), "300a06082a8648ce3d040302")
+        came = self.saved("received.der", "save-received")
+        self.assertIn(came, self.example("request-indefinite.der"))
+        self.assertEqual(self.text("size-received"), f"{len(came)} octets")
 
     def test_each_kind_by_itself(self):
         names = {"p256.der": "key", "k256-sec1-indefinite.der": "ec", "request-p256.der": "request",
