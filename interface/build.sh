@@ -1,6 +1,7 @@
 #!/bin/sh
-# build.sh: proves crates/pkder_c and makes libpkder.a, libpkder.so.0 and pkder.pc in interface/out. It takes no words;
-# tools/build.py calls it once `rt ci` has proved every crate. By the environment:
+# build.sh: proves crates/pkder_c and makes libpkder.a, libpkder.so.0 and pkder.pc in interface/out, and in its folder
+# musl the shared library for musl. It takes no words; tools/build.py calls it once `rt ci` has proved every crate. By
+# the environment:
 #   HEAP=wiping       heap_wiping.c in the place of the toolchain's heap: it wipes what it frees, and isn't proved
 #   CPU=x86-64        the processor; x86-64-v2 or x86-64-v3 for later ones alone (nothing looks at the one it runs on)
 #   LIBRARIES=proved  over the libraries as `rt ci` left them just before, where `rt lib` proves them all again
@@ -28,7 +29,7 @@ kit=$(dirname "$(rt doc)")
 compiled() (
     cd "$crate" && mkdir -p out || exit
     if [ "${LIBRARIES:-}" = proved ]; then
-        over_proved "$here/.." "$kit/toolchain" "$crate/out/libpkder_c.a" && exit
+        over_proved "$here/.." pkder_c "$kit/toolchain" "$crate/out/libpkder_c.a" --cpu "${CPU:-x86-64}" && exit
         echo "build.sh: the libraries of crates/ can't be taken as they are, so rt proves them"
     fi
     rt lib --cpu "${CPU:-x86-64}"
@@ -45,14 +46,7 @@ if [ "${HEAP:-}" = wiping ]; then
 else
     ar x "$kit/c/liblibc_c.a" heap.pic.o
 fi
-# One object whose only global names are those of pkder.map, so that a program can link two libraries that are made so.
-ld -r -o whole ./*.o
-sed -n 's/^ *\(pkder_[a-z_]*\);$/\1/p' "$here/pkder.map" > names
-objcopy --keep-global-symbols=names --strip-unneeded whole pkder.o
-rm -f "$out/libpkder.a"
-ar rcD "$out/libpkder.a" pkder.o
-cc -shared -s -o "$out/libpkder.so.0" pkder.o -Wl,-soname,libpkder.so.0 -Wl,--version-script,"$here/pkder.map" \
-    -Wl,-z,relro,-z,now,-z,noexecstack -Wl,--no-undefined
+linked_library "$here/.." "$out" "" ./*.o
 # (a hard link: `rt ci` takes no tree with symbolic ones in it)
 ln -f "$out/libpkder.so.0" "$out/libpkder.so"
 # (for use from here; tools/install.sh writes the one that is installed)

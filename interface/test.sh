@@ -1,7 +1,9 @@
 #!/bin/sh
-# test.sh: the library, built by build.sh, and tried from C, C++, Python, Rust, Go, Java, SQLite and PostgreSQL. What
-# the machine has no compiler, interpreter or server for is left out, and said. The last line is 'interface: N passed,
-# M failed', a command counting once. LIBRARY=built takes the library that stands in interface/out.
+# test.sh: the library, built by build.sh, and tried from C, with glibc and with musl, C++, Python, Rust, Go, Java, SQLite
+# and PostgreSQL, and from JavaScript its module of WebAssembly. What the machine has no compiler, interpreter or server
+# for is left out, and said. The last line is 'interface: N passed, M failed', a command counting once. LIBRARY=built
+# takes the library that stands in interface/out; PACKAGE=FOLDER the modules of this package for npm, whatever they are
+# of.
 # By hand: ROUNDS=5000 DOCUMENTS=20000 sh interface/test.sh probes for minutes (200 and 500 unless said otherwise);
 # HEAP=wiping has the wiping heap tried.
 # shellcheck disable=SC2086 # (lists of flags)
@@ -10,7 +12,7 @@ here=$(cd "$(dirname "$0")" && pwd)
 top=$(dirname "$here") out=$here/out
 work=$(mktemp -d)
 trap 'rm -rf "$work"' EXIT
-passed=0 failed=0
+passed=0 failed=0 tgz='' table=''
 warnings="-Wall -Wextra -Wpedantic -Wconversion -Wsign-conversion -Wshadow -Werror"
 
 # try NAME COMMAND..: counts whether the command ends with status 0, and shows what it says where it doesn't
@@ -57,7 +59,8 @@ names_of() {
 # what a library that prints nothing, opens nothing and ends no process may call
 wanted='malloc|realloc|free|mem(cpy|move|set|cmp)|explicit_bzero|malloc_usable_size|_GLOBAL_OFFSET_TABLE_'
 
-# The library has nine names, wants few of others, and has no memory of its own that lasts from call to call.
+# The library has nine names, wants few of others, and has no memory of its own that lasts from call to call. That for
+# musl names no C library and no version of a name, so that any can be under it.
 symbols() {
     sed -n 's/^ *\(pkder_[a-z_]*\);$/\1/p' "$here/pkder.map" | sort > "$work/due"
     [ "$(wc -l < "$work/due")" = 9 ] || return 1
@@ -67,6 +70,10 @@ symbols() {
     # (the C library is all that it needs)
     objdump -p "$out/libpkder.so.0" | grep NEEDED | grep -v 'libc\.so' && return 1
     names_of --undefined-only "$out/libpkder.a" | grep -vxE "$wanted" && return 1
+    names_of --defined-only -D "$out/musl/libpkder.so.0" | cmp - "$work/due" || return 1
+    nm -D --undefined-only "$out/musl/libpkder.so.0" | awk '{ print $NF }' | grep -vxE "$wanted" && return 1
+    objdump -p "$out/musl/libpkder.so.0" | grep NEEDED && return 1
+    objdump -p "$out/musl/libpkder.so.0" | grep 'SONAME *libpkder.so.0$' || return 1
     # (a heap has 1 or 16 octets that nothing is written to, for the place of what isn't a block)
     objdump -h "$out/libpkder.a" | awk '$2 ~ /^\.t?(data|bss)/ && $2 !~ /^\.data\.rel\.ro/ && $3 !~ /^0*(1|10)?$/' |
         grep . && return 1
@@ -95,6 +102,7 @@ in_c() {
     compiled filter filter -O2
     compiled check_files check_files -O2
     compiled pairs_watched pairs -O1 -g -fsanitize=address,undefined -fno-sanitize-recover=all
+    compiled rows_watched rows -O1 -g -fsanitize=address,undefined -fno-sanitize-recover=all
     compiled probe probe -O2 -lpthread
     compiled stack stack -O2 -lpthread
     compiled probe_watched probe -O1 -g -fsanitize=address,undefined -fno-sanitize-recover=all -lpthread
@@ -102,7 +110,8 @@ in_c() {
     compiled refuse refuse -O2 -Wl,--wrap=malloc,--wrap=realloc,--wrap=free
     compiled secrets secrets -O2 -Wl,--wrap=free
     try "rows in C" python3 "$top/tests/harness/rows.py" "$work/calls.tsv" "$work/filter" "$work/filter_watched"
-    try "pairs in C under ASan and UBSan" pairs
+    try "pairs in C under ASan and UBSan" pairs pairs_watched
+    try "vectors in C under ASan and UBSan" vectors
     random_documents
     reports
     try "check_files" files
@@ -153,10 +162,18 @@ same_reports() {
     echo "$count reports"
 }
 
+# pairs PROGRAM: what it says of all pairs
 pairs() {
-    "$work/pairs_watched" "$work/pairs.tsv" > "$work/answers" || return 1
+    "$work/$1" "$work/pairs.tsv" > "$work/answers" || return 1
     cut -f 7 "$work/pairs.tsv" | diff - "$work/answers" || return 1
     echo "$(wc -l < "$work/answers") pairs"
+}
+
+# What C says of the calls of the vectors.
+vectors() {
+    "$work/rows_watched" "$work/vectors.tsv" > "$work/answers" || return 1
+    cut -f 4-6 "$work/vectors.tsv" | diff - "$work/answers" || return 1
+    echo "$(wc -l < "$work/answers") calls"
 }
 
 files() (
@@ -183,7 +200,7 @@ public public-indefinite
 encrypted encrypted-indefinite
 package package-indefinite
 END
-    for part in info algorithm key signature; do
+    for part in info algorithm key signature received; do
         try "allocations of signed, $part" "$work/refuse" signed $part "$top/examples/request-indefinite.der"
     done
     # (documents that are refused)
@@ -250,6 +267,8 @@ in_python() {
     fi
     try "rows in Python" env "PYTHONPATH=$place" "PKDER_LIBRARY=$out/libpkder.so.0" "PKDER_CALLS=$work/calls.tsv" \
         "PKDER_PAIRS=$work/pairs.tsv" "PKDER_HEADER=$here/pkder.h" python3 -m unittest discover -s "$work/python/tests"
+    try "vectors in Python" env "PYTHONPATH=$place" "PKDER_LIBRARY=$out/libpkder.so.0" \
+        "PKDER_CALLS=$work/vectors.tsv" python3 -m unittest discover -s "$work/python/tests" -k Rows
     try "stand-in in Python" env "PYTHONPATH=$place" "PKDER_LIBRARY=$work/stand_in/libpkder.so.0" \
         python3 "$work/python/tests/stand_in.py"
 }
@@ -259,15 +278,18 @@ in_rust() {
     set -- cargo test --offline --quiet --manifest-path "$work/rust/Cargo.toml"
     try "rows in Rust" env "PKDER_LIB_DIR=$out" "PKDER_CALLS=$work/calls.tsv" "PKDER_PAIRS=$work/pairs.tsv" \
         "PKDER_HEADER=$here/pkder.h" "$@"
+    try "vectors in Rust" env "PKDER_LIB_DIR=$out" "PKDER_CALLS=$work/vectors.tsv" "$@" --test calls -- --exact rows
     try "stand-in in Rust" env "PKDER_LIB_DIR=$work/stand_in" "$@" --test stand_in -- --ignored
 }
 
 in_go() {
     cp -r "$here/go" "$work/go"
     # shellcheck disable=SC2016 # (for the inner shell)
-    set -- env "GOCACHE=$work/gocache" "PKDER_CALLS=$work/calls.tsv" "PKDER_PAIRS=$work/pairs.tsv" \
-        "PKDER_HEADER=$here/pkder.h" GOPROXY=off sh -c 'cd "$0" && exec go "$@"' "$work/go"
-    try "rows in Go" env "PKG_CONFIG_PATH=$out" "LD_LIBRARY_PATH=$out" "$@" test -count=1 .
+    set -- "GOCACHE=$work/gocache" "PKDER_PAIRS=$work/pairs.tsv" "PKDER_HEADER=$here/pkder.h" GOPROXY=off \
+        sh -c 'cd "$0" && exec go "$@"' "$work/go"
+    try "rows in Go" env "PKG_CONFIG_PATH=$out" "LD_LIBRARY_PATH=$out" "PKDER_CALLS=$work/calls.tsv" "$@" test -count=1 .
+    try "vectors in Go" env "PKG_CONFIG_PATH=$out" "LD_LIBRARY_PATH=$out" "PKDER_CALLS=$work/vectors.tsv" "$@" test \
+        -count=1 -run '^TestRows$' .
     try "stand-in in Go" env "PKG_CONFIG_PATH=$work/stand_in" "LD_LIBRARY_PATH=$work/stand_in" "$@" test -count=1 \
         -tags stand_in -run StandIn .
 }
@@ -276,8 +298,8 @@ in_go() {
 java_runs() {
     tests=$1
     shift
-    PKDER_CALLS=$work/calls.tsv PKDER_PAIRS=$work/pairs.tsv PKDER_HEADER=$here/pkder.h \
-        java -Xmx16m -Xcheck:jni "$@" "$tests" > "$work/java" 2>&1
+    PKDER_CALLS=${table:-$work/calls.tsv} PKDER_PAIRS=$work/pairs.tsv PKDER_HEADER=$here/pkder.h \
+        java -Xmx16m -Xcheck:jni "$@" $tests > "$work/java" 2>&1
     status=$?
     cat "$work/java"
     [ $status = 0 ] && ! grep -E '^(WARNING|FATAL ERROR) in native' "$work/java"
@@ -322,6 +344,9 @@ in_java() {
     try "compiled tests in Java" javac --release 17 -Xlint:all -Werror -cp "$jar" -d "$work/java_tests" \
         "$here"/java/tests/*.java
     try "rows in Java" java_runs Tests -cp "$jar:$work/java_tests"
+    table=$work/vectors.tsv
+    try "vectors in Java" java_runs "Tests rows" -cp "$jar:$work/java_tests"
+    table=''
     try "copies in Java" java_copies
     try "want of memory in Java" java_refused
     try "stand-in for Java" "$@" "$work/stand_in" "$work/java_stand_in"
@@ -386,6 +411,8 @@ sqlite_symbols() {
 sqlite_in_python() {
     tests="$here/sqlite/tests"
     try "rows in SQLite" in_tables sqlite "$1" -m unittest discover -s "$tests"
+    try "vectors in SQLite" in_tables sqlite "PKDER_CALLS=$work/vectors.tsv" "$1" -m unittest discover -s "$tests" \
+        -k test_rows.Rows
     try "stand-in in SQLite" in_tables sqlite_stand_in "$1" "$tests/stand_in.py"
     try "copies in SQLite" sqlite_copies "$1"
     try "want of memory in SQLite" sqlite_refused "$1"
@@ -462,15 +489,86 @@ in_postgres() {
         "SHLIB_LINK=$out/libpkder.a"
     try "other for PostgreSQL" cc -fPIC -shared -I"$here" -isystem "$(pg_config --includedir-server)" $warnings \
         -o "$pg/other.so" "$tests/other.c"
-    try "PostgreSQL" python3 "$tests/run.py" "$pg/tree" "$work/calls.tsv" "$work/pairs.tsv" \
+    try "PostgreSQL" python3 "$tests/run.py" "$pg/tree" "$work/all_calls.tsv" "$work/pairs.tsv" \
         "$work/postgres_stand_in/pkder.so" "$pg/other.so" "$work/postgres_naive/pkder.so"
 }
+
+# The folder of a package for npm whose modules are of these sources, or that PACKAGE names.
+package() {
+    if [ -n "${PACKAGE:-}" ]; then
+        echo "$PACKAGE"
+    elif python3 "$top/release/make_modules.py" --stand 2> "$work/said" &&
+        sh "$here/npm/build.sh" "$work/npm_made" > "$work/said" 2>&1; then
+        echo "$work/npm_made/package"
+    else
+        return 1
+    fi
+}
+
+in_npm() {
+    if ! made_of=$(package); then
+        echo "left out: no modules for npm of these sources (python3 release/make_modules.py)"
+        return
+    fi
+    mkdir -p "$work/npm/node_modules"
+    cp -r "$here/npm/tests" "$work/npm/tests"
+    try "laid out for npm" env "LIBRARY=$made_of/pkder.wasm" "PROGRAM=$made_of/program.wasm" \
+        sh "$here/npm/build.sh" "$work/npm"
+    tgz=$work/pkder-$(sed -n 's/^  "version": "\(.*\)",$/\1/p' "$here/npm/package.json").tgz
+    try "packed for npm" tar -C "$work/npm" -czf "$tgz" package
+    mv "$work/npm/package" "$work/npm/node_modules/pkder"
+    try "rows in JavaScript" env "PKDER_CALLS=$work/calls.tsv" "PKDER_PAIRS=$work/pairs.tsv" \
+        "PKDER_HEADER=$here/pkder.h" node "$work/npm/tests/run.mjs"
+    try "vectors in JavaScript" env "PKDER_CALLS=$work/vectors.tsv" "PKDER_PAIRS=$work/pairs.tsv" \
+        "PKDER_HEADER=$here/pkder.h" node "$work/npm/tests/run.mjs" calls
+    try "rows of the program in node" python3 "$top/tests/harness/rows.py" "$top"/tests/pkder/*.tsv \
+        "$top/examples/answers.tsv" "$work/npm/node_modules/pkder/cli.mjs"
+    try "the page's module" node "$here/web/tests/module.mjs" "$made_of/pkder.wasm" "$work/all_calls.tsv" \
+        "$work/pairs.tsv" "$top/tests/manual/spellings.tsv" "$here/pkder.h"
+    if has tsc node-typescript; then try "types in TypeScript" typed; fi
+}
+
+# What callers write in TypeScript, and what they may not.
+typed() (
+    cd "$work/npm" || exit
+    tsc --noEmit --strict --target es2022 --lib es2022 --module nodenext --moduleResolution nodenext \
+        tests/typed.mts
+    status=$?
+    [ $status = 0 ] && echo "typed.mts"
+    exit $status
+)
 
 in_valgrind() {
     try "compiled for valgrind" cc -std=c11 -O1 -g -I"$here" -o "$work/probe_plain" "$here/c/probe.c" \
         "$out/libpkder.a" -lpthread
     try "probe under valgrind" env ROUNDS=1 valgrind -q --error-exitcode=9 --leak-check=full "$work/probe_plain" \
         "$top/examples/smallest.der" "$top/examples/package-indefinite.der"
+}
+
+# with_musl PROGRAM SOURCE FLAG..: a caller in C, compiled and linked with musl, and with nothing of glibc in reach
+with_musl() {
+    program=$1 source=$2
+    shift 2
+    try "compiled $program" musl-gcc -std=c11 $warnings -O2 -I"$here" -o "$work/$program" "$here/c/$source.c" "$@" \
+        -Wl,--sysroot="$work/nothing"
+}
+
+in_musl() {
+    with_musl filter_musl filter -static "$out/libpkder.a"
+    with_musl filter_musl_shared filter "$out/musl/libpkder.so.0" -Wl,-rpath,"$out/musl"
+    with_musl pairs_musl pairs "$out/musl/libpkder.so.0" -Wl,-rpath,"$out/musl"
+    with_musl probe_musl probe -static "$out/libpkder.a"
+    with_musl stack_musl stack -static "$out/libpkder.a"
+    try "rows with musl" python3 "$top/tests/harness/rows.py" "$work/calls.tsv" "$work/filter_musl" \
+        "$work/filter_musl_shared"
+    try "pairs with musl" pairs pairs_musl
+    try "probe with musl" env "ROUNDS=$((${ROUNDS:-200} / 10))" "$work/probe_musl" "$top"/examples/*.der
+    try "stack with musl" "$work/stack_musl"
+    # (that library names no C library, so glibc will do as well)
+    try "compiled filter_shared" cc -std=c11 $warnings -I"$here" -o "$work/filter_shared" "$here/c/filter.c" \
+        "$out/libpkder.so.0"
+    try "rows with glibc and the library for musl" env "LD_LIBRARY_PATH=$out/musl" \
+        python3 "$top/tests/harness/rows.py" "$work/calls.tsv" "$work/filter_shared"
 }
 
 # Installed for a packager, the library is found by pkg-config.
@@ -494,15 +592,18 @@ installed() {
     echo "found"
 }
 
-# What stands in docs/library.md, docs/intake.md and in the READMEs of the packages, as it stands there. pip puts the package into
-# a folder of its own and asks no network; without pip it is found where it lies. (rustup looks for itself at home)
+# What stands in docs/library.md, docs/intake.md and in the READMEs of the packages, as it stands there. pip puts the
+# package into a folder of its own and asks no network; without pip it is found where it lies; no more does npm. (rustup
+# looks for itself at home)
 documents() {
     site=$work/documents
     set -- "PKG_CONFIG_PATH=$out" "LD_LIBRARY_PATH=$out" "PYTHONPATH=$site:$here/python/src" "PIP_TARGET=$site" \
         PIP_NO_INDEX=1 PIP_NO_BUILD_ISOLATION=0 PIP_QUIET=1 PIP_ROOT_USER_ACTION=ignore PYTHONDONTWRITEBYTECODE=1 \
-        CARGO_NET_OFFLINE=true "RUSTUP_HOME=${RUSTUP_HOME:-$HOME/.rustup}" GOPROXY=off "GOCACHE=$work/gocache"
+        CARGO_NET_OFFLINE=true "RUSTUP_HOME=${RUSTUP_HOME:-$HOME/.rustup}" GOPROXY=off "GOCACHE=$work/gocache" \
+        npm_config_offline=true npm_config_audit=false npm_config_fund=false npm_config_update_notifier=false \
+        "npm_config_cache=$work/npm_cache" "PKDER_PACKAGE=$tgz"
     env "$@" python3 "$top/tests/harness/transcripts.py" "$top/docs/library.md" "$top/docs/intake.md" \
-        "$here/python/README.md" "$here/java/README.md" "$here/sqlite/README.md" "$work/filter"
+        "$here/python/README.md" "$here/java/README.md" "$here/npm/README.md" "$here/sqlite/README.md" "$work/filter"
 }
 
 man_page() {
@@ -519,7 +620,7 @@ tools() {
 
 made() {
     if [ "${LIBRARY:-}" = built ]; then
-        ls "$out/libpkder.a" "$out/libpkder.so.0"
+        ls "$out/libpkder.a" "$out/libpkder.so.0" "$out/musl/libpkder.so.0"
     else
         sh "$here/build.sh"
     fi
@@ -529,6 +630,8 @@ try "build" made
 if [ "$failed" = 0 ] && tools; then
     python3 "$here/calls.py" "$top"/tests/pkder/*.tsv "$top/examples/answers.tsv" > "$work/calls.tsv"
     python3 "$here/pairs.py" "$work/calls.tsv" "$here/pairs.tsv" > "$work/pairs.tsv"
+    python3 "$top/vectors/check.py" --rows > "$work/vectors.tsv"
+    cat "$work/calls.tsv" "$work/vectors.tsv" > "$work/all_calls.tsv"
     printf '#include <pkder.h>\nint main() { return pkder_interface() == PKDER_INTERFACE ? 0 : 1; }\n' > "$work/main.cc"
     try "symbols" symbols
     try "header by cc" header cc c:c99 c:c11 c:c17
@@ -544,6 +647,8 @@ if [ "$failed" = 0 ] && tools; then
     if has javac default-jdk-headless; then in_java; fi
     if has_header sqlite3ext.h libsqlite3-dev; then in_sqlite; fi
     if has_postgres; then in_postgres; fi
+    if has node nodejs; then in_npm; fi
+    if has musl-gcc musl-tools; then in_musl; fi
     if has valgrind valgrind; then in_valgrind; fi
     try "documents" documents
     if has mandoc mandoc; then try "man page" man_page "$top/docs/pkder.3"; fi

@@ -6,6 +6,7 @@ Components are the crates of the repository and of the toolchain that program an
 what each of the toolchain's libraries says of those below it; the toolchain, its clang; and the C library."""
 import datetime
 import glob
+import gzip
 import json
 import os
 import re
@@ -17,6 +18,7 @@ from pathlib import Path
 TOP = sys.path[0] = str(Path(__file__).resolve().parents[1])
 from release import lowest, packing
 from release.packing import NUMBER, said
+from tools import build
 
 KIT = os.path.dirname(said("rt", "doc"))
 PORT = re.compile(r"Rust crate `([\w-]+)` ([0-9]+\.[0-9]+\.[0-9]+)")
@@ -32,7 +34,7 @@ def text_of(name):
 
 def packed_in(folder):
     """The programs and libraries of an archive that lies in the folder."""
-    names = ("bin/pkder", "lib/libpkder.so.0", "lib/libpkder.a", "lib/mod_pkder.so")
+    names = ("bin/pkder", *(f"lib/{it}" for it in build.LIBRARIES), "lib/mod_pkder.so")
     return [it for it in names if os.path.isfile(f"{folder}/{it}")]
 
 
@@ -122,15 +124,32 @@ def c_library(files):
         found.append({"type": "library", "bom-ref": "glibc", "name": "glibc", "version": f">= {glibc}",
                       "scope": "required", "licenses": [{"expression": "LGPL-2.1-or-later"}]})
     if any(lowest.is_static_program(it) for it in files):
-        musl = said("dpkg-query", "-W", "-f", "${Version}", "musl-dev")
-        found.append({"type": "library", "bom-ref": "musl", "name": "musl", "version": musl,
+        found.append({"type": "library", "bom-ref": "musl", "name": "musl", "version": musl_version(files),
                       "licenses": [{"expression": "MIT"}]})
     return found
 
 
+def musl_file(files, name):
+    """A file of the documentation of the musl that is in one of these programs."""
+    program = next(filter(lowest.is_static_program, files))
+    folder = "" if lowest.machine(program)[0] == "x86-64" else f"{TOP}/release/out/arm64/debian"
+    return f"{folder}/usr/share/doc/musl-dev/{name}"
+
+
+def musl_version(files):
+    """The version of that musl, which its list of changes begins with."""
+    with gzip.open(musl_file(files, "changelog.Debian.gz"), "rt", encoding="utf-8") as file:
+        return re.match(r"musl \(([^)]+)\)", file.readline())[1]
+
+
+def label(name):
+    """The name of a program or library that is handed out."""
+    return "/".join(name.split("/")[-2:]) if "/musl/" in name else os.path.basename(name)
+
+
 def file_component(name):
     """A program or library that is handed out."""
-    return {"type": "file", "bom-ref": f"file/{os.path.basename(name)}", "name": os.path.basename(name),
+    return {"type": "file", "bom-ref": f"file/{label(name)}", "name": label(name),
             "hashes": [{"alg": "SHA-256", "content": packing.sum_of(name)}]}
 
 
@@ -146,7 +165,7 @@ def bill(files):
     when = datetime.datetime.fromtimestamp(packing.epoch(), datetime.timezone.utc)
     components = [own_component(it) if it in own else kit_component(it) for it in crates]
     graph = [{"ref": it, "dependsOn": names} for it, names in crates.items()]
-    graph += [{"ref": f"file/{os.path.basename(it)}", "dependsOn": stands_on(it)} for it in files]
+    graph += [{"ref": f"file/{label(it)}", "dependsOn": stands_on(it)} for it in files]
     sums = " ".join(map(packing.sum_of, files))
     return {"bomFormat": "CycloneDX", "specVersion": "1.5", "version": 1,
             "serialNumber": f"urn:uuid:{uuid.uuid5(uuid.NAMESPACE_URL, f'{packing.commit()} {sums}')}",
@@ -166,7 +185,7 @@ def licences(files):
     """The licences of what the toolchain's libraries, and musl, brought into these files, by a name for each."""
     found = {f"{name}/{os.path.basename(file)}": file for name in reached(files) for file in licence_files(name)}
     if any(map(lowest.is_static_program, files)):
-        found["musl/copyright"] = "/usr/share/doc/musl-dev/copyright"
+        found["musl/copyright"] = musl_file(files, "copyright")
     return found
 
 

@@ -1,8 +1,8 @@
-/* What a program that is linked with musl has in the place of what the toolchain has for glibc. Not proved: what the
- * program's proofs assume of these calls has to be read here.
+/* What a program that is linked with musl has in the place of what the toolchain has for glibc, and a program for ARM64
+ * with either. Not proved: what the program's proofs assume of these calls has to be read here.
  *
  * The words of the command line: the toolchain's own calls take them where .init_array is run, to which musl hands
- * none. The program's own main has another name there (release/static_program.sh). */
+ * none. The program's own main has another name there (release/static_program.sh, arm64.sh). */
 #define _DEFAULT_SOURCE
 #include <stddef.h>
 #include <stdint.h>
@@ -37,10 +37,12 @@ ssize_t rattle_arg(size_t at, uint8_t *dst, size_t room) {
     return (ssize_t)size;
 }
 
+#ifndef __GLIBC__
 /* What a file is. musl has this call since 1.2.5, and Debian 12 has 1.2.3. */
 __attribute__((weak)) int statx(int folder, const char *path, int flags, unsigned int mask, void *told) {
     return (int)syscall(SYS_statx, folder, path, flags, mask, told);
 }
+#endif
 
 int main(int argc, char **argv) {
     count = (size_t)argc;

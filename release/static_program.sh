@@ -1,31 +1,18 @@
 #!/bin/sh
 # static_program.sh: makes the program for every x86-64 in release/out: pkder-static, which needs no C library but what
-# is in it (musl), and pkder-glibc. It takes no words; tools/release.py calls it where these don't stand. It goes over
-# the crates as tools/build.py left them, of which the toolchain compiles for another processor only what it proves for
-# that: so crates/pkder is proved once more, in about ten minutes of a processor. Debian: musl-tools, binutils.
+# is in it (musl), and pkder-glibc; and program.bc, as the compiler handed it to clang, of which interface/npm makes a
+# module of WebAssembly. It takes no words; tools/release.py calls it where these don't stand. It goes over the crates
+# as tools/build.py left them, of which the toolchain compiles for another processor only what it proves for that: so
+# crates/pkder is proved once more, where no proof of it is kept (interface/compile.sh), in about ten minutes of a
+# processor. Debian: musl-tools, binutils.
 set -eu
 [ $# = 0 ] || { sed -n '2,/^set /s/^# //p' "$0" && exit 1; }
 top=$(cd "$(dirname "$0")/.." && pwd)
 out=$top/release/out
 kit=$(dirname "$(rt doc)")
 musl=/usr/lib/x86_64-linux-musl
-
-# What `rt run --cpu x86-64` compiles of crates/pkder, over the libraries that stand in crates/, as release/out/pkder.o.
-compiled() {
-    set --
-    for name in $(sed -n 's/^pkder://p' "$top/crates.txt"); do
-        library=$top/crates/$name/out/rlib/$name.rlib
-        [ -d "$library" ] || library=$kit/rlibs/$name.rlib
-        set -- "$@" --extern "$name=$library"
-    done
-    for folder in "$top"/crates/*/out/rlib; do
-        set -- "$@" -L "dependency=$folder"
-    done
-    cd "$top/crates/pkder" && "$kit/bin/rattle" build --crate-name pkder src/main.rt --jobs "$(nproc)" \
-        --extern "std=$kit/rlibs/std.rlib" -L "dependency=$kit/rlibs" "$@" --toolchain "$kit/toolchain" \
-        --antt-project "$kit/rattle/logic/antt-project.json" --logic-built "$kit/logic_built" \
-        --backend llvm --cpu x86-64 -o "$out/pkder.o"
-}
+# shellcheck source=/dev/null
+. "$top/interface/compile.sh"
 
 linked_with_musl() {
     objcopy --redefine-sym main=program_main "$out/pkder.o" "$out/renamed.o"
@@ -42,7 +29,16 @@ linked_with_glibc() {
 }
 
 mkdir -p "$out"
-(compiled) > "$out/log" 2>&1 || { cat "$out/log" >&2 && exit 1; }
-grep '^logic=proved' "$out/log" || { cat "$out/log" >&2 && exit 1; }
+rm -f "$out/program.bc"
+# (no symbolic links may stay below the repository, of which `rt ci` takes none)
+work=$(mktemp -d)
+trap 'rm -rf "$work"' EXIT
+keeping_toolchain "$work/toolchain" "$out/program.bc"
+if ! over_proved "$top" pkder "$work/toolchain" "$out/pkder.o" --cpu x86-64 > "$out/log" 2>&1 ||
+    ! grep '^logic=proved' "$out/log"; then
+    cat "$out/log" >&2
+    exit 1
+fi
+[ -f "$out/program.bc" ] || { echo "static_program.sh: the compiler handed no module to clang" >&2 && exit 1; }
 linked_with_musl
 linked_with_glibc 2> "$out/log.link"

@@ -2,20 +2,21 @@
 
 The lines of docs/install.md are run as they stand there, each section in an empty Debian of its own, which has no
 compiler; the archive's program in a folder with nothing else, and on the first x86-64 that QEMU has; the packages are
-looked at by lintian, and tried by their own tests. It needs root, a network, and Debian's debootstrap, lintian and
-qemu-user. The last line is 'release: N passed, M failed'."""
+looked at by lintian, and tried by their own tests. What is for ARM64 is tried by QEMU (release/try_arm64.py). It needs
+root, a network, and Debian's debootstrap, lintian and qemu-user. The last line is 'release: N passed, M failed'."""
 import glob
 import os
 import shutil
 import subprocess
 import tempfile
 
-from release import making, packing
+from release import packing, try_arm64
 from release.packing import TOP
+from release.targets import X86_64
 from tests.harness import transcripts
 
 SUITE, MIRROR = "bookworm", "http://deb.debian.org/debian"
-NEEDS = {"debootstrap": "debootstrap", "lintian": "lintian", "qemu-x86_64": "qemu-user"}
+NEEDS = {"debootstrap": "debootstrap", "lintian": "lintian", "qemu-x86_64": "qemu-user", **try_arm64.NEEDS}
 # what the empty Debian has beside the least that there is: Python, and how a package's tests are built
 WITH = "python3,python3-venv,python3-setuptools,python3-wheel"
 FIRST_PROCESSOR = ["sh", "-c", "ulimit -v 8000000; exec qemu-x86_64 -cpu qemu64 \"$@\"", "-"]
@@ -69,8 +70,8 @@ def lines_of_page(root_of):
 def alone(out):
     """The archive's program in a folder that has nothing else, and on the first x86-64."""
     with tempfile.TemporaryDirectory() as folder:
-        name = f"{making.ARCHIVE}/bin/pkder"
-        subprocess.run(["tar", "-xf", f"{out}/{making.ARCHIVE}.tar.gz", "--strip-components=2", "-C", folder, name],
+        name = f"{X86_64.archive}/bin/pkder"
+        subprocess.run(["tar", "-xf", f"{out}/{X86_64.archive}.tar.gz", "--strip-components=2", "-C", folder, name],
                        check=True)
         said, status = ran("chroot", folder, "/pkder", "--version")
         yield f"alone in a root: {said.strip()}", status == 0 and said.startswith(f"pkder {packing.NUMBER}, ")
@@ -97,6 +98,8 @@ def package_tests(root_of):
     for block in blocks:
         fields = dict(line.split(": ", 1) for line in block.strip().split("\n"))
         root = root_of()
+        for name in glob.glob(f"{root.folder}/root/release/*_arm64.deb"):
+            os.remove(name)
         subprocess.run(["cp", "-R", *(f"{TOP}/{it}" for it in ("debian", "docs", "interface", "tests", "examples")),
                         f"{root.folder}/root/release"], check=True)
         depends = fields["Depends"].replace(",", " ")
@@ -117,17 +120,30 @@ def looks(work, out):
     yield from packages(out)
     yield from lines_of_page(root_of)
     yield from package_tests(root_of)
+    yield from try_arm64.looks(work, out)
 
 
 def tried(out):
     """Tries all of it, and returns the status."""
-    lacking = sorted({package for tool, package in NEEDS.items() if not shutil.which(tool)})
-    if lacking or os.geteuid():
-        print(f"release: --try wants root, and apt-get install {' '.join(NEEDS.values())}\nrelease: 0 passed, 1 failed")
+    if os.geteuid():
+        print("release: --try wants root\nrelease: 0 passed, 1 failed")
         return 1
+    return told(out, looks, NEEDS)
+
+
+def tried_on_arm64(out):
+    """Tries what is for ARM64 alone, and returns the status."""
+    return told(out, try_arm64.looks, try_arm64.NEEDS)
+
+
+def told(out, trials, needs):
+    """Says how each of these trials went, where the machine has what they need, and returns the status."""
     passed = failed = 0
+    if not all(map(shutil.which, needs)):
+        print(f"release: apt-get install {' '.join(sorted({*needs.values()}))}\nrelease: 0 passed, 1 failed")
+        return 1
     with tempfile.TemporaryDirectory() as work:
-        for what, is_right in looks(work, out):
+        for what, is_right in trials(work, out):
             passed, failed = passed + bool(is_right), failed + (not is_right)
             print(f"{'tried' if is_right else 'not so'}: {what}", flush=True)
     print(f"release: {passed} passed, {failed} failed", flush=True)

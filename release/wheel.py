@@ -20,6 +20,9 @@ from release.packing import NUMBER
 
 PYTHON = "interface/python"
 SOURCES = f"{PYTHON}/src"
+# of what asks for names that each C library has; with musl 1.2 it was tried
+MUSL = "musllinux_1_2"
+MACHINES = {"x86-64": "x86_64", "ARMv8-A": "aarch64"}
 INFO = f"pkder-{NUMBER}.dist-info"
 COMMAND = """#!/usr/bin/python3
 import sys
@@ -53,9 +56,11 @@ def package_files():
 
 
 def tag(library):
-    """The tag of a wheel with this library, by the lowest C library that has what it asks for."""
+    """The tag of a wheel with this library, by its processor and the lowest C library that has what it asks for (PEP
+    600, PEP 656)."""
     glibc = lowest.c_library([library])
-    return f"py3-none-manylinux_{glibc.replace('.', '_')}_x86_64"
+    c_library = f"manylinux_{glibc.replace('.', '_')}" if glibc else MUSL
+    return f"py3-none-{c_library}_{MACHINES[lowest.machine(library)[0]]}"
 
 
 def row(name, octets):

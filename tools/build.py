@@ -21,9 +21,15 @@ TOP = sys.path[0] = str(Path(__file__).resolve().parents[1])
 from tools.gate import logic
 
 PROGRAM = "crates/pkder/out/pkder"
-MADE = (PROGRAM, "interface/out/libpkder.a", "interface/out/libpkder.so.0")
+# the libraries: static, shared for glibc, shared for musl
+LIBRARIES = ("libpkder.a", "libpkder.so.0", "musl/libpkder.so.0")
+MADE = {PROGRAM: "pkder", **{f"interface/out/{it}": it for it in LIBRARIES}}
 PROVED_BY = "crates/pkder/out/PROVED-BY"
 CHANGED = ", with changes that are in no commit"
+TRUSTED = """\
+trusted: whoever can write to the folders that keep a proof until it is compiled, for one target after another \
+(crate-checked=trusted, incremental=trusted)
+"""
 # The seconds of a processor that a proof takes, to say how long the others will, and what crates that aren't here take.
 SECONDS = {"tlv_core": 120, "x690": 10, "x690_laws": 70, "pkix_definitions": 20, "pkix_shapes": 100, "ber_pull": 290,
            "asn_elements": 280, "ber_outline": 60, "asn_names": 300, "reports": 1100, "asn_fields": 280,
@@ -56,8 +62,8 @@ def sum_of(name):
 def record(of_commit):
     """The text of PROVED-BY for the files that stand, of which each has a line as sha256sum writes it."""
     how = f"heap {os.environ.get('HEAP') or 'of the toolchain'}, processor {os.environ.get('CPU') or 'x86-64'}"
-    sums = "".join(f"{sum_of(it)}  {os.path.basename(it)}\n" for it in MADE)
-    return f"commit: {of_commit}\ntoolchain: {logic.toolchain()}\nlibrary: {how}\n{sums}"
+    sums = "".join(f"{sum_of(path)}  {name}\n" for path, name in MADE.items())
+    return f"commit: {of_commit}\ntoolchain: {logic.toolchain()}\nlibrary: {how}\n{TRUSTED}{sums}"
 
 
 def stands():
@@ -105,9 +111,11 @@ class Progress:
 
 def proofs():
     """Proves every crate, and returns how many tests of `rt ci` passed and failed."""
-    # (`rt ci` gives back libraries of earlier checks at its end, and those that it proved are wanted)
+    # (`rt ci` gives back libraries of earlier checks at its end, and those that it proved are wanted; the library is
+    # proved from nothing, and what is kept of that serves its other targets: interface/compile.sh)
     for name in os.listdir("crates"):
-        shutil.rmtree(f"crates/{name}/out/rlib", ignore_errors=True)
+        for made in ("rlib", "kept"):
+            shutil.rmtree(f"crates/{name}/out/{made}", ignore_errors=True)
     last, progress = "", Progress()
     print(progress, flush=True)
     with subprocess.Popen(["rt", "ci"], stdout=subprocess.PIPE, stderr=subprocess.STDOUT, errors="replace") as ran:
