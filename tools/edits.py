@@ -96,6 +96,11 @@ class Crate:
         self.name, *self.words = head.split()
         self.folder, self.below = f"crates/{self.name}", []
 
+    def line_over(self, texts):
+        """Its line with those libraries alone that one of these texts names: what they say rests on no other."""
+        words = set(re.findall(r"\w+", "\n".join(texts)))
+        return " ".join([self.name, *self.words, *(it for it in self.uses if it in words)])
+
     def texts(self):
         """The texts of its files by their paths in its folder, in order."""
         return Reach(self.folder, self.name).texts
@@ -192,7 +197,7 @@ class Record:
 
     def sum_of(self, crate, texts, *more):
         """The sum of a crate, these files of it and what else is said."""
-        made = hashlib.sha256(f"{self.logic}\n{crate.line}\n".encode())
+        made = hashlib.sha256(f"{self.logic}\n{crate.line_over([*texts.values(), *more])}\n".encode())
         for file, text in [*texts.items(), *(("", it) for it in more)]:
             made.update(b"%s %d\n%s" % (file.encode(), len(text.encode()), text.encode()))
         return made.hexdigest()

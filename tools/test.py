@@ -53,7 +53,7 @@ def builds(program):
 
 def library_of(program):
     """The library that was built with the program; of one from elsewhere none is known."""
-    return [it for it in build.MADE if ".so" in it and program == build.PROGRAM]
+    return [it for it, name in build.MADE.items() if name == "libpkder.so.0" and program == build.PROGRAM]
 
 
 def tables(name):
@@ -75,7 +75,7 @@ def allocating():
     for kind, name in map(str.split, kinds):
         for command in ("show", "check", "explain", "normalise"):
             yield f"examples/{name}.der", command, "--kind", kind
-    for part in ("info", "algorithm", "key", "signature"):
+    for part in ("info", "algorithm", "key", "signature", "received"):
         yield "examples/request-indefinite.der", "signed", "--part", part
     yield "examples/p256.der", "same", "--kind", "key", "-", "examples/rfc8410-indefinite.der"
     yield "examples/p256.der", "same", "--key", "--kind", "key", "--kind", "ec", "-", "examples/p256-sec1.der"
@@ -99,6 +99,13 @@ def parts(program=build.PROGRAM):
         "rows": lambda: [rows_of(it, program) for it in sorted(os.listdir("tests")) if os.path.isdir(f"crates/{it}")],
         "transcripts": lambda: [[*TRANSCRIPTS, *builds(program)]],
         "spellings": lambda: [["python3", "tests/harness/spellings.py", "tests/manual/spellings.tsv"]],
+        "vectors": lambda: [
+            ["python3", "vectors/make.py", "--check"],
+            ["python3", "vectors/check.py", *builds(program)],
+            ["python3", "vectors/try_check.py", program],
+            *(["python3", "vectors/check.py", "--library", it] for it in library_of(program)),
+            ["python3", "vectors/try_readme.py"],
+        ],
         "intake": lambda: [["python3", "tests/intake/run.py", *library_of(program)]],
         "completions": lambda: [["python3", "tests/harness/completions.py", program]],
         "files": lambda: [["python3", "tests/harness/files.py", *builds(program)]],

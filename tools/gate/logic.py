@@ -11,7 +11,7 @@ from pathlib import Path
 TOP = str(Path(__file__).resolve().parents[2])
 SOURCE = "crates/explain/src/version.rt"
 NUMBERED = ("interface/pkder.pc.in", "interface/python/src/pkder/__init__.py", "interface/rust/Cargo.toml",
-            "interface/rust/Cargo.lock")
+            "interface/rust/Cargo.lock", "interface/npm/package.json")
 ANOTHER = """\
 `rt version` prints '{at_hand}', and all proofs here are for logic {logic}.
 So nothing is begun. Either put a toolchain of that logic on the PATH, or move to this one: put its logic in VERSION of
@@ -50,7 +50,7 @@ def of_toolchain():
 
 def of_file(name, due):
     """What is wrong with the version in a file, if anything is."""
-    numbered = r'(?m)^(?:[Vv]ersion|__version__)(?:: | = ")([^"\n]+)'
+    numbered = r'(?m)^(?:[Vv]ersion|__version__|  "version")(?:: "?| = ")([^"\n]+)'
     pattern = r"\blogic ([0-9a-f]{16})\b" if name == "README.md" else numbered
     found = set(re.findall(pattern, text_of(name)))
     return None if found == {due} else f"{name}: the version is {due} in {SOURCE}, and here {sorted(found)}"

@@ -45,7 +45,8 @@ def kinds():
 
 def parts():
     """The parts of a request, by their numbers for C."""
-    for number, name in re.findall(r"([0-9]+) => Some\(Part::(\w+)\)", text_of("crates/pkder_c/src/numbers.rt")):
+    for number, name in re.findall(r"([0-9]+) => Some\(RequestPart::(?:Written\(Part::)?(\w+)\)",
+                                   text_of("crates/pkder_c/src/numbers.rt")):
         camel = PART_NAMES.get(name.lower(), name)
         yield {"name": name, "word": name.lower(), "number": number, "camel": camel, "upper": upper(camel)}
 
