@@ -4,6 +4,7 @@ complete -c pkder -n __fish_use_subcommand -s h -l help -d 'Print help'
 complete -c pkder -n __fish_use_subcommand -s V -l version -d 'Print version'
 complete -c pkder -n __fish_use_subcommand -a check -d 'say whether it is in DER, or the first place where it is not'
 complete -c pkder -n '__fish_seen_subcommand_from check' -s k -l kind -x -a 'key ec request public encrypted package' -d 'what it is'
+complete -c pkder -n '__fish_seen_subcommand_from check' -l any -d 'find out which kind it is, if it is one'
 complete -c pkder -n '__fish_seen_subcommand_from check' -l depth -x -d 'the greatest depth of nesting, 1 to 64'
 complete -c pkder -n '__fish_seen_subcommand_from check' -l octets -x -d 'the greatest number of octets of the document and of its DER text, 1 to 2147483647'
 complete -c pkder -n '__fish_seen_subcommand_from check' -l quiet -d 'write only what is not in DER'
@@ -17,6 +18,7 @@ complete -c pkder -n '__fish_seen_subcommand_from check' -s h -l help -d 'Print 
 complete -c pkder -n '__fish_seen_subcommand_from check' -F
 complete -c pkder -n __fish_use_subcommand -a explain -d 'say where and why it is refused or not in DER, with its elements'
 complete -c pkder -n '__fish_seen_subcommand_from explain' -s k -l kind -x -a 'key ec request public encrypted package' -d 'what it is'
+complete -c pkder -n '__fish_seen_subcommand_from explain' -l any -d 'find out which kind it is, if it is one'
 complete -c pkder -n '__fish_seen_subcommand_from explain' -l depth -x -d 'the greatest depth of nesting, 1 to 64'
 complete -c pkder -n '__fish_seen_subcommand_from explain' -l octets -x -d 'the greatest number of octets of the document and of its DER text, 1 to 2147483647'
 complete -c pkder -n '__fish_seen_subcommand_from explain' -l all -d 'list all elements, however many there are'
@@ -29,6 +31,7 @@ complete -c pkder -n '__fish_seen_subcommand_from explain' -s h -l help -d 'Prin
 complete -c pkder -n '__fish_seen_subcommand_from explain' -F
 complete -c pkder -n __fish_use_subcommand -a show -d 'say what it is, in lines; of private octets the number alone'
 complete -c pkder -n '__fish_seen_subcommand_from show' -s k -l kind -x -a 'key ec request public encrypted package' -d 'what it is'
+complete -c pkder -n '__fish_seen_subcommand_from show' -l any -d 'find out which kind it is, if it is one'
 complete -c pkder -n '__fish_seen_subcommand_from show' -l depth -x -d 'the greatest depth of nesting, 1 to 64'
 complete -c pkder -n '__fish_seen_subcommand_from show' -l octets -x -d 'the greatest number of octets of the document and of its DER text, 1 to 2147483647'
 complete -c pkder -n '__fish_seen_subcommand_from show' -l json -d 'write an object of JSON for each document'
@@ -51,7 +54,7 @@ complete -c pkder -n '__fish_seen_subcommand_from normalise' -l to -r -F -d 'wri
 complete -c pkder -n '__fish_seen_subcommand_from normalise' -s h -l help -d 'Print help'
 complete -c pkder -n '__fish_seen_subcommand_from normalise' -F
 complete -c pkder -n __fish_use_subcommand -a signed -d 'write a part of a request'
-complete -c pkder -n '__fish_seen_subcommand_from signed' -l part -x -a 'info algorithm key signature' -d 'the part'
+complete -c pkder -n '__fish_seen_subcommand_from signed' -l part -x -a 'info algorithm key signature received' -d 'the part'
 complete -c pkder -n '__fish_seen_subcommand_from signed' -s k -l kind -x -d 'what it is'
 complete -c pkder -n '__fish_seen_subcommand_from signed' -l depth -x -d 'the greatest depth of nesting, 1 to 64'
 complete -c pkder -n '__fish_seen_subcommand_from signed' -l octets -x -d 'the greatest number of octets of the document and of its DER text, 1 to 2147483647'
