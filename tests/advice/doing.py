@@ -32,8 +32,9 @@ def of_words(kind, told):
     other = re.search(r"read it with --kind (\w+)", words)
     follows = re.search(r"xxd -s (\d+) FILE, before you cut it off", words)
     if "decode its base64" in words:
-        label = likely.split("labelled ")[1]
-        yield Step(other[1] if other else pages.kinds_of_labels().get(label, kind), f"pem '{label}' FILE > NEW")
+        label = likely.partition("labelled ")[2]
+        if label:
+            yield Step(other[1] if other else pages.kinds_of_labels().get(label, kind), f"pem '{label}' FILE > NEW")
     elif other and not COMMAND.match(words):
         yield Step(other[1])
     elif follows:

@@ -1,5 +1,5 @@
 #!/usr/bin/env python3
-"""noted.py PROGRAM..: the notes of `pkder explain` on extensions, algorithms and the subject, beside
+"""noted.py PROGRAM..: the notes of `pkder explain` on extensions, algorithms, points and the subject, beside
 tests/oracle/noted.py.
 
 Of each document the codes and levels of such notes under --json are compared, in their order, but where a report has as

@@ -100,5 +100,12 @@ class HoldingMaker(PublicKeyMaker):
         """A public key, in one of four with a curve that is named, written out or left out."""
         if self.random.random() < 0.75:
             return super().public_key()
-        curve = self.one_of([], [self.any()], [self.identifier(self.one_of(*CURVES, *OTHER_CURVES))])
-        return Node(SEQUENCE, [self.algorithm(EC_PUBLIC_KEY, *curve), self.bits()])
+        named = self.one_of(*CURVES, *OTHER_CURVES)
+        curve = self.one_of([], [self.any()], [self.identifier(named)])
+        return Node(SEQUENCE, [self.algorithm(EC_PUBLIC_KEY, *curve), self.point(CURVES.get(named, 32))])
+
+    def point(self, size):
+        """A BIT STRING, of the length of a point as often as not, with a first octet that may say its form."""
+        if self.random.random() < 0.5:
+            return self.bits()
+        return self.bits(bytes([self.random.randint(1, 8)]) + self.random.randbytes(size * self.one_of(1, 2)))

@@ -92,6 +92,12 @@ def request(*extensions, subject=NAME, key=ED25519_KEY, signed=ED25519_SIGNS, as
     return element(SEQUENCE, info, signed, bits(bytes(64)))
 
 
+def request_without_attributes(*fields):
+    """A request that has these fields in place of attributes."""
+    info = element(SEQUENCE, element(INTEGER, b"\0"), NAME, ED25519_KEY, *fields)
+    return element(SEQUENCE, info, ED25519_SIGNS, bits(bytes(64)))
+
+
 def documents():
     """The octets of each document, by the name of its file."""
     return {
@@ -115,6 +121,8 @@ def documents():
         "old-request": request(usage(b"\x80", 7), asked=OLD_REQUEST),
         "empty-subject": request(usage(b"\x80", 7), subject=EMPTY),
         "empty-with-names": request(NAMES, subject=EMPTY),
+        "no-attributes": request_without_attributes(),
+        "no-attributes-sound": request_without_attributes(element(TAG_0)),
         "another-rsa": request(key=EC_KEY, signed=algorithm(RSA_SHA256, NO_PARAMETERS)),
         "another-ecdsa": request(signed=algorithm(ECDSA_SHA256)),
         "another-ed448": request(key=ED448_KEY),

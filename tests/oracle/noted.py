@@ -1,10 +1,10 @@
-"""What `pkder explain` notes on the extensions, the algorithms and the subject of an accepted document: the codes of
-docs/formats.md, "What is noted", each with the path of its line inside the file.
+"""What `pkder explain` notes on the extensions, the algorithms, the points and the subject of an accepted document: the
+codes of docs/formats.md, "What is noted", each with the path of its line inside the file.
 
-It is written from RFC 5280 sections 4.1.2.6, 4.2.1.3 and 4.2.1.9, RFC 8017 appendix A, RFC 2985 section 5.4.2, RFC
-2986 section 3, NIST SP 800-131A and RFC 6151: the document is gone through by tests/oracle/document_types.py, and
-whether the value of an extension is in DER is said by tests/oracle/extensions.py. Nothing is shared with the
-definitions and the code of pkder."""
+It is written from RFC 5280 sections 4.1.2.6, 4.2.1.3 and 4.2.1.9, RFC 8017 appendix A, RFC 2985 section 5.4.2, RFC 2986
+sections 3 and 4.1, RFC 5480 section 2, NIST SP 800-131A and RFC 6151: the document is gone through by
+tests/oracle/document_types.py, and whether the value of an extension is in DER is said by tests/oracle/extensions.py.
+Nothing is shared with the definitions and the code of pkder."""
 import re
 
 from tests.oracle.document_types import IDENTIFIER, NULL, TYPES, Walk
@@ -12,8 +12,9 @@ from tests.oracle.extensions import carried
 from tests.oracle.parts import Part, arcs, parts, with_first
 from tests.oracle.reader import DEPTH, OCTETS
 
-LEVELS = dict.fromkeys("ku_none certsign_without_ca pathlen_without_ca rsa_no_null algorithm_of_another_key".split(),
-                       "must") | dict.fromkeys("sha1 md5 old_extension_request empty_subject".split(), "should")
+LEVELS = dict.fromkeys("""ku_none certsign_without_ca pathlen_without_ca rsa_no_null algorithm_of_another_key
+point_hybrid""".split(), "must")
+LEVELS |= dict.fromkeys("sha1 md5 old_extension_request empty_subject no_attributes".split(), "should")
 KEY_USAGE, ALT_NAME, CONSTRAINTS = (bytes([0x55, 0x1D, it]) for it in (15, 17, 19))
 OLD_REQUEST = "1.3.6.1.4.1.311.2.1.14"
 PKCS_1, X9_62, NIST = "1.2.840.113549.1.1.", "1.2.840.10045.", "2.16.840.1.101.3.4."
@@ -23,6 +24,10 @@ SHA_1, OLD_DIGESTS = {PKCS_1 + "5", X9_62 + "4.1", "1.2.840.10040.4.3"}, {PKCS_1
 # has no parameters either.
 LONE = {"1.3.101.112", "1.3.101.113", *(f"{NIST}3.{it}" for it in range(17, 32))}
 WITHOUT_PARAMETERS = {*(f"{NIST}3.{it}" for it in range(17, 32)), *(f"{NIST}4.{it}" for it in (1, 2, 3))}
+# How many octets a coordinate has, on the curves of RFC 5480 section 2.1.1.1 that pkder knows and on secp256k1 (SEC 2
+# section 2.4.1), and the algorithms whose keys are points: id-ecPublicKey, id-ecDH and id-ecMQV (RFC 5480 section 2.1).
+COORDINATES = {"1.3.132.0.33": 28, X9_62 + "3.1.7": 32, "1.3.132.0.10": 32, "1.3.132.0.34": 48, "1.3.132.0.35": 66}
+OF_POINTS = {X9_62 + "2.1", "1.3.132.1.12", "1.3.132.1.13"}
 ATTRIBUTE_TYPE = re.compile(r"certificationRequestInfo\.attributes\[\d+\]\.type")
 
 
@@ -56,6 +61,13 @@ def on_usage(contents, is_ca):
         return "ku_none"
     ends_in_one = contents[-1] >> contents[0] & 1
     return "certsign_without_ca" if ends_in_one and contents[1] & 4 and not is_ca else None
+
+
+def on_point(contents, size):
+    """What is noted on the first octet of a point of a curve, by the contents of the BIT STRING, where there are as
+    many octets as a point has: 04 is of an uncompressed one, 02 and 03 of a compressed one (RFC 5480 section 2.2)."""
+    due = {1 + size: (2, 3), 1 + 2 * size: (4,)}.get(len(contents) - 1)
+    return "point_hybrid" if due and not contents[0] and contents[1] not in due else None
 
 
 class Noted:
@@ -105,10 +117,21 @@ class Noted:
             return "rsa_no_null"
         return on_signature(identifier, key) if element.path.startswith("signatureAlgorithm.") else None
 
+    def size_on_curve(self, number, key):
+        """How many octets a coordinate has, after the algorithm before this element; None where that isn't known."""
+        before = self.elements[number - 1]
+        is_named = key in OF_POINTS and before.name == "parameters" and before.tag == IDENTIFIER.tag
+        return COORDINATES.get(arcs(Part(6, b"", self.contents(number - 1)))) if is_named else None
+
     def on_element(self, number, key):
         element, after = self.elements[number], self.next(number)
         if element.name == "algorithm" and element.tag == IDENTIFIER.tag:
             return self.on_algorithm(number, key)
+        if element.name == "subjectPublicKey" and not element.is_constructed:
+            size = self.size_on_curve(number, key)
+            return on_point(self.contents(number), size) if size else None
+        if element.path == "certificationRequestInfo":
+            return None if any(it.path == f"{element.path}.attributes" for it in self.elements) else "no_attributes"
         if element.path == "certificationRequestInfo.subject":
             is_empty = after.depth <= element.depth
             return "empty_subject" if is_empty and not self.has_names else None

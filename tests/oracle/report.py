@@ -37,11 +37,21 @@ BEGINNINGS = {
     "utf16": rb"(?s)(?=.{8})(\xff\xfe(.\0){0,6}(.\0|.?\Z)|\xfe\xff(\0.){0,6}(\0.|\0?\Z))",
     "java_key_store": rb"\xfe\xed\xfe\xed|\xce\xce\xce\xce",
     "openssh_key": rb"openssh-key-v1",
-    "ssh_public_key": rb"(ssh-rsa|ssh-ed25519) AAAA|ecdsa-sha2-nistp",
+    "ssh_public_key": rb"ssh-(rsa|dss|ed25519) AAAA|ecdsa-sha2-nistp",
     "recoded": rb"0\xc2[\x81-\x83]",
     "replaced": rb"0\xef\xbf\xbd",
 }
+LINES = {"putty_key": rb"PuTTY-User-Key-File-|---- BEGIN SSH2 ENCRYPTED PRIVATE KEY",
+         "ssh2_public_key": rb"---- BEGIN SSH2 PUBLIC KEY", "dump": rb"00000000: "}
 TEXTS = {"markup": rb"<[ -~\t\r\n]{0,15}", "json": rb"{[ -~\t\r\n]{0,15}"}
+# A key in such a text: by this word, and private where it has the other one, too.
+KEYS_IN_TEXTS = {"markup": (b"<RSAKey", b"<D>", "xml_private_key", "xml_key"),
+                 "json": (b'"kty"', b'"d"', "jwk_private", "jwk")}
+HEAD = 16384
+# PEM, and that of a key or a request.
+ANY_PEM = rb"(?:\A|[\r\n])[ \t]*(-----BEGIN )"
+USED_PEM = ANY_PEM + (rb"(?:(?:NEW )?CERTIFICATE REQUEST|(?:RSA )?PUBLIC KEY|"
+                      rb"(?:(?:ENCRYPTED|EC|RSA|DSA|OPENSSH|SM2) )?PRIVATE KEY)-----")
 MOST_TOLD = 6
 
 
@@ -275,6 +285,9 @@ def begins_as(octets, at, members):
         return False
     at, end = header.begin, header.begin + header.length if header.length is not None else NO_BOUND
     for tag, due in members:
+        if tag is None:
+            ends = at == end or end == NO_BOUND and octets[at : at + 2] == b"\0\0" if at is not None else False
+            return ends and at <= len(octets)
         header = header_at(octets, at) if at is not None else None
         if not header or header.tag != tag or isinstance(due, list) and not begins_as(octets, at, due):
             return False
@@ -289,23 +302,38 @@ def begins_as(octets, at, members):
 NUMBER, EXPONENT = (INTEGER.tag, None), (INTEGER.tag, (b"\1\0\1", b"\3"))
 OTHERS = {
     "rsa_private_key": [(INTEGER.tag, (b"\0",)), NUMBER, EXPONENT],
+    "dsa_private_key": [(INTEGER.tag, (b"\0",)), *[NUMBER] * 5, (None, None)],
     "rsa_public_key": [NUMBER, EXPONENT],
     "certificate": [(SEQUENCE, [((2, 0), None)])],
     "pkcs12": [(INTEGER.tag, (b"\3",)), (SEQUENCE, [(IDENTIFIER.tag, None)])],
 }
 
 
-def look_of(octets, kind, fault, limits):
-    """What else the file may be."""
-    if kind in ("request", "public") and octets.count(b"\n") == octets.count(b"\r\n") > 1:
-        return "text_lines"
-    if fault.inner_reason or fault.reason not in LOOKED or fault.place >= 64:
+def pem_of(head):
+    """What PEM there is: of several texts the first that is a key or a request, else the first."""
+    if not (found := re.search(USED_PEM, head) or re.search(ANY_PEM, head)):
         return None
+    if head[found.start(1) :].partition(b"\n")[2].startswith(b"Proc-Type:"):
+        return "encrypted_pem"
+    return "pem_behind" if found.start(1) else "pem"
+
+
+def key_in(text, word):
+    """What key a text is, by two words in it; else the text itself."""
+    first, second, private, public = KEYS_IN_TEXTS[word]
+    return (private if second in text else public) if first in text else word
+
+
+def text_of(octets):
+    """What text a file is."""
     text = re.sub(rb"\A(\xef\xbb\xbf)?[ \t\r\n]*", b"", octets)
-    if text.startswith(b"-----BEGIN "):
-        return "encrypted_pem" if text.partition(b"\n")[2].startswith(b"Proc-Type:") else "pem"
+    if found := pem_of(text[:HEAD]):
+        return found
     if not octets:
         return "empty"
+    for word, beginning in LINES.items():
+        if re.match(beginning, octets):
+            return word
     if re.fullmatch(HEXADECIMAL, octets[:16]):
         return "hexadecimal"
     if re.fullmatch(BASE_64, octets[:16]):
@@ -315,7 +343,19 @@ def look_of(octets, kind, fault, limits):
             return word
     for word, whole in TEXTS.items():
         if re.fullmatch(whole, text[:16]):
-            return word
+            return key_in(text[:HEAD], word)
+    return None
+
+
+def look_of(octets, kind, fault, limits):
+    """What else the file may be."""
+    is_looked = not fault.inner_reason and fault.reason in LOOKED and fault.place < 64
+    if is_looked and (found := text_of(octets)):
+        return found
+    if kind in ("request", "public") and octets.count(b"\n") == octets.count(b"\r\n") > 1:
+        return "text_lines"
+    if not is_looked:
+        return None
     others = (it for it in TYPES if it != kind and goes_on_as(it, octets, limits))
     return next(others, None) or next((name for name, members in OTHERS.items() if begins_as(octets, 0, members)), None)
 

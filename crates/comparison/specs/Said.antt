@@ -79,7 +79,7 @@ abbrev pub line_said : Line → Value → List ℕ
 line_said line values.Nothing = contents_said line.length
 line_said line values.NotShown = codes "not shown"
 line_said line (values.Size octets) = sized octets
-line_said line (values.Bits octets unused) = sized octets ++ unused_part unused
+line_said line (values.Bits octets unused first) = sized octets ++ unused_part unused
 line_said line values.Null = codes "NULL"
 line_said line (values.Boolean value) = cond value (codes "TRUE") (codes "FALSE")
 line_said line (values.Number number) = decimal number

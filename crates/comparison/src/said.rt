@@ -153,7 +153,7 @@ fn push_line_value(alloc: Global, text: &mut String, line: &Line) -> Result<(), 
         Value::Nothing => push_contents(text, line.length),
         Value::NotShown => text.push_str("not shown"),
         Value::Size(octets) => push_size(text, *octets),
-        Value::Bits(octets, unused) => {
+        Value::Bits(octets, unused, _) => {
             push_size(text, *octets)?;
             push_unused(text, *unused)
         }

@@ -14,7 +14,7 @@ use Rattle.pkix_shapes.specs.declared.shape.Shape.{Choice', Containing', Defined
 use Rattle.explain.specs.Contents.{between, contents_in}
 use Rattle.explain.specs.Public.{is_field, sort_of}
 use Rattle.explain.specs.declared.document.values.Sort.{Sort}
-use Rattle.explain.specs.declared.document.values.Sort.TheVariants.{Bits, Boolean, Characters, Identifier, Integer, Null, Octets}
+use Rattle.explain.specs.declared.document.values.Sort.TheVariants.{Bits, Boolean, Characters, Identifier, Integer, Null, Octets, PublicKey}
 use Rattle.reports.specs.declared.report.Cause.{Cause}
 use Rattle.reports.specs.declared.report.Cause.TheVariants as causes
 
@@ -78,6 +78,7 @@ bits_cause (unused ∷ octets) = last_bits_cause unused (slice_get octets (lengt
 abbrev pub cause_in : Sort → Step → List ℕ → Option Cause
 cause_in Boolean step contents = boolean_cause step contents
 cause_in Bits step contents = bits_cause contents
+cause_in PublicKey step contents = bits_cause contents
 cause_in Integer step contents = None
 cause_in Null step contents = None
 cause_in Identifier step contents = None

@@ -21,7 +21,7 @@ use Rattle.explain.specs.declared.listing.front.Mark.{Mark}
 use Rattle.explain.specs.declared.listing.front.Mark.TheVariants as marks
 use Rattle.explain.specs.declared.listing.front.FrontState.{FrontState}
 use Rattle.explain.specs.declared.document.values.Sort.{Sort}
-use Rattle.explain.specs.declared.document.values.Sort.TheVariants.{Bits, Boolean, Characters, Identifier, Integer, Null, Octets}
+use Rattle.explain.specs.declared.document.values.Sort.TheVariants.{Bits, Boolean, Characters, Identifier, Integer, Null, Octets, PublicKey}
 
 -- contents are one of two octets
 abbrev pub is_one_of : List ℕ → ℕ → ℕ → Bool
@@ -36,6 +36,7 @@ is_usual Boolean step contents = is_field step (codes "critical") && is_one_of c
 is_usual Null step contents = length contents == 0
 is_usual Identifier step contents = is_some (usual contents)
 is_usual Bits step contents = false
+is_usual PublicKey step contents = false
 is_usual Characters step contents = false
 is_usual Octets step contents = false
 

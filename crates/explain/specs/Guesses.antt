@@ -20,7 +20,7 @@ use Rattle.explain.specs.Heads.{guess_by_outline}
 use Rattle.explain.specs.Insides.{IsNamed}
 use Rattle.explain.specs.Public.{is_field}
 use Rattle.explain.specs.Shapes.{IsShapeOf}
-use Rattle.explain.specs.TextGuesses.{guess_by_text, has_lines, pem_guess, pem_label, text_in}
+use Rattle.explain.specs.TextGuesses.{block_in, guess_by_text, has_lines, head_of, pem_guess, pem_label}
 use Rattle.reports.specs.declared.report.Answer.{Answer}
 use Rattle.reports.specs.declared.report.Answer.TheVariants.{Der, NotDer, Refused}
 use Rattle.reports.specs.declared.report.KindWords.{KindWords}
@@ -119,26 +119,41 @@ abbrev pub is_unknown : Guess → Bool
 is_unknown guesses.Unknown = true
 is_unknown guess = false
 
--- what a text is; where it is none, which document the file is
-abbrev pub IsTextOr : Bool → Limits → Kind → List ℕ → Guess → Guess → Type 0
-IsTextOr true limits wanted octets text guess = IsOtherDocument limits wanted octets guess
-IsTextOr false limits wanted octets text guess = guess ≡ text
+-- PEM is shown with its label, another text as what it is.
+abbrev pub IsText : Option (List ℕ) → List ℕ → Guess → Type 0
+IsText (Some label) octets guess =
+    (own : Bor (List ℕ)) × (own.now ≡ label)
+    × (guess ≡ pem_guess own (block_in (head_of octets)) (head_of octets))
+IsText None octets guess = guess ≡ guess_by_text octets
 
--- PEM is shown with its label, another text as what it is, and else which document it is.
-abbrev pub IsGuessOf : Limits → Kind → List ℕ → Option (List ℕ) → Guess → Guess → Type 0
-IsGuessOf limits wanted octets (Some label) text guess =
-    (own : Bor (List ℕ)) × (own.now ≡ label) × (guess ≡ pem_guess own (text_in octets))
-IsGuessOf limits wanted octets None text guess = IsTextOr (is_unknown text) limits wanted octets text guess
+-- what a text is, where the file is refused so
+abbrev pub IsTextGuess : Bool → List ℕ → Guess → Type 0
+IsTextGuess false octets guess = guess ≡ guesses.Unknown
+IsTextGuess true octets guess = IsText (pem_label (block_in (head_of octets))) octets guess
 
-abbrev pub IsGuessBy : Bool → Limits → Kind → List ℕ → Guess → Type 0
-IsGuessBy false limits wanted octets guess = guess ≡ guesses.Unknown
-IsGuessBy true limits wanted octets guess =
-    IsGuessOf limits wanted octets (pem_label (text_in octets)) (guess_by_text octets) guess
+-- what is no text: which document it is, where it is refused so
+abbrev pub IsOtherBy : Bool → Limits → Kind → List ℕ → Guess → Type 0
+IsOtherBy false limits wanted octets guess = guess ≡ guesses.Unknown
+IsOtherBy true limits wanted octets guess = IsOtherDocument limits wanted octets guess
+
+-- the same, unless it was taken for text on its way
+abbrev pub IsNoText : Limits → Kind → List ℕ → Answer → Guess → Type 0
+IsNoText limits wanted octets answer guess =
+    elim (is_of_lines wanted octets answer) [
+      | true ↦ guess ≡ guesses.TextLines
+      | false ↦ IsOtherBy (is_guessed answer) limits wanted octets guess
+    ]
+
+-- what the file looks like, where it looks like this text
+abbrev pub IsGuessBy : Guess → Limits → Kind → List ℕ → Answer → Guess → Type 0
+IsGuessBy text limits wanted octets answer guess =
+    elim (is_unknown text) [
+      | true ↦ IsNoText limits wanted octets answer guess
+      | false ↦ guess ≡ text
+    ]
 
 -- What the file looks like, by the answer to it as a document of the kind asked for.
 abbrev pub IsGuess : Limits → Kind → List ℕ → Answer → Guess → Type 0
 IsGuess limits wanted octets answer guess =
-    elim (is_of_lines wanted octets answer) [
-      | true ↦ guess ≡ guesses.TextLines
-      | false ↦ IsGuessBy (is_guessed answer) limits wanted octets guess
-    ]
+    (text : Guess) × IsTextGuess (is_guessed answer) octets text
+    × IsGuessBy text limits wanted octets answer guess

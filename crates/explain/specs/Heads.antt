@@ -1,5 +1,5 @@
 -- What a document is by its first headers: the tags, and a few contents, of the elements after the outermost header.
-use Rattle.std.specs.Prelude.{Bool, List, None, Option, Some, [], cond, false, nat_lt, ℕ, ◌&&◌, ◌==◌, ◌||◌, ◌∷◌}
+use Rattle.std.specs.Prelude.{Bool, List, None, Option, Some, [], cond, false, nat_lt, true, ℕ, ◌&&◌, ◌==◌, ◌||◌, ◌∷◌}
 use Rattle.std.specs.List.{slice_get}
 use Rattle.std.specs.Str.{bytes_eq}
 use Rattle.tlv_core.specs.Identifier.{Tag}
@@ -72,6 +72,34 @@ abbrev pub is_rsa_private_key : List ℕ → List Event → Bool
 is_rsa_private_key octets events =
     begins_with octets events (0 ∷ []) && are_numbers octets (slice_get events 2) (slice_get events 3)
 
+abbrev pub are_integers : Option Event → Option Event → Option Event → Bool
+are_integers first second third =
+    (code_of_event first == integer) && (code_of_event second == integer) && (code_of_event third == integer)
+
+-- the contents of the SEQUENCE end there
+abbrev pub is_end : Option Event → Bool
+is_end None = false
+is_end (Some (Primitive header begin end)) = false
+is_end (Some (Begin header begin)) = false
+is_end (Some (End at)) = true
+
+-- A private key of DSA in its old form: version 0 and five numbers, p, q, g and the two keys.
+abbrev pub end_in_integers : Option Event → Option Event → Option Event → Bool
+end_in_integers fourth fifth end =
+    (code_of_event fourth == integer) && (code_of_event fifth == integer) && is_end end
+
+abbrev pub are_first_integers : List Event → Bool
+are_first_integers events = are_integers (slice_get events 2) (slice_get events 3) (slice_get events 4)
+
+abbrev pub are_last_integers : List Event → Bool
+are_last_integers events = end_in_integers (slice_get events 5) (slice_get events 6) (slice_get events 7)
+
+abbrev pub are_five_integers : List Event → Bool
+are_five_integers events = are_first_integers events && are_last_integers events
+
+unfoldable pub is_dsa_private_key : List ℕ → List Event → Bool
+is_dsa_private_key octets events = begins_with octets events (0 ∷ []) && are_five_integers events
+
 -- RSAPublicKey (RFC 8017 A.1.1): a modulus, and a usual exponent.
 abbrev pub is_rsa_public_key : List ℕ → List Event → Bool
 is_rsa_public_key octets events = are_numbers octets (slice_get events 1) (slice_get events 2)
@@ -94,5 +122,6 @@ is_pfx octets events =
 abbrev pub guess_by_outline : List ℕ → List Event → Guess
 guess_by_outline octets events =
     cond (is_rsa_private_key octets events) guesses.RsaPrivateKey
+    (cond (is_dsa_private_key octets events) guesses.DsaPrivateKey
     (cond (is_rsa_public_key octets events) guesses.RsaPublicKey
-    (cond (is_certificate events) guesses.Certificate (cond (is_pfx octets events) guesses.Pkcs12 guesses.Unknown)))
+    (cond (is_certificate events) guesses.Certificate (cond (is_pfx octets events) guesses.Pkcs12 guesses.Unknown))))

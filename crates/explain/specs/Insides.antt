@@ -1,5 +1,7 @@
 -- The elements of a document by its outline, and the documents inside its OCTET STRINGs: in a key by its type, in the
 -- value of a known extension by the identifier of that.
+use Rattle.reports.specs.declared.report.Carried.{Carried}
+use Rattle.reports.specs.declared.report.Carried.TheVariants as carried
 use Rattle.std.specs.Prelude.{Bool, List, None, Option, Some, [], codes, cond, drop, false, length, nat_lt, option_and_then, slice_get, suc, true, zero, ℕ, ◌&&◌, ◌+◌, ◌++◌, ◌-◌, ◌==◌, ◌∷◌, ◌≡◌}
 use Rattle.std.specs.Borrow.{Bor}
 use Rattle.tlv_core.specs.Identifier.{Tag}
@@ -159,6 +161,12 @@ AreCarried limits octets shape Der named = IsNamed limits octets shape named
 AreCarried limits octets shape NotDer named = named.0 ≡ []
 AreCarried limits octets shape (Refused fault) named = named.0 ≡ []
 
+-- what is shown of what octets are as a value of their type: of a fault its place and reason
+abbrev pub carried_as : Judgement → Carried
+carried_as Der = carried.Der
+carried_as NotDer = carried.NotDer
+carried_as (Refused fault) = carried.Refused fault.at fault.why
+
 -- The value of an extension, as one of this type: what it is, and its elements.
 pub record IsValueOf (limits : Limits) (file : List ℕ) (elements : List NamedElement) (container : ℕ)
     (type : TypeTerm)
@@ -167,7 +175,7 @@ pub record IsValueOf (limits : Limits) (file : List ℕ) (elements : List NamedE
   pub type_is : term_of inside.shape.now ≡ type
   pub octets : inside.octets.items ≡ contents_within file elements
   pub pieces : inside.pieces.items ≡ pieces_within file elements
-  pub carried : inside.carried ≡ Some (judged limits type inside.octets.items)
+  pub carried : inside.carried ≡ Some (carried_as (judged limits type inside.octets.items))
   pub named : AreCarried limits inside.octets.items inside.shape (judged limits type inside.octets.items)
       (inside.named.elements.items, inside.named.mismatch)
 
@@ -197,7 +205,7 @@ HasInsides search file elements (suc number) insides =
     × AddsInside search file elements number before insides
 
 -- what the value of an extension is as one of its type
-abbrev pub carried_by : Option Inside → Option Judgement
+abbrev pub carried_by : Option Inside → Option Carried
 carried_by inside = option_and_then (λ it. it.carried) inside
 
 -- the document inside the element at this place

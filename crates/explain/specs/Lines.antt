@@ -3,12 +3,12 @@ use Rattle.std.specs.Prelude.{Bool, List, None, Option, Some, [], cond, false, l
 use Rattle.std.specs.Bool.{then_some}
 use Rattle.std.specs.Option.{option_map}
 use Rattle.asn_names.specs.declared.element.NamedElement.{NamedElement}
-use Rattle.asn_names.specs.declared.judgement.Judgement.{Judgement}
 use Rattle.ber_outline.specs.declared.announced.Announced.{Announced}
 use Rattle.ber_outline.specs.declared.event.ElementHeader.{ElementHeader}
 use Rattle.explain.specs.Contents.{contents_in}
 use Rattle.explain.specs.Public.{ShowsContents}
 use Rattle.explain.specs.declared.document.places.Placed.{Placed}
+use Rattle.reports.specs.declared.report.Carried.{Carried}
 use Rattle.reports.specs.declared.report.Cause.{Cause}
 use Rattle.reports.specs.declared.report.Length.{Length}
 use Rattle.reports.specs.declared.report.Line.{Line}
@@ -64,7 +64,7 @@ IsListedValue carried octets element value = IsListedValueOf carried element (co
 
 -- What an element with a cause, and with what the value of an extension is, adds to the lines before: nothing where it is
 -- hidden, else its own.
-abbrev pub AddsLine : Bool → Bool → List ℕ → Placed → NamedElement → Option Cause → Option Judgement → List Line
+abbrev pub AddsLine : Bool → Bool → List ℕ → Placed → NamedElement → Option Cause → Option Carried → List Line
     → List Line → Type 0
 AddsLine true carried octets placed element cause carries old new = new ≡ old
 AddsLine false carried octets placed element cause carries old new =

@@ -4,7 +4,6 @@ use Rattle.std.specs.Prelude.{Bool, List, None, Option, Some, [], cond, length, 
 use Rattle.std.specs.List.{slice_get}
 use Rattle.std.specs.Option.{is_some}
 use Rattle.asn_names.specs.declared.element.NamedElement.{NamedElement}
-use Rattle.asn_names.specs.declared.judgement.Judgement.{Judgement}
 use Rattle.explain.specs.FaultContainers.{saturating_sum}
 use Rattle.explain.specs.Causes.{causes_of, line_cause}
 use Rattle.explain.specs.Fronts.{is_deeper}
@@ -12,6 +11,7 @@ use Rattle.explain.specs.Insides.{carried_by}
 use Rattle.explain.specs.Lines.{AddsLine}
 use Rattle.explain.specs.Places.{ListedDocument, placed_in}
 use Rattle.explain.specs.declared.document.inside.Inside.{Inside}
+use Rattle.reports.specs.declared.report.Carried.{Carried}
 use Rattle.reports.specs.declared.report.Cause.{Cause}
 use Rattle.reports.specs.declared.report.Line.{Line}
 
@@ -45,7 +45,7 @@ hidden_after hidden element =
 
 -- One element more, with a cause or none, and with what the value of an extension is: its line is added, unless it is
 -- hidden.
-pub record IsNext (document : ListedDocument) (cause : Option Cause) (carries : Option Judgement)
+pub record IsNext (document : ListedDocument) (cause : Option Cause) (carries : Option Carried)
     (element : NamedElement)
     (before after : ListingState) : Type 0 where
   pub line : AddsLine (is_deeper before.hidden element) document.is_carried document.octets
@@ -56,13 +56,13 @@ pub record IsNext (document : ListedDocument) (cause : Option Cause) (carries : 
       (number_around before.numbers document.around element) ∷ [])
   pub hidden : after.hidden ≡ hidden_after before.hidden element
 
-abbrev pub AddsOne : ListedDocument → Option Cause → Option Judgement → Option NamedElement → ListingState
+abbrev pub AddsOne : ListedDocument → Option Cause → Option Carried → Option NamedElement → ListingState
     → ListingState → Type 0
 AddsOne document cause carries None before after = after ≡ before
 AddsOne document cause carries (Some element) before after = IsNext document cause carries element before after
 
 -- the same of the element of this number, with the cause that its line shows
-abbrev pub AddsElement : ListedDocument → Option Judgement → ℕ → ListingState → ListingState → Type 0
+abbrev pub AddsElement : ListedDocument → Option Carried → ℕ → ListingState → ListingState → Type 0
 AddsElement document carries number before after =
     AddsOne document (line_cause document.elements document.causes number) carries
     (slice_get document.elements number) before after

@@ -1,11 +1,11 @@
 -- What is remarked on public keys: on those of RSA, which are looked into, and on the curves of others.
 use Rattle.std.specs.Prelude.{Bool, List, None, Option, Some, [], codes, false, length, nat_lt, option_and_then, slice_get, string_bytes, true, ℕ, ◌%◌, ◌-◌, ◌==◌, ◌||◌, ◌∷◌}
 use Rattle.std.specs.Option.{option_map}
-use Rattle.asn_names.specs.declared.judgement.Judgement.{Judgement}
-use Rattle.asn_names.specs.declared.judgement.Judgement.TheVariants as judgements
 use Rattle.pkix_definitions.specs.Identifiers.{entry_under}
 use Rattle.explain.specs.Remarks.{remark_if}
 use Rattle.reports.specs.Keys.{bit_length, integer_bits, is_below_zero}
+use Rattle.reports.specs.declared.report.Carried.{Carried}
+use Rattle.reports.specs.declared.report.Carried.TheVariants as carried
 use Rattle.reports.specs.declared.report.KeyRemark.TheVariants.{EvenModulus, Exponent, NegativeModulus, NotDer, Refused, ShortModulus, SmallCurve}
 use Rattle.reports.specs.declared.report.Remark.{Remark}
 use Rattle.reports.specs.declared.report.Remark.TheVariants.{Key}
@@ -13,10 +13,10 @@ use Rattle.reports.specs.declared.report.Value.{Value}
 use Rattle.reports.specs.declared.report.Value.TheVariants.{Arcs, Named, Number, Octets}
 
 -- What a public key of RSA contains is an RSAPublicKey in DER (RFC 3279 section 2.3.1).
-abbrev pub remark_on_inside : Judgement → Option Remark
-remark_on_inside judgements.Der = None
-remark_on_inside judgements.NotDer = Some (Key NotDer)
-remark_on_inside (judgements.Refused fault) = Some (Key (Refused fault.at fault.why))
+abbrev pub remark_on_inside : Carried → Option Remark
+remark_on_inside carried.Der = None
+remark_on_inside carried.NotDer = Some (Key NotDer)
+remark_on_inside (carried.Refused at why) = Some (Key (Refused at why))
 
 abbrev pub ends_even : Option ℕ → Bool
 ends_even None = true

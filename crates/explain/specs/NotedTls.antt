@@ -5,8 +5,6 @@ use Rattle.std.specs.Borrow.{Bor}
 use Rattle.std.specs.List.{list_all, list_any}
 use Rattle.std.specs.Option.{is_some, option_or}
 use Rattle.x690.specs.Lists.{one_of, same_octets}
-use Rattle.asn_names.specs.declared.judgement.Judgement.{Judgement}
-use Rattle.asn_names.specs.declared.judgement.Judgement.TheVariants as judgements
 use Rattle.pkix_shapes.specs.declared.identifiers.Identifier.{Identifier}
 use Rattle.explain.specs.GeneralNames.{is_ipv4_address}
 use Rattle.explain.specs.NotedAttributes.{is_wide, x520}
@@ -19,6 +17,8 @@ use Rattle.explain.specs.Reach.{is_internal, is_reserved}
 use Rattle.explain.specs.Remarks.{remark_if}
 use Rattle.explain.specs.declared.notes.tls.TlsContext.{TlsContext}
 use Rattle.reports.specs.Keys.{bit_length, integer_bits, is_below_zero}
+use Rattle.reports.specs.declared.report.Carried.{Carried}
+use Rattle.reports.specs.declared.report.Carried.TheVariants as carried
 use Rattle.reports.specs.declared.report.Line.{Line}
 use Rattle.reports.specs.declared.report.Remark.{Remark}
 use Rattle.reports.specs.declared.report.Remark.TheVariants.{Tls}
@@ -117,11 +117,11 @@ remark_on_criticality is_empty line after =
     remark_if (is_empty && (is_named_alt line && not (is_critical after))) (Tls NamesNotCritical)
 
 -- What is in an extension that isn't in DER has no lines, and may have any name.
-abbrev pub is_unread : Option Judgement → Bool
+abbrev pub is_unread : Option Carried → Bool
 is_unread None = false
-is_unread (Some judgements.Der) = false
-is_unread (Some judgements.NotDer) = true
-is_unread (Some (judgements.Refused fault)) = true
+is_unread (Some carried.Der) = false
+is_unread (Some carried.NotDer) = true
+is_unread (Some (carried.Refused at why)) = true
 
 abbrev pub has_text : List ℕ → Value → Bool
 has_text name (Characters octets) = same_octets octets.items name

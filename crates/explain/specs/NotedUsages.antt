@@ -1,17 +1,18 @@
--- What is remarked on what the extensions of a request say, or lack: keyUsage, basicConstraints, subjectAltName.
+-- What is remarked on what the extensions of a request say, or lack: keyUsage, basicConstraints, subjectAltName; and on a
+-- request without attributes.
 use Rattle.std.specs.Prelude.{Bool, List, None, Option, Some, codes, cond, false, length, not, slice_get, true, ◌%◌, ◌&&◌, ◌-◌, ◌/◌, ◌==◌, [], ℕ, ◌∷◌}
 use Rattle.std.specs.Borrow.{Bor}
 use Rattle.std.specs.List.{list_all, list_any}
 use Rattle.x690.specs.Lists.{same_octets}
-use Rattle.asn_names.specs.declared.judgement.Judgement.{Judgement}
-use Rattle.asn_names.specs.declared.judgement.Judgement.TheVariants as judgements
 use Rattle.pkix_shapes.specs.declared.identifiers.Identifier.{Identifier}
 use Rattle.explain.specs.Causes.{unit_of}
 use Rattle.explain.specs.NotedKeys.{arcs_in}
 use Rattle.explain.specs.Public.{is_field}
 use Rattle.explain.specs.Remarks.{remark_if}
 use Rattle.explain.specs.declared.notes.usages.Held.{Held}
-use Rattle.reports.specs.declared.report.ExtensionRemark.TheVariants.{EmptySubject, NoUsage, OldRequest, PathWithoutCa, SignWithoutCa}
+use Rattle.reports.specs.declared.report.Carried.{Carried}
+use Rattle.reports.specs.declared.report.Carried.TheVariants as carried
+use Rattle.reports.specs.declared.report.ExtensionRemark.TheVariants.{EmptySubject, NoAttributes, NoUsage, OldRequest, PathWithoutCa, SignWithoutCa}
 use Rattle.reports.specs.declared.report.Line.{Line}
 use Rattle.reports.specs.declared.report.Remark.{Remark}
 use Rattle.reports.specs.declared.report.Remark.TheVariants.{Extension, ExtensionZeroBits}
@@ -23,11 +24,11 @@ says_true (Boolean said) = said
 says_true _ = false
 
 -- The line says cA TRUE. What is in an extension that isn't in DER has no lines, and may say it.
-abbrev pub ca_by : Line → Option Judgement → Bool
+abbrev pub ca_by : Line → Option Carried → Bool
 ca_by line None = is_field line.step (codes "cA") && says_true line.value
-ca_by line (Some judgements.Der) = is_field line.step (codes "cA") && says_true line.value
-ca_by line (Some judgements.NotDer) = is_field line.step (codes "extnValue")
-ca_by line (Some (judgements.Refused fault)) = is_field line.step (codes "extnValue")
+ca_by line (Some carried.Der) = is_field line.step (codes "cA") && says_true line.value
+ca_by line (Some carried.NotDer) = is_field line.step (codes "extnValue")
+ca_by line (Some (carried.Refused at why)) = is_field line.step (codes "extnValue")
 
 abbrev pub may_be_ca : Line → Bool
 may_be_ca line = ca_by line line.carries
@@ -40,11 +41,16 @@ says_alt _ = false
 abbrev pub is_named_alt : Line → Bool
 is_named_alt line = is_field line.step (codes "extnID") && says_alt line.value
 
+-- the line is the field attributes
+abbrev pub is_attributes : Line → Bool
+is_attributes line = is_field line.step (codes "attributes")
+
 -- what stands anywhere in a document
 abbrev pub held_in : List Line → Held
 held_in lines = record {
   is_ca = list_any (λ line. may_be_ca line) lines;
   has_names = list_any (λ line. is_named_alt line) lines;
+  has_attributes = list_any (λ line. is_attributes line) lines;
 }
 
 abbrev pub are_zeros : List ℕ → Bool
@@ -91,6 +97,10 @@ remark_on_path is_ca = remark_if (not is_ca) (Extension PathWithoutCa)
 -- A subject has an attribute, or the request a subjectAltName (RFC 5280 section 4.1.2.6).
 abbrev pub remark_on_subject : Bool → ℕ → Option Remark
 remark_on_subject has_names members = remark_if ((members == 0) && not has_names) (Extension EmptySubject)
+
+-- A request has the field attributes, if only an empty one (RFC 2986 section 4.1).
+abbrev pub remark_on_info : Bool → Option Remark
+remark_on_info has_attributes = remark_if (not has_attributes) (Extension NoAttributes)
 
 -- Microsoft's attribute, szOID_CERT_EXTENSIONS
 abbrev pub is_old_request : Option (List ℕ) → Bool

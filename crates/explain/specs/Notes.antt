@@ -6,23 +6,23 @@ use Rattle.std.specs.Option.{is_some, option_or}
 use Rattle.x690.specs.Lists.{one_of, same_octets}
 use Rattle.asn_names.specs.declared.element.Step.{Step}
 use Rattle.asn_names.specs.declared.element.Step.TheVariants.{Member}
-use Rattle.asn_names.specs.declared.judgement.Judgement.{Judgement}
-use Rattle.asn_names.specs.declared.judgement.Judgement.TheVariants as judgements
 use Rattle.pkix_definitions.specs.Identifiers.{curve_lengths, ec_public_key, entry_under, extension_request}
 use Rattle.pkix_shapes.specs.declared.identifiers.Identifier.{Identifier}
 use Rattle.explain.specs.NotedAlgorithms.{remark_on_scheme}
 use Rattle.explain.specs.NotedAttributes.{remark_on_attribute}
 use Rattle.explain.specs.NotedKeys.{remark_on_curve, remark_on_exponent, remark_on_inside, remark_on_modulus}
 use Rattle.explain.specs.NotedNames.{is_one_element, is_subject_alt_name, remark_on_name}
-use Rattle.explain.specs.NotedUsages.{held_in, remark_on_old_request, remark_on_path, remark_on_subject, remark_on_usage}
+use Rattle.explain.specs.NotedUsages.{held_in, remark_on_info, remark_on_old_request, remark_on_path, remark_on_subject, remark_on_usage}
 use Rattle.explain.specs.Public.{is_field}
 use Rattle.explain.specs.Remarks.{remark_if}
 use Rattle.explain.specs.declared.notes.Context.{Context}
+use Rattle.reports.specs.declared.report.Carried.{Carried}
+use Rattle.reports.specs.declared.report.Carried.TheVariants as carried
 use Rattle.reports.specs.declared.report.Line.{Line}
 use Rattle.reports.specs.declared.report.NameRemark.TheVariants.{Twice}
 use Rattle.reports.specs.declared.report.Note.{Note}
 use Rattle.reports.specs.declared.report.Remark.{Remark}
-use Rattle.reports.specs.declared.report.Remark.TheVariants.{AttributeTwice, ExtensionNotDer, ExtensionRefused, ExtensionTwice, KeySize, Name, NeedlessParameters, NoNamedCurve, PointBits, PointSize, SeveralValues}
+use Rattle.reports.specs.declared.report.Remark.TheVariants.{AttributeTwice, ExtensionNotDer, ExtensionRefused, ExtensionTwice, KeySize, Name, NeedlessParameters, NoNamedCurve, PointBits, PointHybrid, PointSize, SeveralValues}
 use Rattle.reports.specs.declared.report.Value.{Value}
 use Rattle.reports.specs.declared.report.Value.TheVariants.{Arcs, Bits, Characters, Named, Octets}
 
@@ -160,15 +160,29 @@ is_public_key step =
 abbrev pub is_point : ℕ → ℕ → Bool
 is_point coordinate octets = (octets == 1 + coordinate) || (octets == 1 + 2 * coordinate)
 
+-- The first octet of a point says its form: 04 that two coordinates follow, 02 and 03 that one does (the same).
+abbrev pub is_form : ℕ → ℕ → ℕ → Bool
+is_form coordinate octets first =
+    cond (first == 4) (octets == 1 + 2 * coordinate) (((first == 2) || (first == 3)) && (octets == 1 + coordinate))
+
+abbrev pub remark_on_form : ℕ → ℕ → Option ℕ → Option Remark
+remark_on_form coordinate octets None = None
+remark_on_form coordinate octets (Some first) = remark_if (not (is_form coordinate octets first)) (PointHybrid first)
+
+-- a point by how many octets it has and the first one, where that is known
+abbrev pub remark_on_point : ℕ → ℕ → Option ℕ → Option Remark
+remark_on_point coordinate octets first =
+    cond (is_point coordinate octets) (remark_on_form coordinate octets first) (Some (PointSize octets))
+
 -- A public key has the octets that its algorithm says, or is a point of the curve.
-abbrev pub remark_on_bits : Option ℕ → Option ℕ → ℕ → ℕ → Option Remark
-remark_on_bits (Some due) curve octets unused = remark_if (not (octets == due)) (KeySize octets due)
-remark_on_bits None None octets unused = None
-remark_on_bits None (Some coordinate) octets unused =
-    cond (unused == 0) (remark_if (not (is_point coordinate octets)) (PointSize octets)) (Some PointBits)
+abbrev pub remark_on_bits : Option ℕ → Option ℕ → ℕ → ℕ → Option ℕ → Option Remark
+remark_on_bits (Some due) curve octets unused first = remark_if (not (octets == due)) (KeySize octets due)
+remark_on_bits None None octets unused first = None
+remark_on_bits None (Some coordinate) octets unused first =
+    cond (unused == 0) (remark_on_point coordinate octets first) (Some PointBits)
 
 abbrev pub remark_on_key : Context → Value → Option Remark
-remark_on_key context (Bits octets unused) = remark_on_bits context.public context.curve octets unused
+remark_on_key context (Bits octets unused first) = remark_on_bits context.public context.curve octets unused first
 remark_on_key context _ = None
 
 -- What is in a document, by its type or its field; else by what it is as a name.
@@ -182,20 +196,20 @@ remark_on_member context line =
     (cond (is_field line.step (codes "parameters")) (remark_on_curve line.value)
     (remark_on_name context.extension line)))))
 
-abbrev pub remark_by : Context → Line → Option Judgement → Option Remark
+abbrev pub remark_by : Context → Line → Option Carried → Option Remark
 remark_by context line None = remark_on_member context line
-remark_by context line (Some judgements.Der) = None
-remark_by context line (Some judgements.NotDer) = Some (ExtensionNotDer context.extension)
-remark_by context line (Some (judgements.Refused fault)) =
-    Some (ExtensionRefused context.extension fault.at fault.why)
+remark_by context line (Some carried.Der) = None
+remark_by context line (Some carried.NotDer) = Some (ExtensionNotDer context.extension)
+remark_by context line (Some (carried.Refused at why)) =
+    Some (ExtensionRefused context.extension at why)
 
 -- The value of an extension is in DER (RFC 5280 section 4.2).
 abbrev pub remark_on_value : Context → Line → Option Remark
 remark_on_value context line = remark_by context line line.carries
 
-abbrev pub public_key_remark : Context → Line → Option Judgement → Option Remark
+abbrev pub public_key_remark : Context → Line → Option Carried → Option Remark
 public_key_remark context line None = remark_on_key context line.value
-public_key_remark context line (Some judgement) = remark_on_inside judgement
+public_key_remark context line (Some carries) = remark_on_inside carries
 
 -- A public key is looked into, where its algorithm says what is in it.
 abbrev pub remark_on_public_key : Context → Line → Option Remark
@@ -219,11 +233,12 @@ remark_on lines context line after =
     (cond (is_field line.step (codes "values") && context.is_single) (remark_on_values (members_of line.depth after))
     (cond (is_field line.step (codes "subject"))
     (remark_on_subject context.held.has_names (members_of line.depth after))
+    (cond (is_field line.step (codes "certificationRequestInfo")) (remark_on_info context.held.has_attributes)
     (cond (is_field line.step (codes "type"))
     (remark_on_old_request (is_attribute (slice_get lines line.around)) line.value)
     (cond (is_public_key line.step) (remark_on_public_key context line)
     (cond (is_field line.step (codes "value")) (remark_on_attribute context.attribute line)
-    (remark_on_value context line))))))
+    (remark_on_value context line)))))))
 
 abbrev pub is_member : Step → Bool
 is_member (Member number) = true

@@ -5,7 +5,6 @@ use Rattle.tlv_core.specs.Limits.{Limits}
 use Rattle.x690.specs.Lists.{Each}
 use Rattle.asn_names.specs.declared.element.NamedElement.{NamedElement}
 use Rattle.asn_names.specs.declared.element.Mismatch.{Mismatch}
-use Rattle.asn_names.specs.declared.judgement.Judgement.{Judgement}
 use Rattle.pkix_shapes.specs.declared.shape.Shape.{Shape}
 use Rattle.pk_documents.specs.declared.kind.Kind.{Kind}
 use Rattle.explain.specs.FaultLines.{IsPlaceAlone}
@@ -19,6 +18,7 @@ use Rattle.explain.specs.Shapes.{IsShapeOf}
 use Rattle.explain.specs.declared.document.inside.Inside.{Inside}
 use Rattle.reports.specs.declared.report.Answer.{Answer}
 use Rattle.reports.specs.declared.report.Answer.TheVariants.{Der, NotDer, Refused}
+use Rattle.reports.specs.declared.report.Carried.{Carried}
 use Rattle.reports.specs.declared.report.Cause.{Cause}
 use Rattle.reports.specs.declared.report.Line.{Line}
 
@@ -39,7 +39,7 @@ EndsIn (Refused fault) listing lines =
 -- A line is of an element of a document: it has the element's header and name, stands where that is in the file, and
 -- says what its contents are; of a private one how many octets; and of the value of a known extension what it is as one
 -- of its type.
-pub record IsLineOf (document : ListedDocument) (carries : Option Judgement) (element : NamedElement)
+pub record IsLineOf (document : ListedDocument) (carries : Option Carried) (element : NamedElement)
     (line : Line) : Type 0 where
   pub around : ℕ
   pub header : IsHeaderLine (placed_in document element around) element line

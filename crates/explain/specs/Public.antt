@@ -1,6 +1,7 @@
 -- What a report shows of contents: the number of the octets of what is private, of keys and signatures, and of strings
--- that aren't a subject's; of others what they say, and all of what is in the value of a known extension.
-use Rattle.std.specs.Prelude.{Bool, List, None, Option, Some, [], cond, false, length, nat_le, nat_lt, not, string_bytes, true, ℕ, ◌&&◌, ◌*◌, ◌+◌, ◌==◌, ◌||◌, ◌∷◌, ◌<◌, ◌≡◌, codes}
+-- that aren't a subject's, and of a subjectPublicKey its first octet; of others what they say, and all of what is in the
+-- value of a known extension.
+use Rattle.std.specs.Prelude.{Bool, List, None, Option, Some, [], cond, false, length, nat_le, nat_lt, not, slice_get, string_bytes, true, ℕ, ◌&&◌, ◌*◌, ◌+◌, ◌==◌, ◌||◌, ◌∷◌, ◌<◌, ◌≡◌, codes}
 use Rattle.std.specs.Option.{option_map}
 use Rattle.tlv_core.specs.Identifier.{Tag}
 use Rattle.tlv_core.specs.ObjectIdentifier.{IsObjectIdentifier}
@@ -14,7 +15,7 @@ use Rattle.pkix_shapes.specs.declared.shape.Contents.{Contents}
 use Rattle.pkix_shapes.specs.declared.shape.Contents.TheVariants as leaves
 use Rattle.pkix_shapes.specs.declared.shape.Shape.{Choice', Containing', DefinedBy', Leaf, ListOf', Named', Open, Private', Refused as RefusedType, Sequence', SetOf', Shape}
 use Rattle.explain.specs.declared.document.values.Sort.{Sort}
-use Rattle.explain.specs.declared.document.values.Sort.TheVariants.{Bits, Boolean, Characters, Identifier as IdentifierSort, Integer, Null, Octets}
+use Rattle.explain.specs.declared.document.values.Sort.TheVariants.{Bits, Boolean, Characters, Identifier as IdentifierSort, Integer, Null, Octets, PublicKey}
 use Rattle.reports.specs.declared.report.Value.{Value}
 use Rattle.reports.specs.declared.report.Value.TheVariants as values
 
@@ -26,15 +27,16 @@ is_field (Member number) word = false
 is_field (Segment number) word = false
 is_field Outside word = false
 
-abbrev pub sort_of_leaf : Contents → Sort
-sort_of_leaf leaves.Boolean = Boolean
-sort_of_leaf leaves.Integer = Integer
-sort_of_leaf leaves.Null = Null
-sort_of_leaf leaves.ObjectIdentifier = IdentifierSort
-sort_of_leaf leaves.BitString = Bits
-sort_of_leaf leaves.OctetString = Octets
-sort_of_leaf leaves.Utf8String = Characters
-sort_of_leaf leaves.Text = Characters
+-- The field subjectPublicKey is one of requests and public keys alone: no private key has it.
+abbrev pub sort_of_leaf : Step → Contents → Sort
+sort_of_leaf step leaves.Boolean = Boolean
+sort_of_leaf step leaves.Integer = Integer
+sort_of_leaf step leaves.Null = Null
+sort_of_leaf step leaves.ObjectIdentifier = IdentifierSort
+sort_of_leaf step leaves.BitString = cond (is_field step (codes "subjectPublicKey")) PublicKey Bits
+sort_of_leaf step leaves.OctetString = Octets
+sort_of_leaf step leaves.Utf8String = Characters
+sort_of_leaf step leaves.Text = Characters
 
 -- The contents are shown, in an element that isn't private.
 abbrev pub is_public : Sort → Step → Bool
@@ -43,6 +45,7 @@ is_public IdentifierSort step = true
 is_public Integer step = true
 is_public Boolean step = true
 is_public Bits step = true
+is_public PublicKey step = true
 is_public Characters step = is_field step (codes "value")
 is_public Octets step = false
 
@@ -59,26 +62,26 @@ sort_of_number number =
     (cond (number == 6) IdentifierSort
     (cond (is_text_number number) Characters Octets)))))
 
-abbrev pub sort_of_type : Tag → Shape → Sort
-sort_of_type tag (Leaf own contents) = sort_of_leaf contents
-sort_of_type tag Open = cond (tag.class == 0) (sort_of_number tag.number) Octets
-sort_of_type tag (ListOf' own least p shape) = Octets
-sort_of_type tag (SetOf' own least p shape) = Octets
-sort_of_type tag (Sequence' own p fields) = Octets
-sort_of_type tag (Containing' own p shape) = Octets
-sort_of_type tag (RefusedType own) = Octets
-sort_of_type tag (DefinedBy' path identifiers p first q second) = Octets
-sort_of_type tag (Choice' p first q second) = Octets
-sort_of_type tag (Named' name p shape) = Octets
-sort_of_type tag (Private' p shape) = Octets
+abbrev pub sort_of_type : Tag → Step → Shape → Sort
+sort_of_type tag step (Leaf own contents) = sort_of_leaf step contents
+sort_of_type tag step Open = cond (tag.class == 0) (sort_of_number tag.number) Octets
+sort_of_type tag step (ListOf' own least p shape) = Octets
+sort_of_type tag step (SetOf' own least p shape) = Octets
+sort_of_type tag step (Sequence' own p fields) = Octets
+sort_of_type tag step (Containing' own p shape) = Octets
+sort_of_type tag step (RefusedType own) = Octets
+sort_of_type tag step (DefinedBy' path identifiers p first q second) = Octets
+sort_of_type tag step (Choice' p first q second) = Octets
+sort_of_type tag step (Named' name p shape) = Octets
+sort_of_type tag step (Private' p shape) = Octets
 
-abbrev pub sort_by : Tag → Option Shape → Sort
-sort_by tag None = Octets
-sort_by tag (Some shape) = sort_of_type tag shape
+abbrev pub sort_by : Tag → Step → Option Shape → Sort
+sort_by tag step None = Octets
+sort_by tag step (Some shape) = sort_of_type tag step shape
 
 -- what the contents of an element are: by its type, by its tag where that is open
 abbrev pub sort_of : NamedElement → Sort
-sort_of element = sort_by element.header.tag (option_map (λ r. r.now) element.shape)
+sort_of element = sort_by element.header.tag element.step (option_map (λ r. r.now) element.shape)
 
 -- the number that goes on with these octets (X.690 8.3.3)
 abbrev pub number_from : ℕ → List ℕ → ℕ
@@ -107,18 +110,34 @@ IsSizeAlone Null contents = (length contents == 0) ≡ false
 IsSizeAlone Boolean contents = (length contents == 1) ≡ false
 IsSizeAlone Integer contents = number_of contents ≡ None
 IsSizeAlone Bits contents = has_unused contents ≡ false
+IsSizeAlone PublicKey contents = has_unused contents ≡ false
 IsSizeAlone Characters contents = ⊥
 IsSizeAlone Octets contents = Unit {0}
 IsSizeAlone IdentifierSort contents =
     (usual contents ≡ None) × (IsObjectIdentifier contents → ⊥)
+
+-- Of the bits of a public key the first octet is said, too, where there is one; of others none.
+abbrev pub SaysFirst : Sort → List ℕ → Option ℕ → Type 0
+SaysFirst Bits octets first = first ≡ None
+SaysFirst PublicKey octets first = first ≡ slice_get octets 0
+SaysFirst Null octets first = ⊥
+SaysFirst Boolean octets first = ⊥
+SaysFirst Integer octets first = ⊥
+SaysFirst Characters octets first = ⊥
+SaysFirst Octets octets first = ⊥
+SaysFirst IdentifierSort octets first = ⊥
 
 -- The value says what contents of this sort are.
 abbrev pub Says : Sort → List ℕ → Value → Type 0
 Says sort contents values.Nothing = ⊥
 Says sort contents values.NotShown = ⊥
 Says sort contents (values.Size number) = (number ≡ length contents) × IsSizeAlone sort contents
-Says sort contents (values.Bits number unused) =
-    (sort ≡ Bits) × (octets : List ℕ) × (contents ≡ unused ∷ octets) × (number ≡ length octets) × (unused < 8)
+Says sort contents (values.Bits number unused first) =
+    (octets : List ℕ)
+    × (contents ≡ unused ∷ octets)
+    × (number ≡ length octets)
+    × (unused < 8)
+    × SaysFirst sort octets first
 Says sort contents values.Null = (sort ≡ Null) × (contents ≡ [])
 Says sort contents (values.Boolean is) =
     (sort ≡ Boolean) × (octet : ℕ) × (contents ≡ octet ∷ []) × (is ≡ not (octet == 0))
@@ -153,6 +172,7 @@ ShowsAll Boolean contents value = Says Boolean contents value
 ShowsAll Integer contents value =
     elim (number_of contents) [ Some number ↦ Says Integer contents value | None ↦ AreOctets contents value ]
 ShowsAll Bits contents value = AreOctets contents value
+ShowsAll PublicKey contents value = AreOctets contents value
 ShowsAll Characters contents value = Says Characters contents value
 ShowsAll Octets contents value = AreOctets contents value
 ShowsAll IdentifierSort contents value = Says IdentifierSort contents value

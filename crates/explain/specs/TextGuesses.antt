@@ -5,7 +5,7 @@ use Rattle.std.specs.List.{list_all}
 use Rattle.std.specs.Str.{bytes_eq}
 use Rattle.pk_documents.specs.KindRows.{kinds, labels_of}
 use Rattle.pk_documents.specs.declared.kind.Kind.{Kind}
-use Rattle.reports.specs.Guesses.{certificate_labels, private_labels, public_labels, unread_labels}
+use Rattle.reports.specs.Guesses.{certificate_labels, is_among, private_labels, public_labels, unread_labels}
 use Rattle.reports.specs.declared.report.Guess.{Guess}
 use Rattle.reports.specs.declared.report.Guess.TheVariants as guesses
 
@@ -60,6 +60,39 @@ text_in octets = without_blanks (cond (begin_with (239 ∷ 187 ∷ 191 ∷ []) o
 abbrev pub pem_label : List ℕ → Option (List ℕ)
 pem_label text = cond (begin_with (codes "-----BEGIN ") text) (Some (label_of kinds (drop 11 text))) None
 
+-- the text in a file, up to 16,384 octets of it
+unfoldable pub head_of : List ℕ → List ℕ
+head_of octets = take 16384 (text_in octets)
+
+-- PEM of this label leads to a document of a kind: it is none of a certificate, nor of what pkder doesn't read
+abbrev pub is_of_use : List ℕ → Bool
+is_of_use label =
+    not (length label == 0) && not (is_among certificate_labels label) && not (is_among unread_labels label)
+
+-- a PEM text of any label, or of one that is of use
+abbrev pub is_label_due : Bool → Option (List ℕ) → Bool
+is_label_due any None = false
+is_label_due any (Some label) = any || is_of_use label
+
+unfoldable pub is_block : Bool → List ℕ → Bool
+is_block any text = is_label_due any (pem_label text)
+
+-- after this octet a line begins, or goes on with blanks alone
+unfoldable pub is_new_after : Bool → ℕ → Bool
+is_new_after new octet = (octet == 10) || (octet == 13) || (new && is_blank octet)
+
+-- from the first such PEM text at the beginning of a line on, but for blanks; `new` says that a line begins here
+abbrev pub block_from : Bool → Bool → List ℕ → List ℕ
+block_from any new [] = []
+block_from any new (octet ∷ octets) =
+    cond (new && is_block any (octet ∷ octets)) (octet ∷ octets)
+    (block_from any (is_new_after new octet) octets)
+
+-- of several PEM texts the first whose label is of use, else the first
+abbrev pub block_in : List ℕ → List ℕ
+block_in text =
+    cond (length (block_from false true text) == 0) (block_from true true text) (block_from false true text)
+
 abbrev pub after_line : List ℕ → List ℕ
 after_line [] = []
 after_line (octet ∷ octets) = cond (octet == 10) octets (after_line octets)
@@ -68,9 +101,11 @@ after_line (octet ∷ octets) = cond (octet == 10) octets (after_line octets)
 abbrev pub is_encrypted : List ℕ → Bool
 is_encrypted text = begin_with (codes "Proc-Type:") (after_line text)
 
--- PEM with this label, in the clear or encrypted
-abbrev pub pem_guess : Bor (List ℕ) → List ℕ → Guess
-pem_guess label text = cond (is_encrypted text) (guesses.EncryptedPem label) (guesses.Pem label)
+-- PEM with this label from there on, encrypted or in the clear, at the start of a text or behind what isn't of use
+abbrev pub pem_guess : Bor (List ℕ) → List ℕ → List ℕ → Guess
+pem_guess label block text =
+    cond (is_encrypted block) (guesses.EncryptedPem label)
+    (cond (length block == length text) (guesses.Pem label) (guesses.PemBehind label))
 
 -- 0 to 9, A to F, a to f; a colon or a blank between them
 abbrev pub is_hexadecimal : ℕ → Bool
@@ -111,8 +146,14 @@ is_key_store octets =
 -- a public key in a line (RFC 4253 section 6.6, RFC 5656 section 3.1, RFC 8709 section 4)
 abbrev pub is_ssh_key : List ℕ → Bool
 is_ssh_key octets =
-    begin_with (codes "ssh-rsa AAAA") octets || begin_with (codes "ssh-ed25519 AAAA") octets
-    || begin_with (codes "ecdsa-sha2-nistp") octets
+    begin_with (codes "ssh-rsa AAAA") octets || begin_with (codes "ssh-dss AAAA") octets
+    || begin_with (codes "ssh-ed25519 AAAA") octets || begin_with (codes "ecdsa-sha2-nistp") octets
+
+-- a private key of PuTTY, or of ssh.com
+abbrev pub is_putty_key : List ℕ → Bool
+is_putty_key octets =
+    begin_with (codes "PuTTY-User-Key-File-") octets
+    || begin_with (codes "---- BEGIN SSH2 ENCRYPTED PRIVATE KEY") octets
 
 -- the header of a SEQUENCE whose first length octet was written as UTF-8 has it
 abbrev pub is_recoded : List ℕ → Bool
@@ -124,25 +165,53 @@ is_recoded octets =
 abbrev pub replaced_header : List ℕ
 replaced_header = 48 ∷ 239 ∷ 191 ∷ 189 ∷ []
 
+-- the word stands somewhere in the text
+abbrev pub has_word : List ℕ → List ℕ → Bool
+has_word word [] = false
+has_word word (octet ∷ octets) = cond (begin_with word (octet ∷ octets)) true (has_word word octets)
+
+-- HTML or XML: an RSA key, private where it has a private exponent (XML Signature section 4.5.2.2), or another text
+abbrev pub markup_guess : List ℕ → Guess
+markup_guess text =
+    cond (has_word (codes "<RSAKey") text)
+    (cond (has_word (codes "<D>") text) guesses.PrivateRsaXml guesses.PublicRsaXml) guesses.Markup
+
+-- JSON: a JWK, private where it has a member d (RFC 7517 section 4.1, RFC 7518 section 6), or another text
+abbrev pub json_guess : List ℕ → Guess
+json_guess text =
+    cond (has_word (codes "\"kty\"") text)
+    (cond (has_word (codes "\"d\"") text) guesses.PrivateJwk guesses.PublicJwk) guesses.Json
+
+-- by the first sign of a text
+abbrev pub guess_by_sign : List ℕ → Guess
+guess_by_sign text =
+    cond (is_text_from 60 text) (markup_guess text)
+    (cond (is_text_from 123 text) (json_guess text) guesses.Unknown)
+
 -- by octets that nothing else begins with
-abbrev pub guess_by_beginning : List ℕ → Guess
+unfoldable pub guess_by_beginning : List ℕ → Guess
 guess_by_beginning octets =
     cond (is_utf16 octets) guesses.Utf16
     (cond (is_key_store octets) guesses.JavaKeyStore
     (cond (begin_with (codes "openssh-key-v1") octets) guesses.OpenSshKey
     (cond (is_ssh_key octets) guesses.SshPublicKey
+    (cond (is_putty_key octets) guesses.PuttyKey
+    (cond (begin_with (codes "---- BEGIN SSH2 PUBLIC KEY") octets) guesses.Ssh2PublicKey
     (cond (is_recoded octets) guesses.Recoded
-    (cond (begin_with replaced_header octets) guesses.Replaced
-    (cond (is_text_from 60 (text_in octets)) guesses.Markup
-    (cond (is_text_from 123 (text_in octets)) guesses.Json guesses.Unknown)))))))
+    (cond (begin_with replaced_header octets) guesses.Replaced (guess_by_sign (head_of octets)))))))))
 
--- A file that isn't PEM, by its first 16 octets; the base64 of a SEQUENCE begins with M.
-abbrev pub guess_by_text : List ℕ → Guess
+-- by the first 16 octets; the base64 of a SEQUENCE begins with M
+abbrev pub guess_by_letters : List ℕ → Guess
+guess_by_letters octets =
+    cond (list_all is_hexadecimal (take 16 octets)) guesses.Hexadecimal
+    (cond (begin_with (codes "M") octets && list_all is_base64 (take 16 octets)) guesses.Base64
+    (guess_by_beginning octets))
+
+-- a file that isn't PEM
+unfoldable pub guess_by_text : List ℕ → Guess
 guess_by_text octets =
     cond (length octets == 0) guesses.Empty
-    (cond (list_all is_hexadecimal (take 16 octets)) guesses.Hexadecimal
-    (cond (begin_with (codes "M") octets && list_all is_base64 (take 16 octets)) guesses.Base64
-    (guess_by_beginning octets)))
+    (cond (begin_with (codes "00000000: ") octets) guesses.Dump (guess_by_letters octets))
 
 -- before each line feed stands a carriage return, and there are two line feeds or more; `previous` is the octet before,
 -- one line feed came or two did

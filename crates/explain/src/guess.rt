@@ -4,16 +4,16 @@ mod texts;
 
 ghost use Rattle.std.specs.Prelude.{IfOk, None, false, ◌≡◌};
 ghost use Rattle.pk_documents.specs.KindRows.{kinds, private_keys_of};
-ghost use Rattle.explain.specs.Guesses.{BeginsAs, IsDocument, IsFirst, IsGuessOf, IsOtherDocument, IsGuess};
+ghost use Rattle.explain.specs.Guesses.{BeginsAs, IsDocument, IsFirst, IsOtherDocument, IsGuess, IsText, IsTextGuess};
 ghost use Rattle.explain.specs.Guesses.{has_beginning, is_guessed, is_kind_like, is_of_lines, is_unknown};
 ghost use Rattle.explain.specs.Guesses.{is_without_key};
-ghost use Rattle.explain.specs.TextGuesses.{guess_by_text, pem_label, text_in};
+ghost use Rattle.explain.specs.TextGuesses.{block_in, head_of, pem_label};
 
 use crate::document::inside::named_elements;
 use crate::document::kinds::{deciding_field, shape_of, words_of};
 use crate::document::values::is_field;
 use crate::guess::heads::guess_by_outline;
-use crate::guess::texts::{guess_by_text, has_lines, pem_guess, pem_label, text_in};
+use crate::guess::texts::{block_in, guess_by_text, has_lines, head_of, pem_guess, pem_label};
 use crate::listing::front::{is_usual_mark, mark_of};
 use asn_names::element::NamedElement;
 use ber_outline::outline::outline;
@@ -23,7 +23,8 @@ use std::alloc::{AllocError, Global};
 use tlv_core::limits::Limits;
 use tlv_core::reason::Reason;
 
-/// What the file may be instead. A guess is made where a fault near its start says that it may be of another kind.
+/// What the file may be instead: a text by how it begins, else octets that were taken for one, else a document of
+/// another kind. A guess is made where a fault near its start says that it may be of another kind.
 pub(crate) fn guess_of(
     alloc: Global,
     octets: &[u8],
@@ -33,12 +34,38 @@ pub(crate) fn guess_of(
 ) -> Result<Guess, AllocError>
     ensures { IfOk result (λ guess. IsGuess limits kind octets.now answer guess) }
 {
-    if is_of_lines(kind, octets, answer) {
+    let text = guess_text(octets, answer);
+    if !is_unknown(text) {
+        Ok(text)
+    } else if is_of_lines(kind, octets, answer) {
         Ok(Guess::TextLines)
     } else if is_guessed(answer) {
-        guess(alloc, octets, kind, limits)
+        guess_document(alloc, octets, kind, limits)
     } else {
         Ok(Guess::Unknown)
+    }
+}
+
+/// What a text is that is refused so.
+fn guess_text(octets: &[u8], answer: Answer) -> Guess
+    ensures { IsTextGuess (is_guessed answer) octets.now result }
+{
+    if is_guessed(answer) {
+        text_guess(octets)
+    } else {
+        Guess::Unknown
+    }
+}
+
+/// What a text is: PEM by its label, another one by how it begins.
+fn text_guess(octets: &[u8]) -> Guess
+    ensures { IsText (pem_label (block_in (head_of octets.now))) octets.now result }
+{
+    let text = head_of(octets);
+    let block = block_in(text);
+    match pem_label(block) {
+        Some(label) => pem_guess(text, block, label),
+        None => guess_by_text(octets),
     }
 }
 
@@ -87,22 +114,6 @@ fn is_kind_like(why: Reason) -> bool
         | Reason::Truncated
         | Reason::TooLong => true,
         _ => false,
-    }
-}
-
-fn guess(alloc: Global, octets: &[u8], kind: Kind, limits: Limits) -> Result<Guess, AllocError>
-    ensures { IfOk result (λ guess.
-        IsGuessOf limits kind octets.now (pem_label (text_in octets.now)) (guess_by_text octets.now) guess) }
-{
-    let text = text_in(octets);
-    if let Some(label) = pem_label(text) {
-        return Ok(pem_guess(text, label));
-    }
-    let seen = guess_by_text(octets);
-    if is_unknown(seen) {
-        guess_document(alloc, octets, kind, limits)
-    } else {
-        Ok(seen)
     }
 }
 

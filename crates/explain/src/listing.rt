@@ -22,8 +22,7 @@ use crate::document::values::{contents_of, listed_value};
 use crate::listing::causes::{cause_within, causes_of};
 use crate::listing::front::is_deeper;
 use asn_names::element::NamedElement;
-use asn_names::judgement::Judgement;
-use reports::report::{Cause, Line, Value};
+use reports::report::{Carried, Cause, Line, Value};
 use std::alloc::{AllocError, Global};
 
 /// The line of an element.
@@ -32,7 +31,7 @@ fn header_line(
     element: &NamedElement,
     value: Value,
     cause: Option<Cause>,
-    carries: Option<Judgement>,
+    carries: Option<Carried>,
 ) -> Line
     ensures line { IsHeaderLine placed element.now result }
     ensures value { result.value ≡ value }
@@ -284,7 +283,7 @@ pub(crate) fn lines_of(
 }
 
 /// What the value of an extension is as one of its type.
-fn judgement_of(inside: Option<&Inside>) -> Option<Judgement>
+fn judgement_of(inside: Option<&Inside>) -> Option<Carried>
     ensures { result ≡ carried_by (option_map (λ r. r.now) inside.entry) }
 {
     match inside {

@@ -4,13 +4,13 @@ ghost use Rattle.std.specs.Option.{option_map};
 ghost use Rattle.pkix_definitions.specs.Identifiers.{ec_public_key, entry_under};
 ghost use Rattle.x690.specs.Lists.{same_octets};
 ghost use Rattle.explain.specs.Notes.{add_note, arcs_of, are_same, context_after, context_start, curve_after};
-ghost use Rattle.explain.specs.Notes.{is_attribute, is_curve_named, is_point, is_public_key, is_repeated};
+ghost use Rattle.explain.specs.Notes.{is_attribute, is_curve_named, is_form, is_point, is_public_key, is_repeated};
 ghost use Rattle.explain.specs.Notes.{is_same_field, is_same_identifier, is_same_step, is_single_valued, members_of};
 ghost use Rattle.explain.specs.Notes.{ml_dsa_lengths, ml_kem_lengths, most_notes, named, nist_encapsulation};
 ghost use Rattle.explain.specs.Notes.{nist_signature, notes_on, parameters, public_octets, remark_on};
 ghost use Rattle.explain.specs.Notes.{identifier_in, remark_on_algorithm, remark_on_bits, remark_on_identifier};
 ghost use Rattle.explain.specs.Notes.{remark_on_key, remark_on_member, remark_on_public_key, remark_on_repeat};
-ghost use Rattle.explain.specs.Notes.{remark_on_value};
+ghost use Rattle.explain.specs.Notes.{remark_on_point, remark_on_value};
 ghost use Rattle.explain.specs.Notes.{remark_on_values, remark_once_more, slh_dsa_sha2_lengths};
 ghost use Rattle.explain.specs.Notes.{slh_dsa_shake_lengths};
 ghost use Rattle.explain.specs.Notes.{is_member, is_same_member, is_same_name, list_depth, octets_in};
@@ -35,15 +35,15 @@ use crate::notes::keys::{
 use crate::notes::names::{is_one_element, is_subject_alt_name, remark_on_name};
 use crate::notes::remarks::{is_name, remark_if};
 use crate::notes::usages::{
-    Held, held_in, remark_on_old_request, remark_on_path, remark_on_subject, remark_on_usage,
+    Held, held_in, remark_on_info, remark_on_old_request, remark_on_path, remark_on_subject,
+    remark_on_usage,
 };
 use asn_names::element::Step;
-use asn_names::judgement::Judgement;
 use pkix_definitions::identifiers::{
     EC_PUBLIC_KEY, EXTENSION_REQUEST, are_same_octets, curve_length,
 };
 use pkix_shapes::identifiers::Identifier;
-use reports::report::{Line, NameRemark, Note, Remark, Value};
+use reports::report::{Carried, Line, NameRemark, Note, Remark, Value};
 use std::alloc::{AllocError, Global};
 
 /// What the lines before say of the ones that follow.
@@ -358,6 +358,9 @@ fn remark_on(lines: &[Line], context: Context, line: &Line, after: &[Line]) -> O
     if is_field(line.step, "subject") {
         return remark_on_subject(context.held.has_names, members_of(line.depth, after));
     }
+    if is_field(line.step, "certificationRequestInfo") {
+        return remark_on_info(context.held.has_attributes);
+    }
     if is_field(line.step, "type") {
         return remark_on_old_request(is_attribute(around), &line.value);
     }
@@ -392,7 +395,7 @@ fn remark_on_public_key(context: Context, line: &Line) -> Option<Remark>
 {
     match line.carries {
         None => remark_on_key(context, &line.value),
-        Some(judgement) => remark_on_inside(judgement),
+        Some(carries) => remark_on_inside(carries),
     }
 }
 
@@ -402,13 +405,11 @@ fn remark_on_value(context: Context, line: &Line) -> Option<Remark>
 {
     match line.carries {
         None => remark_on_member(context, line),
-        Some(Judgement::Der) => None,
-        Some(Judgement::NotDer) => Some(Remark::ExtensionNotDer(context.extension)),
-        Some(Judgement::Refused(fault)) => Some(Remark::ExtensionRefused(
-            context.extension,
-            fault.at,
-            fault.why,
-        )),
+        Some(Carried::Der) => None,
+        Some(Carried::NotDer) => Some(Remark::ExtensionNotDer(context.extension)),
+        Some(Carried::Refused(at, why)) => {
+            Some(Remark::ExtensionRefused(context.extension, at, why))
+        }
     }
 }
 
@@ -503,8 +504,8 @@ fn remark_on_key(context: Context, value: &Value) -> Option<Remark>
     ensures { result ≡ remark_on_key context value.now }
 {
     match value {
-        Value::Bits(octets, unused) => {
-            remark_on_bits(context.public, context.curve, *octets, *unused)
+        Value::Bits(octets, unused, first) => {
+            remark_on_bits(context.public, context.curve, *octets, *unused, *first)
         }
         _ => None,
     }
@@ -516,17 +517,47 @@ fn remark_on_bits(
     curve: Option<u64>,
     octets: u64,
     unused: u8,
+    first: Option<u8>,
 ) -> Option<Remark>
-    ensures { result ≡ remark_on_bits public curve octets unused }
+    ensures { result ≡ remark_on_bits public curve octets unused first }
 {
     match (public, curve) {
         (Some(due), _) => remark_if(octets != due, Remark::KeySize(octets, due)),
         (None, None) => None,
         (None, Some(_)) if unused != 0 => Some(Remark::PointBits),
-        (None, Some(coordinate)) => {
-            remark_if(!is_point(coordinate, octets), Remark::PointSize(octets))
-        }
+        (None, Some(coordinate)) => remark_on_point(coordinate, octets, first),
     }
+}
+
+/// A point with coordinates of so many octets, by how many it has and the first one, where that is known.
+fn remark_on_point(coordinate: u64, octets: u64, first: Option<u8>) -> Option<Remark>
+    ensures { result ≡ remark_on_point coordinate octets first }
+{
+    if !is_point(coordinate, octets) {
+        return Some(Remark::PointSize(octets));
+    }
+    let Some(first) = first else {
+        return None;
+    };
+    remark_if(
+        !is_form(coordinate, octets, first),
+        Remark::PointHybrid(first),
+    )
+}
+
+/// The first octet of a point says its form: 04 that two coordinates follow, 02 and 03 that one does (RFC 5480 section
+/// 2.2, SEC 1 section 2.3.3).
+fn is_form(coordinate: u64, octets: u64, first: u8) -> bool
+    ensures { result ≡ is_form coordinate octets first }
+{
+    if octets <= coordinate {
+        return false;
+    }
+    let other = octets - coordinate - 1;
+    if first == 4 {
+        return other == coordinate;
+    }
+    (first == 2 || first == 3) && other == 0
 }
 
 /// A point is a first octet and one coordinate or two (RFC 5480 section 2.2, SEC 1 section 2.3.3).

@@ -54,7 +54,7 @@ advice_of WrongTag =
     record {
       means = codes "another type stands at P than is due there";
       likely = codes "at 0 PEM or text, at 2 to 13 another kind of document; else a damaged octet, a curve "
-          ++ codes "that is written out";
+          ++ codes "that is written out, an attribute's value without its SET";
       act = codes "see the manual's table of other kinds and formats";
     }
 advice_of Extra =
@@ -145,7 +145,8 @@ advice_of Parameters =
     record {
       means = codes "an algorithm with parameters that it may not have, or an EC key without a named curve";
       likely = codes "NULL beside Ed25519, a curve that is written out";
-      act = codes "have it written anew, as the manual says under Getting the octets";
+      act = codes "have a key written anew, as the manual says under Getting the octets; of a request a "
+          ++ codes "new one, by another program: its signature is over its key's parameters, too";
     }
 advice_of Inner =
     record {

@@ -11,6 +11,7 @@ abbrev pub document_words : Guess → List ℕ
 document_words (guesses.Kind kind) = codes "another document after it, of kind "
 document_words guesses.RsaPrivateKey = codes "an RSAPrivateKey (PKCS #1) after it"
 document_words guesses.RsaPublicKey = codes "an RSAPublicKey (PKCS #1) after it"
+document_words guesses.DsaPrivateKey = codes "a DSA private key after it"
 document_words guesses.Certificate = codes "a certificate after it"
 document_words guesses.Pkcs12 = codes "a PKCS #12 file after it"
 document_words guess = codes "octets after it that are no end of line, no zeros and no document that pkder knows"

@@ -6,14 +6,14 @@ use Rattle.hex.specs.Hex.{encode_lower}
 use Rattle.tlv_core.specs.Identifier.{Tag}
 use Rattle.asn_names.specs.declared.element.Step.{Step}
 use Rattle.asn_names.specs.declared.element.Step.TheVariants.{Field, Member, Outermost, Outside, Segment}
-use Rattle.asn_names.specs.declared.judgement.Judgement.{Judgement}
-use Rattle.asn_names.specs.declared.judgement.Judgement.TheVariants as judgements
 use Rattle.reports.specs.Letters.{letters}
 use Rattle.reports.specs.Picks.{first_ones}
 use Rattle.reports.specs.Texts.{line_feed}
 use Rattle.reports.specs.Words.{sized}
 use Rattle.reports.specs.declared.report.Answer.{Answer}
 use Rattle.reports.specs.declared.report.Answer.TheVariants.{Der, NotDer, Refused}
+use Rattle.reports.specs.declared.report.Carried.{Carried}
+use Rattle.reports.specs.declared.report.Carried.TheVariants as carried
 use Rattle.reports.specs.declared.report.Length.{Length}
 use Rattle.reports.specs.declared.report.Line.{Line}
 use Rattle.reports.specs.declared.report.Report.{Report}
@@ -68,7 +68,7 @@ abbrev pub value_said : Bool → Tag → Value → List ℕ
 value_said in_name tag values.Nothing = codes "constructed"
 value_said in_name tag values.NotShown = codes "not shown"
 value_said in_name tag (values.Size octets) = sized octets
-value_said in_name tag (values.Bits octets unused) = sized octets
+value_said in_name tag (values.Bits octets unused first) = sized octets
 value_said in_name tag values.Null = codes "NULL"
 value_said in_name tag (values.Boolean is) = cond is (codes "TRUE") (codes "FALSE")
 value_said in_name tag (values.Number number) = decimal number
@@ -212,11 +212,11 @@ fact_value line (values.Octets octets) =
 fact_value line value = value_said false line.tag value
 
 -- of the value of an extension that isn't in DER, isn't of its type, or whose type isn't known
-abbrev pub carried_line : Line → Option Judgement → List ℕ
+abbrev pub carried_line : Line → Option Carried → List ℕ
 carried_line line None = told (value_said false line.tag line.value ++ codes ", not looked into")
-carried_line line (Some judgements.Der) = []
-carried_line line (Some judgements.NotDer) = told (codes "not in DER")
-carried_line line (Some (judgements.Refused fault)) = told (codes "not of its type")
+carried_line line (Some carried.Der) = []
+carried_line line (Some carried.NotDer) = told (codes "not in DER")
+carried_line line (Some (carried.Refused at why)) = told (codes "not of its type")
 
 abbrev pub is_leaf : Line → Bool
 is_leaf line = not line.constructed && is_some line.inside

@@ -216,19 +216,31 @@ thing_of_kind kind =
     (cond (bytes_eq kind (codes "encrypted")) things.EncryptedKey
     (cond (bytes_eq kind (codes "package")) things.KeyPackage things.PrivateKey)))
 
+-- a key of a form that no kind has
+abbrev pub key_of : Guess → Thing
+key_of guesses.RsaPrivateKey = things.PrivateKey
+key_of guesses.DsaPrivateKey = things.PrivateKey
+key_of guesses.PrivateJwk = things.PrivateKey
+key_of guesses.PrivateRsaXml = things.PrivateKey
+key_of guesses.OpenSshKey = things.PrivateKey
+key_of guesses.PuttyKey = things.PrivateKey
+key_of guesses.RsaPublicKey = things.PublicKey
+key_of guesses.PublicJwk = things.PublicKey
+key_of guesses.PublicRsaXml = things.PublicKey
+key_of guesses.SshPublicKey = things.PublicKey
+key_of guesses.Ssh2PublicKey = things.PublicKey
+key_of guess = things.Unknown
+
 -- what a file is, as whoever sent it knows it
 unfoldable pub thing_of : Guess → Thing
 thing_of (guesses.Pem label) = thing_labelled label.now
+thing_of (guesses.PemBehind label) = thing_labelled label.now
 thing_of (guesses.EncryptedPem label) = cond (is_key_label label.now) things.EncryptedKey things.Unknown
 thing_of (guesses.Kind kind) = thing_of_kind kind.word.now
-thing_of guesses.RsaPrivateKey = things.PrivateKey
-thing_of guesses.OpenSshKey = things.PrivateKey
-thing_of guesses.RsaPublicKey = things.PublicKey
-thing_of guesses.SshPublicKey = things.PublicKey
 thing_of guesses.Certificate = things.Certificate
 thing_of guesses.Pkcs12 = things.Pkcs12
 thing_of guesses.JavaKeyStore = things.KeyStore
-thing_of guess = things.Unknown
+thing_of guess = key_of guess
 
 -- it may be what was asked for, in another form
 abbrev pub is_due : List ℕ → Thing → Bool
@@ -316,9 +328,10 @@ pem_form label =
     (cond (is_among public_labels label)
     (codes "This is a public key in an older form, as PEM text: openssl rsa -RSAPublicKey_in -pubout "
     ++ codes "writes the usual one.")
-    (cond ((length label == 0) || is_among unread_labels label)
-    (codes "This is PEM text of something that pkder doesn't read.")
-    (codes "This is PEM text: decode it to its binary form (DER) first.")))))
+    (cond (is_among unread_labels label) (codes "This is PEM text of something that pkder doesn't read.")
+    (cond (length label == 0)
+    (codes "This is PEM text with a label that isn't a usual one: decode it to its binary form (DER) first.")
+    (codes "This is PEM text: decode it to its binary form (DER) first."))))))
 
 -- of a private key of this kind, where another was asked for
 abbrev pub kind_form : List ℕ → List ℕ
@@ -331,24 +344,43 @@ kind_form kind =
     (codes "This is a package of private keys: read it with --kind package.")
     (codes "This is a private key in another form than was asked for: read it with --kind key.")))
 
+-- of a key of a form that no kind has
+unfoldable pub key_form : Guess → List ℕ
+key_form guesses.RsaPrivateKey =
+    codes "This is an RSA private key in an older form (PKCS #1): openssl pkcs8 -topk8 -nocrypt makes it PKCS #8."
+key_form guesses.DsaPrivateKey =
+    codes "This is a DSA private key in an older form: openssl pkcs8 -topk8 -nocrypt makes it PKCS #8."
+key_form guesses.RsaPublicKey =
+    codes "This is an RSA public key in an older form (PKCS #1): openssl rsa -RSAPublicKey_in -pubout writes "
+    ++ codes "the usual one."
+key_form guesses.PrivateJwk =
+    codes "This is a private key as JSON has it (JWK): crypto.createPrivateKey of Node.js reads it."
+key_form guesses.PublicJwk =
+    codes "This is a public key as JSON has it (JWK): crypto.createPublicKey of Node.js reads it."
+key_form guesses.PrivateRsaXml = codes "This is a private key of RSA in XML: have it written as PEM."
+key_form guesses.PublicRsaXml = codes "This is a public key of RSA in XML: have it written as PEM."
+key_form guesses.OpenSshKey =
+    codes "This is a private key in OpenSSH's own form, without its label: take the file that begins with -----BEGIN."
+key_form guesses.SshPublicKey =
+    codes "This is a public key as SSH has it: of RSA and ECDSA keys ssh-keygen -e -m PKCS8 writes it as PEM."
+key_form guesses.PuttyKey =
+    codes "This is a private key of PuTTY or ssh.com: puttygen -O private-openssh writes it as PEM."
+key_form guesses.Ssh2PublicKey =
+    codes "This is a public key in lines of SSH2 (RFC 4716): ssh-keygen -i writes it in one line."
+key_form guess = []
+
 -- of what is neither PEM nor of a kind
 unfoldable pub file_form : Guess → List ℕ
-file_form guesses.Unknown = []
-file_form (guesses.Pem label) = []
-file_form (guesses.Kind kind) = []
 file_form guesses.Empty = codes "The file is empty: "
 file_form (guesses.EncryptedPem label) =
     codes "This is PEM text, encrypted in an old form: openssl pkcs8 -topk8 asks for its password, and writes "
     ++ codes "it in a newer one."
-file_form guesses.RsaPrivateKey =
-    codes "This is an RSA private key in an older form (PKCS #1): openssl pkcs8 -topk8 -nocrypt makes it PKCS #8."
-file_form guesses.RsaPublicKey =
-    codes "This is an RSA public key in an older form (PKCS #1): openssl rsa -RSAPublicKey_in -pubout writes "
-    ++ codes "the usual one."
 file_form guesses.Certificate = codes "This is a certificate."
 file_form guesses.Pkcs12 =
     codes "This is a file of keys and certificates (PKCS #12): openssl pkcs12 -nodes -nocerts writes its private key."
 file_form guesses.Hexadecimal = codes "This is text in hexadecimal figures: make it binary first, as xxd -r -p does."
+file_form guesses.Dump =
+    codes "This is a dump, hexadecimal figures with places in front: make it binary first, as xxd -r does."
 file_form guesses.Base64 = codes "This is base64 text without a label: decode it to its binary form (DER) first."
 file_form guesses.Utf16 = codes "This is text in UTF-16: save it as text in UTF-8."
 file_form guesses.Markup =
@@ -356,16 +388,14 @@ file_form guesses.Markup =
 file_form guesses.Json = codes "This is JSON: take the document out of the field that has it."
 file_form guesses.JavaKeyStore =
     codes "This is a file of keys and certificates (a key store of Java): keytool -importkeystore makes it PKCS #12."
-file_form guesses.OpenSshKey =
-    codes "This is a private key in OpenSSH's own form, without its label: take the file that begins with -----BEGIN."
-file_form guesses.SshPublicKey =
-    codes "This is a public key as SSH has it: of RSA and ECDSA keys ssh-keygen -e -m PKCS8 writes it as PEM."
 file_form guesses.Recoded = codes "The octets were taken for text: "
 file_form guesses.Replaced = codes "The octets were taken for text, and some of them are lost: "
 file_form guesses.TextLines = codes "The octets were taken for text (each 0a has a 0d before it): "
+file_form guess = key_form guess
 
 unfoldable pub form_words : Guess → List ℕ
 form_words (guesses.Pem label) = pem_form label.now
+form_words (guesses.PemBehind label) = pem_form label.now
 form_words (guesses.Kind kind) = kind_form kind.word.now
 form_words guess = file_form guess
 

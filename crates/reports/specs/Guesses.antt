@@ -36,25 +36,39 @@ labelled label =
     cond (length label == 0) (codes "this is PEM, with a label that isn't a usual one")
     (codes "this is PEM, labelled ")
 
+abbrev pub labelled_behind : List ℕ → List ℕ
+labelled_behind label =
+    cond (length label == 0) (codes "this is PEM behind other text, with a label that isn't a usual one")
+    (codes "this is PEM behind other text, labelled ")
+
 -- what the file looks like, but for the label or the kind
 unfoldable pub guess_words : Guess → List ℕ
 guess_words guesses.Unknown = []
 guess_words guesses.Empty = codes "the file is empty"
 guess_words (guesses.Pem label) = labelled label.now
+guess_words (guesses.PemBehind label) = labelled_behind label.now
 guess_words (guesses.EncryptedPem label) = codes "this is PEM, encrypted in an old form"
 guess_words (guesses.Kind kind) = codes "this is a document of kind "
 guess_words guesses.RsaPrivateKey = codes "this is an RSAPrivateKey (PKCS #1)"
 guess_words guesses.RsaPublicKey = codes "this is an RSAPublicKey (PKCS #1)"
+guess_words guesses.DsaPrivateKey = codes "this is a DSA private key in its old form"
 guess_words guesses.Certificate = codes "this is a certificate"
 guess_words guesses.Pkcs12 = codes "this is a PKCS #12 file"
 guess_words guesses.Hexadecimal = codes "this is hexadecimal"
 guess_words guesses.Base64 = codes "this is base64"
+guess_words guesses.Dump = codes "this is a dump by xxd"
 guess_words guesses.Utf16 = codes "this is a text in UTF-16"
 guess_words guesses.Markup = codes "this is HTML or XML"
 guess_words guesses.Json = codes "this is JSON"
+guess_words guesses.PrivateJwk = codes "this is a private key as JSON has it (JWK)"
+guess_words guesses.PublicJwk = codes "this is a public key as JSON has it (JWK)"
+guess_words guesses.PrivateRsaXml = codes "this is a private key of RSA in XML"
+guess_words guesses.PublicRsaXml = codes "this is a public key of RSA in XML"
 guess_words guesses.JavaKeyStore = codes "this is a key store of Java (JKS or JCEKS)"
 guess_words guesses.OpenSshKey = codes "this is a private key in OpenSSH's own format"
 guess_words guesses.SshPublicKey = codes "this is a public key as SSH has it"
+guess_words guesses.PuttyKey = codes "this is a private key of PuTTY or ssh.com"
+guess_words guesses.Ssh2PublicKey = codes "this is a public key in lines of SSH2 (RFC 4716)"
 guess_words guesses.Recoded = codes "octets that were taken for text: those from 80 on were written as UTF-8"
 guess_words guesses.Replaced = codes "octets that were taken for text: those from 80 on are lost"
 guess_words guesses.TextLines = codes "octets that were taken for text: before each 0a stands a 0d"
@@ -62,6 +76,7 @@ guess_words guesses.TextLines = codes "octets that were taken for text: before e
 -- the label of PEM, or the word of a kind
 unfoldable pub guess_name : Guess → List ℕ
 guess_name (guesses.Pem label) = label.now
+guess_name (guesses.PemBehind label) = label.now
 guess_name (guesses.Kind kind) = kind.word.now
 guess_name guess = []
 
@@ -98,7 +113,7 @@ abbrev pub private_act : List ℕ → List ℕ
 private_act label =
     cond (bytes_eq label (codes "OPENSSH PRIVATE KEY"))
     (codes "ssh-keygen -p -m PKCS8 -f COPY writes PEM of kind key over the copy, of RSA and ECDSA keys; "
-    ++ codes "of Ed25519 keys it can't")
+    ++ codes "of Ed25519 keys the manual's from_openssh writes kind key")
     (cond (bytes_eq label (codes "SM2 PRIVATE KEY"))
     (codes "decode its base64, as the manual says under Getting the octets, and read it with --kind ec")
     (codes "openssl pkcs8 -topk8 -nocrypt -in FILE -outform DER makes it kind key"))
@@ -116,52 +131,84 @@ pem_act kind label =
     (cond (is_among certificate_labels label) (certificate_act kind)
     (cond (is_among public_labels label)
     (codes "openssl rsa -RSAPublicKey_in -in FILE -pubout -outform DER makes it kind public")
-    (cond ((length label == 0) || is_among unread_labels label) (codes "pkder reads no documents of this label")
-    (codes "decode its base64, as the manual says under Getting the octets")))))
+    (cond (is_among unread_labels label) (codes "pkder reads no documents of this label")
+    (cond (length label == 0) (codes "decode its base64, as the manual says under Getting the octets, and try each kind")
+    (codes "decode its base64, as the manual says under Getting the octets"))))))
+
+-- with a private key of another form
+unfoldable pub key_act : Guess → List ℕ
+key_act guesses.RsaPrivateKey =
+    codes "openssl pkcs8 -topk8 -nocrypt -inform DER -in FILE -outform DER makes it PKCS #8"
+key_act guesses.DsaPrivateKey =
+    codes "openssl pkcs8 -topk8 -nocrypt -inform DER -in FILE -outform DER makes it PKCS #8"
+key_act guesses.PrivateJwk =
+    codes "node -p 'crypto.createPrivateKey({key: JSON.parse(fs.readFileSync(\"FILE\")), format: \"jwk\"})"
+    ++ codes ".export({type: \"pkcs8\", format: \"pem\"})' writes it in PEM; jq '.keys[0]' FILE writes "
+    ++ codes "the first of a set of them"
+key_act guesses.PrivateRsaXml = codes "have it written in PEM by a program that reads this form, as .NET and phpseclib do"
+key_act guesses.OpenSshKey = codes "take the file that begins with -----BEGIN"
+key_act guesses.PuttyKey =
+    codes "puttygen FILE -O private-openssh -o NEW writes it in PEM; go on by the first line of that"
+key_act guess = []
 
 -- what goes by what the file looks like alone
-unfoldable pub other_act : Guess → List ℕ
-other_act guesses.Empty = codes "fetch it again"
-other_act guesses.RsaPublicKey =
+unfoldable pub form_act : Guess → List ℕ
+form_act guesses.Empty = codes "fetch it again"
+form_act guesses.RsaPublicKey =
     codes "openssl rsa -RSAPublicKey_in -inform DER -in FILE -pubout -outform DER makes it kind public"
-other_act guesses.Certificate = codes "openssl x509 -inform DER -in FILE -pubkey -noout writes its public key"
-other_act guesses.Pkcs12 =
+form_act guesses.Certificate = codes "openssl x509 -inform DER -in FILE -pubkey -noout writes its public key"
+form_act guesses.Pkcs12 =
     codes "openssl pkcs12 -nodes -nocerts -in FILE writes its private key, with -legacy that of an old file"
-other_act guesses.Hexadecimal = codes "xxd -r -p FILE writes its octets"
-other_act guesses.Base64 =
+form_act guesses.Hexadecimal = codes "xxd -r -p FILE writes its octets"
+form_act guesses.Dump = codes "xxd -r FILE writes its octets"
+form_act guesses.Base64 =
     codes "tr _- /+ < FILE | base64 -d writes its octets; where padding is left out, as base64url does, "
     ++ codes "it ends with 'invalid input' after them"
-other_act guesses.Utf16 = codes "iconv -f UTF-16 -t UTF-8 FILE writes it in UTF-8; read that"
-other_act guesses.Markup = codes "fetch the file itself: this is a page, often one of an error or a login"
-other_act guesses.Json = codes "jq -r .NAME FILE writes the text of a field: take the one that has the document"
-other_act guesses.JavaKeyStore =
+form_act guesses.Utf16 = codes "iconv -f UTF-16 -t UTF-8 FILE writes it in UTF-8; read that"
+form_act guesses.Markup = codes "fetch the file itself: this is a page, often one of an error or a login"
+form_act guesses.Json = codes "jq -r .NAME FILE writes the text of a field: take the one that has the document"
+form_act guesses.JavaKeyStore =
     codes "keytool -importkeystore -srckeystore FILE -destkeystore NEW -deststoretype PKCS12 makes it PKCS #12"
-other_act guesses.SshPublicKey = codes "ssh-keygen -e -m PKCS8 -f FILE writes PEM of kind public, of RSA and ECDSA keys"
-other_act guesses.Recoded =
+form_act guesses.PublicJwk =
+    codes "node -p 'crypto.createPublicKey({key: JSON.parse(fs.readFileSync(\"FILE\")), format: \"jwk\"})"
+    ++ codes ".export({type: \"spki\", format: \"pem\"})' writes it in PEM; jq '.keys[0]' FILE writes "
+    ++ codes "the first of a set of them"
+form_act guesses.PublicRsaXml = codes "have it written in PEM by a program that reads this form, as .NET and phpseclib do"
+form_act guesses.SshPublicKey =
+    codes "ssh-keygen -e -m PKCS8 -f FILE writes PEM of kind public, of RSA, DSA and ECDSA keys; of Ed25519 keys the "
+    ++ codes "manual's from_ssh writes kind public"
+form_act guesses.Ssh2PublicKey = codes "ssh-keygen -i -f FILE > NEW writes it in a line as SSH has it; go on with that"
+form_act guesses.Recoded =
     codes "fetch it again, as binary or in PEM; iconv -f UTF-8 -t LATIN1 FILE gives the octets back, where "
     ++ codes "nothing else was done to them"
-other_act guesses.Replaced = codes "fetch it again, as binary or in PEM"
-other_act guesses.TextLines = codes "fetch it again, as binary or in PEM"
-other_act guess = []
+form_act guesses.Replaced = codes "fetch it again, as binary or in PEM"
+form_act guesses.TextLines = codes "fetch it again, as binary or in PEM"
+form_act guess = []
+
+-- but for PEM and other kinds
+unfoldable pub other_act : List ℕ → Guess → List ℕ
+other_act kind guesses.RsaPrivateKey = lost_or (is_request kind) (key_act guesses.RsaPrivateKey)
+other_act kind guesses.DsaPrivateKey = lost_or (is_request kind) (key_act guesses.DsaPrivateKey)
+other_act kind guesses.PrivateJwk = lost_or (is_request kind) (key_act guesses.PrivateJwk)
+other_act kind guesses.PrivateRsaXml = lost_or (is_request kind) (key_act guesses.PrivateRsaXml)
+other_act kind guesses.OpenSshKey = lost_or (is_request kind) (key_act guesses.OpenSshKey)
+other_act kind guesses.PuttyKey = lost_or (is_request kind) (key_act guesses.PuttyKey)
+other_act kind guess = form_act guess
 
 -- a certificate in DER in place of a request, and others
 abbrev pub der_act : List ℕ → Guess → List ℕ
 der_act kind guesses.Certificate =
-    cond (is_request kind) (codes "send the request that it was made of") (other_act guesses.Certificate)
-der_act kind guess = other_act guess
+    cond (is_request kind) (codes "send the request that it was made of") (other_act kind guesses.Certificate)
+der_act kind guess = other_act kind guess
 
 -- what to do with a file that looks so, where a document of this kind was wanted; but for the word of another kind
 abbrev pub act_words : List ℕ → Guess → List ℕ
 act_words kind (guesses.Pem label) = pem_act kind label.now
+act_words kind (guesses.PemBehind label) = pem_act kind label.now
 act_words kind (guesses.EncryptedPem label) =
     lost_or (is_lost_label kind label.now)
     (codes "openssl pkcs8 -topk8 -in FILE -outform DER asks for its password, and makes it kind encrypted")
 act_words kind (guesses.Kind other) = lost_or (is_lost_kind kind other.word.now) (codes "read it with --kind ")
-act_words kind guesses.RsaPrivateKey =
-    lost_or (is_request kind)
-    (codes "openssl pkcs8 -topk8 -nocrypt -inform DER -in FILE -outform DER makes it PKCS #8")
-act_words kind guesses.OpenSshKey =
-    lost_or (is_request kind) (codes "take the file that begins with -----BEGIN")
 act_words kind guess = der_act kind guess
 
 -- the word of another kind, which it is to be read as

@@ -11,6 +11,7 @@ use Rattle.pkix_shapes.specs.declared.identifiers.Identifier.{Identifier}
 use Rattle.reports.specs.Remarks.{algorithm_remark_said, attribute_remark_said, extension_remark_said, key_remark_said}
 use Rattle.reports.specs.Remarks.{name_remark_said, tls_remark_said}
 use Rattle.reports.specs.Seen.{seen_of}
+use Rattle.reports.specs.Texts.{octet_text}
 use Rattle.reports.specs.Words.{place_said, sized}
 use Rattle.reports.specs.declared.report.Answer.{Answer}
 use Rattle.reports.specs.declared.report.Answer.TheVariants.{Der, NotDer, Refused}
@@ -66,7 +67,8 @@ reason_act report fault =
 abbrev pub signed_words : List ℕ → List ℕ
 signed_words kind =
     cond (bytes_eq kind (codes "request"))
-    (codes ", and verify the signature over the octets as they came; where that fails, over what pkder signed writes")
+    (codes ", and verify the signature over the octets as they came, which pkder signed --part received writes; "
+    ++ codes "where that fails, over what pkder signed writes")
     []
 
 abbrev pub sound_words : List ℕ
@@ -104,6 +106,12 @@ unfoldable pub point_size_said : ℕ → List ℕ
 point_size_said octets =
     codes "a point of " ++ sized octets ++ codes ", which none of this curve has (RFC 5480 section 2.2)"
 
+-- a point whose first octet says another form than its length
+unfoldable pub point_said : ℕ → List ℕ
+point_said octet =
+    codes "a point whose first octet is " ++ octet_text octet
+    ++ codes ", which none of its length has (RFC 5480 section 2.2)"
+
 unfoldable pub several_values_said : ℕ → List ℕ
 several_values_said count = decimal count ++ codes " values of an attribute that has one (RFC 2985 section 5.4)"
 
@@ -130,6 +138,7 @@ refused_value_said name at why =
 unfoldable pub remark_said : Remark → List ℕ
 remark_said (remarks.PointSize octets) = point_size_said octets
 remark_said remarks.PointBits = codes "a point with unused bits (RFC 5480 section 2.2)"
+remark_said (remarks.PointHybrid octet) = point_said octet
 remark_said remarks.NoNamedCurve = codes "id-ecPublicKey without a named curve (RFC 5480 section 2.1.1)"
 remark_said remarks.ExtensionTwice = codes "an extension that stands there before (RFC 5280 section 4.2)"
 remark_said remarks.AttributeTwice = codes "an attribute that stands there before (RFC 2986 section 4.1)"

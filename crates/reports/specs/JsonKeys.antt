@@ -15,7 +15,7 @@ use Rattle.reports.specs.declared.report.Value.TheVariants as values
 -- A key and a signature: the algorithm, what its parameters name, how long a public key is, and what one of RSA has.
 
 abbrev pub size_member : Value → List Token
-size_member (values.Bits octets unused) = number_member (codes "octets") octets
+size_member (values.Bits octets unused first) = number_member (codes "octets") octets
 size_member value = []
 
 -- the size, and what the key is as one of its type

@@ -10,12 +10,12 @@ use Rattle.tlv_core.specs.Identifier.{Tag}
 use Rattle.tlv_core.specs.Reasons.{name_of}
 use Rattle.tlv_core.specs.declared.reason.Reason.{Reason}
 use Rattle.asn_names.specs.declared.element.Step.{Step}
-use Rattle.asn_names.specs.declared.judgement.Judgement.{Judgement}
-use Rattle.asn_names.specs.declared.judgement.Judgement.TheVariants as judgements
 use Rattle.pkix_shapes.specs.declared.identifiers.Identifier.{Identifier}
 use Rattle.reports.specs.declared.json_lists.Marked.{Marked}
 use Rattle.reports.specs.declared.report.AttributeRemark.{AttributeRemark}
 use Rattle.reports.specs.declared.report.AttributeRemark.TheVariants as attributes
+use Rattle.reports.specs.declared.report.Carried.{Carried}
+use Rattle.reports.specs.declared.report.Carried.TheVariants as carried
 use Rattle.reports.specs.declared.report.Cause.{Cause}
 use Rattle.reports.specs.declared.report.KeyRemark.{KeyRemark}
 use Rattle.reports.specs.declared.report.KeyRemark.TheVariants as keys
@@ -76,7 +76,7 @@ unfoldable pub value_members : Value → List Token
 value_members values.Nothing = []
 value_members values.NotShown = boolean_member (codes "shown") false
 value_members (values.Size octets) = number_member (codes "octets") octets
-value_members (values.Bits octets unused) =
+value_members (values.Bits octets unused first) =
     number_member (codes "octets") octets ++ number_member (codes "unused_bits") unused
 value_members values.Null = boolean_member (codes "null") true
 value_members (values.Boolean value) = boolean_member (codes "boolean") value
@@ -92,7 +92,7 @@ abbrev pub is_nothing : Value → Bool
 is_nothing values.Nothing = true
 is_nothing values.NotShown = false
 is_nothing (values.Size octets) = false
-is_nothing (values.Bits octets unused) = false
+is_nothing (values.Bits octets unused first) = false
 is_nothing values.Null = false
 is_nothing (values.Boolean value) = false
 is_nothing (values.Number number) = false
@@ -115,13 +115,13 @@ unfoldable pub place_members : ℕ → Reason → List Token
 place_members at why = number_member (codes "at") at ++ text_member (codes "reason") (name_of why)
 
 -- what the contents of an extension are as a value of its type
-unfoldable pub judgement_members : Judgement → List Token
-judgement_members judgements.Der = text_member (codes "verdict") (codes "der")
-judgement_members judgements.NotDer = text_member (codes "verdict") (codes "not_der")
-judgement_members (judgements.Refused fault) =
-    text_member (codes "verdict") (codes "refused") ++ place_members fault.at fault.why
+unfoldable pub judgement_members : Carried → List Token
+judgement_members carried.Der = text_member (codes "verdict") (codes "der")
+judgement_members carried.NotDer = text_member (codes "verdict") (codes "not_der")
+judgement_members (carried.Refused at why) =
+    text_member (codes "verdict") (codes "refused") ++ place_members at why
 
-abbrev pub carried_member : Judgement → List Token
+abbrev pub carried_member : Carried → List Token
 carried_member judgement = object_member (codes "carries") (judgement_members judgement)
 
 -- an element
@@ -211,6 +211,7 @@ tls_remark_members tls.NamesNotCritical = []
 unfoldable pub remark_members : Remark → List Token
 remark_members (remarks.PointSize octets) = number_member (codes "octets") octets
 remark_members remarks.PointBits = []
+remark_members (remarks.PointHybrid octet) = number_member (codes "first_octet") octet
 remark_members remarks.NoNamedCurve = []
 remark_members remarks.ExtensionTwice = []
 remark_members remarks.AttributeTwice = []

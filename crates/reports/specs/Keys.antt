@@ -1,9 +1,9 @@
 -- A key and a signature in words: the algorithm, what its parameters name, and how long a public key is.
 use Rattle.std.specs.Prelude.{Bool, List, None, Option, Some, [], codes, cond, decimal, false, length, min, nat_le, ℕ, ◌&&◌, ◌*◌, ◌+◌, ◌++◌, ◌-◌, ◌==◌, ◌^◌, ◌∷◌}
 use Rattle.std.specs.Int.{leading_zeros, w64}
-use Rattle.asn_names.specs.declared.judgement.Judgement.{Judgement}
-use Rattle.asn_names.specs.declared.judgement.Judgement.TheVariants.{Der, NotDer, Refused}
 use Rattle.reports.specs.Asks.{each_in, first_octets, identifier_said, is_identifier, is_step, value_said}
+use Rattle.reports.specs.declared.report.Carried.{Carried}
+use Rattle.reports.specs.declared.report.Carried.TheVariants.{Der, NotDer, Refused}
 use Rattle.reports.specs.declared.report.Line.{Line}
 use Rattle.reports.specs.declared.report.Value.{Value}
 use Rattle.reports.specs.declared.report.Value.TheVariants as values
@@ -73,11 +73,11 @@ unfoldable pub key_octets : Line → List ℕ → List ℕ
 key_octets line end = codes ", " ++ value_said false line.tag line.value ++ end
 
 -- how long a public key is that isn't said by its elements
-abbrev pub key_size : Line → Option Judgement → List ℕ
+abbrev pub key_size : Line → Option Carried → List ℕ
 key_size line None = key_octets line []
 key_size line (Some Der) = []
 key_size line (Some NotDer) = key_octets line (codes ", not in DER")
-key_size line (Some (Refused fault)) = key_octets line (codes ", not of its type")
+key_size line (Some (Refused at why)) = key_octets line (codes ", not of its type")
 
 unfoldable pub key_part : Line → List ℕ
 key_part line =

@@ -98,7 +98,7 @@ abbrev pub shown : Line → Value → List ℕ
 shown line values.Nothing = unread line
 shown line values.NotShown = codes ", not shown"
 shown line (values.Size octets) = sized_part line octets
-shown line (values.Bits octets unused) = sized_part line octets ++ unused_part unused
+shown line (values.Bits octets unused first) = sized_part line octets ++ unused_part unused
 shown line values.Null = codes ": NULL"
 shown line (values.Boolean value) = cond value (codes ": TRUE") (codes ": FALSE")
 shown line (values.Number number) = codes ": " ++ decimal number

@@ -29,6 +29,7 @@ seen_likely seen.InSegments =
 seen_likely (seen.KeyInSegments begin) =
     codes "it is marked as a string in segments, and holds something else: a fault of its writer"
 seen_likely seen.NoSet = codes "a value without the SET around it: a fault of its writer"
+seen_likely seen.MaybeNoSet = codes "a value without the SET around it, or a damaged octet"
 seen_likely (seen.After after) = []
 
 -- an element of another type by its place in the file
@@ -83,7 +84,8 @@ fault_likely kind what fault = seen_likely what
 -- with other parameters than NULL beside an algorithm that has none, and with NULL
 abbrev pub beside_act : List ℕ → List ℕ
 beside_act kind =
-    cond (is_request kind) (codes "a new request, by a program that leaves them out")
+    cond (is_request kind)
+    (codes "a new request, by a program that leaves them out: its signature is over its key's parameters, too")
     (codes "have it written anew by a program that leaves them out")
 
 abbrev pub null_act : List ℕ → List ℕ
@@ -127,6 +129,7 @@ seen_act kind seen.NoCurve =
     ++ codes "place, holds: read it with --kind ec"
 seen_act kind seen.WrittenOut = written_act kind
 seen_act kind seen.NoSet = set_act kind
+seen_act kind seen.MaybeNoSet = set_act kind
 seen_act kind what = codes "refuse it"
 
 -- with a number that isn't in the fewest octets
@@ -136,6 +139,16 @@ integer_act kind =
     (codes "openssl pkcs8 -topk8 -nocrypt -inform DER -in FILE -outform DER writes the numbers of an RSA key anew")
     (advice_of BadInteger).act
 
+-- with a private key that hasn't the length of its curve
+abbrev pub length_act : List ℕ → List ℕ
+length_act kind =
+    cond (is_ec kind)
+    (codes "openssl ec -inform DER -in FILE -outform DER writes it anew; compare the public keys")
+    (cond (is_key kind)
+    (codes "first see that both curves are one (openssl asn1parse); openssl pkcs8 -topk8 -nocrypt -inform DER "
+    ++ codes "-in FILE -outform DER writes an EC key anew; compare the public keys")
+    (advice_of KeyLength).act)
+
 -- with what is inside privateKey, of which no place is one of the file
 abbrev pub act_inside : List ℕ → Reason → List ℕ
 act_inside kind WrongTag = codes "refuse it"
@@ -144,6 +157,7 @@ act_inside kind Truncated = codes "refuse it"
 act_inside kind Version = codes "refuse it"
 act_inside kind Trailing = codes "have the key written anew by its own tool"
 act_inside kind BadInteger = integer_act kind
+act_inside kind KeyLength = length_act kind
 act_inside kind why = (advice_of why).act
 
 -- where another type was due
@@ -156,13 +170,9 @@ version_act kind =
     (codes "see the manual's table of other kinds and formats; else refuse it")
 
 abbrev pub parameters_act : List ℕ → List ℕ
-parameters_act kind = cond (is_request kind) (beside_act kind) (advice_of Parameters).act
-
-abbrev pub length_act : List ℕ → List ℕ
-length_act kind =
-    cond (is_ec kind)
-    (codes "openssl ec -inform DER -in FILE -outform DER writes it anew; compare the public keys")
-    (advice_of KeyLength).act
+parameters_act kind =
+    cond (is_request kind) (beside_act kind)
+    (codes "have it written anew, as the manual says under Getting the octets")
 
 abbrev pub version_rule_act : List ℕ → List ℕ
 version_rule_act kind =

@@ -49,6 +49,7 @@ extension_code extensions.SignWithoutCa = codes "certsign_without_ca"
 extension_code extensions.PathWithoutCa = codes "pathlen_without_ca"
 extension_code extensions.OldRequest = codes "old_extension_request"
 extension_code extensions.EmptySubject = codes "empty_subject"
+extension_code extensions.NoAttributes = codes "no_attributes"
 
 abbrev pub algorithm_code : AlgorithmRemark → List ℕ
 algorithm_code algorithms.Sha1 = codes "sha1"
@@ -72,6 +73,7 @@ tls_code tls.NamesNotCritical = codes "san_not_critical"
 abbrev pub remark_code : Remark → List ℕ
 remark_code (remarks.PointSize octets) = codes "point_size"
 remark_code remarks.PointBits = codes "point_bits"
+remark_code (remarks.PointHybrid octet) = codes "point_hybrid"
 remark_code remarks.NoNamedCurve = codes "no_named_curve"
 remark_code remarks.ExtensionTwice = codes "extension_twice"
 remark_code remarks.AttributeTwice = codes "attribute_twice"
@@ -120,13 +122,14 @@ attribute_level (attributes.Long characters most) = codes "must"
 attribute_level attributes.Blank = codes "should"
 
 -- Only the attribute extensionRequest has a standard, and a subject may be empty for other names (RFC 5280 section
--- 4.1.2.6), which an issuer may add.
+-- 4.1.2.6), which an issuer may add. Requests without attributes are in use, and many readers take them.
 abbrev pub extension_level : ExtensionRemark → List ℕ
 extension_level extensions.NoUsage = codes "must"
 extension_level extensions.SignWithoutCa = codes "must"
 extension_level extensions.PathWithoutCa = codes "must"
 extension_level extensions.OldRequest = codes "should"
 extension_level extensions.EmptySubject = codes "should"
+extension_level extensions.NoAttributes = codes "should"
 
 -- NIST SP 800-131A and RFC 6151 advise on digests.
 abbrev pub algorithm_level : AlgorithmRemark → List ℕ
@@ -152,6 +155,7 @@ tls_level tls.NamesNotCritical = codes "must"
 abbrev pub remark_level : Remark → List ℕ
 remark_level (remarks.PointSize octets) = codes "must"
 remark_level remarks.PointBits = codes "must"
+remark_level (remarks.PointHybrid octet) = codes "must"
 remark_level remarks.NoNamedCurve = codes "must"
 remark_level remarks.ExtensionTwice = codes "must"
 remark_level remarks.AttributeTwice = codes "must"
@@ -244,6 +248,8 @@ extension_remark_said extensions.OldRequest =
     codes "Microsoft's attribute in place of extensionRequest (RFC 2985 section 5.4.2)"
 extension_remark_said extensions.EmptySubject =
     codes "a subject without an attribute, and no subjectAltName (RFC 5280 section 4.1.2.6)"
+extension_remark_said extensions.NoAttributes =
+    codes "no field attributes, which a request has even where it is empty (RFC 2986 section 4.1)"
 
 -- what is said of an algorithm
 unfoldable pub algorithm_remark_said : AlgorithmRemark → List ℕ

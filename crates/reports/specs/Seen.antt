@@ -1,5 +1,5 @@
 -- What a report shows of the cause of a fault, where its reason alone doesn't say it.
-use Rattle.std.specs.Prelude.{Bool, List, None, Option, Some, [], codes, cond, drop, false, is_some, length, nat_lt, slice_get, ℕ, ◌&&◌, ◌-◌, ◌==◌, ◌||◌, ◌∷◌}
+use Rattle.std.specs.Prelude.{Bool, List, None, Option, Some, [], codes, cond, drop, false, is_some, length, nat_lt, not, slice_get, ℕ, ◌&&◌, ◌-◌, ◌==◌, ◌||◌, ◌∷◌}
 use Rattle.std.specs.Str.{bytes_eq}
 use Rattle.asn_names.specs.declared.element.Step.{Step}
 use Rattle.tlv_core.specs.declared.fault.Fault.{Fault}
@@ -110,16 +110,17 @@ is_written_out kind diagnosis =
     bytes_eq kind (codes "ec")
     && (begins_in (codes "parameters") diagnosis.path.items && is_universal 16 diagnosis.found)
 
-abbrev pub is_bare_value : Diagnosis → Bool
-is_bare_value diagnosis =
-    ends_in (codes "values") diagnosis.path.items
-    && (is_universal 16 diagnosis.found || is_universal 12 diagnosis.found)
+-- what is in the place of the SET of an attribute's values: another type of X.680, or what isn't shown
+abbrev pub no_set : Option Found → Seen
+no_set None = seen.MaybeNoSet
+no_set (Some found) = cond ((found.tag.class == 0) && not (found.tag.number == 17)) seen.NoSet seen.Nothing
 
 -- of an element of another type than is due
 abbrev pub wrong_tag : List ℕ → ℕ → List Line → Diagnosis → Seen
 wrong_tag kind at lines diagnosis =
     cond (is_written_out kind diagnosis) seen.WrittenOut
-    (cond (is_bare_value diagnosis) seen.NoSet (in_key kind at lines diagnosis))
+    (cond (ends_in (codes "values") diagnosis.path.items) (no_set diagnosis.found)
+    (in_key kind at lines diagnosis))
 
 -- what the octets after the document are
 abbrev pub after_document : After → Seen

@@ -53,7 +53,7 @@ pub fn advice_on(why: Reason) -> Advice
         Reason::WrongTag => Advice {
             means: "another type stands at P than is due there",
             likely: "at 0 PEM or text, at 2 to 13 another kind of document; else a damaged octet, a \
-                curve that is written out",
+                curve that is written out, an attribute's value without its SET",
             act: "see the manual's table of other kinds and formats",
         },
         Reason::Extra => Advice {
@@ -132,7 +132,8 @@ pub fn advice_on(why: Reason) -> Advice
             means: "an algorithm with parameters that it may not have, or an EC key without a named \
                 curve",
             likely: "NULL beside Ed25519, a curve that is written out",
-            act: "have it written anew, as the manual says under Getting the octets",
+            act: "have a key written anew, as the manual says under Getting the octets; of a request \
+                a new one, by another program: its signature is over its key's parameters, too",
         },
         Reason::Inner => Advice {
             means: "what is inside privateKey isn't the key that the algorithm asks for; the place \

@@ -37,6 +37,7 @@ fn document_words(guess: Guess) -> &'static str
         Guess::Kind(_) => "another document after it, of kind ",
         Guess::RsaPrivateKey => "an RSAPrivateKey (PKCS #1) after it",
         Guess::RsaPublicKey => "an RSAPublicKey (PKCS #1) after it",
+        Guess::DsaPrivateKey => "a DSA private key after it",
         Guess::Certificate => "a certificate after it",
         Guess::Pkcs12 => "a PKCS #12 file after it",
         _ => "octets after it that are no end of line, no zeros and no document that pkder knows",

@@ -12,12 +12,11 @@ ghost use Rattle.reports.specs.Asks.{usual_name, value_said, value_size};
 
 use crate::letters::push_letters;
 use crate::picks::up_to;
-use crate::report::{Answer, Length, Line, Report, Value};
+use crate::report::{Answer, Carried, Length, Line, Report, Value};
 use crate::text::push_number;
 use crate::usages::push_usages;
 use crate::words::push_size;
 use asn_names::element::Step;
-use asn_names::judgement::Judgement;
 use std::alloc::{AllocError, Global};
 use tlv_core::tag::Tag;
 
@@ -247,7 +246,7 @@ pub(crate) fn push_value(
     match value {
         Value::Nothing => text.push_str("constructed"),
         Value::NotShown => text.push_str("not shown"),
-        Value::Size(octets) | Value::Bits(octets, _) => push_size(text, *octets),
+        Value::Size(octets) | Value::Bits(octets, _, _) => push_size(text, *octets),
         Value::Null => text.push_str("NULL"),
         Value::Boolean(is) => text.push_str(if *is { "TRUE" } else { "FALSE" }),
         Value::Number(number) => push_number(text, *number),
@@ -547,9 +546,9 @@ fn push_carried(alloc: Global, text: &mut String, line: &Line) -> Result<(), All
 {
     match line.carries {
         None => push_unknown(alloc, text, line),
-        Some(Judgement::Der) => Ok(()),
-        Some(Judgement::NotDer) => push_told(text, "not in DER"),
-        Some(Judgement::Refused(_)) => push_told(text, "not of its type"),
+        Some(Carried::Der) => Ok(()),
+        Some(Carried::NotDer) => push_told(text, "not in DER"),
+        Some(Carried::Refused(..)) => push_told(text, "not of its type"),
     }
 }
 

@@ -4,7 +4,8 @@ ghost use Rattle.std.specs.Prelude.{◌≡◌, ◌++◌, IfOk, OnOk, string_byte
 ghost use Rattle.reports.specs.Briefs.{accepted_said, accepted_words, asked_words, brief_line, brief_said, file_form};
 ghost use Rattle.reports.specs.Briefs.{form_end, form_said, form_words, guess_brief, harm_at, harm_inside, harm_of};
 ghost use Rattle.reports.specs.Briefs.{harm_said, instead_act, instead_said, instead_words, is_due};
-ghost use Rattle.reports.specs.Briefs.{is_key_label, is_sent, is_short, kept_words, kind_form, line_brief, lines_brief};
+ghost use Rattle.reports.specs.Briefs.{is_key_label, is_sent, is_short, key_form, key_of, kept_words, kind_form};
+ghost use Rattle.reports.specs.Briefs.{line_brief, lines_brief};
 ghost use Rattle.reports.specs.Briefs.{lost_words, notes_words, once_more, pem_form, plain_words, public_act};
 ghost use Rattle.reports.specs.Briefs.{refused_brief, request_act, sent_end, sent_words, sound_words, thing_labelled};
 ghost use Rattle.reports.specs.Briefs.{thing_of, thing_of_kind, thing_words, way_words, wrong_tag_harm};
@@ -422,7 +423,7 @@ fn thing_of(guess: Guess) -> Thing
     ensures { result ≡ thing_of guess }
 {
     match guess {
-        Guess::Pem(label) => thing_labelled(label),
+        Guess::Pem(label) | Guess::PemBehind(label) => thing_labelled(label),
         Guess::EncryptedPem(label) => {
             if is_key_label(label) {
                 Thing::EncryptedKey
@@ -431,11 +432,29 @@ fn thing_of(guess: Guess) -> Thing
             }
         }
         Guess::Kind(kind) => thing_of_kind(kind.word),
-        Guess::RsaPrivateKey | Guess::OpenSshKey => Thing::PrivateKey,
-        Guess::RsaPublicKey | Guess::SshPublicKey => Thing::PublicKey,
         Guess::Certificate => Thing::Certificate,
         Guess::Pkcs12 => Thing::Pkcs12,
         Guess::JavaKeyStore => Thing::KeyStore,
+        _ => key_of(guess),
+    }
+}
+
+/// A key of a form that no kind has.
+fn key_of(guess: Guess) -> Thing
+    ensures { result ≡ key_of guess }
+{
+    match guess {
+        Guess::RsaPrivateKey
+        | Guess::DsaPrivateKey
+        | Guess::PrivateJwk
+        | Guess::PrivateRsaXml
+        | Guess::OpenSshKey
+        | Guess::PuttyKey => Thing::PrivateKey,
+        Guess::RsaPublicKey
+        | Guess::PublicJwk
+        | Guess::PublicRsaXml
+        | Guess::SshPublicKey
+        | Guess::Ssh2PublicKey => Thing::PublicKey,
         _ => Thing::Unknown,
     }
 }
@@ -606,7 +625,7 @@ fn form_words(guess: Guess) -> &'static str
     ensures { result.now ≡ form_words guess }
 {
     match guess {
-        Guess::Pem(label) => pem_form(label),
+        Guess::Pem(label) | Guess::PemBehind(label) => pem_form(label),
         Guess::Kind(kind) => kind_form(kind.word),
         _ => file_form(guess),
     }
@@ -627,8 +646,10 @@ fn pem_form(label: &str) -> &'static str
     } else if is_among(label, PUBLIC_LABELS) {
         "This is a public key in an older form, as PEM text: openssl rsa -RSAPublicKey_in -pubout \
             writes the usual one."
-    } else if label.is_empty() || is_among(label, UNREAD_LABELS) {
+    } else if is_among(label, UNREAD_LABELS) {
         "This is PEM text of something that pkder doesn't read."
+    } else if label.is_empty() {
+        "This is PEM text with a label that isn't a usual one: decode it to its binary form (DER) first."
     } else {
         "This is PEM text: decode it to its binary form (DER) first."
     }
@@ -655,19 +676,10 @@ fn file_form(guess: Guess) -> &'static str
     ensures { result.now ≡ file_form guess }
 {
     match guess {
-        Guess::Unknown | Guess::Pem(_) | Guess::Kind(_) => "",
         Guess::Empty => "The file is empty: ",
         Guess::EncryptedPem(_) => {
             "This is PEM text, encrypted in an old form: openssl pkcs8 -topk8 asks for its password, \
                 and writes it in a newer one."
-        }
-        Guess::RsaPrivateKey => {
-            "This is an RSA private key in an older form (PKCS #1): openssl pkcs8 -topk8 -nocrypt makes it \
-                PKCS #8."
-        }
-        Guess::RsaPublicKey => {
-            "This is an RSA public key in an older form (PKCS #1): openssl rsa -RSAPublicKey_in \
-                -pubout writes the usual one."
         }
         Guess::Certificate => "This is a certificate.",
         Guess::Pkcs12 => {
@@ -676,6 +688,8 @@ fn file_form(guess: Guess) -> &'static str
         }
         Guess::Hexadecimal =>
             "This is text in hexadecimal figures: make it binary first, as xxd -r -p does.",
+        Guess::Dump =>
+            "This is a dump, hexadecimal figures with places in front: make it binary first, as xxd -r does.",
         Guess::Base64 =>
             "This is base64 text without a label: decode it to its binary form (DER) first.",
         Guess::Utf16 => "This is text in UTF-16: save it as text in UTF-8.",
@@ -686,6 +700,35 @@ fn file_form(guess: Guess) -> &'static str
             "This is a file of keys and certificates (a key store of Java): keytool -importkeystore \
                 makes it PKCS #12."
         }
+        Guess::Recoded => "The octets were taken for text: ",
+        Guess::Replaced => "The octets were taken for text, and some of them are lost: ",
+        Guess::TextLines => "The octets were taken for text (each 0a has a 0d before it): ",
+        _ => key_form(guess),
+    }
+}
+
+/// Of a key of a form that no kind has.
+#[tactic(auto, unfolding(crate::specs::Briefs::key_form))]
+fn key_form(guess: Guess) -> &'static str
+    ensures { result.now ≡ key_form guess }
+{
+    match guess {
+        Guess::RsaPrivateKey => {
+            "This is an RSA private key in an older form (PKCS #1): openssl pkcs8 -topk8 -nocrypt makes it \
+                PKCS #8."
+        }
+        Guess::DsaPrivateKey =>
+            "This is a DSA private key in an older form: openssl pkcs8 -topk8 -nocrypt makes it PKCS #8.",
+        Guess::RsaPublicKey => {
+            "This is an RSA public key in an older form (PKCS #1): openssl rsa -RSAPublicKey_in \
+                -pubout writes the usual one."
+        }
+        Guess::PrivateJwk =>
+            "This is a private key as JSON has it (JWK): crypto.createPrivateKey of Node.js reads it.",
+        Guess::PublicJwk =>
+            "This is a public key as JSON has it (JWK): crypto.createPublicKey of Node.js reads it.",
+        Guess::PrivateRsaXml => "This is a private key of RSA in XML: have it written as PEM.",
+        Guess::PublicRsaXml => "This is a public key of RSA in XML: have it written as PEM.",
         Guess::OpenSshKey => {
             "This is a private key in OpenSSH's own form, without its label: take the file that begins \
                 with -----BEGIN."
@@ -694,9 +737,11 @@ fn file_form(guess: Guess) -> &'static str
             "This is a public key as SSH has it: of RSA and ECDSA keys ssh-keygen -e -m PKCS8 writes \
                 it as PEM."
         }
-        Guess::Recoded => "The octets were taken for text: ",
-        Guess::Replaced => "The octets were taken for text, and some of them are lost: ",
-        Guess::TextLines => "The octets were taken for text (each 0a has a 0d before it): ",
+        Guess::PuttyKey =>
+            "This is a private key of PuTTY or ssh.com: puttygen -O private-openssh writes it as PEM.",
+        Guess::Ssh2PublicKey =>
+            "This is a public key in lines of SSH2 (RFC 4716): ssh-keygen -i writes it in one line.",
+        _ => "",
     }
 }
 

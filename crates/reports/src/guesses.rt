@@ -1,7 +1,7 @@
 //! What a file looks like that isn't what was asked for, and what to do with it.
 ghost use Rattle.std.specs.Prelude.{◌≡◌, ◌++◌, OnOk, map, string_bytes};
 ghost use Rattle.reports.specs.Guesses.{act_name, act_words, guess_act, guess_name, guess_said, guess_words, is_among};
-ghost use Rattle.reports.specs.Guesses.{labelled};
+ghost use Rattle.reports.specs.Guesses.{form_act, key_act, labelled, labelled_behind};
 ghost use Rattle.reports.specs.Guesses.{is_lost_kind, is_lost_label, other_act, pem_act, private_act, lost_or};
 
 use crate::report::Guess;
@@ -54,20 +54,29 @@ fn guess_words(guess: Guess) -> &'static str
         Guess::Unknown => "",
         Guess::Empty => "the file is empty",
         Guess::Pem(label) => labelled(label),
+        Guess::PemBehind(label) => labelled_behind(label),
         Guess::EncryptedPem(_) => "this is PEM, encrypted in an old form",
         Guess::Kind(_) => "this is a document of kind ",
         Guess::RsaPrivateKey => "this is an RSAPrivateKey (PKCS #1)",
         Guess::RsaPublicKey => "this is an RSAPublicKey (PKCS #1)",
+        Guess::DsaPrivateKey => "this is a DSA private key in its old form",
         Guess::Certificate => "this is a certificate",
         Guess::Pkcs12 => "this is a PKCS #12 file",
         Guess::Hexadecimal => "this is hexadecimal",
         Guess::Base64 => "this is base64",
+        Guess::Dump => "this is a dump by xxd",
         Guess::Utf16 => "this is a text in UTF-16",
         Guess::Markup => "this is HTML or XML",
         Guess::Json => "this is JSON",
+        Guess::PrivateJwk => "this is a private key as JSON has it (JWK)",
+        Guess::PublicJwk => "this is a public key as JSON has it (JWK)",
+        Guess::PrivateRsaXml => "this is a private key of RSA in XML",
+        Guess::PublicRsaXml => "this is a public key of RSA in XML",
         Guess::JavaKeyStore => "this is a key store of Java (JKS or JCEKS)",
         Guess::OpenSshKey => "this is a private key in OpenSSH's own format",
         Guess::SshPublicKey => "this is a public key as SSH has it",
+        Guess::PuttyKey => "this is a private key of PuTTY or ssh.com",
+        Guess::Ssh2PublicKey => "this is a public key in lines of SSH2 (RFC 4716)",
         Guess::Recoded => "octets that were taken for text: those from 80 on were written as UTF-8",
         Guess::Replaced => "octets that were taken for text: those from 80 on are lost",
         Guess::TextLines => "octets that were taken for text: before each 0a stands a 0d",
@@ -85,13 +94,24 @@ fn labelled(label: &str) -> &'static str
     }
 }
 
+/// The same behind other text.
+fn labelled_behind(label: &str) -> &'static str
+    ensures { result.now ≡ labelled_behind label.now }
+{
+    if label.is_empty() {
+        "this is PEM behind other text, with a label that isn't a usual one"
+    } else {
+        "this is PEM behind other text, labelled "
+    }
+}
+
 /// The label of PEM, or the word of a kind.
 #[tactic(auto, unfolding(crate::specs::Guesses::guess_name))]
 fn guess_name(guess: Guess) -> &'static str
     ensures { result.now ≡ guess_name guess }
 {
     match guess {
-        Guess::Pem(label) => label,
+        Guess::Pem(label) | Guess::PemBehind(label) => label,
         Guess::Kind(kind) => kind.word,
         _ => "",
     }
@@ -111,23 +131,15 @@ fn act_words(kind: &str, guess: Guess) -> &'static str
     ensures { result.now ≡ act_words kind.now guess }
 {
     match guess {
-        Guess::Pem(label) => pem_act(kind, label),
+        Guess::Pem(label) | Guess::PemBehind(label) => pem_act(kind, label),
         Guess::EncryptedPem(label) => lost_or(
             is_lost_label(kind, label),
             "openssl pkcs8 -topk8 -in FILE -outform DER asks for its password, and makes it kind \
                 encrypted",
         ),
         Guess::Kind(other) => lost_or(is_lost_kind(kind, other.word), "read it with --kind "),
-        Guess::RsaPrivateKey => lost_or(
-            kind == "request",
-            "openssl pkcs8 -topk8 -nocrypt -inform DER -in FILE -outform DER makes it PKCS #8",
-        ),
-        Guess::OpenSshKey => lost_or(
-            kind == "request",
-            "take the file that begins with -----BEGIN",
-        ),
         Guess::Certificate if kind == "request" => "send the request that it was made of",
-        _ => other_act(guess),
+        _ => other_act(kind, guess),
     }
 }
 
@@ -147,10 +159,49 @@ fn act_name(kind: &str, guess: Guess) -> &'static str
     }
 }
 
-/// What goes by what the file looks like alone.
+/// But for PEM and other kinds.
 #[tactic(auto, unfolding(crate::specs::Guesses::other_act))]
-fn other_act(guess: Guess) -> &'static str
-    ensures { result.now ≡ other_act guess }
+fn other_act(kind: &str, guess: Guess) -> &'static str
+    ensures { result.now ≡ other_act kind.now guess }
+{
+    match guess {
+        Guess::RsaPrivateKey
+        | Guess::DsaPrivateKey
+        | Guess::PrivateJwk
+        | Guess::PrivateRsaXml
+        | Guess::OpenSshKey
+        | Guess::PuttyKey => lost_or(kind == "request", key_act(guess)),
+        _ => form_act(guess),
+    }
+}
+
+/// With a private key of another form.
+#[tactic(auto, unfolding(crate::specs::Guesses::key_act))]
+fn key_act(guess: Guess) -> &'static str
+    ensures { result.now ≡ key_act guess }
+{
+    match guess {
+        Guess::RsaPrivateKey | Guess::DsaPrivateKey =>
+            "openssl pkcs8 -topk8 -nocrypt -inform DER -in FILE -outform DER makes it PKCS #8",
+        Guess::PrivateJwk => {
+            "node -p 'crypto.createPrivateKey({key: JSON.parse(fs.readFileSync(\"FILE\")), format: \"jwk\"})\
+                .export({type: \"pkcs8\", format: \"pem\"})' writes it in PEM; jq '.keys[0]' FILE \
+                writes the first of a set of them"
+        }
+        Guess::PrivateRsaXml =>
+            "have it written in PEM by a program that reads this form, as .NET and phpseclib do",
+        Guess::OpenSshKey => "take the file that begins with -----BEGIN",
+        Guess::PuttyKey => {
+            "puttygen FILE -O private-openssh -o NEW writes it in PEM; go on by the first line of that"
+        }
+        _ => "",
+    }
+}
+
+/// What goes by what the file looks like alone.
+#[tactic(auto, unfolding(crate::specs::Guesses::form_act))]
+fn form_act(guess: Guess) -> &'static str
+    ensures { result.now ≡ form_act guess }
 {
     match guess {
         Guess::Empty => "fetch it again",
@@ -164,6 +215,7 @@ fn other_act(guess: Guess) -> &'static str
                 old file"
         }
         Guess::Hexadecimal => "xxd -r -p FILE writes its octets",
+        Guess::Dump => "xxd -r FILE writes its octets",
         Guess::Base64 => {
             "tr _- /+ < FILE | base64 -d writes its octets; where padding is left out, as base64url \
                 does, it ends with 'invalid input' after them"
@@ -176,8 +228,19 @@ fn other_act(guess: Guess) -> &'static str
             "keytool -importkeystore -srckeystore FILE -destkeystore NEW -deststoretype PKCS12 makes \
                 it PKCS #12"
         }
-        Guess::SshPublicKey =>
-            "ssh-keygen -e -m PKCS8 -f FILE writes PEM of kind public, of RSA and ECDSA keys",
+        Guess::PublicJwk => {
+            "node -p 'crypto.createPublicKey({key: JSON.parse(fs.readFileSync(\"FILE\")), format: \"jwk\"})\
+                .export({type: \"spki\", format: \"pem\"})' writes it in PEM; jq '.keys[0]' FILE \
+                writes the first of a set of them"
+        }
+        Guess::PublicRsaXml =>
+            "have it written in PEM by a program that reads this form, as .NET and phpseclib do",
+        Guess::SshPublicKey => {
+            "ssh-keygen -e -m PKCS8 -f FILE writes PEM of kind public, of RSA, DSA and ECDSA keys; of \
+                Ed25519 keys the manual's from_ssh writes kind public"
+        }
+        Guess::Ssh2PublicKey =>
+            "ssh-keygen -i -f FILE > NEW writes it in a line as SSH has it; go on with that",
         Guess::Recoded => {
             "fetch it again, as binary or in PEM; iconv -f UTF-8 -t LATIN1 FILE gives the octets back, \
                 where nothing else was done to them"
@@ -203,8 +266,10 @@ fn pem_act(kind: &str, label: &str) -> &'static str
         }
     } else if is_among(label, PUBLIC_LABELS) {
         "openssl rsa -RSAPublicKey_in -in FILE -pubout -outform DER makes it kind public"
-    } else if label.is_empty() || is_among(label, UNREAD_LABELS) {
+    } else if is_among(label, UNREAD_LABELS) {
         "pkder reads no documents of this label"
+    } else if label.is_empty() {
+        "decode its base64, as the manual says under Getting the octets, and try each kind"
     } else {
         "decode its base64, as the manual says under Getting the octets"
     }
@@ -216,7 +281,7 @@ fn private_act(label: &str) -> &'static str
 {
     if label == "OPENSSH PRIVATE KEY" {
         "ssh-keygen -p -m PKCS8 -f COPY writes PEM of kind key over the copy, of RSA and ECDSA keys; \
-            of Ed25519 keys it can't"
+            of Ed25519 keys the manual's from_openssh writes kind key"
     } else if label == "SM2 PRIVATE KEY" {
         "decode its base64, as the manual says under Getting the octets, and read it with --kind ec"
     } else {
@@ -251,7 +316,7 @@ fn is_lost_label(kind: &str, label: &str) -> bool
         && (label == "PRIVATE KEY" || label == "EC PRIVATE KEY" || is_among(label, PRIVATE_LABELS))
 }
 
-pub(crate) fn is_among(label: &str, labels: &'static [&'static str]) -> bool
+pub fn is_among(label: &str, labels: &'static [&'static str]) -> bool
     ensures { result ≡ is_among (map (λ r. r.now) labels.now) label.now }
 {
     match labels {

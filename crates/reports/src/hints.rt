@@ -3,7 +3,8 @@ ghost use Rattle.std.specs.Prelude.{◌≡◌, ◌++◌, IfOk, OnOk, string_byte
 ghost use Rattle.std.specs.Option.{option_map};
 ghost use Rattle.reports.specs.Hints.{cause_said, do_said, extension_said, is_lines, likely_said, line_said};
 ghost use Rattle.reports.specs.Hints.{reason_act, reason_likely, remark_said, signed_words, sound_said};
-ghost use Rattle.reports.specs.Hints.{due_size_said, not_der_value_said, point_size_said, refused_value_said};
+ghost use Rattle.reports.specs.Hints.{due_size_said, not_der_value_said, point_said, point_size_said};
+ghost use Rattle.reports.specs.Hints.{refused_value_said};
 ghost use Rattle.reports.specs.Hints.{several_values_said, zero_bits_said};
 
 use crate::afters::line_end;
@@ -15,7 +16,7 @@ use crate::remarks::{
 };
 use crate::report::{Answer, Cause, Guess, Remark, Report};
 use crate::seen::seen_of;
-use crate::text::push_number;
+use crate::text::{push_number, push_octet};
 use crate::text_report::push_reason;
 use crate::words::push_size;
 use pkix_shapes::identifiers::Identifier;
@@ -107,8 +108,8 @@ fn signed_words(kind: &str) -> &'static str
     ensures { result.now ≡ signed_words kind.now }
 {
     if kind == "request" {
-        return ", and verify the signature over the octets as they came; where that fails, over what \
-            pkder signed writes";
+        return ", and verify the signature over the octets as they came, which pkder signed --part \
+            received writes; where that fails, over what pkder signed writes";
     }
     ""
 }
@@ -145,17 +146,18 @@ pub(crate) fn note_text(alloc: Global, remark: Remark) -> Result<String, AllocEr
     ensures { IfOk result (λ text. string_bytes text ≡ remark_said remark) }
 {
     let mut text = String::new(alloc);
-    push_remark(&mut text, remark)?;
+    push_remark(alloc, &mut text, remark)?;
     Ok(text)
 }
 
 #[tactic(auto, unfolding(crate::specs::Hints::remark_said))]
-fn push_remark(text: &mut String, remark: Remark) -> Result<(), AllocError>
+fn push_remark(alloc: Global, text: &mut String, remark: Remark) -> Result<(), AllocError>
     ensures { OnOk result (string_bytes text.new ≡ string_bytes text.old ++ remark_said remark) }
 {
     match remark {
         Remark::PointSize(octets) => push_point_size(text, octets),
         Remark::PointBits => text.push_str("a point with unused bits (RFC 5480 section 2.2)"),
+        Remark::PointHybrid(octet) => push_point(alloc, text, octet),
         Remark::NoNamedCurve => text.push_str(
             "id-ecPublicKey without a named curve (RFC 5480 section 2.1.1)",
         ),
@@ -189,6 +191,15 @@ fn push_point_size(text: &mut String, octets: u64) -> Result<(), AllocError>
     text.push_str("a point of ")?;
     push_size(text, octets)?;
     text.push_str(", which none of this curve has (RFC 5480 section 2.2)")
+}
+
+#[tactic(auto, unfolding(crate::specs::Hints::point_said))]
+fn push_point(alloc: Global, text: &mut String, octet: u8) -> Result<(), AllocError>
+    ensures { OnOk result (string_bytes text.new ≡ string_bytes text.old ++ point_said octet) }
+{
+    text.push_str("a point whose first octet is ")?;
+    push_octet(alloc, text, octet)?;
+    text.push_str(", which none of its length has (RFC 5480 section 2.2)")
 }
 
 #[tactic(auto, unfolding(crate::specs::Hints::several_values_said))]

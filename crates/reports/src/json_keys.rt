@@ -211,7 +211,7 @@ fn push_size(json: &mut JsonText, value: &Value) -> Result<(), AllocError>
     ensures { OnOk result (json.new ≡ json.old ++ size_member value.now) }
 {
     match value {
-        Value::Bits(octets, _) => json.number("octets", *octets),
+        Value::Bits(octets, _, _) => json.number("octets", *octets),
         _ => Ok(()),
     }
 }

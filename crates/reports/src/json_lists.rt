@@ -23,11 +23,10 @@ use crate::paths::{push_path, push_root, push_step};
 use crate::picks::{is_place_alone, line_of, path_to_line, up_to};
 use crate::remarks::{code_of, level_of};
 use crate::report::{
-    AttributeRemark, Cause, KeyRemark, Length, Line, NameRemark, Note, Remark, Report, TlsRemark,
-    Value,
+    AttributeRemark, Carried, Cause, KeyRemark, Length, Line, NameRemark, Note, Remark, Report,
+    TlsRemark, Value,
 };
 use asn_names::element::Step;
-use asn_names::judgement::Judgement;
 use pkix_shapes::identifiers::Identifier;
 use std::alloc::{AllocError, Global};
 use tlv_core::reason::Reason;
@@ -179,6 +178,7 @@ fn push_remark(json: &mut JsonText, remark: Remark) -> Result<(), AllocError>
 {
     match remark {
         Remark::PointSize(octets) => json.number("octets", octets),
+        Remark::PointHybrid(octet) => json.number("first_octet", u64::from(octet)),
         Remark::SeveralValues(count) => json.number("values", count),
         Remark::KeySize(octets, due) => {
             json.number("octets", octets)?;
@@ -418,7 +418,7 @@ fn is_nothing(value: &Value) -> bool
         Value::Nothing => true,
         Value::NotShown
         | Value::Size(_)
-        | Value::Bits(_, _)
+        | Value::Bits(_, _, _)
         | Value::Null
         | Value::Boolean(_)
         | Value::Number(_)
@@ -459,7 +459,7 @@ pub(crate) fn push_value_members(
         Value::Nothing => Ok(()),
         Value::NotShown => json.boolean("shown", false),
         Value::Size(octets) => json.number("octets", *octets),
-        Value::Bits(octets, unused) => push_bits(json, *octets, u64::from(*unused)),
+        Value::Bits(octets, unused, _) => push_bits(json, *octets, u64::from(*unused)),
         Value::Null => json.boolean("null", true),
         Value::Boolean(value) => json.boolean("boolean", *value),
         Value::Number(number) => json.number("integer", *number),
@@ -527,16 +527,13 @@ fn push_line_members(alloc: Global, json: &mut JsonText, line: &Line) -> Result<
 }
 
 /// What the contents of an extension are as a value of its type.
-pub(crate) fn push_carried(
-    json: &mut JsonText,
-    carries: Option<Judgement>,
-) -> Result<(), AllocError>
+pub(crate) fn push_carried(json: &mut JsonText, carries: Option<Carried>) -> Result<(), AllocError>
     ensures { OnOk result (json.new ≡ json.old ++ optional carried_member carries) }
 {
     match carries {
-        Some(judgement) => {
+        Some(carried) => {
             json.begin_object_at("carries")?;
-            push_judgement(json, judgement)?;
+            push_judgement(json, carried)?;
             json.end_object()
         }
         None => Ok(()),
@@ -544,15 +541,15 @@ pub(crate) fn push_carried(
 }
 
 #[tactic(auto, unfolding(crate::specs::JsonLists::judgement_members))]
-fn push_judgement(json: &mut JsonText, judgement: Judgement) -> Result<(), AllocError>
-    ensures { OnOk result (json.new ≡ json.old ++ judgement_members judgement) }
+fn push_judgement(json: &mut JsonText, carried: Carried) -> Result<(), AllocError>
+    ensures { OnOk result (json.new ≡ json.old ++ judgement_members carried) }
 {
-    match judgement {
-        Judgement::Der => json.text("verdict", "der"),
-        Judgement::NotDer => json.text("verdict", "not_der"),
-        Judgement::Refused(fault) => {
+    match carried {
+        Carried::Der => json.text("verdict", "der"),
+        Carried::NotDer => json.text("verdict", "not_der"),
+        Carried::Refused(at, why) => {
             json.text("verdict", "refused")?;
-            push_place(json, fault.at, fault.why)
+            push_place(json, at, why)
         }
     }
 }

@@ -23,6 +23,9 @@ use crate::words::{due_text, found_text};
 use std::alloc::{AllocError, Global};
 use tlv_core::reason::Reason;
 
+/// How many octets the listing of an element has at most, where no text in it is long.
+const LINE_ROOM: usize = 256;
+
 /// The report as `check` gives it: what is certain of the document. `version` is the program's; of the places that
 /// aren't in DER there are up to `places`.
 #[tactic(auto, unfolding(crate::specs::Json::check_object))]
@@ -100,7 +103,13 @@ pub fn report_json(
         ≡ print (report_object report.now version.now (option_map (λ r. r.now) file.entry) all places)
         ++ line_feed) }
 {
-    let mut json = JsonText::new(alloc);
+    // (so that a long text isn't copied while it grows)
+    let room = if all {
+        report.lines.len().saturating_mul(LINE_ROOM)
+    } else {
+        0
+    };
+    let mut json = JsonText::with_room(alloc, room)?;
     json.begin_object()?;
     push_head(&mut json, report, version, file)?;
     push_field(alloc, &mut json, report)?;

@@ -37,6 +37,16 @@ impl JsonText {
         }
     }
 
+    /// One with room for so many octets.
+    pub(crate) fn with_room(alloc: Global, octets: usize) -> Result<JsonText, AllocError>
+        ensures { IfOk result (λ json. json ≡ []) }
+    {
+        let text = Vec::with_capacity(alloc, octets)?;
+        Ok(JsonText {
+            writer: Writer::new(text),
+        })
+    }
+
     pub fn begin_object(&mut self) -> Result<(), AllocError>
         ensures { OnOk result (self.new ≡ self.old ++ begin_object ∷ []) }
     {

@@ -6,9 +6,8 @@ ghost use Rattle.reports.specs.Keys.{is_below_zero, key_line, key_octets, key_pa
 ghost use Rattle.reports.specs.Keys.{number_in, rsa_said, short_exponent, short_exponent_said};
 
 use crate::asks::{is_identifier, is_step, push_first_octets, push_identifier, push_value};
-use crate::report::{Line, Value};
+use crate::report::{Carried, Line, Value};
 use crate::text::{push_between, push_number};
-use asn_names::judgement::Judgement;
 use std::alloc::{AllocError, Global};
 
 /// The parts of a key or a signature, after and before other words.
@@ -81,9 +80,9 @@ fn push_key_size(alloc: Global, text: &mut String, line: &Line) -> Result<(), Al
 {
     match line.carries {
         None => push_key_octets(alloc, text, line, ""),
-        Some(Judgement::Der) => Ok(()),
-        Some(Judgement::NotDer) => push_key_octets(alloc, text, line, ", not in DER"),
-        Some(Judgement::Refused(_)) => push_key_octets(alloc, text, line, ", not of its type"),
+        Some(Carried::Der) => Ok(()),
+        Some(Carried::NotDer) => push_key_octets(alloc, text, line, ", not in DER"),
+        Some(Carried::Refused(..)) => push_key_octets(alloc, text, line, ", not of its type"),
     }
 }
 

@@ -45,6 +45,7 @@ fn seen_likely(seen: Seen) -> &'static str
         Seen::InSegments | Seen::KeyInSegments(_) =>
             "it is marked as a string in segments, and holds something else: a fault of its writer",
         Seen::NoSet => "a value without the SET around it: a fault of its writer",
+        Seen::MaybeNoSet => "a value without the SET around it, or a damaged octet",
         Seen::After(_) => "",
     }
 }
@@ -181,7 +182,7 @@ fn seen_act(kind: &str, seen: Seen) -> &'static str
                 privateKey, at that place, holds: read it with --kind ec"
         }
         Seen::WrittenOut => written_act(kind),
-        Seen::NoSet => set_act(kind),
+        Seen::NoSet | Seen::MaybeNoSet => set_act(kind),
         _ => "refuse it",
     }
 }
@@ -206,7 +207,8 @@ fn beside_act(kind: &str) -> &'static str
     ensures { result.now ≡ beside_act kind.now }
 {
     if kind == "request" {
-        "a new request, by a program that leaves them out"
+        "a new request, by a program that leaves them out: its signature is over its key's \
+            parameters, too"
     } else {
         "have it written anew by a program that leaves them out"
     }
@@ -297,7 +299,7 @@ fn parameters_act(kind: &str) -> &'static str
     if kind == "request" {
         beside_act(kind)
     } else {
-        advice_on(Reason::Parameters).act
+        "have it written anew, as the manual says under Getting the octets"
     }
 }
 
@@ -306,6 +308,9 @@ fn length_act(kind: &str) -> &'static str
 {
     if kind == "ec" {
         "openssl ec -inform DER -in FILE -outform DER writes it anew; compare the public keys"
+    } else if kind == "key" {
+        "first see that both curves are one (openssl asn1parse); openssl pkcs8 -topk8 -nocrypt -inform DER \
+            -in FILE -outform DER writes an EC key anew; compare the public keys"
     } else {
         advice_on(Reason::KeyLength).act
     }
@@ -330,6 +335,7 @@ fn act_inside(kind: &str, why: Reason) -> &'static str
         Reason::WrongTag | Reason::Truncated | Reason::PastEnd | Reason::Version => "refuse it",
         Reason::Trailing => "have the key written anew by its own tool",
         Reason::BadInteger => integer_act(kind),
+        Reason::KeyLength => length_act(kind),
         _ => advice_on(why).act,
     }
 }

@@ -23,6 +23,7 @@ pub(crate) fn code_of(remark: Remark) -> &'static str
     match remark {
         Remark::PointSize(_) => "point_size",
         Remark::PointBits => "point_bits",
+        Remark::PointHybrid(_) => "point_hybrid",
         Remark::NoNamedCurve => "no_named_curve",
         Remark::ExtensionTwice => "extension_twice",
         Remark::AttributeTwice => "attribute_twice",
@@ -91,6 +92,7 @@ fn code_of_extension(remark: ExtensionRemark) -> &'static str
         ExtensionRemark::PathWithoutCa => "pathlen_without_ca",
         ExtensionRemark::OldRequest => "old_extension_request",
         ExtensionRemark::EmptySubject => "empty_subject",
+        ExtensionRemark::NoAttributes => "no_attributes",
     }
 }
 
@@ -127,6 +129,7 @@ pub(crate) fn level_of(remark: Remark) -> &'static str
     match remark {
         Remark::PointSize(_)
         | Remark::PointBits
+        | Remark::PointHybrid(_)
         | Remark::NoNamedCurve
         | Remark::ExtensionTwice
         | Remark::AttributeTwice
@@ -188,7 +191,9 @@ fn level_of_extension(remark: ExtensionRemark) -> &'static str
     ensures { result.now ≡ extension_level remark }
 {
     match remark {
-        ExtensionRemark::OldRequest | ExtensionRemark::EmptySubject => "should",
+        ExtensionRemark::OldRequest
+        | ExtensionRemark::EmptySubject
+        | ExtensionRemark::NoAttributes => "should",
         ExtensionRemark::NoUsage
         | ExtensionRemark::SignWithoutCa
         | ExtensionRemark::PathWithoutCa => "must",
@@ -377,6 +382,9 @@ pub(crate) fn extension_remark_words(remark: ExtensionRemark) -> &'static str
         }
         ExtensionRemark::EmptySubject => {
             "a subject without an attribute, and no subjectAltName (RFC 5280 section 4.1.2.6)"
+        }
+        ExtensionRemark::NoAttributes => {
+            "no field attributes, which a request has even where it is empty (RFC 2986 section 4.1)"
         }
     }
 }

@@ -1,7 +1,6 @@
 //! What a report says of a document. Its texts are made of this and of nothing else, so what isn't here no text shows.
 //! A place is a number of octets from the start of the file, but where it is said to be inside `privateKey`.
 use asn_names::element::Step;
-use asn_names::judgement::Judgement;
 use pkix_shapes::identifiers::Identifier;
 use pkix_shapes::shape::{Fields, Shape};
 use tlv_core::fault::Fault;
@@ -44,8 +43,9 @@ pub enum Value {
     NotShown,
     /// Their number alone.
     Size(u64),
-    /// Of a BIT STRING: the number of octets after the first, and of unused bits.
-    Bits(u64, u8),
+    /// Of a BIT STRING: the number of octets after the first, and of unused bits; of a subjectPublicKey the first one
+    /// of these octets, too, where there is one.
+    Bits(u64, u8, Option<u8>),
     Null,
     Boolean(bool),
     /// An INTEGER of up to four contents octets that isn't negative.
@@ -58,6 +58,18 @@ pub enum Value {
     Characters(Vec<u8>),
     /// The contents octets of what is in an extension.
     Octets(Vec<u8>),
+}
+
+/// What octets are that a field carries, as one element of their type and nothing else. (A line has it in place of the
+/// `Judgement`, which has room for a fault inside.)
+#[derive(Clone, Copy)]
+pub enum Carried {
+    /// A value, in DER.
+    Der,
+    /// A value, but not in DER.
+    NotDer,
+    /// No value, by the fault at this place in them.
+    Refused(u64, Reason),
 }
 
 /// Why an element isn't in DER (X.690 clauses 10 and 11).
@@ -93,15 +105,15 @@ pub struct Line {
     pub type_name: &'static str,
     pub tag: Tag,
     pub constructed: bool,
+    /// The first cause why it isn't in DER. (It fills what `constructed` leaves of its eight octets.)
+    pub cause: Option<Cause>,
     /// `None` where it isn't shown.
     pub length: Option<Length>,
     /// The place where it ends. `None` where it doesn't, and where that isn't shown.
     pub end: Option<u64>,
     pub value: Value,
-    /// The first cause why it isn't in DER.
-    pub cause: Option<Cause>,
     /// Of the value of an extension whose type is known: what its contents are as one of that type.
-    pub carries: Option<Judgement>,
+    pub carries: Option<Carried>,
 }
 
 /// What is due where a document is refused.
@@ -161,13 +173,17 @@ pub enum Guess {
     Empty,
     /// PEM with this label, empty where it isn't a usual one (RFC 7468).
     Pem(&'static str),
-    /// The same, encrypted as RFC 1421 section 4.6 has it.
+    /// The same behind other text.
+    PemBehind(&'static str),
+    /// PEM that is encrypted as RFC 1421 section 4.6 has it.
     EncryptedPem(&'static str),
     /// A document of this kind, sound.
     Kind(KindWords),
     /// RSAPrivateKey, RSAPublicKey (RFC 8017 A.1.1, A.1.2).
     RsaPrivateKey,
     RsaPublicKey,
+    /// A private key of DSA, as OpenSSL wrote it before PKCS #8.
+    DsaPrivateKey,
     /// Certificate (RFC 5280 section 4.1).
     Certificate,
     /// PFX (RFC 7292 section 4).
@@ -175,15 +191,26 @@ pub enum Guess {
     /// Hexadecimal figures; base64 or base64url without a label (RFC 4648).
     Hexadecimal,
     Base64,
+    /// Hexadecimal figures with the places in front, as xxd writes them.
+    Dump,
     /// A text in UTF-16; HTML or XML; JSON.
     Utf16,
     Markup,
     Json,
+    /// A JWK or a set of them (RFC 7517).
+    PrivateJwk,
+    PublicJwk,
+    /// An RSA key in XML (W3C XML Signature section 4.5.2.2, and as .NET adds the private numbers).
+    PrivateRsaXml,
+    PublicRsaXml,
     /// A key store of Java, of its own formats.
     JavaKeyStore,
     /// OpenSSH's own format of private keys, decoded; a public key in a line, as SSH has it.
     OpenSshKey,
     SshPublicKey,
+    /// A private key of PuTTY or ssh.com; a public key in lines (RFC 4716).
+    PuttyKey,
+    Ssh2PublicKey,
     /// Octets that were taken for text: each from 80 on written as UTF-8; each of these lost; 0d before each 0a.
     Recoded,
     Replaced,
@@ -213,6 +240,8 @@ pub enum Remark {
     PointSize(u64),
     /// The point of a curve has unused bits.
     PointBits,
+    /// Its first octet is this one, which none of its length has (RFC 5480 section 2.2).
+    PointHybrid(u8),
     /// id-ecPublicKey without a named curve (RFC 5480 section 2.1.1).
     NoNamedCurve,
     /// An extension that is there before (RFC 5280 section 4.2).
@@ -301,7 +330,7 @@ pub enum AttributeRemark {
     Blank,
 }
 
-/// What is remarked on what the extensions of a request say, or lack.
+/// What is remarked on what the attributes and extensions of a request say, or lack.
 #[derive(Clone, Copy)]
 pub enum ExtensionRemark {
     /// A keyUsage of which no bit is 1 (RFC 5280 section 4.2.1.3).
@@ -314,6 +343,8 @@ pub enum ExtensionRemark {
     OldRequest,
     /// A subject without an attribute, where no extension is a subjectAltName (RFC 5280 section 4.1.2.6).
     EmptySubject,
+    /// No field attributes, which may be empty and may not be absent (RFC 2986 section 4.1).
+    NoAttributes,
 }
 
 /// What is remarked on an algorithm.

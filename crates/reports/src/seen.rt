@@ -2,7 +2,7 @@
 ghost use Rattle.std.specs.Prelude.{◌≡◌, drop};
 ghost use Rattle.reports.specs.Seen.{after_document, before_key, begins_in, behind, beside, beside_value};
 ghost use Rattle.reports.specs.Seen.{by_algorithm, by_name, by_reason, curve, curve_between, curve_value, ends_in};
-ghost use Rattle.reports.specs.Seen.{first_end, has_keys, in_key, is_bare_value, is_in_key, is_universal};
+ghost use Rattle.reports.specs.Seen.{first_end, has_keys, in_key, is_in_key, is_universal, no_set};
 ghost use Rattle.reports.specs.Seen.{is_written_out, parameters_at, parameters_of, seen_of, segment, wrong_tag};
 
 use crate::asks::{from_field, is_step};
@@ -29,6 +29,8 @@ pub(crate) enum Seen {
     KeyInSegments(u64),
     /// A value without the SET around it (RFC 2986 section 4.1, RFC 5958 section 2).
     NoSet,
+    /// It may be one: what is there isn't shown.
+    MaybeNoSet,
     /// What the octets after the document are.
     After(After),
 }
@@ -168,8 +170,8 @@ fn wrong_tag(kind: &str, at: u64, lines: &[Line], diagnosis: &Diagnosis) -> Seen
 {
     if is_written_out(kind, diagnosis) {
         Seen::WrittenOut
-    } else if is_bare_value(diagnosis) {
-        Seen::NoSet
+    } else if ends_in("values", &diagnosis.path) {
+        no_set(diagnosis.found)
     } else {
         in_key(kind, at, lines, diagnosis)
     }
@@ -260,12 +262,20 @@ fn is_written_out(kind: &str, diagnosis: &Diagnosis) -> bool
     kind == "ec" && begins_in("parameters", &diagnosis.path) && is_universal(16, diagnosis.found)
 }
 
-/// Whether a SEQUENCE or a UTF8String is in the place of an attribute's values.
-fn is_bare_value(diagnosis: &Diagnosis) -> bool
-    ensures { result ≡ is_bare_value diagnosis.now }
+/// What is in the place of the SET of an attribute's values (X.680 8.4 has the numbers of types).
+fn no_set(found: Option<Found>) -> Seen
+    ensures { result ≡ no_set found }
 {
-    ends_in("values", &diagnosis.path)
-        && (is_universal(16, diagnosis.found) || is_universal(12, diagnosis.found))
+    match found {
+        Some(found) => {
+            if found.tag.class() == Class::Universal && found.tag.number() != 17 {
+                Seen::NoSet
+            } else {
+                Seen::Nothing
+            }
+        }
+        None => Seen::MaybeNoSet,
+    }
 }
 
 /// Whether a path ends in the field of this name.

@@ -49,7 +49,7 @@ pub(crate) fn push_marks(text: &mut String, mark: char, count: u64) -> Result<()
 }
 
 /// An octet in two hexadecimal digits.
-fn push_octet(alloc: Global, text: &mut String, octet: u8) -> Result<(), AllocError>
+pub(crate) fn push_octet(alloc: Global, text: &mut String, octet: u8) -> Result<(), AllocError>
     ensures { OnOk result (string_bytes text.new ≡ string_bytes text.old ++ octet_text octet) }
 {
     let digits = hex::encode(alloc, [octet])?;

@@ -313,7 +313,7 @@ fn push_value(alloc: Global, text: &mut String, line: &Line) -> Result<(), Alloc
         Value::Nothing => push_unread(text, line),
         Value::NotShown => text.push_str(", not shown"),
         Value::Size(octets) => push_sized(text, line, *octets),
-        Value::Bits(octets, unused) => {
+        Value::Bits(octets, unused, _) => {
             push_sized(text, line, *octets)?;
             push_unused(text, *unused)
         }

@@ -19,6 +19,7 @@ use ber_outline::outline::outline;
 use pkix_shapes::extensions::extension_type;
 use pkix_shapes::public_keys::public_key_type;
 use pkix_shapes::shape::Shape;
+use reports::report::Carried;
 use std::alloc::{AllocError, Global};
 use tlv_core::limits::Limits;
 use tlv_core::tag::{Class, Tag};
@@ -39,7 +40,7 @@ pub(crate) struct Inside {
     pub(crate) shape: &'static Shape,
     pub(crate) named: NamedElements,
     /// Of the value of an extension: what its contents are as one of the type.
-    pub(crate) carried: Option<Judgement>,
+    pub(crate) carried: Option<Carried>,
 }
 
 /// Where documents inside are looked for.
@@ -133,17 +134,22 @@ fn value_inside(
         IsValueOf limits file.now elements.now container (term_of shape.now) inside) }
 {
     let mut octets = Vec::new(alloc);
-    let mut pieces = Vec::new(alloc);
+    let mut pieces = Vec::with_capacity(alloc, 1)?;
     push_segments(file, elements, &mut octets, &mut pieces)?;
     let judgement = judge(alloc, octets.as_slice(), shape, limits)?;
     let named = value_elements(alloc, octets.as_slice(), shape, judgement, limits)?;
+    let carried = match judgement {
+        Judgement::Der => Carried::Der,
+        Judgement::NotDer => Carried::NotDer,
+        Judgement::Refused(fault) => Carried::Refused(fault.at, fault.why),
+    };
     Ok(Inside {
         container,
         octets,
         pieces,
         shape,
         named,
-        carried: Some(judgement),
+        carried: Some(carried),
     })
 }
 
@@ -242,7 +248,7 @@ fn document_inside(
     ensures carried { IfOk result (λ inside. inside.carried ≡ None) }
 {
     let mut octets = Vec::new(alloc);
-    let mut pieces = Vec::new(alloc);
+    let mut pieces = Vec::with_capacity(alloc, 1)?;
     push_segments(file, elements, &mut octets, &mut pieces)?;
     let named = named_elements(alloc, octets.as_slice(), shape, limits)?;
     Ok(Inside {

@@ -6,9 +6,8 @@ ghost use Rattle.explain.specs.Places.{Skips, SkipsIn, end_by_length, end_of, is
 ghost use Rattle.explain.specs.Places.{listed_end, place_in_file, place_of, placed_in, sum_of};
 
 use asn_names::element::NamedElement;
-use asn_names::judgement::Judgement;
 use ber_outline::event::ElementHeader;
-use reports::report::{Cause, Length};
+use reports::report::{Carried, Cause, Length};
 
 /// Octets that are in the file one after another.
 #[derive(Clone, Copy)]
@@ -38,7 +37,7 @@ pub(crate) struct DocumentCursor<'a> {
     /// The number of the line around it; of the file its own first one.
     pub(crate) around: u64,
     /// Of the element that is next: what it is as the value of an extension.
-    pub(crate) carries: Option<Judgement>,
+    pub(crate) carries: Option<Carried>,
 }
 
 /// Where an element is: its place and its end in the file, and the line around it.

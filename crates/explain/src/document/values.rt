@@ -22,6 +22,8 @@ pub(crate) enum Sort {
     Null,
     Identifier,
     Bits,
+    /// The BIT STRING subjectPublicKey, of a request or of a public key.
+    PublicKey,
     Characters,
     Octets,
 }
@@ -31,20 +33,21 @@ pub(crate) fn sort_of(element: &NamedElement) -> Sort
     ensures { result ≡ sort_of element.now }
 {
     match element.shape {
-        Some(Shape::Leaf(_, contents)) => sort_of_leaf(*contents),
+        Some(Shape::Leaf(_, contents)) => sort_of_leaf(element.step, *contents),
         Some(Shape::Open) => sort_of_tag(element.header.tag),
         _ => Sort::Octets,
     }
 }
 
-fn sort_of_leaf(contents: Contents) -> Sort
-    ensures { result ≡ sort_of_leaf contents }
+fn sort_of_leaf(step: Step, contents: Contents) -> Sort
+    ensures { result ≡ sort_of_leaf step contents }
 {
     match contents {
         Contents::Boolean => Sort::Boolean,
         Contents::Integer => Sort::Integer,
         Contents::Null => Sort::Null,
         Contents::ObjectIdentifier => Sort::Identifier,
+        Contents::BitString if is_field(step, "subjectPublicKey") => Sort::PublicKey,
         Contents::BitString => Sort::Bits,
         Contents::OctetString => Sort::Octets,
         Contents::Utf8String | Contents::Text => Sort::Characters,
@@ -81,7 +84,12 @@ pub(crate) fn is_public(sort: Sort, step: Step) -> bool
     ensures { result ≡ is_public sort step }
 {
     match sort {
-        Sort::Null | Sort::Identifier | Sort::Integer | Sort::Boolean | Sort::Bits => true,
+        Sort::Null
+        | Sort::Identifier
+        | Sort::Integer
+        | Sort::Boolean
+        | Sort::Bits
+        | Sort::PublicKey => true,
         Sort::Characters => is_field(step, "value"),
         Sort::Octets => false,
     }
@@ -128,7 +136,9 @@ fn whole_value(alloc: Global, sort: Sort, contents: &[u8]) -> Result<Value, Allo
     ensures { IfOk result (λ value. ShowsAll sort contents.now value) }
 {
     match sort {
-        Sort::Bits | Sort::Octets => Ok(Value::Octets(contents.to_vec(alloc)?)),
+        Sort::Bits | Sort::PublicKey | Sort::Octets => {
+            Ok(Value::Octets(contents.to_vec(alloc)?))
+        }
         Sort::Integer => whole_integer(alloc, contents),
         Sort::Null | Sort::Boolean | Sort::Characters | Sort::Identifier => {
             value_of(alloc, sort, contents)
@@ -155,6 +165,7 @@ fn value_of(alloc: Global, sort: Sort, contents: &[u8]) -> Result<Value, AllocEr
         Sort::Null => Ok(null_value(contents)),
         Sort::Identifier => identifier_value(alloc, contents),
         Sort::Bits => Ok(bits_value(contents)),
+        Sort::PublicKey => Ok(key_value(contents)),
         Sort::Characters => Ok(Value::Characters(contents.to_vec(alloc)?)),
         Sort::Octets => Ok(size_alone(contents)),
     }
@@ -215,7 +226,19 @@ fn bits_value(contents: &[u8]) -> Value
     ensures { Says Sort.Bits contents.now result }
 {
     match contents {
-        [unused, rest @ ..] if *unused < 8 => Value::Bits(rest.len() as u64, *unused),
+        [unused, rest @ ..] if *unused < 8 => Value::Bits(rest.len() as u64, *unused, None),
+        _ => size_alone(contents),
+    }
+}
+
+/// Of a public key the first octet is shown, too, which says the form of a point (RFC 5480 section 2.2).
+fn key_value(contents: &[u8]) -> Value
+    ensures { Says Sort.PublicKey contents.now result }
+{
+    match contents {
+        [unused, rest @ ..] if *unused < 8 => {
+            Value::Bits(rest.len() as u64, *unused, rest.first().copied())
+        }
         _ => size_alone(contents),
     }
 }

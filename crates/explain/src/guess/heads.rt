@@ -3,6 +3,8 @@ ghost use Rattle.std.specs.Prelude.{◌≡◌, bytes_eq};
 ghost use Rattle.std.specs.Option.{option_map};
 ghost use Rattle.explain.specs.Heads.{are_numbers, begins_with, code_of, code_of_event, guess_by_outline};
 ghost use Rattle.explain.specs.Heads.{has_contents, is_certificate, is_content_info, is_exponent, is_integer, is_pfx};
+ghost use Rattle.explain.specs.Heads.{are_first_integers, are_five_integers, are_integers, are_last_integers};
+ghost use Rattle.explain.specs.Heads.{end_in_integers, is_dsa_private_key, is_end};
 ghost use Rattle.explain.specs.Heads.{is_rsa_private_key, is_rsa_public_key};
 
 use crate::document::values::octets_between;
@@ -28,6 +30,8 @@ pub(crate) fn guess_by_outline(octets: &[u8], events: &[Event]) -> Guess
 {
     if is_rsa_private_key(octets, events) {
         Guess::RsaPrivateKey
+    } else if is_dsa_private_key(octets, events) {
+        Guess::DsaPrivateKey
     } else if is_rsa_public_key(octets, events) {
         Guess::RsaPublicKey
     } else if is_certificate(events) {
@@ -44,6 +48,59 @@ fn is_rsa_private_key(octets: &[u8], events: &[Event]) -> bool
     ensures { result ≡ is_rsa_private_key octets.now events.now }
 {
     begins_with(octets, events, &[0]) && are_numbers(octets, events.get(2), events.get(3))
+}
+
+/// A private key of DSA in its old form: version 0 and five numbers, p, q, g and the two keys.
+#[tactic(auto, unfolding(crate::specs::Heads::is_dsa_private_key))]
+fn is_dsa_private_key(octets: &[u8], events: &[Event]) -> bool
+    ensures { result ≡ is_dsa_private_key octets.now events.now }
+{
+    begins_with(octets, events, &[0]) && are_five_integers(events)
+}
+
+/// Whether five numbers are what follows the version, and all.
+fn are_five_integers(events: &[Event]) -> bool
+    ensures { result ≡ are_five_integers events.now }
+{
+    are_first_integers(events) && are_last_integers(events)
+}
+
+fn are_first_integers(events: &[Event]) -> bool
+    ensures { result ≡ are_first_integers events.now }
+{
+    are_integers(events.get(2), events.get(3), events.get(4))
+}
+
+fn are_last_integers(events: &[Event]) -> bool
+    ensures { result ≡ are_last_integers events.now }
+{
+    end_in_integers(events.get(5), events.get(6), events.get(7))
+}
+
+fn end_in_integers(fourth: Option<&Event>, fifth: Option<&Event>, end: Option<&Event>) -> bool
+    ensures { result ≡ end_in_integers (option_map (λ r. r.now) fourth.entry)
+        (option_map (λ r. r.now) fifth.entry) (option_map (λ r. r.now) end.entry) }
+{
+    code_of_event(fourth) == INTEGER && code_of_event(fifth) == INTEGER && is_end(end)
+}
+
+fn are_integers(first: Option<&Event>, second: Option<&Event>, third: Option<&Event>) -> bool
+    ensures { result ≡ are_integers (option_map (λ r. r.now) first.entry)
+        (option_map (λ r. r.now) second.entry) (option_map (λ r. r.now) third.entry) }
+{
+    code_of_event(first) == INTEGER
+        && code_of_event(second) == INTEGER
+        && code_of_event(third) == INTEGER
+}
+
+/// Whether the contents of the SEQUENCE end there.
+fn is_end(event: Option<&Event>) -> bool
+    ensures { result ≡ is_end (option_map (λ r. r.now) event.entry) }
+{
+    match event {
+        Some(Event::End(_)) => true,
+        _ => false,
+    }
 }
 
 /// RSAPublicKey (RFC 8017 A.1.1): a modulus, and a usual exponent.

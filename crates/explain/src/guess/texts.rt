@@ -1,5 +1,5 @@
 //! What a file is whose octets stand for others, or were taken for a text: by how they begin.
-ghost use Rattle.std.specs.Prelude.{false, map, ◌≡◌};
+ghost use Rattle.std.specs.Prelude.{false, map, take, true, ◌≡◌};
 ghost use Rattle.std.specs.List.{list_all};
 ghost use Rattle.std.specs.Option.{option_map};
 ghost use Rattle.explain.specs.TextGuesses.{after_line, begin_with, guess_by_beginning, guess_by_text, has_lines};
@@ -7,9 +7,14 @@ ghost use Rattle.explain.specs.TextGuesses.{has_zeros, is_base64, is_blank, is_e
 ghost use Rattle.explain.specs.TextGuesses.{is_key_store, is_labelled, is_printable, is_recoded, is_ssh_key};
 ghost use Rattle.explain.specs.TextGuesses.{is_text_from, is_utf16, label_among, label_of, or_label, other_label};
 ghost use Rattle.explain.specs.TextGuesses.{pem_guess, pem_label, text_in, without_blanks};
+ghost use Rattle.explain.specs.TextGuesses.{block_from, block_in, has_word, head_of, is_block, is_new_after};
+ghost use Rattle.explain.specs.TextGuesses.{guess_by_letters, guess_by_sign, is_of_use, is_putty_key, json_guess};
+ghost use Rattle.explain.specs.TextGuesses.{markup_guess};
 
 use pk_documents::kind::{KINDS, Kind};
-use reports::guesses::{CERTIFICATE_LABELS, PRIVATE_LABELS, PUBLIC_LABELS, UNREAD_LABELS};
+use reports::guesses::{
+    CERTIFICATE_LABELS, PRIVATE_LABELS, PUBLIC_LABELS, UNREAD_LABELS, is_among,
+};
 use reports::report::Guess;
 
 /// What is at the start of a text, and no part of it: a byte order mark (RFC 3629 section 6), and blanks.
@@ -118,14 +123,85 @@ fn is_labelled(text: &[u8], label: &str) -> bool
     }
 }
 
-/// PEM with this label, in the clear or encrypted.
-pub(crate) fn pem_guess(text: &[u8], label: &'static str) -> Guess
-    ensures { result ≡ pem_guess label.entry text.now }
+/// The text in a file, up to 16,384 octets of it: what is said of it goes by words that are known.
+#[tactic(auto, unfolding(crate::specs::TextGuesses::head_of))]
+pub(crate) fn head_of(octets: &[u8]) -> &[u8]
+    ensures { result.now ≡ head_of octets.now }
 {
-    if is_encrypted(text) {
-        Guess::EncryptedPem(label)
+    up_to(16384, text_in(octets))
+}
+
+/// The first so many octets, where there are more.
+fn up_to(most: usize, octets: &[u8]) -> &[u8]
+    ensures { result.now ≡ take most octets.now }
+{
+    &octets[..most.min(octets.len())]
+}
+
+/// From a PEM text on: of several the first whose label is of use, else the first.
+pub(crate) fn block_in(text: &[u8]) -> &[u8]
+    ensures { result.now ≡ block_in text.now }
+{
+    let block = block_from(text, false);
+    if block.is_empty() {
+        block_from(text, true)
     } else {
+        block
+    }
+}
+
+/// From the first such PEM text at the beginning of a line on, but for blanks.
+fn block_from(text: &[u8], any: bool) -> &[u8]
+    ensures { result.now ≡ block_from any true text.now }
+{
+    let mut left = text;
+    let mut is_new = true;
+    while let [octet, rest @ ..] = left {
+        if is_new && is_block(left, any) {
+            return left;
+        }
+        is_new = is_new_after(is_new, *octet);
+        left = rest;
+    }
+    left
+}
+
+/// Whether a line begins after this octet, or goes on with blanks alone.
+#[tactic(auto, unfolding(crate::specs::TextGuesses::is_new_after))]
+fn is_new_after(is_new: bool, octet: u8) -> bool
+    ensures { result ≡ is_new_after is_new octet }
+{
+    octet == b'\n' || octet == b'\r' || is_new && is_blank(octet)
+}
+
+/// Whether it is a PEM text of any label, or of one that is of use.
+#[tactic(auto, unfolding(crate::specs::TextGuesses::is_block))]
+fn is_block(text: &[u8], any: bool) -> bool
+    ensures { result ≡ is_block any text.now }
+{
+    match pem_label(text) {
+        Some(label) => any || is_of_use(label),
+        None => false,
+    }
+}
+
+/// Whether PEM of this label leads to a document of a kind.
+fn is_of_use(label: &str) -> bool
+    ensures { result ≡ is_of_use label.now }
+{
+    !label.is_empty() && !is_among(label, CERTIFICATE_LABELS) && !is_among(label, UNREAD_LABELS)
+}
+
+/// PEM with this label, in the clear or encrypted, at the start of the text or behind it.
+pub(crate) fn pem_guess(text: &[u8], block: &[u8], label: &'static str) -> Guess
+    ensures { result ≡ pem_guess label.entry block.now text.now }
+{
+    if is_encrypted(block) {
+        Guess::EncryptedPem(label)
+    } else if block.len() == text.len() {
         Guess::Pem(label)
+    } else {
+        Guess::PemBehind(label)
     }
 }
 
@@ -149,24 +225,37 @@ fn after_line(text: &[u8]) -> &[u8]
     left
 }
 
-/// What a text is that isn't PEM, by its first 16 octets: what comes after them may be private.
+/// What a text is that isn't PEM, by its first 16 octets: of what comes after them, which may be private, known words
+/// alone are looked for.
+#[tactic(auto, unfolding(crate::specs::TextGuesses::guess_by_text))]
 pub(crate) fn guess_by_text(octets: &[u8]) -> Guess
     ensures { result ≡ guess_by_text octets.now }
 {
     if octets.is_empty() {
-        return Guess::Empty;
+        Guess::Empty
+    } else if begin_with(octets, b"00000000: ") {
+        Guess::Dump
+    } else {
+        guess_by_letters(octets)
     }
+}
+
+/// By the first 16 octets.
+fn guess_by_letters(octets: &[u8]) -> Guess
+    ensures { result ≡ guess_by_letters octets.now }
+{
     let first = &octets[..octets.len().min(16)];
     if are_all_hexadecimal(first) {
-        return Guess::Hexadecimal;
+        Guess::Hexadecimal
+    } else if begin_with(octets, b"M") && are_all_base64(first) {
+        Guess::Base64
+    } else {
+        guess_by_beginning(octets)
     }
-    if first[0] == b'M' && are_all_base64(first) {
-        return Guess::Base64;
-    }
-    guess_by_beginning(octets)
 }
 
 /// By octets that nothing else begins with.
+#[tactic(auto, unfolding(crate::specs::TextGuesses::guess_by_beginning))]
 fn guess_by_beginning(octets: &[u8]) -> Guess
     ensures { result ≡ guess_by_beginning octets.now }
 {
@@ -178,17 +267,70 @@ fn guess_by_beginning(octets: &[u8]) -> Guess
         Guess::OpenSshKey
     } else if is_ssh_key(octets) {
         Guess::SshPublicKey
+    } else if is_putty_key(octets) {
+        Guess::PuttyKey
+    } else if begin_with(octets, b"---- BEGIN SSH2 PUBLIC KEY") {
+        Guess::Ssh2PublicKey
     } else if is_recoded(octets) {
         Guess::Recoded
     } else if begin_with(octets, b"\x30\xEF\xBF\xBD") {
         Guess::Replaced
-    } else if is_text_from(text_in(octets), b'<') {
-        Guess::Markup
-    } else if is_text_from(text_in(octets), b'{') {
-        Guess::Json
+    } else {
+        guess_by_sign(head_of(octets))
+    }
+}
+
+/// By the first sign of a text.
+fn guess_by_sign(text: &[u8]) -> Guess
+    ensures { result ≡ guess_by_sign text.now }
+{
+    if is_text_from(text, b'<') {
+        markup_guess(text)
+    } else if is_text_from(text, b'{') {
+        json_guess(text)
     } else {
         Guess::Unknown
     }
+}
+
+/// HTML or XML: an RSA key, private where it has a private exponent (XML Signature section 4.5.2.2), or another text.
+fn markup_guess(text: &[u8]) -> Guess
+    ensures { result ≡ markup_guess text.now }
+{
+    if !has_word(text, b"<RSAKey") {
+        Guess::Markup
+    } else if has_word(text, b"<D>") {
+        Guess::PrivateRsaXml
+    } else {
+        Guess::PublicRsaXml
+    }
+}
+
+/// JSON: a JWK, private where it has a member d (RFC 7517 section 4.1, RFC 7518 section 6), or another text.
+fn json_guess(text: &[u8]) -> Guess
+    ensures { result ≡ json_guess text.now }
+{
+    if !has_word(text, b"\"kty\"") {
+        Guess::Json
+    } else if has_word(text, b"\"d\"") {
+        Guess::PrivateJwk
+    } else {
+        Guess::PublicJwk
+    }
+}
+
+/// Whether the word stands somewhere in the text.
+fn has_word(text: &[u8], word: &[u8]) -> bool
+    ensures { result ≡ has_word word.now text.now }
+{
+    let mut left = text;
+    while let [_, rest @ ..] = left {
+        if begin_with(left, word) {
+            return true;
+        }
+        left = rest;
+    }
+    false
 }
 
 /// The magic numbers of JKS and JCEKS.
@@ -203,8 +345,17 @@ fn is_ssh_key(octets: &[u8]) -> bool
     ensures { result ≡ is_ssh_key octets.now }
 {
     begin_with(octets, b"ssh-rsa AAAA")
+        || begin_with(octets, b"ssh-dss AAAA")
         || begin_with(octets, b"ssh-ed25519 AAAA")
         || begin_with(octets, b"ecdsa-sha2-nistp")
+}
+
+/// A private key of PuTTY, or of ssh.com.
+fn is_putty_key(octets: &[u8]) -> bool
+    ensures { result ≡ is_putty_key octets.now }
+{
+    begin_with(octets, b"PuTTY-User-Key-File-")
+        || begin_with(octets, b"---- BEGIN SSH2 ENCRYPTED PRIVATE KEY")
 }
 
 /// The header of a SEQUENCE whose first length octet was written as UTF-8 has it.

@@ -228,7 +228,7 @@ fn contents_cause(octets: &[u8], element: &NamedElement) -> Option<Cause>
     };
     match sort_of(element) {
         Sort::Boolean => boolean_cause(element.step, contents),
-        Sort::Bits => bits_cause(contents),
+        Sort::Bits | Sort::PublicKey => bits_cause(contents),
         _ => None,
     }
 }

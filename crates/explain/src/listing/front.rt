@@ -317,7 +317,7 @@ fn is_usual(sort: Sort, step: Step, contents: &[u8]) -> bool
         Sort::Boolean => is_field(step, "critical") && is_one_of(contents, 0, 255),
         Sort::Null => contents.is_empty(),
         Sort::Identifier => identifier_of(contents).is_some(),
-        Sort::Bits | Sort::Characters | Sort::Octets => false,
+        Sort::Bits | Sort::PublicKey | Sort::Characters | Sort::Octets => false,
     }
 }
 

@@ -5,21 +5,20 @@ ghost use Rattle.explain.specs.NotedKeys.{arcs_in, is_even, remark_on_curve, rem
 ghost use Rattle.explain.specs.NotedKeys.{remark_on_modulus, remark_on_number, small_curve_bits};
 
 use crate::notes::remarks::{is_name, remark_if};
-use asn_names::judgement::Judgement;
 use reports::keys::{bit_length, integer_bits, is_below_zero};
-use reports::report::{KeyRemark, Remark, Value};
+use reports::report::{Carried, KeyRemark, Remark, Value};
 
 /// A modulus of fewer bits is a short one (NIST SP 800-131A).
 const FEW_BITS: u64 = 2048;
 
 /// What a public key contains, by what it is as an RSAPublicKey (RFC 3279 section 2.3.1).
-pub(crate) fn remark_on_inside(judgement: Judgement) -> Option<Remark>
-    ensures { result ≡ remark_on_inside judgement }
+pub(crate) fn remark_on_inside(carries: Carried) -> Option<Remark>
+    ensures { result ≡ remark_on_inside carries }
 {
-    match judgement {
-        Judgement::Der => None,
-        Judgement::NotDer => Some(Remark::Key(KeyRemark::NotDer)),
-        Judgement::Refused(fault) => Some(Remark::Key(KeyRemark::Refused(fault.at, fault.why))),
+    match carries {
+        Carried::Der => None,
+        Carried::NotDer => Some(Remark::Key(KeyRemark::NotDer)),
+        Carried::Refused(at, why) => Some(Remark::Key(KeyRemark::Refused(at, why))),
     }
 }
 

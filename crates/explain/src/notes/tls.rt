@@ -24,11 +24,10 @@ use crate::notes::reach::{is_internal, is_reserved};
 use crate::notes::remarks::{is_name, remark_if};
 use crate::notes::usages::{have_names, is_named_alt};
 use crate::notes::{identifier_in, is_attribute, is_member, members_of, push_note};
-use asn_names::judgement::Judgement;
 use pkix_definitions::identifiers::are_same_octets;
 use pkix_shapes::identifiers::Identifier;
 use reports::keys::{bit_length, integer_bits, is_below_zero};
-use reports::report::{Line, Note, Remark, TlsRemark, Value};
+use reports::report::{Carried, Line, Note, Remark, TlsRemark, Value};
 use std::alloc::AllocError;
 
 /// What the lines before say of the ones that follow.
@@ -427,13 +426,10 @@ fn may_name(name: &[u8], line: &Line) -> bool
     is_unread(line.carries) || (is_name(line.type_name, "dNSName") && has_text(name, &line.value))
 }
 
-fn is_unread(carries: Option<Judgement>) -> bool
+fn is_unread(carries: Option<Carried>) -> bool
     ensures { result ≡ is_unread carries }
 {
-    matches!(
-        carries,
-        Some(Judgement::NotDer) | Some(Judgement::Refused(_))
-    )
+    matches!(carries, Some(Carried::NotDer) | Some(Carried::Refused(..)))
 }
 
 fn has_text(name: &[u8], value: &Value) -> bool

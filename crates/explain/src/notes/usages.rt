@@ -1,18 +1,19 @@
-//! What is remarked on what the extensions of a request say, or lack: keyUsage, basicConstraints, subjectAltName.
+//! What is remarked on what the extensions of a request say, or lack: keyUsage, basicConstraints, subjectAltName; and
+//! on a request without attributes.
 ghost use Rattle.std.specs.Prelude.{◌≡◌};
 ghost use Rattle.std.specs.List.{list_any};
 ghost use Rattle.std.specs.Option.{option_map};
-ghost use Rattle.explain.specs.NotedUsages.{are_zeros, ends_in_one, has_one, held_in, is_named_alt, is_old_request};
-ghost use Rattle.explain.specs.NotedUsages.{may_be_ca, remark_on_old_request, remark_on_path, remark_on_subject};
-ghost use Rattle.explain.specs.NotedUsages.{remark_on_usage, remark_on_usages, signs_certificates};
+ghost use Rattle.explain.specs.NotedUsages.{are_zeros, ends_in_one, has_one, held_in, is_attributes, is_named_alt};
+ghost use Rattle.explain.specs.NotedUsages.{is_old_request, may_be_ca, remark_on_info, remark_on_old_request};
+ghost use Rattle.explain.specs.NotedUsages.{remark_on_path, remark_on_subject, remark_on_usage, remark_on_usages};
+ghost use Rattle.explain.specs.NotedUsages.{signs_certificates};
 
 use crate::document::values::is_field;
 use crate::listing::causes::unit_of;
 use crate::notes::keys::arcs_in;
 use crate::notes::remarks::{is_name, remark_if};
-use asn_names::judgement::Judgement;
 use pkix_shapes::identifiers::Identifier;
-use reports::report::{ExtensionRemark, Line, Remark, Value};
+use reports::report::{Carried, ExtensionRemark, Line, Remark, Value};
 
 /// What stands anywhere in a document.
 #[derive(Clone, Copy)]
@@ -21,6 +22,8 @@ pub(crate) struct Held {
     pub(crate) is_ca: bool,
     /// An extension is a subjectAltName.
     pub(crate) has_names: bool,
+    /// There is the field attributes.
+    pub(crate) has_attributes: bool,
 }
 
 pub(crate) fn held_in(lines: &[Line]) -> Held
@@ -29,6 +32,7 @@ pub(crate) fn held_in(lines: &[Line]) -> Held
     Held {
         is_ca: have_ca(lines),
         has_names: have_names(lines),
+        has_attributes: have_attributes(lines),
     }
 }
 
@@ -44,12 +48,25 @@ pub(crate) fn have_names(lines: &[Line]) -> bool
     lines.iter().any(|line| is_named_alt(line))
 }
 
+fn have_attributes(lines: &[Line]) -> bool
+    ensures { result ≡ list_any (λ line. is_attributes line) lines.now }
+{
+    lines.iter().any(|line| is_attributes(line))
+}
+
+/// Whether a line is the field attributes.
+fn is_attributes(line: &Line) -> bool
+    ensures { result ≡ is_attributes line.now }
+{
+    is_field(line.step, "attributes")
+}
+
 /// Whether a line says cA TRUE. What is in an extension that isn't in DER has no lines, and may say it.
 fn may_be_ca(line: &Line) -> bool
     ensures { result ≡ may_be_ca line.now }
 {
     match line.carries {
-        Some(Judgement::NotDer) | Some(Judgement::Refused(_)) => is_field(line.step, "extnValue"),
+        Some(Carried::NotDer) | Some(Carried::Refused(..)) => is_field(line.step, "extnValue"),
         _ => is_field(line.step, "cA") && matches!(line.value, Value::Boolean(true)),
     }
 }
@@ -152,6 +169,16 @@ pub(crate) fn remark_on_subject(has_names: bool, members: u64) -> Option<Remark>
     remark_if(
         members == 0 && !has_names,
         Remark::Extension(ExtensionRemark::EmptySubject),
+    )
+}
+
+/// A request has the field attributes, if only an empty one (RFC 2986 section 4.1).
+pub(crate) fn remark_on_info(has_attributes: bool) -> Option<Remark>
+    ensures { result ≡ remark_on_info has_attributes }
+{
+    remark_if(
+        !has_attributes,
+        Remark::Extension(ExtensionRemark::NoAttributes),
     )
 }
 

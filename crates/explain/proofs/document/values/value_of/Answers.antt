@@ -17,3 +17,7 @@ returns-in-Null c =
 pub returns-in-Bits : goal.returns-in-Bits
 returns-in-Bits c =
     subst (λ sort. Says sort c.args.contents.now c.bits_value.result) (sym c.in-Bits.is) c.bits_value.ensures
+
+pub returns-in-PublicKey : goal.returns-in-PublicKey
+returns-in-PublicKey c =
+    subst (λ sort. Says sort c.args.contents.now c.key_value.result) (sym c.in-PublicKey.is) c.key_value.ensures
