@@ -1,26 +1,24 @@
 -- What a run over named documents has come to, document after document.
-use Rattle.std.proofs.Common.{◌≡◌, ◌∙◌, ◌+◌, ◌^◌, ◌≤◌, ◌++◌, Bool, List, [], ◌∷◌, Option, ap, append-nil, arith, inl, inr, length, length-append, max, refl, subst, sym, take, ℕ}
+use Rattle.std.proofs.Common.{◌≡◌, ◌∙◌, ◌+◌, ◌^◌, ◌≤◌, ◌++◌, Bool, List, [], ◌∷◌, Option, ap, append-nil, arith, inl, inr, length, length-append, refl, subst, sym, take, ℕ}
 use Rattle.std.proofs.KnownBytes.{Appends-trans}
 use Rattle.std.proofs.Math.Seq.{take-append-add}
 use Rattle.std.proofs.lemmas.Grind.{flat_map-append}
 use Rattle.std.proofs.lemmas.List.{map-append}
 use Rattle.std.proofs.lemmas.List.Elements.{All-append, All-cons, All-nil}
 use Rattle.std.specs.Io.KnownBytes.{Appends}
-use Rattle.std.specs.List.{fold}
 use Rattle.x690.specs.Values.{Value}
 use Rattle.pk_documents.specs.declared.document.Document.{Document}
-use Rattle.commands.specs.Files.{AreSaid, Entry, FilesSaid, GivesUp, IsSaid, Went, names_of, texts_of}
+use Rattle.commands.specs.Files.{AreSaid, Entry, FilesSaid, GivesUp, IsSaid, Went, names_of, texts_of, verdicts_of}
 use Rattle.commands.specs.NameLists.{NoneLeft, TakesNames}
+use Rattle.commands.specs.Tallies.{tally_of}
 use Rattle.commands.specs.declared.files.FilesEnd.TheVariants as ends
 use Rattle.commands.specs.declared.names.NamesFault.{NamesFault}
 use Rattle.commands.specs.declared.names.NamesFault.TheVariants.{TooMany}
 use Rattle.commands.specs.declared.opener.Unopened.{Unopened as Why}
+use Rattle.commands.specs.declared.tally.Tally.{Tally}
+use Rattle.commands.specs.declared.tally.Verdict.{Verdict}
 use Rattle.commands.specs.declared.task.Task.{Task}
 use Rattle.commands.proofs.NameLists.{list_begins, list_ends, names_go_on}
-
-fold_after : {A B : Type 0} (f : B → A → B) (a : B) (xs : List A) (x : A) → fold f a (xs ++ x ∷ []) ≡ f (fold f a xs) x
-fold_after f a [] x = refl
-fold_after f a (y ∷ xs) x = fold_after f (f a y) xs x
 
 texts_after : (all : List Entry) (it : Entry) → texts_of (all ++ it ∷ []) ≡ texts_of all ++ it.text
 texts_after all it =
@@ -29,14 +27,17 @@ texts_after all it =
 names_after_all : (all : List Entry) (it : Entry) → names_of (all ++ it ∷ []) ≡ names_of all ++ it.name ∷ []
 names_after_all all it = map-append (λ e. e.name) all (it ∷ [])
 
+verdicts_after : (all : List Entry) (it : Entry) → verdicts_of (all ++ it ∷ []) ≡ verdicts_of all ++ it.verdict ∷ []
+verdicts_after all it = map-append (λ e. e.verdict) all (it ∷ [])
+
 module _ (value_of : Document → Value) (known : List ℕ → Option (List ℕ))
     (refuses : List ℕ → Why → Type 0) (leaves : Bool → Option (List ℕ) → Type 0) (task : Task)
     (list left : Option (List (List ℕ)))
-    (stops : Option (List (List ℕ)) → NamesFault → Type 0) (old mid : Option (List ℕ)) (status out : ℕ)
+    (stops : Option (List (List ℕ)) → NamesFault → Type 0) (old mid : Option (List ℕ)) (tally : Tally) (out : ℕ)
     (all : List Entry)
-    (went : Went value_of known refuses leaves task list left old mid status out all) where
-  pub through : NoneLeft left → FilesSaid value_of known refuses leaves task list stops old mid (ends.Through status)
-  through none = (all, went.said, (list_ends list left (names_of all) went.named none, went.written, went.status_is))
+    (went : Went value_of known refuses leaves task list left old mid tally out all) where
+  pub through : NoneLeft left → FilesSaid value_of known refuses leaves task list stops old mid (ends.Through tally)
+  through none = (all, went.said, (list_ends list left (names_of all) went.named none, went.written, went.tallied))
 
   pub no_name : (fault : NamesFault) → GivesUp (AreSaid value_of known refuses leaves task) stops list all fault
       → FilesSaid value_of known refuses leaves task list stops old mid (ends.NoName fault)
@@ -50,27 +51,29 @@ module _ (value_of : Document → Value) (known : List ℕ → Option (List ℕ)
   pub no_memory_for : FilesSaid value_of known refuses leaves task list stops old mid ends.Memory
   no_memory_for = (all, went.said, (list_begins list left (names_of all) went.named, went.written))
 
-  module _ (new : Option (List (List ℕ))) (last : Option (List ℕ)) (name text : List ℕ) (this : ℕ)
+  module _ (new : Option (List (List ℕ))) (last : Option (List ℕ)) (name text : List ℕ) (this : Verdict)
       (said : IsSaid value_of known refuses leaves task name this text) (next : TakesNames left new (name ∷ [])) where
     abbrev it : Entry
-    it = record { name = name; status = this; text = text }
+    it = record { name = name; verdict = this; text = text }
 
     all_said : AreSaid value_of known refuses leaves task (all ++ it ∷ [])
     all_said =
-        All-append (λ e. IsSaid value_of known refuses leaves task e.name e.status e.text) all (it ∷ []) went.said
-        (All-cons (λ e. IsSaid value_of known refuses leaves task e.name e.status e.text) it [] said
-        (All-nil (λ e. IsSaid value_of known refuses leaves task e.name e.status e.text)))
+        All-append (λ e. IsSaid value_of known refuses leaves task e.name e.verdict e.text) all (it ∷ []) went.said
+        (All-cons (λ e. IsSaid value_of known refuses leaves task e.name e.verdict e.text) it [] said
+        (All-nil (λ e. IsSaid value_of known refuses leaves task e.name e.verdict e.text)))
 
     all_named : TakesNames list new (names_of (all ++ it ∷ []))
     all_named =
         subst (TakesNames list new) (sym (names_after_all all it))
         (names_go_on list left new (names_of all) (name ∷ []) went.named next)
 
-    pub goes_further : (status_new out_new : ℕ) → status_new ≡ max status this → out_new ≡ out + length text
+    pub goes_further : (tally_new : Tally) (out_new : ℕ)
+        → ((so_far : List Verdict) → tally ≡ tally_of so_far → tally_new ≡ tally_of (so_far ++ this ∷ []))
+        → out_new ≡ out + length text
         → Appends mid last text
         → (more : List Entry) × (length more ≡ length all + 1)
-        × Went value_of known refuses leaves task list new old last status_new out_new more
-    goes_further status_new out_new status_is out_is written = (
+        × Went value_of known refuses leaves task list new old last tally_new out_new more
+    goes_further tally_new out_new tallies out_is written = (
       all ++ it ∷ [],
       length-append all (it ∷ []),
       record {
@@ -79,9 +82,7 @@ module _ (value_of : Document → Value) (known : List ℕ → Option (List ℕ)
         written =
             subst (Appends old last) (sym (texts_after all it))
             (Appends-trans old mid last (texts_of all) text went.written written);
-        status_is =
-            status_is ∙ ap (λ n. max n this) went.status_is
-            ∙ sym (fold_after (λ most e. max most e.status) 0 all it);
+        tallied = tallies (verdicts_of all) went.tallied ∙ ap tally_of (sym (verdicts_after all it));
         counted =
             out_is ∙ ap (λ n. n + length text) went.counted ∙ sym (length-append (texts_of all) text)
             ∙ ap length (sym (texts_after all it));
@@ -130,12 +131,12 @@ module _ (value_of : Document → Value) (known : List ℕ → Option (List ℕ)
 -- nothing is done yet
 pub begins : (value_of : Document → Value) (known : List ℕ → Option (List ℕ)) (refuses : List ℕ → Why → Type 0)
     (leaves : Bool → Option (List ℕ) → Type 0) (task : Task) (list : Option (List (List ℕ))) (old : Option (List ℕ))
-    → TakesNames list list [] → Appends old old []
-    → Went value_of known refuses leaves task list list old old 0 0 []
-begins value_of known refuses leaves task list old named written = record {
-  said = All-nil (λ e. IsSaid value_of known refuses leaves task e.name e.status e.text);
+    (tally : Tally) → tally ≡ tally_of [] → TakesNames list list [] → Appends old old []
+    → Went value_of known refuses leaves task list list old old tally 0 []
+begins value_of known refuses leaves task list old tally none named written = record {
+  said = All-nil (λ e. IsSaid value_of known refuses leaves task e.name e.verdict e.text);
   named = named;
   written = written;
-  status_is = refl;
+  tallied = none;
   counted = refl;
 }

@@ -13,4 +13,5 @@ pub mod Replies
 pub mod ReplyLaws
 pub mod ShortWords
 pub mod ShownNames
+pub mod Tallies
 pub mod Tokens

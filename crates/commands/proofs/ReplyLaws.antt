@@ -2,4 +2,4 @@
 use Rattle.commands.specs.Replies.{NormaliseReplies}
 
 pub normalise_replies : NormaliseReplies
-normalise_replies value_of kind limits file outcome before after old new replied = replied
+normalise_replies value_of kind limits file outcome found before after old new replied = replied.0

@@ -5,7 +5,8 @@ use Rattle.tlv_core.specs.declared.sink.WriteError.{WriteError}
 use Rattle.x690.specs.Values.{Value}
 use Rattle.asn_documents.specs.WrittenValues.{WritesText}
 use Rattle.pk_documents.specs.declared.document.Document.{Document}
-use Rattle.commands.specs.Files.{FilesSaid, has_failed_write, line_after}
+use Rattle.pk_documents.specs.declared.kind.Kind.{Kind}
+use Rattle.commands.specs.Files.{AreSaid, EndsAfter, Entry, has_failed_write, line_after}
 use Rattle.commands.specs.declared.question.Compared.{Compared}
 use Rattle.commands.specs.declared.question.Compared.TheVariants as compared
 use Rattle.commands.specs.declared.names.NamesFault.{NamesFault}
@@ -34,15 +35,21 @@ is_done Memory = false
 abbrev pub EndsAs : Outcome → Outcome → Type 0
 EndsAs outcome end = (end ≡ outcome) ⊎ (IsWhole outcome × (end ≡ WriteFailed 0))
 
--- A run over no named file replies so, and then the target is flushed.
+-- A run over no named file replies so, with the kind that it finds where that isn't told, and then the target is
+-- flushed.
+abbrev pub AnsweredOf : (Document → Value) → Task → Outcome → Option Kind → Option (List ℕ) → Option (List ℕ)
+    → Option (List ℕ) → Option (List ℕ) → Type 0
+AnsweredOf value_of task end found before after old new =
+    (outcome : Outcome)
+    × (out : Option (List ℕ))
+    × Replied value_of task None outcome found before after old out
+    × Keeps out new
+    × EndsAs outcome end
+
 abbrev pub AnsweredAs : (Document → Value) → Task → Outcome → Option (List ℕ) → Option (List ℕ) → Option (List ℕ)
     → Option (List ℕ) → Type 0
 AnsweredAs value_of task end before after old new =
-    (outcome : Outcome)
-    × (out : Option (List ℕ))
-    × Replied value_of task None outcome before after old out
-    × Keeps out new
-    × EndsAs outcome end
+    (found : Option Kind) × AnsweredOf value_of task end found before after old new
 
 -- A text is written, or its first octets, and then the target is flushed.
 abbrev pub SaysText : List ℕ → Option (List ℕ) → Option (List ℕ) → Outcome → Type 0
@@ -56,26 +63,39 @@ SaysText text old new end =
 
 -- What a task is answered over a source and a target: how it ends, what is still known of the source and whether it has
 -- failed, what the target contains and whether it has failed, and whether it is flushed.
-pub record Served (value_of : Document → Value) (task : Task) (before after : Option (List ℕ)) (unread : Bool)
-    (end : Outcome) (old new : Option (List ℕ)) (unwritten flushed : Bool) : Type 0 where
-  pub answered : AnsweredAs value_of task end before after old new
+pub record ServedSo (IsAnswered : Type 0) (unread : Bool) (end : Outcome) (old new : Option (List ℕ))
+    (unwritten flushed : Bool) : Type 0 where
+  pub answered : IsAnswered
   pub silent : IsSilent end → new ≡ old
   pub failed : FailedBy end unread unwritten
   pub whole : IsWhole end → flushed ≡ true
+
+abbrev pub Served : (Document → Value) → Task → Option (List ℕ) → Option (List ℕ) → Bool → Outcome → Option (List ℕ)
+    → Option (List ℕ) → Bool → Bool → Type 0
+Served value_of task before after unread end old new unwritten flushed =
+    ServedSo (AnsweredAs value_of task end before after old new) unread end old new unwritten flushed
+
+-- the same with the kind of the document
+abbrev pub ServedOf : (Document → Value) → Task → Option Kind → Option (List ℕ) → Option (List ℕ) → Bool → Outcome
+    → Option (List ℕ) → Option (List ℕ) → Bool → Bool → Type 0
+ServedOf value_of task found before after unread end old new unwritten flushed =
+    ServedSo (AnsweredOf value_of task end found before after old new) unread end old new unwritten flushed
 
 -- How a run over named documents ends whose target is flushed after it: as it ended; or the target isn't flushed, and
 -- then how many octets are out isn't known.
 abbrev pub FilesEndAs : FilesEnd → FilesEnd → Type 0
 FilesEndAs end last = (last ≡ end) ⊎ ((has_failed_write end ≡ false) × (last ≡ ends.WriteFailed 0))
 
--- What is said of the documents is written, and then the target is flushed.
+-- What is said of these documents is written, and then the target is flushed.
 abbrev pub AnsweredFiles : (Document → Value) → (List ℕ → Option (List ℕ)) → (List ℕ → Why → Type 0)
     → (Bool → Option (List ℕ) → Type 0) → Task → Option (List (List ℕ))
-    → (Option (List (List ℕ)) → NamesFault → Type 0) → Option (List ℕ) → Option (List ℕ) → FilesEnd → Type 0
-AnsweredFiles value_of known refuses leaves task list stops old new last =
+    → (Option (List (List ℕ)) → NamesFault → Type 0) → Option (List ℕ) → Option (List ℕ) → List Entry → FilesEnd
+    → Type 0
+AnsweredFiles value_of known refuses leaves task list stops old new entries last =
     (end : FilesEnd)
     × (out : Option (List ℕ))
-    × FilesSaid value_of known refuses leaves task list stops old out end
+    × AreSaid value_of known refuses leaves task entries
+    × EndsAfter (AreSaid value_of known refuses leaves task) stops entries list old out end
     × Keeps out new
     × FilesEndAs end last
 

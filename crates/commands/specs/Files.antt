@@ -1,9 +1,10 @@
 -- What a run over any number of named documents says, and how it ends.
-use Rattle.std.specs.Prelude.{All, Bool, List, Option, Some, [], codes, cond, false, length, map, max, take, true, ℕ, ◌++◌, ◌==◌, ◌≡◌, ◌≤◌, ◌+◌, ◌^◌, ◌∷◌, ◌⊎◌}
+use Rattle.std.specs.Prelude.{All, Bool, List, Option, Some, [], codes, cond, false, length, map, take, true, ℕ, ◌++◌, ◌==◌, ◌≡◌, ◌≤◌, ◌+◌, ◌^◌, ◌∷◌, ◌⊎◌}
 use Rattle.std.specs.Io.KnownBytes.{Appends}
-use Rattle.std.specs.List.{flat_map, fold}
+use Rattle.std.specs.List.{flat_map}
 use Rattle.x690.specs.Values.{Value}
 use Rattle.pk_documents.specs.declared.document.Document.{Document}
+use Rattle.pk_documents.specs.declared.kind.Kind.{Kind}
 use Rattle.commands.specs.Fronted.{fronted}
 use Rattle.commands.specs.NameLists.{BeginsWith, IsListOf, TakesNames, fault_of}
 use Rattle.commands.specs.Names.{file_name, shown_name}
@@ -11,6 +12,7 @@ use Rattle.commands.specs.Openings.{why_of}
 use Rattle.commands.specs.Outcomes.{line_feed, line_of, status_of, words_of}
 use Rattle.commands.specs.Replies.{Replied}
 use Rattle.commands.specs.Reported.{error_line}
+use Rattle.commands.specs.Tallies.{tally_of, verdict_of_came}
 use Rattle.commands.specs.declared.files.Came.{Came}
 use Rattle.commands.specs.declared.files.Came.TheVariants.{Ran, Unopened}
 use Rattle.commands.specs.declared.files.FilesEnd.{FilesEnd}
@@ -20,6 +22,8 @@ use Rattle.commands.specs.declared.names.NamesFault.TheVariants.{TooMany}
 use Rattle.commands.specs.declared.opener.Unopened.{Unopened as Why}
 use Rattle.commands.specs.declared.outcome.Outcome.{Outcome}
 use Rattle.commands.specs.declared.outcome.Outcome.TheVariants.{Done, NotDer, Noted, Fault, NoKind, Explained, ReadFailed, WriteFailed, Memory}
+use Rattle.commands.specs.declared.tally.Tally.{Tally}
+use Rattle.commands.specs.declared.tally.Verdict.{Verdict}
 use Rattle.commands.specs.declared.task.Action.{Action}
 use Rattle.commands.specs.declared.task.Action.TheVariants as actions
 use Rattle.commands.specs.declared.task.Task.{Task}
@@ -55,17 +59,17 @@ abbrev pub IsLeft : {Source : Type 0} → (Source → Bool) → (Source → Opti
 IsLeft {Source} has_failed remaining failed after =
     (source : Source) × (has_failed source ≡ failed) × (remaining source ≡ after)
 
--- A run of the task over the document, of which these octets are known, ends so, and writes this: where it says that a
--- read failed, it leaves a source that has failed; or the document isn't opened.
+-- A run of the task over the document, of which these octets are known, ends so, finds its kind where that isn't told,
+-- and writes this: where it says that a read failed, it leaves a source that has failed; or the document isn't opened.
 abbrev pub CameAs : (Document → Value) → Option (List ℕ) → (Why → Type 0) → (Bool → Option (List ℕ) → Type 0) → Task
-    → List ℕ → Came → List ℕ → Type 0
-CameAs value_of before refuses leaves task file (Ran outcome) written =
+    → List ℕ → Came → Option Kind → List ℕ → Type 0
+CameAs value_of before refuses leaves task file (Ran outcome) found written =
     (after : Option (List ℕ))
     × (end : Outcome)
-    × Replied value_of task (Some file) end before after (Some []) (Some written)
+    × Replied value_of task (Some file) end found before after (Some []) (Some written)
     × leaves (has_failed_read end) after
     × (outcome ≡ kept end)
-CameAs value_of before refuses leaves task file (Unopened why) written = refuses why
+CameAs value_of before refuses leaves task file (Unopened why) found written = refuses why
 
 abbrev pub status_of_came : Came → ℕ
 status_of_came (Ran outcome) = status_of outcome
@@ -130,21 +134,22 @@ said_text action name file came written =
     cond (length (words_of_came came) == 0) (cond (length written == 0) [] (named_text action name written))
     (said_line action name file came (words_of_came came))
 
--- This is what the task says of the document of a name, and its status.
+-- This is what the task says of the document of a name, and what that counts as.
 abbrev pub IsSaid : (Document → Value) → (List ℕ → Option (List ℕ)) → (List ℕ → Why → Type 0)
-    → (Bool → Option (List ℕ) → Type 0) → Task → List ℕ → ℕ → List ℕ → Type 0
-IsSaid value_of known refuses leaves task name status text =
+    → (Bool → Option (List ℕ) → Type 0) → Task → List ℕ → Verdict → List ℕ → Type 0
+IsSaid value_of known refuses leaves task name verdict text =
     (came : Came)
+    × (found : Option Kind)
     × (written : List ℕ)
-    × CameAs value_of (known name) (refuses name) leaves task (file_name name) came written
-    × (status ≡ status_of_came came)
+    × CameAs value_of (known name) (refuses name) leaves task (file_name name) came found written
+    × (verdict ≡ verdict_of_came came found)
     × (text ≡ said_text task.action name (file_name name) came written)
 
 -- ---- all documents, in the order of their names
 
 pub record Entry : Type 0 where
   pub name : List ℕ
-  pub status : ℕ
+  pub verdict : Verdict
   pub text : List ℕ
 
 abbrev pub names_of : List Entry → List (List ℕ)
@@ -153,22 +158,22 @@ names_of entries = map (λ it. it.name) entries
 abbrev pub texts_of : List Entry → List ℕ
 texts_of entries = flat_map (λ it. it.text) entries
 
-abbrev pub greatest : List Entry → ℕ
-greatest entries = fold (λ most it. max most it.status) 0 entries
+abbrev pub verdicts_of : List Entry → List Verdict
+verdicts_of entries = map (λ it. it.verdict) entries
 
 abbrev pub AreSaid : (Document → Value) → (List ℕ → Option (List ℕ)) → (List ℕ → Why → Type 0)
     → (Bool → Option (List ℕ) → Type 0) → Task → List Entry → Type 0
 AreSaid value_of known refuses leaves task entries =
-    All (λ it. IsSaid value_of known refuses leaves task it.name it.status it.text) entries
+    All (λ it. IsSaid value_of known refuses leaves task it.name it.verdict it.text) entries
 
 -- So far it has come: these documents of the list, of which all is out.
 pub record Went (value_of : Document → Value) (known : List ℕ → Option (List ℕ)) (refuses : List ℕ → Why → Type 0)
     (leaves : Bool → Option (List ℕ) → Type 0) (task : Task) (list left : Option (List (List ℕ)))
-    (old new : Option (List ℕ)) (status out : ℕ) (entries : List Entry) : Type 0 where
+    (old new : Option (List ℕ)) (tally : Tally) (out : ℕ) (entries : List Entry) : Type 0 where
   pub said : AreSaid value_of known refuses leaves task entries
   pub named : TakesNames list left (names_of entries)
   pub written : Appends old new (texts_of entries)
-  pub status_is : status ≡ greatest entries
+  pub tallied : tally ≡ tally_of (verdicts_of entries)
   pub counted : out ≡ length (texts_of entries)
 
 -- More can't be counted: the documents of the list, or the octets with the text of the next one.
@@ -188,12 +193,12 @@ GivesUp are_said stops list entries fault =
     ((left : Option (List (List ℕ))) × TakesNames list left (names_of entries) × stops left fault)
     ⊎ ((fault ≡ TooMany) × IsPastCounting are_said list entries)
 
--- How it ends: after the last document of the list, with the largest status; or with the text of the last of these
+-- How it ends: after the last document of the list, with what came of all; or with the text of the last of these
 -- documents, of which the first octets are out; or after some, since no more are gone through, or no memory is left.
 abbrev pub EndsAfter : (List Entry → Type 0) → (Option (List (List ℕ)) → NamesFault → Type 0) → List Entry
     → Option (List (List ℕ)) → Option (List ℕ) → Option (List ℕ) → FilesEnd → Type 0
-EndsAfter are_said stops entries list old new (ends.Through status) =
-    IsListOf list (names_of entries) × Appends old new (texts_of entries) × (status ≡ greatest entries)
+EndsAfter are_said stops entries list old new (ends.Through tally) =
+    IsListOf list (names_of entries) × Appends old new (texts_of entries) × (tally ≡ tally_of (verdicts_of entries))
 EndsAfter are_said stops entries list old new (ends.WriteFailed count) =
     BeginsWith list (names_of entries)
     × (count ≤ length (texts_of entries))
@@ -214,20 +219,20 @@ FilesSaid value_of known refuses leaves task list stops old new end =
     × EndsAfter (AreSaid value_of known refuses leaves task) stops entries list old new end
 
 abbrev pub has_failed_write : FilesEnd → Bool
-has_failed_write (ends.Through status) = false
+has_failed_write (ends.Through tally) = false
 has_failed_write (ends.WriteFailed count) = true
 has_failed_write (ends.NoName fault) = false
 has_failed_write ends.Memory = false
 
 abbrev pub status_of_end : FilesEnd → ℕ
-status_of_end (ends.Through status) = status
+status_of_end (ends.Through tally) = tally.status
 status_of_end (ends.WriteFailed count) = 3
 status_of_end (ends.NoName fault) = 3
 status_of_end ends.Memory = 3
 
 -- the line on standard error, of a list whose name is shown so
 abbrev pub line_of_end : List ℕ → FilesEnd → List ℕ
-line_of_end shown (ends.Through status) = []
+line_of_end shown (ends.Through tally) = []
 line_of_end shown (ends.WriteFailed count) = line_of (WriteFailed count)
 line_of_end shown (ends.NoName fault) = line_after shown (fault_of fault)
 line_of_end shown ends.Memory = line_of Memory

@@ -18,3 +18,5 @@ pub mod Pairs
 pub mod Replies
 pub mod Reported
 pub mod Standards
+pub mod Sums
+pub mod Tallies

@@ -302,12 +302,11 @@ SaidBy value_of action file limits octets (Some kind) end text =
     SaidOfOne value_of action file limits octets kind (said_of_kind action kind) end text
 
 -- The kind is found, and this is said by it; or memory ran out.
-abbrev pub SaidOfAny : (Document → Value) → Action → Option (List ℕ) → Limits → List ℕ → Outcome → List ℕ → Type 0
-SaidOfAny value_of action file limits octets end text =
-    (end ≡ Memory)
-    ⊎ ((found : Option Kind)
-    × IsKindOf limits octets found
-    × SaidBy value_of action file limits octets found end text)
+abbrev pub SaidOfAny : (Document → Value) → Action → Option (List ℕ) → Limits → List ℕ → Option Kind → Outcome → List ℕ
+    → Type 0
+SaidOfAny value_of action file limits octets found end text =
+    ((end ≡ Memory) × (found ≡ None))
+    ⊎ (IsKindOf limits octets found × SaidBy value_of action file limits octets found end text)
 
 -- A text is written where it is whole, or its first octets; and otherwise nothing.
 abbrev pub WritesWhole : Outcome → List ℕ → Outcome → Option (List ℕ) → Option (List ℕ) → Type 0
@@ -317,39 +316,41 @@ WritesWhole end text outcome old new =
     × WritesText text old new failed count))
     ⊎ ((IsWhole end → ⊥) × (outcome ≡ end) × (new ≡ old))
 
--- What a run answers that finds the kind by all of the octets, of which it takes one more than the limit at most.
-abbrev pub RepliedAny : (Document → Value) → Action → Option (List ℕ) → Limits → Outcome → Option (List ℕ)
-    → Option (List ℕ) → Option (List ℕ) → Option (List ℕ) → Type 0
-RepliedAny value_of action file limits outcome before after old new =
+-- What a run answers that finds the kind by all of the octets, of which it takes one more than the limit at most, and
+-- the kind.
+abbrev pub RepliedAny : (Document → Value) → Action → Option (List ℕ) → Limits → Outcome → Option Kind
+    → Option (List ℕ) → Option (List ℕ) → Option (List ℕ) → Option (List ℕ) → Type 0
+RepliedAny value_of action file limits outcome found before after old new =
     ((error : ReadError) × StopsTaking (limits.octets + 1) error before after × (outcome ≡ unread_outcome error)
-    × (new ≡ old))
+    × (found ≡ None) × (new ≡ old))
     ⊎ ((octets : List ℕ)
     × TakesFirst (limits.octets + 1) before after octets
     × (end : Outcome)
     × (text : List ℕ)
-    × SaidOfAny value_of action file limits octets end text
+    × SaidOfAny value_of action file limits octets found end text
     × WritesWhole end text outcome old new)
 
--- by the kind of the document, where that is told
-abbrev pub RepliedOn : (Document → Value) → Action → Option (List ℕ) → Option Kind → Limits → Outcome
+-- by the kind of the document, where that is told, and otherwise with the one that is found
+abbrev pub RepliedOn : (Document → Value) → Action → Option (List ℕ) → Option Kind → Limits → Outcome → Option Kind
     → Option (List ℕ) → Option (List ℕ) → Option (List ℕ) → Option (List ℕ) → Type 0
-RepliedOn value_of action file (Some kind) limits outcome before after old new =
-    RepliedBy value_of action file kind limits outcome before after old new
-RepliedOn value_of action file None limits outcome before after old new =
-    RepliedAny value_of action file limits outcome before after old new
+RepliedOn value_of action file (Some kind) limits outcome found before after old new =
+    RepliedBy value_of action file kind limits outcome before after old new × (found ≡ Some kind)
+RepliedOn value_of action file None limits outcome found before after old new =
+    RepliedAny value_of action file limits outcome found before after old new
 
-abbrev pub Replied : (Document → Value) → Task → Option (List ℕ) → Outcome → Option (List ℕ) → Option (List ℕ)
-    → Option (List ℕ) → Option (List ℕ) → Type 0
-Replied value_of task file outcome before after old new =
-    RepliedOn value_of task.action file task.kind task.limits outcome before after old new
+abbrev pub Replied : (Document → Value) → Task → Option (List ℕ) → Outcome → Option Kind → Option (List ℕ)
+    → Option (List ℕ) → Option (List ℕ) → Option (List ℕ) → Type 0
+Replied value_of task file outcome found before after old new =
+    RepliedOn value_of task.action file task.kind task.limits outcome found before after old new
 
 -- What `normalise` replies is `RepliedTo`, whatever file and values of documents are named: whoever relies on that
 -- action alone reads no other one.
 abbrev pub NormaliseReplies : Type 0
 NormaliseReplies =
     (value_of : Document → Value) (kind : Kind) (limits : Limits) (file : Option (List ℕ)) (outcome : Outcome)
-    (before after old new : Option (List ℕ))
-    → Replied value_of (record { action = Normalise; kind = Some kind; limits = limits }) file outcome before after old new
+    (found : Option Kind) (before after old new : Option (List ℕ))
+    → Replied value_of (record { action = Normalise; kind = Some kind; limits = limits }) file outcome found before after
+    old new
     → RepliedTo limits (type_of kind) outcome before after old new
 
 -- it says that nothing is written

@@ -8,7 +8,7 @@ ghost use Rattle.commands.specs.Replies.{is_report, is_unnamed, said_of_kind};
 use crate::files::kept;
 use crate::fronted::in_front_of_each;
 use crate::input::read_all;
-use crate::outcome::{Outcome, is_whole};
+use crate::outcome::{Ending, Outcome, is_whole};
 use crate::run::{run_on_kind, unread, written};
 use crate::task::{Action, KindTask, Task};
 use asn_documents::value::write_octets;
@@ -28,22 +28,28 @@ pub(crate) fn run_on_any<R: Source, W: Target>(
     dst: &mut W,
     task: &Task,
     file: Option<&str>,
-) -> Outcome
+) -> Ending
     requires readable { R.has_failed src.old ≡ false }
     requires writable { W.has_failed dst.old ≡ false }
     ensures replied { RepliedAny ⟦<Document as Valued>⟧.value task.now.action
-        (option_map (λ r. r.now) file.entry) task.now.limits result (R.remaining src.old)
-        (R.remaining src.new) (W.contents dst.old) (W.contents dst.new) }
-    ensures unwritten { IsSilent result → dst.new ≡ dst.old }
-    ensures failed { FailedBy result (R.has_failed src.new) (W.has_failed dst.new) }
+        (option_map (λ r. r.now) file.entry) task.now.limits result.outcome result.kind
+        (R.remaining src.old) (R.remaining src.new) (W.contents dst.old) (W.contents dst.new) }
+    ensures unwritten { IsSilent result.outcome → dst.new ≡ dst.old }
+    ensures failed { FailedBy result.outcome (R.has_failed src.new) (W.has_failed dst.new) }
 {
     match read_all(alloc, src, task.limits.octets() as usize + 1) {
         Ok(octets) => {
             let given = octets.as_slice();
-            let (end, text) = said_of_any(alloc, given, task.action, task.limits, file);
-            write_whole(end, text.as_slice(), dst)
+            let (end, text, kind) = said_of_any(alloc, given, task.action, task.limits, file);
+            Ending {
+                outcome: write_whole(end, text.as_slice(), dst),
+                kind,
+            }
         }
-        Err(error) => unread(&error),
+        Err(error) => Ending {
+            outcome: unread(&error),
+            kind: None,
+        },
     }
 }
 
@@ -61,20 +67,20 @@ fn write_whole<W: Target>(end: Outcome, text: &[u8], dst: &mut W) -> Outcome
     written(write_octets(text, dst), end)
 }
 
-/// How the task ends over octets whose kind is to be found, and what it writes.
+/// How the task ends over octets whose kind is to be found, what it writes, and the kind.
 fn said_of_any(
     alloc: Global,
     octets: &[u8],
     action: Action,
     limits: Limits,
     file: Option<&str>,
-) -> (Outcome, Vec<u8>)
+) -> (Outcome, Vec<u8>, Option<Kind>)
     ensures said { SaidOfAny ⟦<Document as Valued>⟧.value action (option_map (λ r. r.now) file.entry)
-        limits octets.now result.0 result.1.items }
+        limits octets.now result.2 result.0 result.1.items }
     ensures sure { FailedBy result.0 false false }
 {
     let Ok(found) = kind_of(alloc, octets, limits) else {
-        return (Outcome::Memory, Vec::new(alloc));
+        return (Outcome::Memory, Vec::new(alloc), None);
     };
     match found {
         Some(kind) => {
@@ -83,9 +89,13 @@ fn said_of_any(
                 kind,
                 limits,
             };
-            said_of_kind(alloc, octets, &task, file)
+            let (end, text) = said_of_kind(alloc, octets, &task, file);
+            (end, text, Some(kind))
         }
-        None => said_of_none(alloc, octets, action, limits, file),
+        None => {
+            let (end, text) = said_of_none(alloc, octets, action, limits, file);
+            (end, text, None)
+        }
     }
 }
 

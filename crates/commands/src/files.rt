@@ -8,6 +8,7 @@ ghost use Rattle.commands.specs.Files.{said_line, said_text, status_of_came, sta
 ghost use Rattle.commands.specs.NameLists.{HasStopped};
 ghost use Rattle.commands.specs.Names.{shown_name};
 ghost use Rattle.commands.specs.Openings.{why_of};
+ghost use Rattle.commands.specs.Tallies.{verdict_of_came};
 
 use crate::fronted::in_front_of_each;
 use crate::lines::{LineWords, NamedLine};
@@ -17,9 +18,11 @@ use crate::opener::{Opener, Unopened};
 use crate::outcome::{Outcome, outcome_words, plain_words, status};
 use crate::reported::error_line;
 use crate::run::run;
+use crate::tally::{Tally, Verdict, verdict_of};
 use crate::task::{Action, Task};
 use asn_documents::value::write_octets;
 use pk_documents::document::{Document, Valued};
+use pk_documents::kind::Kind;
 use std::alloc::{AllocError, Global};
 use tlv_core::target::{Target, ToWrite};
 
@@ -33,8 +36,8 @@ pub enum Came {
 /// How a run over any number of documents ends.
 #[derive(Clone, Copy, Debug, PartialEq, Eq)]
 pub enum FilesEnd {
-    /// After the last name: the largest status of the documents.
-    Through(u8),
+    /// After the last name: what came of the documents.
+    Through(Tally),
     /// The next name doesn't come.
     NoName(NamesFault),
     /// The writer failed after so many octets.
@@ -43,17 +46,17 @@ pub enum FilesEnd {
     Memory,
 }
 
-/// What is said of a document, and its status.
+/// What is said of a document, and what it counts as.
 #[derive(Drop)]
 struct Said {
-    status: u8,
+    verdict: Verdict,
     text: Vec<u8>,
 }
 
-/// How far a run has come: the largest status, and how many octets are out.
+/// How far a run has come: what came of the documents, and how many octets are out.
 #[derive(Clone, Copy)]
 struct Progress {
-    status: u8,
+    tally: Tally,
     out: u64,
 }
 
@@ -72,7 +75,10 @@ pub fn run_files<N: Names, O: Opener, W: Target>(
         (W.contents dst.old) (W.contents dst.new) result }
     ensures failed { W.has_failed dst.new ≡ has_failed_write result }
 {
-    let mut progress = Progress { status: 0, out: 0 };
+    let mut progress = Progress {
+        tally: Tally::new(),
+        out: 0,
+    };
     for _ in 0..u64::MAX {
         match next_file(alloc, names, opener, dst, task, progress) {
             Ok(further) => progress = further,
@@ -95,11 +101,11 @@ fn next_file<N: Names, O: Opener, W: Target>(
     ensures known { (all : List Entry) (list : Option (List (List ℕ))) (old : Option (List ℕ))
         → Went ⟦<Document as Valued>⟧.value (O.known opener.now) (O.refuses opener.now)
         (IsLeft O.Document.has_failed O.Document.remaining) task.now list (N.left names.old) old
-        (W.contents dst.old) progress.status progress.out all
+        (W.contents dst.old) progress.tally progress.out all
         → MatchResult result (λ further. (more : List Entry) × (length more ≡ length all + 1)
         × Went ⟦<Document as Valued>⟧.value (O.known opener.now) (O.refuses opener.now)
         (IsLeft O.Document.has_failed O.Document.remaining) task.now list (N.left names.new) old
-        (W.contents dst.new) further.status further.out more)
+        (W.contents dst.new) further.tally further.out more)
         (FilesSaid ⟦<Document as Valued>⟧.value (O.known opener.now) (O.refuses opener.now)
         (IsLeft O.Document.has_failed O.Document.remaining) task.now list (HasStopped N.left N.stops names.new) old
         (W.contents dst.new)) }
@@ -108,7 +114,7 @@ fn next_file<N: Names, O: Opener, W: Target>(
 {
     let name = match names.next_name(alloc) {
         Ok(Some(name)) => name,
-        Ok(None) => return Err(FilesEnd::Through(progress.status)),
+        Ok(None) => return Err(FilesEnd::Through(progress.tally)),
         Err(fault) => return Err(FilesEnd::NoName(fault)),
     };
     let Ok(said) = said_of(alloc, opener, name.as_slice(), task) else {
@@ -119,7 +125,7 @@ fn next_file<N: Names, O: Opener, W: Target>(
     };
     match write_octets(said.text.as_slice(), dst) {
         Ok(_) => Ok(Progress {
-            status: progress.status.max(said.status),
+            tally: progress.tally.with(said.verdict),
             out,
         }),
         Err(error) => Err(FilesEnd::WriteFailed(progress.out + error.written)),
@@ -135,36 +141,36 @@ fn said_of<O: Opener>(
 ) -> Result<Said, AllocError>
     ensures { IfOk result (λ said. IsSaid ⟦<Document as Valued>⟧.value (O.known opener.now)
         (O.refuses opener.now) (IsLeft O.Document.has_failed O.Document.remaining) task.now
-        name.now said.status said.text.items) }
+        name.now said.verdict said.text.items) }
 {
     let file = file_name(alloc, name)?;
-    let (came, written) = came_of(alloc, opener, name, task, file.as_str());
+    let (came, written, kind) = came_of(alloc, opener, name, task, file.as_str());
     let text = said_text(alloc, task.action, name, file.as_str(), &came, written)?;
     Ok(Said {
-        status: came_status(&came),
+        verdict: came_verdict(&came, kind),
         text,
     })
 }
 
-/// What comes of the document of a name, and what the task writes of it.
+/// What comes of the document of a name, what the task writes of it, and its kind, where that is known.
 fn came_of<O: Opener>(
     alloc: Global,
     opener: &O,
     name: &[u8],
     task: &Task,
     file: &str,
-) -> (Came, Vec<u8>)
+) -> (Came, Vec<u8>, Option<Kind>)
     ensures { CameAs ⟦<Document as Valued>⟧.value (O.known opener.now name.now)
         (O.refuses opener.now name.now) (IsLeft O.Document.has_failed O.Document.remaining)
-        task.now file.now result.0 result.1.items }
+        task.now file.now result.0 result.2 result.1.items }
 {
     match opener.open(alloc, name) {
         Ok(mut src) => {
             let mut dst = ToWrite::new(Vec::new(alloc));
-            let outcome = run(alloc, &mut src, &mut dst, task, Some(file));
-            (Came::Ran(kept(outcome)), dst.into_inner())
+            let end = run(alloc, &mut src, &mut dst, task, Some(file));
+            (Came::Ran(kept(end.outcome)), dst.into_inner(), end.kind)
         }
-        Err(why) => (Came::Unopened(why), Vec::new(alloc)),
+        Err(why) => (Came::Unopened(why), Vec::new(alloc), None),
     }
 }
 
@@ -254,7 +260,7 @@ fn said_line(
 }
 
 /// Whether what an action writes is JSON.
-fn is_json(action: Action) -> bool
+pub(crate) fn is_json(action: Action) -> bool
     ensures { result ≡ is_json action }
 {
     match action {
@@ -331,12 +337,22 @@ pub fn came_status(came: &Came) -> u8
     }
 }
 
+/// What a document counts as of which this came.
+fn came_verdict(came: &Came, kind: Option<Kind>) -> Verdict
+    ensures { result ≡ verdict_of_came came.now kind }
+{
+    match came {
+        Came::Ran(outcome) => verdict_of(outcome, kind),
+        Came::Unopened(_) => Verdict::Unread,
+    }
+}
+
 /// The exit status of a run over any number of documents.
 pub fn files_status(end: &FilesEnd) -> u8
     ensures { result ≡ status_of_end end.now }
 {
     match end {
-        FilesEnd::Through(status) => *status,
+        FilesEnd::Through(tally) => tally.status,
         FilesEnd::NoName(_) | FilesEnd::WriteFailed(_) | FilesEnd::Memory => 3,
     }
 }

@@ -2,15 +2,16 @@
 ghost use Rattle.std.specs.Prelude.{◌≡◌, IfSome, false, map};
 ghost use Rattle.std.specs.List.{list_any};
 ghost use Rattle.std.specs.Option.{option_map};
-ghost use Rattle.commands.specs.Judgements.{Goes, Judges, JudgesAll, JudgesInput, JudgesNames, JudgesNone, part_of};
-ghost use Rattle.commands.specs.Judgements.{parts_named, parts_of, sources_of, status_after, status_through};
+ghost use Rattle.commands.specs.Judgements.{Goes, Judges, JudgesAll, JudgesInput, JudgesNames, Tallied};
+ghost use Rattle.commands.specs.Judgements.{part_of, parts_named, parts_of, sources_of, tally_through, verdicts_after};
 ghost use Rattle.commands.specs.Files.{IsLeft};
 ghost use Rattle.commands.specs.Judgements.Part.{Listed, Named};
 ghost use Rattle.commands.specs.Lines.{name_of_line};
 ghost use Rattle.commands.specs.NameLists.{HasStopped};
 ghost use Rattle.commands.specs.Outcomes.{line_of};
 ghost use Rattle.commands.specs.declared.outcome.Outcome.TheVariants.{Memory};
-ghost use Rattle.commands.specs.Standards.{IsReadable, is_dash, seen};
+ghost use Rattle.commands.specs.Standards.{IsReadable, SaysAlone, is_dash, seen};
+ghost use Rattle.commands.specs.Tallies.{tally_of};
 
 use crate::closing::{finish, finish_files, finish_named};
 use crate::ended_names::EndedNames;
@@ -19,10 +20,12 @@ use crate::flush::Flush;
 use crate::lines::NamedLine;
 use crate::names::{Names, Words};
 use crate::opener::{Opener, RegularFiles};
-use crate::outcome::{Outcome, status};
+use crate::outcome::{Ending, Outcome};
 use crate::pair::finish_taken;
 use crate::standard::{Standard, is_dash};
-use crate::streams::{answer, answer_files};
+use crate::streams::{answer_files, answer_of};
+use crate::sums::finish_sum;
+use crate::tally::{Tally, Verdict, verdict_of};
 use crate::task::Task;
 use pk_documents::document::{Document, Valued};
 use std::alloc::Global;
@@ -32,33 +35,45 @@ use tlv_core::target::Target;
 /// The status of a run that ended before its last document.
 const FAILED: u8 = 3;
 
-/// Says what the task has to say of the documents of these names, and of those of a list after them, or of that of
-/// standard input where nothing is named, and answers the exit status: the largest one, or 3 where the run ended before
-/// the last document.
+/// What is judged: the documents of these names, and those of a list after them, or that of standard input where
+/// nothing is named.
+#[derive(Clone, Copy)]
+pub struct Documents<'a> {
+    pub names: &'a [&'a str],
+    pub list: Option<&'a str>,
+    /// Whether a line after the last one says how many documents count as what.
+    pub sums: bool,
+}
+
+/// Says what the task has to say of documents, and how many count as what where that is asked for, and answers the exit
+/// status: the largest one, or 3 where the run ended before the last document.
 pub fn judge<R: Source + Drop, W: Flush, E: Target, O: Opener>(
     alloc: Global,
     task: &Task,
-    names: &[&str],
-    list: Option<&str>,
+    documents: Documents<'_>,
     standard: &mut Standard<R, W, E>,
     opener: &O,
 ) -> u8
     requires readable { IsReadable R.has_failed standard.old.input }
     requires writable { W.has_failed standard.old.output ≡ false }
     ensures { JudgesAll ⟦<Document as Valued>⟧.value (sources_of R.has_failed R.remaining O.Document.has_failed
-        O.Document.remaining (O.known opener.now) (O.refuses opener.now)) task.now (map (λ r. r.now) names.now)
-        (option_map (λ r. r.now) list.entry)
+        O.Document.remaining (O.known opener.now) (O.refuses opener.now)) task.now documents.entry.sums
+        (map (λ r. r.now) documents.entry.names.now) (option_map (λ r. r.now) documents.entry.list)
         (seen R.remaining W.contents W.has_failed W.is_flushed E.contents E.has_failed standard.old)
         (seen R.remaining W.contents W.has_failed W.is_flushed E.contents E.has_failed standard.new)
         result }
 {
-    match judge_all(alloc, task, names, list, standard, opener) {
-        Some(worst) => worst,
-        None => FAILED,
+    let names = documents.names;
+    let Some(tally) = judge_all(alloc, task, names, documents.list, standard, opener) else {
+        return FAILED;
+    };
+    if documents.sums {
+        return finish_sum(alloc, task, &tally, &mut standard.errors);
     }
+    tally.status
 }
 
-/// The same, but nothing where the run ended before the last document.
+/// The same, but nothing where the run ended before the last document, and otherwise how many count as what.
 fn judge_all<R: Source + Drop, W: Flush, E: Target, O: Opener>(
     alloc: Global,
     task: &Task,
@@ -66,14 +81,14 @@ fn judge_all<R: Source + Drop, W: Flush, E: Target, O: Opener>(
     list: Option<&str>,
     standard: &mut Standard<R, W, E>,
     opener: &O,
-) -> Option<u8>
+) -> Option<Tally>
     requires readable { IsReadable R.has_failed standard.old.input }
     requires writable { W.has_failed standard.old.output ≡ false }
-    ensures { Goes (Judges ⟦<Document as Valued>⟧.value (sources_of R.has_failed R.remaining O.Document.has_failed
-        O.Document.remaining (O.known opener.now) (O.refuses opener.now)) task.now)
+    ensures { Tallied (Goes (Judges ⟦<Document as Valued>⟧.value (sources_of R.has_failed R.remaining
+        O.Document.has_failed O.Document.remaining (O.known opener.now) (O.refuses opener.now)) task.now)
         (parts_of (map (λ r. r.now) names.now) (option_map (λ r. r.now) list.entry))
         (seen R.remaining W.contents W.has_failed W.is_flushed E.contents E.has_failed standard.old)
-        (seen R.remaining W.contents W.has_failed W.is_flushed E.contents E.has_failed standard.new)
+        (seen R.remaining W.contents W.has_failed W.is_flushed E.contents E.has_failed standard.new))
         result }
 {
     let Some(list) = list else {
@@ -82,9 +97,9 @@ fn judge_all<R: Source + Drop, W: Flush, E: Target, O: Opener>(
         }
         return judge_names(alloc, task, names, standard, opener);
     };
-    let worst = judge_names(alloc, task, names, standard, opener)?;
+    let first = judge_names(alloc, task, names, standard, opener)?;
     let last = judge_list(alloc, task, list, standard, opener)?;
-    Some(worst.max(last))
+    Some(first.with_all(&last))
 }
 
 /// The same of the documents of these names alone.
@@ -94,16 +109,16 @@ fn judge_names<R: Source + Drop, W: Flush, E: Target, O: Opener>(
     names: &[&str],
     standard: &mut Standard<R, W, E>,
     opener: &O,
-) -> Option<u8>
+) -> Option<Tally>
     requires readable { IsReadable R.has_failed standard.old.input }
     requires writable { W.has_failed standard.old.output ≡ false }
     ensures readable { IsReadable R.has_failed standard.new.input }
     ensures writable { IfSome result (λ _. W.has_failed standard.new.output ≡ false) }
-    ensures goes { Goes (Judges ⟦<Document as Valued>⟧.value (sources_of R.has_failed R.remaining O.Document.has_failed
-        O.Document.remaining (O.known opener.now) (O.refuses opener.now)) task.now)
+    ensures goes { Tallied (Goes (Judges ⟦<Document as Valued>⟧.value (sources_of R.has_failed R.remaining
+        O.Document.has_failed O.Document.remaining (O.known opener.now) (O.refuses opener.now)) task.now)
         (parts_named (map (λ r. r.now) names.now))
         (seen R.remaining W.contents W.has_failed W.is_flushed E.contents E.has_failed standard.old)
-        (seen R.remaining W.contents W.has_failed W.is_flushed E.contents E.has_failed standard.new)
+        (seen R.remaining W.contents W.has_failed W.is_flushed E.contents E.has_failed standard.new))
         result }
 {
     if has_dash(names) {
@@ -131,23 +146,24 @@ fn judge_each<R: Source + Drop, W: Flush, E: Target, O: Opener>(
     names: &[&str],
     standard: &mut Standard<R, W, E>,
     opener: &O,
-) -> Option<u8>
+) -> Option<Tally>
     requires readable { IsReadable R.has_failed standard.old.input }
     requires writable { W.has_failed standard.old.output ≡ false }
     ensures readable { IsReadable R.has_failed standard.new.input }
     ensures writable { IfSome result (λ _. W.has_failed standard.new.output ≡ false) }
-    ensures goes { Goes (Judges ⟦<Document as Valued>⟧.value (sources_of R.has_failed R.remaining O.Document.has_failed
-        O.Document.remaining (O.known opener.now) (O.refuses opener.now)) task.now)
+    ensures goes { Tallied (Goes (Judges ⟦<Document as Valued>⟧.value (sources_of R.has_failed R.remaining
+        O.Document.has_failed O.Document.remaining (O.known opener.now) (O.refuses opener.now)) task.now)
         (map part_of (map (λ r. r.now) names.now))
         (seen R.remaining W.contents W.has_failed W.is_flushed E.contents E.has_failed standard.old)
-        (seen R.remaining W.contents W.has_failed W.is_flushed E.contents E.has_failed standard.new)
+        (seen R.remaining W.contents W.has_failed W.is_flushed E.contents E.has_failed standard.new))
         result }
 {
-    let mut worst: u8 = 0;
+    let mut tally = Tally::new();
     for name in names {
-        worst = worst.max(judge_one(alloc, task, name, standard, opener)?);
+        let next = judge_one(alloc, task, name, standard, opener)?;
+        tally = tally.with_all(&next);
     }
-    Some(worst)
+    Some(tally)
 }
 
 /// The same of one name.
@@ -157,15 +173,16 @@ fn judge_one<R: Source + Drop, W: Flush, E: Target, O: Opener>(
     name: &str,
     standard: &mut Standard<R, W, E>,
     opener: &O,
-) -> Option<u8>
+) -> Option<Tally>
     requires readable { IsReadable R.has_failed standard.old.input }
     requires writable { W.has_failed standard.old.output ≡ false }
     ensures readable { IsReadable R.has_failed standard.new.input }
     ensures writable { IfSome result (λ _. W.has_failed standard.new.output ≡ false) }
-    ensures judges { Judges ⟦<Document as Valued>⟧.value (sources_of R.has_failed R.remaining O.Document.has_failed
-        O.Document.remaining (O.known opener.now) (O.refuses opener.now)) task.now (part_of name.now)
+    ensures judges { Tallied (Judges ⟦<Document as Valued>⟧.value (sources_of R.has_failed R.remaining
+        O.Document.has_failed O.Document.remaining (O.known opener.now) (O.refuses opener.now)) task.now
+        (part_of name.now)
         (seen R.remaining W.contents W.has_failed W.is_flushed E.contents E.has_failed standard.old)
-        (seen R.remaining W.contents W.has_failed W.is_flushed E.contents E.has_failed standard.new)
+        (seen R.remaining W.contents W.has_failed W.is_flushed E.contents E.has_failed standard.new))
         result }
 {
     if is_dash(name) {
@@ -179,31 +196,33 @@ fn judge_input<R: Source + Drop, W: Flush, E: Target>(
     alloc: Global,
     task: &Task,
     standard: &mut Standard<R, W, E>,
-) -> Option<u8>
+) -> Option<Tally>
     requires readable { IsReadable R.has_failed standard.old.input }
     requires writable { W.has_failed standard.old.output ≡ false }
     ensures readable { IsReadable R.has_failed standard.new.input }
     ensures writable { IfSome result (λ _. W.has_failed standard.new.output ≡ false) }
-    ensures judges { JudgesInput ⟦<Document as Valued>⟧.value task.now (option_map R.remaining standard.old.input)
+    ensures judges { Tallied (JudgesInput ⟦<Document as Valued>⟧.value task.now
+        (option_map R.remaining standard.old.input)
         (seen R.remaining W.contents W.has_failed W.is_flushed E.contents E.has_failed standard.old)
-        (seen R.remaining W.contents W.has_failed W.is_flushed E.contents E.has_failed standard.new)
+        (seen R.remaining W.contents W.has_failed W.is_flushed E.contents E.has_failed standard.new))
         result }
 {
     let Some(mut src) = standard.input.take() else {
-        return Some(finish(&Outcome::ReadFailed(0), &mut standard.errors));
+        finish(&Outcome::ReadFailed(0), &mut standard.errors);
+        return Some(Tally::of_one(Verdict::Unread));
     };
-    let outcome = answer(alloc, &mut src, &mut standard.output, task);
-    finish(&outcome, &mut standard.errors);
-    status_after(&outcome)
+    let end = answer_of(alloc, &mut src, &mut standard.output, task);
+    finish(&end.outcome, &mut standard.errors);
+    tally_after(&end)
 }
 
-/// The status of a run that goes on after such an outcome, or nothing where it ends.
-fn status_after(outcome: &Outcome) -> Option<u8>
-    ensures { result ≡ status_after outcome.now }
+/// What came of a document where a run goes on after it, or nothing where it ends.
+fn tally_after(end: &Ending) -> Option<Tally>
+    ensures { result ≡ option_map tally_of (verdicts_after end.now.outcome end.now.kind) }
 {
-    match outcome {
+    match end.outcome {
         Outcome::WriteFailed(_) => None,
-        other => Some(status(other)),
+        _ => Some(Tally::of_one(verdict_of(&end.outcome, end.kind))),
     }
 }
 
@@ -214,20 +233,21 @@ fn judge_named<R: Source + Drop, W: Flush, E: Target, O: Opener>(
     names: &[&str],
     standard: &mut Standard<R, W, E>,
     opener: &O,
-) -> Option<u8>
+) -> Option<Tally>
     requires readable { IsReadable R.has_failed standard.old.input }
     requires writable { W.has_failed standard.old.output ≡ false }
     ensures readable { IsReadable R.has_failed standard.new.input }
     ensures writable { IfSome result (λ _. W.has_failed standard.new.output ≡ false) }
-    ensures judges { Judges ⟦<Document as Valued>⟧.value (sources_of R.has_failed R.remaining O.Document.has_failed
-        O.Document.remaining (O.known opener.now) (O.refuses opener.now)) task.now
+    ensures judges { Tallied (Judges ⟦<Document as Valued>⟧.value (sources_of R.has_failed R.remaining
+        O.Document.has_failed O.Document.remaining (O.known opener.now) (O.refuses opener.now)) task.now
         (Named (map (λ r. r.now) names.now))
         (seen R.remaining W.contents W.has_failed W.is_flushed E.contents E.has_failed standard.old)
-        (seen R.remaining W.contents W.has_failed W.is_flushed E.contents E.has_failed standard.new)
+        (seen R.remaining W.contents W.has_failed W.is_flushed E.contents E.has_failed standard.new))
         result }
 {
     let Ok(no_list) = NamedLine::new(alloc, &[]) else {
-        return unnamed(standard);
+        unnamed(standard);
+        return None;
     };
     judge_listed(
         alloc,
@@ -247,19 +267,21 @@ fn judge_list<R: Source + Drop, W: Flush, E: Target, O: Opener>(
     list: &str,
     standard: &mut Standard<R, W, E>,
     opener: &O,
-) -> Option<u8>
+) -> Option<Tally>
     requires readable { IsReadable R.has_failed standard.old.input }
     requires writable { W.has_failed standard.old.output ≡ false }
     ensures readable { IsReadable R.has_failed standard.new.input }
     ensures writable { IfSome result (λ _. W.has_failed standard.new.output ≡ false) }
-    ensures judges { Judges ⟦<Document as Valued>⟧.value (sources_of R.has_failed R.remaining O.Document.has_failed
-        O.Document.remaining (O.known opener.now) (O.refuses opener.now)) task.now (Listed list.now)
+    ensures judges { Tallied (Judges ⟦<Document as Valued>⟧.value (sources_of R.has_failed R.remaining
+        O.Document.has_failed O.Document.remaining (O.known opener.now) (O.refuses opener.now)) task.now
+        (Listed list.now)
         (seen R.remaining W.contents W.has_failed W.is_flushed E.contents E.has_failed standard.old)
-        (seen R.remaining W.contents W.has_failed W.is_flushed E.contents E.has_failed standard.new)
+        (seen R.remaining W.contents W.has_failed W.is_flushed E.contents E.has_failed standard.new))
         result }
 {
     let Ok(named) = NamedLine::new(alloc, list.as_bytes()) else {
-        return unnamed(standard);
+        unnamed(standard);
+        return None;
     };
     if is_dash(list) {
         let Some(src) = standard.input.take() else {
@@ -302,42 +324,40 @@ fn judge_listed<N: Names, R: Source + Drop, W: Flush, E: Target, O: Opener>(
     names: &mut N,
     standard: &mut Standard<R, W, E>,
     opener: &O,
-) -> Option<u8>
+) -> Option<Tally>
     requires readable { IsReadable R.has_failed standard.old.input }
     requires writable { W.has_failed standard.old.output ≡ false }
     ensures readable { IsReadable R.has_failed standard.new.input }
     ensures writable { IfSome result (λ _. W.has_failed standard.new.output ≡ false) }
-    ensures judges { JudgesNames ⟦<Document as Valued>⟧.value (O.known opener.now) (O.refuses opener.now)
+    ensures judges { Tallied (JudgesNames ⟦<Document as Valued>⟧.value (O.known opener.now) (O.refuses opener.now)
         (IsLeft O.Document.has_failed O.Document.remaining) task.now (name_of_line list) (N.left names.old)
         (HasStopped N.left N.stops names.new)
         (seen R.remaining W.contents W.has_failed W.is_flushed E.contents E.has_failed standard.old)
-        (seen R.remaining W.contents W.has_failed W.is_flushed E.contents E.has_failed standard.new)
+        (seen R.remaining W.contents W.has_failed W.is_flushed E.contents E.has_failed standard.new))
         result }
     ensures input { standard.new.input ≡ standard.old.input }
 {
     let end = answer_files(alloc, names, opener, &mut standard.output, task);
     finish_files(list, &end, &mut standard.errors);
-    status_through(&end)
+    tally_through(&end)
 }
 
-/// The status of a run that goes on after such an end, or nothing where it ends.
-fn status_through(end: &FilesEnd) -> Option<u8>
-    ensures { result ≡ status_through end.now }
+/// What came of documents where a run goes on after them, or nothing where it ends.
+fn tally_through(end: &FilesEnd) -> Option<Tally>
+    ensures { result ≡ tally_through end.now }
 {
     match end {
-        FilesEnd::Through(status) => Some(*status),
+        FilesEnd::Through(tally) => Some(*tally),
         FilesEnd::NoName(_) | FilesEnd::WriteFailed(_) | FilesEnd::Memory => None,
     }
 }
 
 /// Says that there is no memory for a name.
-fn unnamed<R: Source + Drop, W: Flush, E: Target>(standard: &mut Standard<R, W, E>) -> Option<u8>
-    ensures says { JudgesNone (line_of Memory)
+fn unnamed<R: Source + Drop, W: Flush, E: Target>(standard: &mut Standard<R, W, E>)
+    ensures says { SaysAlone (line_of Memory)
         (seen R.remaining W.contents W.has_failed W.is_flushed E.contents E.has_failed standard.old)
-        (seen R.remaining W.contents W.has_failed W.is_flushed E.contents E.has_failed standard.new)
-        result }
+        (seen R.remaining W.contents W.has_failed W.is_flushed E.contents E.has_failed standard.new) }
     ensures input { standard.new.input ≡ standard.old.input }
 {
     finish(&Outcome::Memory, &mut standard.errors);
-    None
 }

@@ -37,6 +37,13 @@ pub enum Outcome {
     Memory,
 }
 
+/// How a run ends, and the kind of its document, where that is known.
+#[derive(Clone, Copy, Debug, PartialEq, Eq)]
+pub struct Ending {
+    pub outcome: Outcome,
+    pub kind: Option<Kind>,
+}
+
 /// The exit status.
 pub fn status(outcome: &Outcome) -> u8
     ensures { result ≡ status_of outcome.now }

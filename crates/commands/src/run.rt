@@ -14,7 +14,7 @@ ghost use Rattle.commands.specs.Replies.{written_outcome};
 use crate::any::run_on_any;
 use crate::block_target::{BlockTarget, Start, new_block};
 use crate::input::read_all;
-use crate::outcome::Outcome;
+use crate::outcome::{Ending, Outcome};
 use crate::reply::{
     Reply, check_line, check_report, explain_report, note_lines, note_report, show_lines,
     show_report,
@@ -45,19 +45,22 @@ pub fn run<R: Source, W: Target>(
     dst: &mut W,
     task: &Task,
     file: Option<&str>,
-) -> Outcome
+) -> Ending
     requires readable { R.has_failed src.old ≡ false }
     requires writable { W.has_failed dst.old ≡ false }
     ensures replied { Replied ⟦<Document as Valued>⟧.value task.now
-        (option_map (λ r. r.now) file.entry) result (R.remaining src.old) (R.remaining src.new)
-        (W.contents dst.old) (W.contents dst.new) }
+        (option_map (λ r. r.now) file.entry) result.outcome result.kind (R.remaining src.old)
+        (R.remaining src.new) (W.contents dst.old) (W.contents dst.new) }
     // Nothing is written of what isn't all of the input.
-    ensures unwritten { IsSilent result → dst.new ≡ dst.old }
+    ensures unwritten { IsSilent result.outcome → dst.new ≡ dst.old }
     // A failed read or write is answered where the source or the target failed, and nowhere else.
-    ensures failed { FailedBy result (R.has_failed src.new) (W.has_failed dst.new) }
+    ensures failed { FailedBy result.outcome (R.has_failed src.new) (W.has_failed dst.new) }
 {
     match task.kind {
-        Some(kind) => run_on_kind(alloc, src, dst, &task_on(task, kind), file),
+        Some(kind) => Ending {
+            outcome: run_on_kind(alloc, src, dst, &task_on(task, kind), file),
+            kind: Some(kind),
+        },
         None => run_on_any(alloc, src, dst, task, file),
     }
 }

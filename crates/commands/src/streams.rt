@@ -1,8 +1,8 @@
 //! What the program does with its streams, over any of them.
-ghost use Rattle.std.specs.Prelude.{◌≡◌, Bool, false, true};
+ghost use Rattle.std.specs.Prelude.{◌≡◌, Bool, List, false, true};
 ghost use Rattle.std.specs.Io.KnownBytes.{Keeps};
-ghost use Rattle.commands.specs.Endings.{AnsweredAs, AnsweredFiles, EndsAs, FilesEndAs, SaysText};
-ghost use Rattle.commands.specs.Files.{IsLeft, has_failed_write};
+ghost use Rattle.commands.specs.Endings.{AnsweredAs, AnsweredFiles, AnsweredOf, EndsAs, FilesEndAs, SaysText};
+ghost use Rattle.commands.specs.Files.{Entry, IsLeft, has_failed_write};
 ghost use Rattle.commands.specs.NameLists.{HasStopped};
 ghost use Rattle.commands.specs.Outcomes.{IsWhole};
 ghost use Rattle.commands.specs.Replies.{FailedBy, IsSilent};
@@ -11,7 +11,7 @@ use crate::files::{FilesEnd, run_files};
 use crate::flush::Flush;
 use crate::names::Names;
 use crate::opener::Opener;
-use crate::outcome::{Outcome, is_whole};
+use crate::outcome::{Ending, Outcome, is_whole};
 use crate::run::{run, written};
 use crate::task::Task;
 use asn_documents::value::write_octets;
@@ -32,8 +32,29 @@ pub fn answer<R: Source, W: Flush>(alloc: Global, src: &mut R, dst: &mut W, task
     // A failed read, write or flush is answered where the source or the target failed, and nowhere else.
     ensures failed { FailedBy result (R.has_failed src.new) (W.has_failed dst.new) }
 {
-    let outcome = run(alloc, src, dst, task, None);
-    flushed(dst, outcome)
+    answer_of(alloc, src, dst, task).outcome
+}
+
+/// The same, and the kind of the document, where that is known.
+pub fn answer_of<R: Source, W: Flush>(
+    alloc: Global,
+    src: &mut R,
+    dst: &mut W,
+    task: &Task,
+) -> Ending
+    requires readable { R.has_failed src.old ≡ false }
+    requires writable { W.has_failed dst.old ≡ false }
+    ensures answered { AnsweredOf ⟦<Document as Valued>⟧.value task.now result.outcome result.kind
+        (R.remaining src.old) (R.remaining src.new) (W.contents dst.old) (W.contents dst.new) }
+    ensures unwritten { IsSilent result.outcome → dst.new ≡ dst.old }
+    ensures flushed { IsWhole result.outcome → W.is_flushed dst.new ≡ true }
+    ensures failed { FailedBy result.outcome (R.has_failed src.new) (W.has_failed dst.new) }
+{
+    let end = run(alloc, src, dst, task, None);
+    Ending {
+        outcome: flushed(dst, end.outcome),
+        kind: end.kind,
+    }
 }
 
 /// Writes a text, and flushes the target after it.
@@ -56,10 +77,11 @@ pub fn answer_files<N: Names, O: Opener, W: Flush>(
     task: &Task,
 ) -> FilesEnd
     requires writable { W.has_failed dst.old ≡ false }
-    ensures answered { AnsweredFiles ⟦<Document as Valued>⟧.value (O.known opener.now)
+    ensures answered { (entries : List Entry)
+        × AnsweredFiles ⟦<Document as Valued>⟧.value (O.known opener.now)
         (O.refuses opener.now) (IsLeft O.Document.has_failed O.Document.remaining) task.now
         (N.left names.old) (HasStopped N.left N.stops names.new) (W.contents dst.old)
-        (W.contents dst.new) result }
+        (W.contents dst.new) entries result }
     ensures flushed { has_failed_write result ≡ false → W.is_flushed dst.new ≡ true }
     // A failed write or flush is answered where the target failed, and nowhere else.
     ensures failed { W.has_failed dst.new ≡ has_failed_write result }

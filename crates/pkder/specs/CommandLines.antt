@@ -119,9 +119,9 @@ with_kind_or_any app = with_limit_rules (with_flag (with_rule app optional_kind_
 abbrev pub on_kind_or_any : Text → App
 on_kind_or_any name = with_kind_or_any (new_app name)
 
--- of any number of files
+-- of any number of files, and perhaps with a sum
 abbrev pub with_names : App → App
-with_names app = with_rule (with_rule app (file_rule (codes "files0-from"))) names_rule
+with_names app = with_rule (with_flag (with_rule app (file_rule (codes "files0-from"))) (codes "sum")) names_rule
 
 -- of one file, and into another
 abbrev pub with_name : App → App
@@ -326,6 +326,7 @@ ReadsNames rows order =
     (map (λ name. name.now) order.names.items ≡ names_of rows)
     × (option_map (λ name. name.now) order.list ≡ first_of (codes "files0-from") rows)
     × (option_map (λ name. name.now) order.to ≡ first_of (codes "to") rows)
+    × (order.sums ≡ is_given (codes "sum") rows)
 
 abbrev pub is_dash : Text → Bool
 is_dash name = bytes_eq name (codes "-")

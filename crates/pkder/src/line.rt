@@ -51,6 +51,8 @@ pub struct Order<'a> {
     pub list: Option<&'a str>,
     /// The file that what is written goes into.
     pub to: Option<&'a str>,
+    /// Whether a last line says how many documents count as what.
+    pub sums: bool,
 }
 
 /// Why a line asks for nothing that can be done.
@@ -185,6 +187,7 @@ fn read_order<'a>(
         names,
         list: options.get_str("files0-from"),
         to: options.get_str("to"),
+        sums: is_flagged(options, "sum"),
     })
 }
 

@@ -9,7 +9,7 @@ use crate::line::{Invocation, LineFault, Order, invocation_of};
 use commands::closing::{complain, finish};
 use commands::convert::{Places, convert};
 use commands::flush::Flush;
-use commands::judge::judge;
+use commands::judge::{Documents, judge};
 use commands::new_file::NewFiles;
 use commands::opener::Opener;
 use commands::outcome::Outcome;
@@ -112,8 +112,12 @@ fn follow<R: Source + Drop, W: Flush, E: Target, O: Opener, M: NewFiles>(
 {
     let names = order.names.as_slice();
     if !is_binary(order.task.action) {
-        let opener = &system.opener;
-        return judge(alloc, &order.task, names, order.list, standard, opener);
+        let documents = Documents {
+            names,
+            list: order.list,
+            sums: order.sums,
+        };
+        return judge(alloc, &order.task, documents, standard, &system.opener);
     }
     if order.to.is_none() && system.is_terminal {
         return complain(BINARY, &mut standard.errors);

@@ -42,6 +42,7 @@ returns-in-Err-clause-replied g c =
       subst (λ n. StopsTaking (n + 1) c.in-Err.error before after) c.octets.ensures.value c.in-Err.ensures.takes,
       c.unread.ensures,
       refl,
+      refl,
     )
 
 pub returns-in-Err-clause-failed : goal.returns-in-Err-clause-failed

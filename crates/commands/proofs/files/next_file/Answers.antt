@@ -20,15 +20,15 @@ returns-in-Ok-write_octets-clause-known g c =
     let out : c.in-Some.out ≡ c.args.progress.out + length said.text.items =
     omega (arith, c.in-Some.ensures, c.len.ensures) in
     λ all list old went. goes_further valued known refuses leaves c.args.task.now list left stops old
-    (contents c.args.dst.now) c.args.progress.status c.args.progress.out all went
+    (contents c.args.dst.now) c.args.progress.tally c.args.progress.out all went
     new (contents c.write_octets.new.dst) c.in-Ok-Some.name.items said.text.items
-    said.status
-    (subst (λ name. IsSaid valued known refuses leaves c.args.task.now name said.status said.text.items)
+    said.verdict
+    (subst (λ name. IsSaid valued known refuses leaves c.args.task.now name said.verdict said.text.items)
     c.as_slice.ensures.value
     c.in-Ok.ensures)
     (subst (λ next. TakesNext left new
     (option_map (λ name. name.items) next)) c.in-Ok-Some.field-0-is c.in-Ok-Some.ensures.next)
-    c.max.result c.in-Some.out c.max.ensures out
+    c.with.result c.in-Some.out c.with.ensures out
     (subst (Appends (contents c.args.dst.now) (contents c.write_octets.new.dst)) c.as_slice-2.ensures.value
     c.in-Ok-write_octets.ensures.1)
 
@@ -44,9 +44,9 @@ returns-in_default-checked_add-clause-known g c =
     let said = c.in-Ok.said in
     λ all list old went. uncounted valued known refuses leaves c.args.task.now list left
     stops old (contents c.args.dst.now)
-    c.args.progress.status c.args.progress.out all went new
-    (contents c.args.dst.now) c.in-Ok-Some.name.items said.text.items said.status
-    (subst (λ name. IsSaid valued known refuses leaves c.args.task.now name said.status said.text.items)
+    c.args.progress.tally c.args.progress.out all went new
+    (contents c.args.dst.now) c.in-Ok-Some.name.items said.text.items said.verdict
+    (subst (λ name. IsSaid valued known refuses leaves c.args.task.now name said.verdict said.text.items)
     c.as_slice.ensures.value
     c.in-Ok.ensures)
     (subst (λ next. TakesNext left new
@@ -65,10 +65,10 @@ returns-clause-known g c =
     let said = c.in-Ok.said in
     let written = c.in-Err-write_octets.error.written in
     λ all list old went. cut_short valued known refuses leaves c.args.task.now list left stops old
-    (contents c.args.dst.now) c.args.progress.status c.args.progress.out all went
+    (contents c.args.dst.now) c.args.progress.tally c.args.progress.out all went
     new (contents c.write_octets.new.dst) c.in-Ok-Some.name.items said.text.items
-    said.status
-    (subst (λ name. IsSaid valued known refuses leaves c.args.task.now name said.status said.text.items)
+    said.verdict
+    (subst (λ name. IsSaid valued known refuses leaves c.args.task.now name said.verdict said.text.items)
     c.as_slice.ensures.value
     c.in-Ok.ensures)
     (subst (λ next. TakesNext left new

@@ -18,7 +18,7 @@ loop-init g c =
         refl,
         begins valued (g.O.Opener.known c.args.opener.now) (g.O.Opener.refuses c.args.opener.now)
             (IsLeft g.O.Document.Source.has_failed g.O.Document.Source.remaining) c.args.task.now
-            list contents (no_names list) (Appends-nil contents),
+            list contents c.new.result c.new.ensures (no_names list) (Appends-nil contents),
       );
       live = c.requires.writable;
     }
@@ -49,4 +49,4 @@ returns-clause-known g c =
     (IsLeft g.O.Document.Source.has_failed g.O.Document.Source.remaining) c.args.task.now
     (g.N.Names.left c.args.names.now) (g.N.Names.left c.loop.names) stops
     (g.W.Target.contents c.args.dst.now) (g.W.Target.contents c.loop.dst)
-    c.loop.progress.status c.loop.progress.out went.0 went.2 TooMany (inr (refl, inl (omega (arith, went.1))))
+    c.loop.progress.tally c.loop.progress.out went.0 went.2 TooMany (inr (refl, inl (omega (arith, went.1))))

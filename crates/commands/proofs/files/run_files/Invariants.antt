@@ -10,7 +10,7 @@ invariant-loop g l = record {
       × (length all ≡ l.counter)
       × Went valued (g.O.Opener.known l.opener) (g.O.Opener.refuses l.opener)
       (IsLeft g.O.Document.Source.has_failed g.O.Document.Source.remaining) l.task (g.N.Names.left l.initial.names)
-      (g.N.Names.left l.names) (g.W.Target.contents l.initial.dst) (g.W.Target.contents l.dst) l.progress.status
+      (g.N.Names.left l.names) (g.W.Target.contents l.initial.dst) (g.W.Target.contents l.dst) l.progress.tally
       l.progress.out all;
   live : g.W.Target.has_failed l.dst ≡ false;
 }

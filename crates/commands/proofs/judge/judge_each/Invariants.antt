@@ -1,7 +1,9 @@
-use Rattle.std.proofs.Common.{◌≡◌, drop, false, map, max, ℕ}
+use Rattle.std.proofs.Common.{◌++◌, ◌≡◌, List, drop, false, map}
 use Rattle.pk_documents.proofs.DocumentValues.{valued}
 use Rattle.commands.specs.Judgements.{GoesThrough, Judges, StopsAt, part_of}
 use Rattle.commands.specs.Standards.{IsReadable, Seen, seen}
+use Rattle.commands.specs.Tallies.{tally_of}
+use Rattle.commands.specs.declared.tally.Verdict.{Verdict}
 use Rattle.commands.proofs.judge.judge_each.Given as goal
 
 -- What comes of the names that are left, after what came of those before them, comes of all names.
@@ -21,8 +23,10 @@ invariant-loop-name g l =
     let all = map part_of (map (λ name. name.now) l.names) in
     record {
       through :
-          (new : Seen) (last : ℕ) → GoesThrough Step left (see l.standard) new last
-          → GoesThrough Step all (see l.initial.standard) new (max l.worst last);
+          (so_far : List Verdict)
+          × (l.tally ≡ tally_of so_far)
+          × ((new : Seen) (last : List Verdict) → GoesThrough Step left (see l.standard) new last
+          → GoesThrough Step all (see l.initial.standard) new (so_far ++ last));
       stops :
           (new : Seen) → StopsAt Step left (see l.standard) new
           → StopsAt Step all (see l.initial.standard) new;

@@ -13,6 +13,7 @@ returns-clause-means c =
         c.requires,
         option_text c.get_str.result found (codes "files0-from") c.get_str.ensures,
         option_text c.get_str-2.result found (codes "to") c.get_str-2.ensures,
+        c.is_flagged.ensures,
       ),
       once,
     )

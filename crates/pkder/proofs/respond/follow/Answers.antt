@@ -23,6 +23,6 @@ returns-then-not-is_binary g c =
     (sym (c.if-not-is_binary.true) ∙ c.is_binary.ensures)
     (subst
     (λ it.
-    JudgesAll valued sources order.task (map (λ name. name.now) it) (option_map (λ name. name.now) order.list) old new
-    c.judge.result)
+    JudgesAll valued sources order.task order.sums (map (λ name. name.now) it) (option_map (λ name. name.now) order.list)
+    old new c.judge.result)
     c.as_slice-names.ensures.value c.judge.ensures)
