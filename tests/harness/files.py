@@ -319,6 +319,56 @@ def kinds_found(at):
     yield "explain --any", (2, f"cut:\nnone of these\n\n{report}", ""), (status, text, error)
 
 
+def summed(at):
+    """Runs whose last line on standard error says how many documents count as what."""
+    at.write(b"public", SOUND)
+    at.write(b"noted", CURVELESS)
+    at.write(b"text", b"none")
+    check = ("check", "-k", "key", "--sum")
+    lines = "der: DER\nber: not DER at 1\ncut: fault at 20: Truncated\nmissing: no such file\n"
+    due = "sum: 4 files: 1 DER, 1 not DER, 1 refused (1 Truncated), 1 unread\n"
+    yield "check --sum", (3, lines, due), at.run(*check, "der", "ber", "cut", "missing")
+    yield ("check --sum, names before those of a list", (3, lines, due),
+           at.run(*check, "der", "ber", "--files0-from", "-", given=b"cut\0missing\0"))
+    yield "check --sum, no names in a list", (0, "", "sum: 0 files\n"), at.run(*check, "--files0-from", "-")
+    yield ("check --sum, standard input between files, and what is written of it",
+           (2, "der: DER\nder: DER\n", "fault at 20: Truncated\nsum: 3 files: 2 DER, 1 refused (1 Truncated)\n"),
+           at.run(*check, "der", "-", "der", given=CUT))
+    yield ("check --sum, reasons in the order of their numbers",
+           (2, "public: fault at 2: WrongTag\ncut: fault at 20: Truncated\nlink: DER\n",
+            "sum: 3 files: 1 DER, 2 refused (1 Truncated, 1 WrongTag)\n"), at.run(*check, "public", "cut", "link"))
+    yield ("check --sum, the next name doesn't come, and nothing is summed",
+           (3, "der: DER\n", "-: a name is longer than 65536 octets\n"),
+           at.run(*check, "--files0-from", "-", given=b"der\0" + b"x" * 65537))
+    yield "check --sum, no such list", (3, "der: DER\n", "missing: no such file\n"), at.run(
+        *check, "der", "--files0-from", "missing")
+    yield ("check --sum --quiet", (1, "ber: not DER at 1\n", "sum: 2 files: 1 DER, 1 not DER\n"),
+           at.run(*check, "--quiet", "der", "ber"))
+    with open("/dev/full", "wb") as full:
+        yield ("check --sum, a full disk", (3, None, "write failed after 0\n"),
+               at.run(*check, "der", "ber", stdout=full))
+    due = ("sum: 6 files: 3 DER (1 key, 2 public), 1 not DER (1 key), "
+           "2 refused (1 of no kind, 1 Truncated)\n")
+    status, _, error = at.run("check", "--any", "--sum", "der", "noted", "text", "ber", "public", "cut")
+    yield "check --any --sum", (2, due), (status, error)
+    due = "sum: 3 files: 1 DER (1 key), 1 noted (1 public), 1 unread\n"
+    status, _, error = at.run("check", "--any", "--sum", "--refuse", "must", "noted", "der", "missing")
+    yield "check --any --refuse must --sum", (5, due), (status, error)
+    for words in (("explain",), ("explain", "--brief")):
+        status, _, error = at.run(*words, "-k", "key", "--sum", "der", "cut", "ber")
+        yield (f"{' '.join(words)} --sum", (2, "sum: 3 files: 1 DER, 1 not DER, 1 refused (1 Truncated)\n"),
+               (status, error))
+    status, _, error = at.run("show", "-k", "key", "--sum", "der", "cut", "ber")
+    yield "show --sum", (2, "sum: 3 files: 2 shown, 1 refused (1 Truncated)\n"), (status, error)
+    status, text, error = at.run("check", "--any", "--json", "--sum", "der", "ber", "cut", "text", "missing")
+    found = json.loads(error)
+    yield ("check --json --sum", (3, 5, [5, 1, 1, 0, 2, 1, 1], [{"reason": "Truncated", "count": 1}],
+                                  [{"kind": "key", "der": 1, "not_der": 1, "noted": 0}]),
+           (status, len(text.splitlines()),
+            [found[it] for it in ("files", "der", "not_der", "noted", "refused", "unread", "no_kind")],
+            found["reasons"], [it for it in found["kinds"] if it["der"] or it["not_der"]]))
+
+
 def paired(at):
     """Runs of same."""
     same, key = ("same", "-k", "key"), ("same", "--key", "-k", "key")
@@ -454,7 +504,7 @@ def closed(at):
 
 def looks(program):
     """Each run of the program, and whether it is right."""
-    for runs in (judged, listed, noted, noted_tls, told_in_json, kinds_found, paired, agreed, made, closed):
+    for runs in (judged, listed, noted, noted_tls, told_in_json, kinds_found, summed, paired, agreed, made, closed):
         at = Folder(program)
         try:
             for what, due, found in runs(at):

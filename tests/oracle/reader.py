@@ -614,9 +614,17 @@ def answer(action, kind, octets, depth=DEPTH, limit=OCTETS, reading_fails=False,
     return 0, written[action](), ""
 
 
+def summed(action, status, error):
+    """What standard error has by --sum after one document: the line, and what that counts as."""
+    counts = ["shown" if action == "show" else "DER", "not DER", "", "unread"]
+    # (after fault at PLACE: the reason, and one inside after that)
+    counted = f"refused (1 {error.split()[3]})" if status == 2 else counts[status]
+    return f"{error}\n" * bool(error) + f"sum: 1 file: 1 {counted}"
+
+
 def has_part_in(words):
     """Whether the words are of a command that the reader has a part in, ask for no notes, and name the kind."""
-    others = ("--notes", "--refuse", "--profile", "--any")
+    others = ("--notes", "--refuse", "--profile", "--any", "--json")
     return bool(words) and words[0] in ACTIONS and not any(it.startswith(others) for it in words)
 
 
@@ -628,6 +636,7 @@ def command_line():
     parser.add_argument("--depth", type=int, choices=range(1, 65), default=DEPTH, metavar="N")
     parser.add_argument("--octets", type=int, choices=range(1, 1 << 31), default=OCTETS, metavar="N")
     parser.add_argument("--reading-fails", action="store_true")
+    parser.add_argument("--sum", action="store_true")
     return parser
 
 
@@ -636,6 +645,7 @@ def main(words):
     given = sys.stdin.buffer.read()
     limits = (asked.depth, asked.octets, asked.reading_fails)
     status, output, error = answer(asked.action, asked.kind, given, *limits, asked.part)
+    error = summed(asked.action, status, error) if asked.sum else error
     sys.stdout.buffer.write(output)
     sys.stderr.write(f"{error}\n" if error else "")
     return status

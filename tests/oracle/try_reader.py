@@ -7,7 +7,7 @@ import sys
 from pathlib import Path
 
 sys.path[0] = str(Path(__file__).resolve().parents[2])
-from tests.harness.rows import rows_of
+from tests.harness.rows import lines_of, rows_of
 from tests.oracle.questions import Question
 from tests.oracle.reader import has_part_in
 from tools.gate.looks import counted
@@ -34,8 +34,9 @@ def looks(table):
     for number, row in rows_of(table):
         if is_answered(row):
             status, output, error = answer_to(row)
+            lines = (lines_of(row.error) or row.error).removesuffix("\n")
             said = f"{table}:{number}: {row.rule}: status {status}, {output[:200].hex()!r}, {error!r}"
-            yield said, (status, output, error) == (row.status, row.output, row.error)
+            yield said, (status, output, error) == (row.status, row.output, lines)
 
 
 if __name__ == "__main__":

@@ -2,8 +2,8 @@
 """report_schema.py [FILE..]: what pkder writes under --json held to docs/report.schema.json.
 
 FILE has an object a line; - is standard input. Each line is one object of a form that the schema has, a report, an
-error or a comparison, its keys in the order of the schema, none of them twice. What differs has a line: file, line, the
-place in the object, and what is wrong.
+error, a comparison or a sum, its keys in the order of the schema, none of them twice. What differs has a line: file,
+line, the place in the object, and what is wrong.
 
 The schema is JSON Schema (2020-12), of which this knows what ours uses; another word in it is an error, so that none
 goes unseen. Before the files it tries itself: a sound object of each form passes, and each change of it that the schema
@@ -164,6 +164,11 @@ SOUND = {
             "file": "Müller.der",
             "fault": {"at": 12, "reason": "Inner", "inside": {"at": 34, "reason": "Trailing"}}},
         "differences": [{"field": "privateKey", "first": "32 octets", "second": "absent"}], "more": 1,
+    },
+    "sum": {
+        "form": 1, "version": "2.0.0", "files": 7, "der": 1, "shown": 0, "not_der": 1, "noted": 1, "refused": 3,
+        "unread": 1, "kinds": [{"kind": "key", "der": 1, "shown": 0, "not_der": 1, "noted": 1}], "no_kind": 1,
+        "reasons": [{"reason": "Truncated", "count": 2}],
     },
 }
 # another value of each kind, which no part of an object has
