@@ -14,6 +14,7 @@ complete -c pkder -n '__fish_seen_subcommand_from check' -l profile -x -a 'tls' 
 complete -c pkder -n '__fish_seen_subcommand_from check' -l json -d 'write an object of JSON for each document'
 complete -c pkder -n '__fish_seen_subcommand_from check' -l places -x -d 'list at most so many places that are not in DER, 1 to 2147483647'
 complete -c pkder -n '__fish_seen_subcommand_from check' -l files0-from -r -F -d 'read names from it, each ended by an octet 0'
+complete -c pkder -n '__fish_seen_subcommand_from check' -l sum -d 'say last, on standard error, how many files are in DER, not in DER, refused and unread'
 complete -c pkder -n '__fish_seen_subcommand_from check' -s h -l help -d 'Print help'
 complete -c pkder -n '__fish_seen_subcommand_from check' -F
 complete -c pkder -n __fish_use_subcommand -a explain -d 'say where and why it is refused or not in DER, with its elements'
@@ -27,6 +28,7 @@ complete -c pkder -n '__fish_seen_subcommand_from explain' -l profile -x -a 'tls
 complete -c pkder -n '__fish_seen_subcommand_from explain' -l json -d 'write an object of JSON for each document'
 complete -c pkder -n '__fish_seen_subcommand_from explain' -l places -x -d 'list at most so many places that are not in DER, 1 to 2147483647'
 complete -c pkder -n '__fish_seen_subcommand_from explain' -l files0-from -r -F -d 'read names from it, each ended by an octet 0'
+complete -c pkder -n '__fish_seen_subcommand_from explain' -l sum -d 'say last, on standard error, how many files are in DER, not in DER, refused and unread'
 complete -c pkder -n '__fish_seen_subcommand_from explain' -s h -l help -d 'Print help'
 complete -c pkder -n '__fish_seen_subcommand_from explain' -F
 complete -c pkder -n __fish_use_subcommand -a show -d 'say what it is, in lines; of private octets the number alone'
@@ -36,6 +38,7 @@ complete -c pkder -n '__fish_seen_subcommand_from show' -l depth -x -d 'the grea
 complete -c pkder -n '__fish_seen_subcommand_from show' -l octets -x -d 'the greatest number of octets of the document and of its DER text, 1 to 2147483647'
 complete -c pkder -n '__fish_seen_subcommand_from show' -l json -d 'write an object of JSON for each document'
 complete -c pkder -n '__fish_seen_subcommand_from show' -l files0-from -r -F -d 'read names from it, each ended by an octet 0'
+complete -c pkder -n '__fish_seen_subcommand_from show' -l sum -d 'say last, on standard error, how many files are in DER, not in DER, refused and unread'
 complete -c pkder -n '__fish_seen_subcommand_from show' -s h -l help -d 'Print help'
 complete -c pkder -n '__fish_seen_subcommand_from show' -F
 complete -c pkder -n __fish_use_subcommand -a same -d 'say whether two are the same document, or what differs'
