@@ -28,7 +28,7 @@ plain_is xs ys =
     same_from_slice_cmp nat_cmp is_lt plain_less refl (λ _ _. refl) (λ _ _. refl)
     (λ x y xs ys o h. grind (arith, nat_tests)) xs ys (slice_cmp nat_cmp xs ys) refl
 
-not_less : (xs ys : List ℕ) → IsText xs → IsText ys → is_lt (slice_cmp nat_cmp xs ys) ≡ false
+pub not_less : (xs ys : List ℕ) → IsText xs → IsText ys → is_lt (slice_cmp nat_cmp xs ys) ≡ false
     → padded_less xs ys ≡ false
 not_less xs ys x y h =
     let p = arrangement.plain_order x.0 y.0 in

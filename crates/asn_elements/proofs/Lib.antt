@@ -21,3 +21,4 @@ pub mod SameMembers
 pub mod ShortElements
 pub mod StringReadings
 pub mod TypeReadings
+pub mod InDerTexts

@@ -4,6 +4,7 @@ pub mod Contained
 pub mod ContainingClosed
 pub mod Framing
 pub mod Implicits
+pub mod InDer
 pub mod Leaves
 pub mod Members
 pub mod Reading

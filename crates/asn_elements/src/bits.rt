@@ -12,12 +12,14 @@ ghost use Rattle.asn_elements.specs.BitStrings.{IsDerBits};
 use crate::der_text::DerText;
 use crate::element::Element;
 use crate::implicit::{ImplicitElement, ImplicitText};
+use crate::in_der::{leaf_in_der, universal_leaf_in_der};
 use crate::leaf::{leaf_octet, leaf_size, put_leaf};
 use crate::leaf_reading::{SimpleType, read_leaf_as};
 use crate::tags::{is_same_tag, universal_tag};
 use ber_pull::pull::Pull;
 use std::alloc::Global;
 use tlv_core::fault::ReadError;
+use tlv_core::limits::Limits;
 use tlv_core::sink::{Sink, WriteError};
 use tlv_core::source::Source;
 use tlv_core::tag::Tag;
@@ -110,6 +112,10 @@ impl Element for Bits {
     fn read<R: Source>(alloc: Global, pull: &mut Pull<'_, R>) -> Result<Bits, ReadError> {
         Bits::read_as(alloc, pull, universal_tag(3))
     }
+
+    fn judge(octets: &[u8], _limits: Limits, _left: u8) -> Option<&[u8]> {
+        universal_leaf_in_der(octets, 3, SimpleType::BitString)
+    }
 }
 
 impl ImplicitElement for Bits {
@@ -126,5 +132,9 @@ impl ImplicitElement for Bits {
     ) -> Result<Bits, ReadError> {
         let contents = read_leaf_as(alloc, pull, tag, SimpleType::BitString)?;
         Ok(Bits { contents })
+    }
+
+    fn judge_as(octets: &[u8], _limits: Limits, _left: u8, tag: Tag) -> Option<&[u8]> {
+        leaf_in_der(octets, tag, SimpleType::BitString)
     }
 }

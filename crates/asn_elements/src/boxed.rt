@@ -6,6 +6,7 @@ use crate::element::Element;
 use ber_pull::pull::Pull;
 use std::alloc::Global;
 use tlv_core::fault::ReadError;
+use tlv_core::limits::Limits;
 use tlv_core::sink::{Sink, WriteError};
 use tlv_core::source::Source;
 use tlv_core::tag::Tag;
@@ -57,5 +58,9 @@ impl<T: Element> Element for Boxed<T> {
             Ok(boxed) => Ok(Boxed(boxed)),
             Err(_) => Err(pull.no_memory()),
         }
+    }
+
+    fn judge(octets: &[u8], limits: Limits, left: u8) -> Option<&[u8]> {
+        T::judge(octets, limits, left)
     }
 }

@@ -1,8 +1,8 @@
 //! OCTET STRINGs that contain an element (X.690 8.7, X.682 11).
 ghost use Rattle.x690_laws.proofs.TextsTellApart.{leaf_one_text};
-ghost use Rattle.std.specs.Prelude.{◌≡◌, ◌+◌, ◌<◌, ◌^◌, List, [], IfErr, IfOk, IsSome, None, Ok, OnOk, false, length};
-ghost use Rattle.std.specs.Prelude.{refl, slice_get, ℕ};
-ghost use Rattle.tlv_core.specs.Limits.{Limits};
+ghost use Rattle.std.specs.Prelude.{◌≡◌, ◌+◌, ◌<◌, ◌^◌, List, [], IfErr, IfOk, IfSome, IsSome, None, Ok, OnOk, false};
+ghost use Rattle.std.specs.Prelude.{length, refl, slice_get, ℕ};
+ghost use Rattle.tlv_core.specs.Limits.{Limits as Allowed};
 ghost use Rattle.tlv_core.specs.Sinks.{count, Puts};
 ghost use Rattle.x690.specs.DerTexts.{der};
 ghost use Rattle.x690.specs.Layouts.{universal};
@@ -11,18 +11,21 @@ ghost use Rattle.x690.specs.Values.{Leaf};
 ghost use Rattle.ber_pull.specs.View.{standing, Repeats, Unmoved, Uses, Frame};
 ghost use Rattle.asn_elements.specs.ContainingClosed.{containing_closed};
 ghost use Rattle.asn_elements.specs.Contained.{AnswersContained, CameInside};
+ghost use Rattle.asn_elements.specs.InDer.{ContainsInDer};
 ghost use Rattle.asn_elements.specs.Reading.{AnswersValue};
 ghost use Rattle.asn_elements.specs.Whole.{IsFailedRead, read_inside};
 
 use crate::der_text::DerText;
 use crate::element::Element;
 use crate::framing::{Stands, element_size, find_octet, put_header};
+use crate::in_der::element_in_der;
 use crate::leaf_reading::{SimpleType, expect_tag, read_leaf_into};
 use crate::tags::{is_same_tag, universal_tag};
 use crate::whole::read_whole;
 use ber_pull::pull::Pull;
 use std::alloc::Global;
 use tlv_core::fault::ReadError;
+use tlv_core::limits::Limits;
 use tlv_core::reason::Reason;
 use tlv_core::sink::{Sink, WriteError};
 use tlv_core::source::Source;
@@ -60,6 +63,24 @@ pub fn read_contained<R: Source, T: Element>(
     settled(pull, at, read)
 }
 
+/// The contents of the OCTET STRING of this tag that octets begin with, where it is in DER and they are one element in
+/// DER and nothing else; and what stands after it.
+pub fn judge_contained<T: Element>(
+    octets: &[u8],
+    limits: Limits,
+    own: Tag,
+) -> Option<(&[u8], &[u8])>
+    ensures { IfSome result (λ x. ContainsInDer limits.depth own T.type_term octets.now x.0.now
+        x.1.now) }
+{
+    let (contents, rest) = element_in_der(octets, own, false)?;
+    let behind = T::judge(contents, limits, limits.depth() - 1)?;
+    if !behind.is_empty() {
+        return None;
+    }
+    Some((contents, rest))
+}
+
 /// What the octets of an OCTET STRING at a place came to, read as a document: a fault of theirs is inside it.
 #[inline(always)]
 fn settled<R: Source, T: Element>(
@@ -70,7 +91,7 @@ fn settled<R: Source, T: Element>(
     requires fine { (standing pull.old).error ≡ None }
     requires of_octets { IfErr read (IsFailedRead false) }
     ensures frame { Frame pull.old pull.new result }
-    ensures reads { (limits : Limits) (octets : List ℕ)
+    ensures reads { (limits : Allowed) (octets : List ℕ)
         → CameInside limits T.type_term octets T.value read
         → AnswersValue pull.old pull.new (read_inside limits T.type_term [] at octets)
         T.value result }
@@ -168,5 +189,10 @@ impl<T: Element> Element for Containing<T> {
     fn read<R: Source>(alloc: Global, pull: &mut Pull<'_, R>) -> Result<Containing<T>, ReadError> {
         let inner = read_contained(alloc, pull, universal_tag(4))?;
         Ok(Containing { inner })
+    }
+
+    fn judge(octets: &[u8], limits: Limits, _left: u8) -> Option<&[u8]> {
+        let (_contents, rest) = judge_contained::<T>(octets, limits, universal_tag(4))?;
+        Some(rest)
     }
 }

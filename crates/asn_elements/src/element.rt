@@ -1,15 +1,17 @@
 //! What can be read, and has one text in DER.
-ghost use Rattle.std.specs.Prelude.{◌≡◌, None, Some, IsSome, OnOk};
+ghost use Rattle.std.specs.Prelude.{◌≡◌, None, Some, IfSome, IsSome, OnOk};
 ghost use Rattle.x690.specs.TypeTerms.{TypeTerm, fits_tag};
 ghost use Rattle.x690.specs.ReadTypes.{IsClosed};
 ghost use Rattle.ber_pull.specs.View.{standing, Repeats, Uses, Frame};
 ghost use Rattle.ber_pull.specs.declared.state.Given.{Given};
+ghost use Rattle.asn_elements.specs.InDer.{BeginsInDer};
 ghost use Rattle.asn_elements.specs.Reading.{AnswersValue, read_given};
 
 use crate::der_text::DerText;
 use ber_pull::pull::Pull;
 use std::alloc::Global;
 use tlv_core::fault::ReadError;
+use tlv_core::limits::Limits;
 use tlv_core::source::Source;
 use tlv_core::tag::Tag;
 
@@ -34,6 +36,15 @@ pub trait Element: DerText {
             → AnswersValue pull.old pull.new
             (read_given type_term (standing pull.old) g) Self.value result }
         ensures stands { OnOk result (Uses pull.old pull.new) };
+
+    /// What stands after the element that octets begin with, where it is a value's text in DER as it stands, with no
+    /// more than `left` containers in each other: no value is made, and no memory taken. `None` says nothing of them.
+    fn judge(octets: &[u8], limits: Limits, left: u8) -> Option<&[u8]>
+        ensures { IfSome result (λ rest. BeginsInDer limits.depth left type_term octets.now
+            rest.now) }
+    {
+        None
+    }
 
     /// It doesn't look at the earlier fields of a container.
     ghost closed: { IsClosed type_term };

@@ -1,5 +1,5 @@
 //! Implicit tags (X.690 8.14.3).
-ghost use Rattle.std.specs.Prelude.{◌≡◌, ◌+◌, ◌<◌, ◌^◌, None, Some, IsSome, OnOk, length, slice_get};
+ghost use Rattle.std.specs.Prelude.{◌≡◌, ◌+◌, ◌<◌, ◌^◌, None, Some, IfSome, IsSome, OnOk, length, slice_get};
 ghost use Rattle.tlv_core.specs.Identifier.{Tag as Identified};
 ghost use Rattle.tlv_core.specs.Sinks.{count, Puts};
 ghost use Rattle.x690.specs.DerTexts.{der};
@@ -9,6 +9,7 @@ ghost use Rattle.x690.specs.Values.{Same, Value};
 ghost use Rattle.x690.specs.ReadTypes.{IsClosed};
 ghost use Rattle.ber_pull.specs.View.{standing, Repeats, Uses, Frame};
 ghost use Rattle.ber_pull.specs.declared.state.Given.{Given};
+ghost use Rattle.asn_elements.specs.InDer.{BeginsInDer};
 ghost use Rattle.asn_elements.specs.Reading.{AnswersValue, read_given};
 
 use crate::der_text::DerText;
@@ -17,6 +18,7 @@ use crate::tags::{context_tag, is_same_tag};
 use ber_pull::pull::Pull;
 use std::alloc::Global;
 use tlv_core::fault::ReadError;
+use tlv_core::limits::Limits;
 use tlv_core::sink::{Sink, WriteError};
 use tlv_core::source::Source;
 use tlv_core::tag::Tag;
@@ -67,6 +69,14 @@ pub trait ImplicitElement: ImplicitText {
             → AnswersValue pull.old pull.new (read_given (type_as tag) (standing pull.old) g)
             (Self.value_as tag) result }
         ensures stands { OnOk result (Uses pull.old pull.new) };
+
+    /// What stands after the element of this tag that octets begin with, as `judge` of an element says it.
+    fn judge_as(octets: &[u8], limits: Limits, left: u8, tag: Tag) -> Option<&[u8]>
+        ensures { IfSome result (λ rest. BeginsInDer limits.depth left (type_as tag) octets.now
+            rest.now) }
+    {
+        None
+    }
 
     /// Exactly elements of its tag are of it.
     ghost fits_own: { (own tag : Identified) → fits_tag (type_as own) tag ≡ same_tag own tag };
@@ -124,5 +134,9 @@ impl<const N: u8, T: ImplicitElement> Element for Implicit<N, T> {
     fn read<R: Source>(alloc: Global, pull: &mut Pull<'_, R>) -> Result<Implicit<N, T>, ReadError> {
         let inner = T::read_as(alloc, pull, context_tag(u32::from(N)))?;
         Ok(Implicit { inner })
+    }
+
+    fn judge(octets: &[u8], limits: Limits, left: u8) -> Option<&[u8]> {
+        T::judge_as(octets, limits, left, context_tag(u32::from(N)))
     }
 }

@@ -17,12 +17,14 @@ ghost use Rattle.asn_elements.specs.Reading.{AnswersValue, read_given};
 use crate::build::BuildError;
 use crate::der_text::DerText;
 use crate::element::Element;
+use crate::in_der::universal_leaf_in_der;
 use crate::leaf::{is_long_leaf, leaf_octet, leaf_size, put_leaf};
 use crate::leaf_reading::{SimpleType, expect_tag, read_leaf_as};
 use crate::tags::{is_same_tag, universal_tag};
 use ber_pull::pull::Pull;
 use std::alloc::Global;
 use tlv_core::fault::ReadError;
+use tlv_core::limits::Limits;
 use tlv_core::reason::Reason;
 use tlv_core::sink::{Sink, WriteError};
 use tlv_core::source::Source;
@@ -143,5 +145,9 @@ impl Element for Int {
     fn read<R: Source>(alloc: Global, pull: &mut Pull<'_, R>) -> Result<Int, ReadError> {
         let contents = read_leaf_as(alloc, pull, universal_tag(2), SimpleType::Integer)?;
         Ok(Int { contents })
+    }
+
+    fn judge(octets: &[u8], _limits: Limits, _left: u8) -> Option<&[u8]> {
+        universal_leaf_in_der(octets, 2, SimpleType::Integer)
     }
 }

@@ -81,7 +81,7 @@ fn is_string(utf8: bool, octets: &[u8]) -> bool
 
 /// Whether the octets are the contents of a primitive leaf of the kind.
 #[inline(always)]
-fn is_contents(kind: SimpleType, contents: &[u8]) -> bool
+pub(crate) fn is_contents(kind: SimpleType, contents: &[u8]) -> bool
     ensures { result ≡ reading.is_contents (kind_of kind) contents.now }
 {
     match kind {

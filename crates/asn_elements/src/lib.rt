@@ -26,6 +26,7 @@ pub mod der_text;
 pub mod element;
 pub mod framing;
 pub mod implicit;
+pub mod in_der;
 pub mod integer;
 pub mod keep;
 mod leaf;

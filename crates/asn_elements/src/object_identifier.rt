@@ -8,12 +8,14 @@ ghost use Rattle.x690.specs.Values.{Leaf};
 
 use crate::der_text::DerText;
 use crate::element::Element;
+use crate::in_der::universal_leaf_in_der;
 use crate::leaf::{leaf_octet, leaf_size, put_leaf};
 use crate::leaf_reading::{SimpleType, read_leaf_as};
 use crate::tags::{is_same_tag, universal_tag};
 use ber_pull::pull::Pull;
 use std::alloc::Global;
 use tlv_core::fault::ReadError;
+use tlv_core::limits::Limits;
 use tlv_core::oid::Oid;
 use tlv_core::sink::{Sink, WriteError};
 use tlv_core::source::Source;
@@ -51,5 +53,9 @@ impl Element for Oid {
     fn read<R: Source>(alloc: Global, pull: &mut Pull<'_, R>) -> Result<Oid, ReadError> {
         let contents = read_leaf_as(alloc, pull, universal_tag(6), SimpleType::ObjectIdentifier)?;
         Ok(Oid::from_checked(contents))
+    }
+
+    fn judge(octets: &[u8], _limits: Limits, _left: u8) -> Option<&[u8]> {
+        universal_leaf_in_der(octets, 6, SimpleType::ObjectIdentifier)
     }
 }

@@ -12,12 +12,14 @@ ghost use Rattle.x690.specs.Values.{Leaf};
 use crate::build::BuildError;
 use crate::der_text::DerText;
 use crate::element::Element;
+use crate::in_der::universal_leaf_in_der;
 use crate::leaf::{is_long_leaf, leaf_octet, leaf_size, put_leaf};
 use crate::leaf_reading::{SimpleType, read_leaf_as};
 use crate::tags::{is_same_tag, universal_tag};
 use ber_pull::pull::Pull;
 use std::alloc::Global;
 use tlv_core::fault::ReadError;
+use tlv_core::limits::Limits;
 use tlv_core::sink::{Sink, WriteError};
 use tlv_core::source::Source;
 use tlv_core::tag::Tag;
@@ -90,5 +92,9 @@ impl Element for Octets {
     fn read<R: Source>(alloc: Global, pull: &mut Pull<'_, R>) -> Result<Octets, ReadError> {
         let octets = read_leaf_as(alloc, pull, universal_tag(4), SimpleType::OctetString)?;
         Ok(Octets { octets })
+    }
+
+    fn judge(octets: &[u8], _limits: Limits, _left: u8) -> Option<&[u8]> {
+        universal_leaf_in_der(octets, 4, SimpleType::OctetString)
     }
 }
