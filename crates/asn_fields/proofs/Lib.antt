@@ -7,3 +7,5 @@ pub mod Refusing
 pub mod ShortFields
 pub mod BegunSequence
 pub mod Dependents
+pub mod FieldsInDer
+pub mod PartsInDer

@@ -7,3 +7,4 @@ pub mod Insides
 pub mod Listings
 pub mod DependentLaws
 pub mod Dependents
+pub mod FieldsInDer

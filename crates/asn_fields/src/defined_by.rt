@@ -1,11 +1,12 @@
 //! Elements of one of two types, by a field before them.
-ghost use Rattle.std.specs.Prelude.{◌≡◌, ◌<◌, ℕ, List};
+ghost use Rattle.std.specs.Prelude.{◌≡◌, ◌<◌, ℕ, IfSome, List};
 ghost use Rattle.x690.specs.Lists.{one_of};
 ghost use Rattle.x690.specs.TypeTerms.{DefinedByType};
-ghost use Rattle.x690.specs.Values.{leaf_at};
+ghost use Rattle.x690.specs.Values.{Value, leaf_at};
 ghost use Rattle.asn_fields.specs.ApartLaws.{either_of};
 ghost use Rattle.asn_fields.specs.Dependents.{suits_as};
 ghost use Rattle.asn_fields.specs.DependentLaws.{defined_one_text};
+ghost use Rattle.asn_fields.specs.FieldsInDer.{AreFields};
 
 use crate::dependent::DependentElement;
 use crate::either::Either;
@@ -14,6 +15,7 @@ use ber_pull::pull::Pull;
 use std::alloc::Global;
 use std::marker::PhantomData;
 use tlv_core::fault::ReadError;
+use tlv_core::limits::Limits;
 use tlv_core::sink::{Sink, WriteError};
 use tlv_core::source::Source;
 use tlv_core::tag::Tag;
@@ -30,6 +32,15 @@ pub trait Defines<A: FieldsText>: Drop {
     /// Whether it has the first type.
     fn is_first(earlier: &A) -> bool
         ensures { result ≡ one_of (leaf_at path (A.values earlier.now)) octets };
+
+    /// The same after fields that `earlier` begins with, in DER; `None` says nothing of them.
+    fn is_first_in_der(earlier: &[u8]) -> Option<bool>
+        ensures { IfSome result (λ first. (limit : ℕ) (fields : List Value) (behind : List ℕ)
+            → AreFields limit A.listing.types fields earlier.now behind
+            → first ≡ one_of (leaf_at path fields) octets) }
+    {
+        None
+    }
 }
 
 /// An element of one of two types, by a leaf of the fields before it. Of more than two they are nested.
@@ -84,6 +95,15 @@ impl<A: FieldsText, X: DependentElement<A>, Y: DependentElement<A>, K: Defines<A
                 defines: PhantomData,
             })
         }
+    }
+
+    fn judge<'a>(earlier: &[u8], octets: &'a [u8], limits: Limits, left: u8) -> Option<&'a [u8]> {
+        if K::is_first_in_der(earlier)? {
+            let rest = X::judge(earlier, octets, limits, left)?;
+            return Some(rest);
+        }
+        let rest = Y::judge(earlier, octets, limits, left)?;
+        Some(rest)
     }
 
     fn size(&self) -> u64 {

@@ -4,16 +4,18 @@
 //! absent. `F` is put together of `Independent`, an element of any type, `DefinedBy`, one of two by a leaf of the
 //! fields before it, `RuledBehind` and `RuledContaining`, with a rule that looks at these fields, and `Refused`.
 ghost use Rattle.std.specs.Prelude.{◌≡◌, ◌+◌, ◌++◌, ◌<◌, ◌^◌, ◌∷◌, Bool as Truth, IfOk, IfSome, IsSome, List, None};
-ghost use Rattle.std.specs.Prelude.{Ok, OnOk, [], false, length, slice_get, true};
+ghost use Rattle.std.specs.Prelude.{Ok, OnOk, [], false, length, slice_get, true, ℕ};
 ghost use Rattle.tlv_core.specs.Sinks.{count, Puts};
 ghost use Rattle.x690.specs.DerTexts.{der};
 ghost use Rattle.x690.specs.TypeTerms.{TypeTerm, fits_tag};
 ghost use Rattle.x690.specs.Values.{Value, value_tag};
 ghost use Rattle.ber_pull.specs.View.{standing, AsksNoMemory, Unmoved, Uses, Frame};
+ghost use Rattle.asn_elements.specs.InDer.{StandsInDer};
 ghost use Rattle.asn_fields.specs.Apart.{may_begin};
 ghost use Rattle.asn_fields.specs.Fields.{IsInside, LeavesWithin, StaysInside, stands_next};
 ghost use Rattle.asn_fields.specs.Dependents.{AnswersBehind, RequiredBehind, OneTextBehind, OptionalBehind};
 ghost use Rattle.asn_fields.specs.Dependents.{TakesBehind, suits_where_there};
+ghost use Rattle.asn_fields.specs.FieldsInDer.{AreFields};
 ghost use Rattle.asn_fields.specs.Listings.{nothing, through};
 ghost use Rattle.asn_fields.specs.DependentLaws.{dependent};
 
@@ -25,6 +27,7 @@ use ber_pull::pull::Pull;
 use std::alloc::Global;
 use std::marker::PhantomData;
 use tlv_core::fault::ReadError;
+use tlv_core::limits::Limits;
 use tlv_core::reason::Reason;
 use tlv_core::sink::{Sink, WriteError};
 use tlv_core::source::Source;
@@ -61,6 +64,17 @@ pub trait DependentElement<A: FieldsText>: Sized + Drop {
             (A.values earlier.now) Self.value result }
         ensures suits { IfOk result (λ x. Self.suits (A.values earlier.now) x ≡ true) }
         ensures stands { OnOk result (Uses pull.old pull.new) };
+
+    /// What stands after the element, where octets begin with it and it is in DER as it stands, after fields that
+    /// `earlier` begins with; with no more than `left` containers in each other. `None` says nothing of the octets.
+    fn judge<'a>(earlier: &[u8], octets: &'a [u8], limits: Limits, left: u8) -> Option<&'a [u8]>
+        ensures { IfSome result (λ rest. (fields : List Value) (behind : List ℕ)
+            → AreFields limits.depth A.listing.types fields earlier.now behind
+            → (value : Value)
+            × StandsInDer limits.depth left type_term fields value octets.now rest.now) }
+    {
+        None
+    }
 
     /// The length of its text, in octets.
     fn size(&self) -> u64
@@ -123,6 +137,11 @@ impl<A: FieldsText, T: Element> DependentElement<A> for Independent<T> {
         let _ = earlier;
         let value = T::read(alloc, pull)?;
         Ok(Independent(value))
+    }
+
+    fn judge<'a>(_earlier: &[u8], octets: &'a [u8], limits: Limits, left: u8) -> Option<&'a [u8]> {
+        let rest = T::judge(octets, limits, left)?;
+        Some(rest)
     }
 
     fn size(&self) -> u64 {
@@ -323,5 +342,11 @@ impl<A: FirstFields, F: DependentElement<A>> FirstFields for Dependent<A, F> {
         let earlier = A::read_first(alloc, pull, next)?;
         let field = due_dependent::<R, A, F>(alloc, pull, next, &earlier)?;
         Ok(Dependent { earlier, field })
+    }
+
+    fn judge_first(octets: &[u8], limits: Limits, left: u8) -> Option<&[u8]> {
+        let behind = A::judge_first(octets, limits, left)?;
+        let rest = F::judge(octets, behind, limits, left)?;
+        Some(rest)
     }
 }

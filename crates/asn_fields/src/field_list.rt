@@ -1,13 +1,14 @@
 //! What a list of fields is, in the order of the ASN.1 (X.690 8.9): `(A, B)` is `A` in front of `B`, and more of them
 //! are pairs in pairs, `(A, (B, C))`.
-ghost use Rattle.std.specs.Prelude.{◌≡◌, ◌+◌, ◌++◌, ◌*◌, ◌^◌, ◌<◌, ◌≤◌, IfOk, List, None, OnOk, length, slice_get};
-ghost use Rattle.std.specs.Prelude.{true};
+ghost use Rattle.std.specs.Prelude.{◌≡◌, ◌+◌, ◌++◌, ◌*◌, ◌^◌, ◌<◌, ◌≤◌, IfOk, IfSome, List, None, OnOk, length};
+ghost use Rattle.std.specs.Prelude.{slice_get, true};
 ghost use Rattle.tlv_core.specs.Sinks.{count, Puts};
 ghost use Rattle.x690.specs.DerTexts.{texts_of};
 ghost use Rattle.x690.specs.Values.{Value};
 ghost use Rattle.ber_pull.specs.View.{standing, Frame};
 ghost use Rattle.asn_fields.specs.Fields.{IsInside, StaysInside};
 ghost use Rattle.asn_fields.specs.BegunSequence.{ReadsFields, ReadsFirst};
+ghost use Rattle.asn_fields.specs.FieldsInDer.{FieldsBegin, FirstFieldsBegin};
 ghost use Rattle.asn_fields.specs.ApartLaws.{both};
 ghost use Rattle.asn_fields.specs.Listings.{Listing};
 
@@ -15,6 +16,7 @@ use crate::fields::Next;
 use ber_pull::pull::Pull;
 use std::alloc::Global;
 use tlv_core::fault::ReadError;
+use tlv_core::limits::Limits;
 use tlv_core::sink::{Sink, WriteError};
 use tlv_core::source::Source;
 use tlv_core::target::Target;
@@ -60,6 +62,15 @@ pub trait IndependentFields: FieldsText {
             ≤ Self.listing.most * 2 ^ 32) }
         ensures known { IfOk result (λ fields. Self.listing.known fields ≡ true) }
         ensures stands { OnOk result (StaysInside pull.old pull.new next.old next.new) };
+
+    /// What stands after them, where octets begin with them and they are in DER as they stand, with no more than `left`
+    /// containers in each other. `None` says nothing of the octets.
+    fn judge(octets: &[u8], limits: Limits, left: u8) -> Option<&[u8]>
+        ensures { IfSome result (λ rest. FieldsBegin limits.depth left Self.listing.types octets.now
+            rest.now) }
+    {
+        None
+    }
 }
 
 /// The first fields of a SEQUENCE: those before a field are known where it is read.
@@ -79,6 +90,14 @@ pub trait FirstFields: FieldsText {
             ≤ Self.listing.most * 2 ^ 32) }
         ensures known { IfOk result (λ fields. Self.listing.known fields ≡ true) }
         ensures stands { OnOk result (StaysInside pull.old pull.new next.old next.new) };
+
+    /// What stands after them, as `judge` of independent fields says it.
+    fn judge_first(octets: &[u8], limits: Limits, left: u8) -> Option<&[u8]>
+        ensures { IfSome result (λ rest. FirstFieldsBegin limits.depth left Self.listing.types
+            octets.now rest.now) }
+    {
+        None
+    }
 }
 
 impl<A: FieldsText, B: FieldsText> FieldsText for (A, B) {
@@ -118,6 +137,12 @@ impl<A: IndependentFields, B: IndependentFields> IndependentFields for (A, B) {
         let rest = B::read(alloc, pull, next)?;
         Ok((first, rest))
     }
+
+    fn judge(octets: &[u8], limits: Limits, left: u8) -> Option<&[u8]> {
+        let behind = A::judge(octets, limits, left)?;
+        let rest = B::judge(behind, limits, left)?;
+        Some(rest)
+    }
 }
 
 impl<A: FirstFields, B: IndependentFields> FirstFields for (A, B) {
@@ -129,5 +154,11 @@ impl<A: FirstFields, B: IndependentFields> FirstFields for (A, B) {
         let first = A::read_first(alloc, pull, next)?;
         let rest = B::read(alloc, pull, next)?;
         Ok((first, rest))
+    }
+
+    fn judge_first(octets: &[u8], limits: Limits, left: u8) -> Option<&[u8]> {
+        let behind = A::judge_first(octets, limits, left)?;
+        let rest = B::judge(behind, limits, left)?;
+        Some(rest)
     }
 }

@@ -1,8 +1,11 @@
 //! Fields that may be absent, and whose type or rule goes by those before them.
-ghost use Rattle.std.specs.Prelude.{◌≡◌, ◌+◌, ◌++◌, ◌<◌, [], length, true};
+ghost use Rattle.std.specs.Prelude.{◌≡◌, ◌+◌, ◌++◌, ◌<◌, IfSome, List, [], false, length, true};
 ghost use Rattle.std.specs.Option.{option_map};
+ghost use Rattle.x690.specs.Fitting.{next_fits};
+ghost use Rattle.x690.specs.Layouts.{RawTree};
 ghost use Rattle.asn_fields.specs.FieldReadings.{with_field};
 ghost use Rattle.asn_fields.specs.Dependents.{suits_where_there};
+ghost use Rattle.asn_fields.specs.FieldsInDer.{MayStand};
 ghost use Rattle.asn_fields.specs.Listings.{through};
 ghost use Rattle.asn_fields.specs.DependentLaws.{optional_dependent};
 
@@ -10,13 +13,29 @@ use crate::dependent::{DependentElement, optional_dependent};
 use crate::fields::Next;
 use crate::parts::Parts;
 use crate::sequence::{FieldsText, FirstFields, Kept};
+use asn_elements::tags::tag_of_identifier;
 use ber_pull::pull::Pull;
 use std::alloc::Global;
 use std::marker::PhantomData;
 use tlv_core::fault::ReadError;
+use tlv_core::limits::Limits;
 use tlv_core::sink::{Sink, WriteError};
 use tlv_core::source::Source;
 use tlv_core::target::Target;
+
+/// Whether the field may stand where these octets are, by its tag; `None` where its identifier has more octets than
+/// one.
+#[inline(always)]
+fn begins_as_dependent<A: FieldsText, F: DependentElement<A>>(octets: &[u8]) -> Option<bool>
+    ensures { IfSome result (λ begins. begins ≡ false → (trees : List RawTree)
+        → MayStand trees octets.now → next_fits F.type_term trees ≡ false) }
+{
+    let [first, ..] = octets else {
+        return Some(false);
+    };
+    let tag = tag_of_identifier(*first)?;
+    Some(F::fits(tag))
+}
 
 /// The fields `A`, and one after them that may be absent and depends on them.
 #[derive(Drop)]
@@ -116,5 +135,14 @@ impl<A: FirstFields, F: DependentElement<A>> FirstFields for OptionalDependent<A
         let earlier = A::read_first(alloc, pull, next)?;
         let field = optional_dependent::<R, A, F>(alloc, pull, next, &earlier)?;
         Ok(OptionalDependent { earlier, field })
+    }
+
+    fn judge_first(octets: &[u8], limits: Limits, left: u8) -> Option<&[u8]> {
+        let behind = A::judge_first(octets, limits, left)?;
+        if !begins_as_dependent::<A, F>(behind)? {
+            return Some(behind);
+        }
+        let rest = F::judge(octets, behind, limits, left)?;
+        Some(rest)
     }
 }

@@ -9,6 +9,7 @@ use asn_elements::element::Element;
 use ber_pull::pull::Pull;
 use std::alloc::Global;
 use tlv_core::fault::ReadError;
+use tlv_core::limits::Limits;
 use tlv_core::sink::{Sink, WriteError};
 use tlv_core::source::Source;
 use tlv_core::target::Target;
@@ -44,6 +45,11 @@ impl<T: Element> IndependentFields for Required<T> {
         let field = due::<R, T>(alloc, pull, next)?;
         Ok(Required(field))
     }
+
+    fn judge(octets: &[u8], limits: Limits, left: u8) -> Option<&[u8]> {
+        let rest = T::judge(octets, limits, left)?;
+        Some(rest)
+    }
 }
 
 impl<T: Element> FirstFields for Required<T> {
@@ -53,5 +59,10 @@ impl<T: Element> FirstFields for Required<T> {
         next: &mut Next,
     ) -> Result<Required<T>, ReadError> {
         <Required<T> as IndependentFields>::read(alloc, pull, next)
+    }
+
+    fn judge_first(octets: &[u8], limits: Limits, left: u8) -> Option<&[u8]> {
+        let rest = T::judge(octets, limits, left)?;
+        Some(rest)
     }
 }

@@ -1,9 +1,10 @@
 //! Values with a rule on them, of the value alone.
-ghost use Rattle.std.specs.Prelude.{◌≡◌, List, None, []};
+ghost use Rattle.std.specs.Prelude.{◌≡◌, List, None, [], true, ℕ};
 ghost use Rattle.x690.specs.Premises.{FairRule, HonestRule};
 ghost use Rattle.x690.specs.TypeTerms.{Rule, RuledType};
 ghost use Rattle.x690.specs.Values.{Value};
 ghost use Rattle.x690_laws.proofs.TypesClosed.{ruled_closed};
+ghost use Rattle.asn_elements.specs.InDer.{BeginsWithText};
 
 use asn_elements::der_text::DerText;
 use asn_elements::element::Element;
@@ -12,6 +13,7 @@ use std::alloc::Global;
 use std::marker::PhantomData;
 use std::ops::Deref;
 use tlv_core::fault::ReadError;
+use tlv_core::limits::Limits;
 use tlv_core::reason::Reason;
 use tlv_core::sink::{Sink, WriteError};
 use tlv_core::source::Source;
@@ -19,13 +21,21 @@ use tlv_core::tag::Tag;
 use tlv_core::target::Target;
 
 /// A rule on the values of a type.
-pub trait Rules<T: DerText>: Drop {
+pub trait Rules<T: Element>: Drop {
     /// The rule.
     ghost rule: { Rule };
 
     /// Why the value is refused, if it is.
     fn judge(value: &T) -> Option<Reason>
         ensures { result ≡ rule [] (T.value value.now) };
+
+    /// Whether it lets the value pass whose text in DER octets begin with; `false` says nothing of them.
+    fn passes_in_der(octets: &[u8]) -> bool
+        ensures { result ≡ true → (limit : ℕ) (value : Value) (rest : List ℕ)
+            → BeginsWithText limit T.type_term [] value octets.now rest → rule [] value ≡ None }
+    {
+        false
+    }
 
     /// It goes by the value, and by no order of a SET OF,
     ghost fair: { FairRule rule };
@@ -39,13 +49,13 @@ pub trait Rules<T: DerText>: Drop {
 
 /// A value of the type `T` that the rule lets pass.
 #[derive(Drop)]
-pub struct Ruled<T: DerText, K: Rules<T>> {
+pub struct Ruled<T: Element, K: Rules<T>> {
     value: T,
     rules: PhantomData<K>,
     ghost judged: { K.rule [] (T.value value) ≡ None },
 }
 
-impl<T: DerText, K: Rules<T>> Ruled<T, K> {
+impl<T: Element, K: Rules<T>> Ruled<T, K> {
     /// The value.
     pub fn value(&self) -> &T
         ensures value { result.now ≡ self.now.value }
@@ -55,7 +65,7 @@ impl<T: DerText, K: Rules<T>> Ruled<T, K> {
     }
 }
 
-impl<T: DerText, K: Rules<T>> Deref for Ruled<T, K> {
+impl<T: Element, K: Rules<T>> Deref for Ruled<T, K> {
     type Target = T;
 
     fn deref(&self) -> &T
@@ -65,7 +75,7 @@ impl<T: DerText, K: Rules<T>> Deref for Ruled<T, K> {
     }
 }
 
-impl<T: DerText, K: Rules<T>> DerText for Ruled<T, K> {
+impl<T: Element, K: Rules<T>> DerText for Ruled<T, K> {
     ghost value = { λ ruled. T.value ruled.value };
 
     ghost one_text = { λ x y. T.one_text x.value y.value };
@@ -103,5 +113,13 @@ impl<T: Element, K: Rules<T>> Element for Ruled<T, K> {
             value,
             rules: PhantomData,
         })
+    }
+
+    fn judge(octets: &[u8], limits: Limits, left: u8) -> Option<&[u8]> {
+        let rest = T::judge(octets, limits, left)?;
+        if !K::passes_in_der(octets) {
+            return None;
+        }
+        Some(rest)
     }
 }

@@ -1,17 +1,20 @@
 //! Elements with a rule on them that looks at the fields before them.
-ghost use Rattle.std.specs.Prelude.{◌≡◌};
+ghost use Rattle.std.specs.Prelude.{◌≡◌, List, None, true, ℕ};
 ghost use Rattle.x690.specs.Premises.{FairRule, HonestRule};
 ghost use Rattle.x690.specs.TypeTerms.{Rule, RuledType};
+ghost use Rattle.x690.specs.Values.{Value};
+ghost use Rattle.asn_elements.specs.InDer.{BeginsWithText};
 ghost use Rattle.asn_fields.specs.Dependents.{passes};
+ghost use Rattle.asn_fields.specs.FieldsInDer.{AreFields};
 
 use crate::dependent::DependentElement;
 use crate::sequence::FieldsText;
-use asn_elements::der_text::DerText;
 use asn_elements::element::Element;
 use ber_pull::pull::Pull;
 use std::alloc::Global;
 use std::marker::PhantomData;
 use tlv_core::fault::ReadError;
+use tlv_core::limits::Limits;
 use tlv_core::reason::Reason;
 use tlv_core::sink::{Sink, WriteError};
 use tlv_core::source::Source;
@@ -19,13 +22,25 @@ use tlv_core::tag::Tag;
 use tlv_core::target::Target;
 
 /// A rule on an element of the type `T` after the fields `A`.
-pub trait FieldRules<A: FieldsText, T: DerText>: Drop {
+pub trait FieldRules<A: FieldsText, T: Element>: Drop {
     /// The rule.
     ghost rule: { Rule };
 
     /// Why the element is refused, if it is.
     fn judge(earlier: &A, field: &T) -> Option<Reason>
         ensures { result ≡ rule (A.values earlier.now) (T.value field.now) };
+
+    /// Whether it lets the element pass whose text in DER octets begin with, after fields that `earlier` begins with;
+    /// `false` says nothing of them.
+    fn passes_in_der(earlier: &[u8], octets: &[u8]) -> bool
+        ensures { result ≡ true → (limit : ℕ) (fields : List Value) (value : Value)
+            (behind rest : List ℕ)
+            → AreFields limit A.listing.types fields earlier.now behind
+            → BeginsWithText limit T.type_term fields value octets.now rest
+            → rule fields value ≡ None }
+    {
+        false
+    }
 
     /// It goes by the values, and by no order of a SET OF,
     ghost fair: { FairRule rule };
@@ -78,6 +93,14 @@ impl<A: FieldsText, T: Element, K: FieldRules<A, T>> DependentElement<A> for Rul
             value,
             rules: PhantomData,
         })
+    }
+
+    fn judge<'a>(earlier: &[u8], octets: &'a [u8], limits: Limits, left: u8) -> Option<&'a [u8]> {
+        let rest = T::judge(octets, limits, left)?;
+        if !K::passes_in_der(earlier, octets) {
+            return None;
+        }
+        Some(rest)
     }
 
     fn size(&self) -> u64 {

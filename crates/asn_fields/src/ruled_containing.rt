@@ -10,7 +10,7 @@ ghost use Rattle.asn_fields.specs.Dependents.{passes};
 use crate::dependent::{Dependent, DependentElement};
 use crate::ruled_behind::FieldRules;
 use crate::sequence::FieldsText;
-use asn_elements::containing::{Containing, read_contained};
+use asn_elements::containing::{Containing, judge_contained, read_contained};
 use asn_elements::der_text::DerText;
 use asn_elements::element::Element;
 use asn_elements::tags::{is_same_tag, universal_tag};
@@ -18,6 +18,7 @@ use ber_pull::pull::Pull;
 use std::alloc::Global;
 use std::marker::PhantomData;
 use tlv_core::fault::ReadError;
+use tlv_core::limits::Limits;
 use tlv_core::sink::{Sink, WriteError};
 use tlv_core::source::Source;
 use tlv_core::tag::Tag;
@@ -69,6 +70,14 @@ impl<A: FieldsText, T: Element, K: FieldRules<A, T>> DependentElement<A> for Rul
             string: Containing::new(inner),
             rules: PhantomData,
         })
+    }
+
+    fn judge<'a>(earlier: &[u8], octets: &'a [u8], limits: Limits, _left: u8) -> Option<&'a [u8]> {
+        let (contents, rest) = judge_contained::<T>(octets, limits, universal_tag(4))?;
+        if !K::passes_in_der(earlier, contents) {
+            return None;
+        }
+        Some(rest)
     }
 
     fn size(&self) -> u64 {

@@ -1,12 +1,15 @@
 //! SEQUENCEs with a rule on their fields together.
-ghost use Rattle.std.specs.Prelude.{◌≡◌, List, [], true};
+ghost use Rattle.std.specs.Prelude.{◌≡◌, List, None, [], true, ℕ};
 ghost use Rattle.x690.specs.Layouts.{universal};
 ghost use Rattle.x690.specs.Premises.{FairRule, HonestRule};
 ghost use Rattle.x690.specs.TypeTerms.{Rule};
 ghost use Rattle.x690.specs.Values.{Sequence as SequenceValue, Value, values_of};
+ghost use Rattle.asn_fields.specs.FieldsInDer.{AreFields};
 
 use crate::ruled::{Ruled, Rules};
 use crate::sequence::{Sequence, SequenceFields};
+use asn_elements::in_der::element_in_der;
+use asn_elements::tags::universal_tag;
 use tlv_core::reason::Reason;
 
 /// Fields with a rule on them together.
@@ -19,6 +22,15 @@ pub trait RuledFields: SequenceFields {
         requires { Self.FieldsText.listing.known self.now ≡ true }
         ensures { result ≡ rule [] (SequenceValue (universal 16)
             (values_of (Self.FieldsText.values self.now))) };
+
+    /// Whether it lets the fields pass whose texts in DER these octets are; `false` says nothing of them.
+    fn pass_in_der(octets: &[u8]) -> bool
+        ensures { result ≡ true → (limit : ℕ) (values : List Value)
+            → AreFields limit Self.FieldsText.listing.types values octets.now []
+            → rule [] (SequenceValue (universal 16) (values_of values)) ≡ None }
+    {
+        false
+    }
 
     /// It goes by the value, and by no order of a SET OF,
     ghost fair: { FairRule rule };
@@ -45,6 +57,13 @@ impl<K: RuledFields> Rules<Sequence<K>> for RuleOfFields {
 
     fn judge(value: &Sequence<K>) -> Option<Reason> {
         value.judge()
+    }
+
+    fn passes_in_der(octets: &[u8]) -> bool {
+        match element_in_der(octets, universal_tag(16), true) {
+            Some((contents, _)) => K::pass_in_der(contents),
+            None => false,
+        }
     }
 }
 

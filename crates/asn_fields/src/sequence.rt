@@ -4,7 +4,7 @@
 //! }`; more of them are pairs in pairs, `(A, (B, C))`. What may stand in such a list is passed on here. A type round
 //! such a list has names for the fields, and `Sequence` of it is the SEQUENCE.
 ghost use Rattle.std.proofs.Common.{subst, sym};
-ghost use Rattle.std.specs.Prelude.{◌≡◌, ◌*◌, ◌<◌, ◌^◌, ◌≤◌, IfOk, IsSome, None, OnOk, length, true};
+ghost use Rattle.std.specs.Prelude.{◌≡◌, ◌*◌, ◌<◌, ◌^◌, ◌≤◌, IfOk, IfSome, IsSome, None, OnOk, length, true};
 ghost use Rattle.x690.specs.DerTexts.{texts_of};
 ghost use Rattle.x690.specs.Layouts.{universal};
 ghost use Rattle.x690.specs.TypeTerms.{EndOfFields, SequenceType, TypeTerm};
@@ -12,6 +12,7 @@ ghost use Rattle.x690.specs.ReadTypes.{IsClosed};
 ghost use Rattle.x690.specs.Values.{Sequence as SequenceValue, values_of};
 ghost use Rattle.x690_laws.proofs.TypesClosed.{sequence_closed};
 ghost use Rattle.ber_pull.specs.View.{standing, Repeats, Uses, Frame};
+ghost use Rattle.asn_elements.specs.InDer.{BeginsInDer};
 ghost use Rattle.asn_fields.specs.Apart.{apart};
 ghost use Rattle.asn_fields.specs.ApartLaws.{sequence_one_text};
 ghost use Rattle.asn_fields.specs.Fields.{AnswersSequence};
@@ -25,11 +26,13 @@ use crate::parts::{put_sequence, sequence_octet, sequence_size};
 pub use crate::required::Required;
 use asn_elements::der_text::DerText;
 use asn_elements::element::Element;
+use asn_elements::in_der::element_in_der;
 use asn_elements::tags::{is_same_tag, universal_tag};
 use ber_pull::pull::Pull;
 use std::alloc::Global;
 use std::ops::Deref;
 use tlv_core::fault::ReadError;
+use tlv_core::limits::Limits;
 use tlv_core::sink::{Sink, WriteError};
 use tlv_core::source::Source;
 use tlv_core::tag::Tag;
@@ -104,6 +107,11 @@ impl<K: SequenceFields> Element for Sequence<K> {
         let fields = read_sequence_as::<R, K>(alloc, pull, universal_tag(16))?;
         Ok(Sequence { fields })
     }
+
+    fn judge(octets: &[u8], limits: Limits, left: u8) -> Option<&[u8]> {
+        let rest = judge_sequence::<K>(octets, limits, left, universal_tag(16))?;
+        Some(rest)
+    }
 }
 
 /// Reads the SEQUENCE that is given, of these fields and no others, under this tag.
@@ -126,4 +134,26 @@ pub fn read_sequence_as<R: Source, F: FirstFields>(
     let fields = F::read_first(alloc, pull, &mut next)?;
     end(pull, next)?;
     Ok(fields)
+}
+
+/// What stands after the SEQUENCE of these fields and no others, under this tag, that octets begin with, where it is in
+/// DER as it stands, with no more than `left` containers in each other.
+pub fn judge_sequence<F: FirstFields>(
+    octets: &[u8],
+    limits: Limits,
+    left: u8,
+    tag: Tag,
+) -> Option<&[u8]>
+    ensures { IfSome result (λ rest. BeginsInDer limits.depth left
+        (SequenceType tag (F.listing.types EndOfFields)) octets.now rest.now) }
+{
+    if left == 0 {
+        return None;
+    }
+    let (contents, rest) = element_in_der(octets, tag, true)?;
+    let behind = F::judge_first(contents, limits, left - 1)?;
+    if !behind.is_empty() {
+        return None;
+    }
+    Some(rest)
 }

@@ -9,7 +9,7 @@ ghost use Rattle.x690.specs.Values.{Sequence, values_of};
 ghost use Rattle.x690_laws.proofs.TypesClosed.{sequence_closed};
 
 use crate::required::Required;
-use crate::sequence::read_sequence_as;
+use crate::sequence::{judge_sequence, read_sequence_as};
 use asn_elements::der_text::DerText;
 use asn_elements::element::Element;
 use asn_elements::framing::{Stands, element_size, find_octet, put_header};
@@ -17,6 +17,7 @@ use asn_elements::tags::{context_tag, is_same_tag};
 use ber_pull::pull::Pull;
 use std::alloc::Global;
 use tlv_core::fault::ReadError;
+use tlv_core::limits::Limits;
 use tlv_core::sink::{Sink, WriteError};
 use tlv_core::source::Source;
 use tlv_core::tag::Tag;
@@ -97,5 +98,10 @@ impl<const N: u8, T: Element> Element for Tagged<N, T> {
     fn read<R: Source>(alloc: Global, pull: &mut Pull<'_, R>) -> Result<Tagged<N, T>, ReadError> {
         let Required(inner) = read_sequence_as(alloc, pull, context_tag(u32::from(N)))?;
         Ok(Tagged { inner })
+    }
+
+    fn judge(octets: &[u8], limits: Limits, left: u8) -> Option<&[u8]> {
+        let rest = judge_sequence::<Required<T>>(octets, limits, left, context_tag(u32::from(N)))?;
+        Some(rest)
     }
 }

@@ -1,1 +1,2 @@
 pub mod LaterStarts
+pub mod MembersInDer

@@ -6,6 +6,7 @@
 //! `from_items` refuses exactly what it names. `same` is the same value, a SET OF as a multiset.
 #![tactic(auto)]
 
+mod in_der;
 pub mod list;
 pub mod list_of_some;
 mod members;

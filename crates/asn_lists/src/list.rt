@@ -13,6 +13,7 @@ ghost use Rattle.ber_pull.specs.declared.state.Given.{Given};
 ghost use Rattle.asn_elements.specs.Reading.{AnswersValue, read_given};
 ghost use Rattle.x690.specs.Values.{Sequence, values_of};
 
+use crate::in_der::judge_list;
 use crate::members::{read_members, row_of};
 use crate::row::Row;
 use asn_elements::der_text::DerText;
@@ -22,6 +23,7 @@ use asn_elements::tags::{is_same_tag, universal_tag};
 use ber_pull::pull::Pull;
 use std::alloc::Global;
 use tlv_core::fault::ReadError;
+use tlv_core::limits::Limits;
 use tlv_core::reason::Reason;
 use tlv_core::sink::{Sink, WriteError};
 use tlv_core::source::Source;
@@ -163,5 +165,10 @@ impl<T: Element> Element for List<T> {
 
     fn read<R: Source>(alloc: Global, pull: &mut Pull<'_, R>) -> Result<List<T>, ReadError> {
         read_list(alloc, pull, universal_tag(16), 0)
+    }
+
+    fn judge(octets: &[u8], limits: Limits, left: u8) -> Option<&[u8]> {
+        let rest = judge_list::<T>(octets, limits, left, universal_tag(16), false)?;
+        Some(rest)
     }
 }

@@ -6,6 +6,7 @@ ghost use Rattle.x690.specs.Values.{Sequence, values_of};
 ghost use Rattle.x690_laws.proofs.TypesClosed.{sequence_of_closed};
 ghost use Rattle.asn_lists.specs.Containers.{list_items};
 
+use crate::in_der::judge_list;
 use crate::list::List;
 use asn_elements::der_text::DerText;
 use asn_elements::element::Element;
@@ -13,6 +14,7 @@ use asn_elements::tags::{is_same_tag, universal_tag};
 use ber_pull::pull::Pull;
 use std::alloc::Global;
 use tlv_core::fault::ReadError;
+use tlv_core::limits::Limits;
 use tlv_core::sink::{Sink, WriteError};
 use tlv_core::source::Source;
 use tlv_core::tag::Tag;
@@ -67,5 +69,10 @@ impl<T: Element> Element for ListOfSome<T> {
     fn read<R: Source>(alloc: Global, pull: &mut Pull<'_, R>) -> Result<ListOfSome<T>, ReadError> {
         let items = List::read_some(alloc, pull)?;
         Ok(ListOfSome { items })
+    }
+
+    fn judge(octets: &[u8], limits: Limits, left: u8) -> Option<&[u8]> {
+        let rest = judge_list::<T>(octets, limits, left, universal_tag(16), true)?;
+        Some(rest)
     }
 }

@@ -1,6 +1,6 @@
 //! SET OF (X.690 8.12, 11.6).
 ghost use Rattle.x690_laws.proofs.TextsTellApart.{set_one_text};
-ghost use Rattle.std.specs.Prelude.{◌≡◌, ◌↔◌, ◌<◌, ◌≤◌, ◌^◌, Err, IfErr, IfOk, None, Some, IsSome, OnOk};
+ghost use Rattle.std.specs.Prelude.{◌≡◌, ◌↔◌, ◌<◌, ◌≤◌, ◌^◌, Err, IfErr, IfOk, IfSome, None, Some, IsSome, OnOk};
 ghost use Rattle.std.specs.Prelude.{IsPermutation, IsTrue, length, map, slice_get, true};
 ghost use Rattle.std.specs.Option.{option_map};
 ghost use Rattle.x690_laws.proofs.TypesClosed.{set_of_closed};
@@ -11,6 +11,7 @@ ghost use Rattle.ber_pull.specs.View.{standing, source, Repeats, Uses, Frame};
 ghost use Rattle.ber_pull.specs.Standing.{failed_with};
 ghost use Rattle.ber_pull.specs.declared.state.Given.{Given};
 ghost use Rattle.tlv_core.specs.declared.fault.ReadError.TheVariants.{Memory};
+ghost use Rattle.asn_elements.specs.InDer.{BeginsInDer};
 ghost use Rattle.asn_elements.specs.Reading.{AnswersValue, read_given};
 ghost use Rattle.x690.specs.Values.{SetOf as SetValue, values_of};
 ghost use Rattle.asn_elements.specs.Members.{ascends};
@@ -18,6 +19,7 @@ ghost use Rattle.asn_elements.proofs.Ascending.{ascends_is};
 ghost use Rattle.x690_laws.proofs.TypesOfOneTag.{set_of_fits};
 ghost use Rattle.asn_elements.specs.declared.build.BuildError.TheVariants.{Bad, TooBig};
 
+use crate::in_der::judge_set;
 use crate::members::{read_members, row_of};
 use crate::order::in_order;
 use crate::row::{LONGEST, Row, contents_length};
@@ -31,6 +33,7 @@ use asn_elements::tags::{is_same_tag, universal_tag};
 use ber_pull::pull::Pull;
 use std::alloc::Global;
 use tlv_core::fault::ReadError;
+use tlv_core::limits::Limits;
 use tlv_core::reason::Reason;
 use tlv_core::sink::{Sink, WriteError};
 use tlv_core::source::Source;
@@ -169,6 +172,15 @@ impl<T: Element> SetOf<T> {
         SetOf::read_set(alloc, pull, universal_tag(17), 1)
     }
 
+    /// What stands after the SET OF with at least one member that octets begin with, as `judge` says it.
+    pub fn judge_some(octets: &[u8], limits: Limits, left: u8) -> Option<&[u8]>
+        ensures { IfSome result (λ rest. BeginsInDer limits.depth left
+            (SetOfType (universal 17) 1 T.type_term) octets.now rest.now) }
+    {
+        let rest = judge_set::<T>(octets, limits, left, universal_tag(17), true)?;
+        Some(rest)
+    }
+
     /// Reads the SET OF that is given, under this tag, with at least so many members.
     fn read_set<R: Source>(
         alloc: Global,
@@ -232,6 +244,11 @@ impl<T: Element> Element for SetOf<T> {
     fn read<R: Source>(alloc: Global, pull: &mut Pull<'_, R>) -> Result<SetOf<T>, ReadError> {
         SetOf::read_set(alloc, pull, universal_tag(17), 0)
     }
+
+    fn judge(octets: &[u8], limits: Limits, left: u8) -> Option<&[u8]> {
+        let rest = judge_set::<T>(octets, limits, left, universal_tag(17), false)?;
+        Some(rest)
+    }
 }
 
 impl<T: Element> ImplicitElement for SetOf<T> {
@@ -247,5 +264,10 @@ impl<T: Element> ImplicitElement for SetOf<T> {
         tag: Tag,
     ) -> Result<SetOf<T>, ReadError> {
         SetOf::read_set(alloc, pull, tag, 0)
+    }
+
+    fn judge_as(octets: &[u8], limits: Limits, left: u8, tag: Tag) -> Option<&[u8]> {
+        let rest = judge_set::<T>(octets, limits, left, tag, false)?;
+        Some(rest)
     }
 }

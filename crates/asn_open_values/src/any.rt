@@ -1,6 +1,6 @@
 //! Open values: elements of any type, read by their tags alone.
 //!
-//! Universal tags say their types (X.680 8.6); elements of other classes keep their octets where they are primitive,
+//! Universal tags say their types (X.680 8.4); elements of other classes keep their octets where they are primitive,
 //! and their elements in order where they are constructed. An open value is kept as its DER text, so that writing and
 //! comparing it is a matter of octets; an OBJECT IDENTIFIER by its contents alone.
 ghost use Rattle.std.proofs.Common.{ap, sym, ◌∙◌};
@@ -13,14 +13,17 @@ ghost use Rattle.x690_laws.proofs.TypesClosed.{open_closed};
 ghost use Rattle.asn_open_values.specs.TextValues.{identifier_in, open_value};
 ghost use Rattle.asn_open_values.specs.KeptValues.{identifier_kept, text_kept};
 
+use crate::open_form::{OpenForm, open_form};
 use crate::open_value::append_open;
 use asn_elements::der_text::DerText;
 use asn_elements::element::Element;
+use asn_elements::in_der::leaf_in_der;
 use asn_elements::leaf_reading::{SimpleType, read_leaf_into};
-use asn_elements::tags::{is_same_tag, universal_tag};
+use asn_elements::tags::{is_same_tag, tag_of_identifier, universal_tag};
 use ber_pull::pull::Pull;
 use std::alloc::Global;
 use tlv_core::fault::ReadError;
+use tlv_core::limits::Limits;
 use tlv_core::oid::Oid;
 use tlv_core::sink::{Sink, WriteError};
 use tlv_core::source::Source;
@@ -119,5 +122,18 @@ impl Element for Any {
         Ok(Any {
             kept: KeptContents::Text(text),
         })
+    }
+
+    /// Of leaves that have a kind by their tag; of other elements nothing is said.
+    fn judge(octets: &[u8], _limits: Limits, _left: u8) -> Option<&[u8]> {
+        let [first, ..] = octets else {
+            return None;
+        };
+        let tag = tag_of_identifier(*first)?;
+        let OpenForm::Leaf(kind) = open_form(tag) else {
+            return None;
+        };
+        let rest = leaf_in_der(octets, tag, kind)?;
+        Some(rest)
     }
 }

@@ -22,7 +22,7 @@
 #![tactic(auto)]
 
 pub use asn_elements::{
-    bits, boolean, boxed, build, containing, der_text, element, framing, implicit, integer,
+    bits, boolean, boxed, build, containing, der_text, element, framing, implicit, in_der, integer,
     leaf_reading, null, object_identifier, octets, tags, text,
 };
 pub use asn_fields::{

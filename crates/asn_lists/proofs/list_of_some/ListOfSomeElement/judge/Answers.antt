@@ -1,0 +1,9 @@
+use Rattle.std.proofs.Common.{subst}
+use Rattle.x690.specs.TypeTerms.{SequenceOfType}
+use Rattle.asn_elements.specs.InDer.{BeginsInDer}
+use Rattle.asn_lists.proofs.list_of_some.ListOfSomeElement.judge.Goals as goal
+
+pub returns : goal.returns
+returns g c =
+    subst (λ own. BeginsInDer c.args.limits.depth c.args.left (SequenceOfType own 1 g.T.Element.type_term)
+    c.args.octets.now c.in_ok-rest.rest.now) c.universal_tag.ensures c.in_ok-rest.ensures
