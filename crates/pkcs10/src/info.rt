@@ -6,23 +6,18 @@ ghost use Rattle.asn_fields.specs.Listings.{through};
 ghost use Rattle.pkix_definitions.specs.DocumentTypes.{CertificationRequestInfo as CertificationRequestInfoType};
 ghost use Rattle.pkix_definitions.proofs.Sequences.{info_is};
 
-use asn_values::fields::Next;
 use asn_values::implicit::Implicit;
-use asn_values::sequence::{FieldsText, FirstFields, Optional, Required, Sequence, SequenceFields};
+use asn_values::sequence::{FieldsText, Optional, Required, Sequence, SequenceFields};
 use asn_values::set_of::SetOf;
-use ber_pull::pull::Pull;
 use pkix_values::name::Name;
 use pkix_values::public_key::SubjectPublicKeyInfo;
 use pkix_values::request_attribute::RequestAttribute;
 use pkix_values::version::Version;
-use std::alloc::Global;
-use tlv_core::fault::ReadError;
 use tlv_core::sink::{Sink, WriteError};
-use tlv_core::source::Source;
 use tlv_core::target::Target;
 
 /// version, subject, subjectPKInfo, attributes [0].
-type Listed = (
+pub(crate) type Listed = (
     (Required<Version<0, 0>>, Required<Name>),
     (
         Required<SubjectPublicKeyInfo>,
@@ -32,7 +27,7 @@ type Listed = (
 
 /// version, subject, subjectPKInfo, attributes [0].
 #[derive(Drop)]
-pub struct InfoFields(Listed);
+pub struct InfoFields(pub(crate) Listed);
 
 impl InfoFields {
     ghost use Rattle.pkcs10.specs.Infos.{request_attributes_of, subject_key_of, subject_of};
@@ -77,19 +72,6 @@ impl FieldsText for InfoFields {
 
     fn octet(&self, i: u64) -> Option<u8> {
         self.0.octet(i)
-    }
-}
-
-impl FirstFields for InfoFields {
-    fn read_first<R: Source>(
-        alloc: Global,
-        pull: &mut Pull<'_, R>,
-        next: &mut Next,
-    ) -> Result<InfoFields, ReadError> {
-        match <Listed as FirstFields>::read_first(alloc, pull, next) {
-            Ok(listed) => Ok(InfoFields(listed)),
-            Err(error) => Err(error),
-        }
     }
 }
 

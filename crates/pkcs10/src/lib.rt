@@ -6,4 +6,5 @@
 #![tactic(auto)]
 
 pub mod info;
+mod reading;
 pub mod request;

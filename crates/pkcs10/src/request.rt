@@ -7,25 +7,20 @@ ghost use Rattle.pkix_definitions.proofs.Sequences.{request_is};
 
 use crate::info::CertificationRequestInfo;
 use asn_values::bits::Bits;
-use asn_values::fields::Next;
-use asn_values::sequence::{FieldsText, FirstFields, Required, Sequence, SequenceFields};
-use ber_pull::pull::Pull;
+use asn_values::sequence::{FieldsText, Required, Sequence, SequenceFields};
 use pkix_values::algorithm::AlgorithmIdentifier;
-use std::alloc::Global;
-use tlv_core::fault::ReadError;
 use tlv_core::sink::{Sink, WriteError};
-use tlv_core::source::Source;
 use tlv_core::target::Target;
 
 /// certificationRequestInfo, signatureAlgorithm, signature.
-type Listed = (
+pub(crate) type Listed = (
     Required<CertificationRequestInfo>,
     (Required<AlgorithmIdentifier>, Required<Bits>),
 );
 
 /// certificationRequestInfo, signatureAlgorithm, signature.
 #[derive(Drop)]
-pub struct RequestFields(Listed);
+pub struct RequestFields(pub(crate) Listed);
 
 impl RequestFields {
     ghost use Rattle.pkcs10.specs.Requests.{request_info_of, signature_algorithm_of, signature_of};
@@ -67,19 +62,6 @@ impl FieldsText for RequestFields {
 
     fn octet(&self, i: u64) -> Option<u8> {
         self.0.octet(i)
-    }
-}
-
-impl FirstFields for RequestFields {
-    fn read_first<R: Source>(
-        alloc: Global,
-        pull: &mut Pull<'_, R>,
-        next: &mut Next,
-    ) -> Result<RequestFields, ReadError> {
-        match <Listed as FirstFields>::read_first(alloc, pull, next) {
-            Ok(listed) => Ok(RequestFields(listed)),
-            Err(error) => Err(error),
-        }
     }
 }
 

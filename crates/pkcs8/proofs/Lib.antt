@@ -1,4 +1,5 @@
 pub mod Curves
+pub mod HeadInDer
 pub mod InnerKeys
 pub mod KeyVersions
 pub mod KindsOfKeys

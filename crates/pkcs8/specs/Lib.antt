@@ -1,5 +1,6 @@
 pub mod AsymmetricKeys
 pub mod EncryptedKeys
+pub mod HeadInDer
 pub mod KeyPackages
 pub mod Keys
 pub mod Seen

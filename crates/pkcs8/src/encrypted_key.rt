@@ -12,6 +12,7 @@ use ber_pull::pull::Pull;
 use pkix_values::algorithm::AlgorithmIdentifier;
 use std::alloc::Global;
 use tlv_core::fault::ReadError;
+use tlv_core::limits::Limits;
 use tlv_core::sink::{Sink, WriteError};
 use tlv_core::source::Source;
 use tlv_core::target::Target;
@@ -69,6 +70,11 @@ impl FirstFields for EncryptedKeyFields {
             Ok(listed) => Ok(EncryptedKeyFields(listed)),
             Err(error) => Err(error),
         }
+    }
+
+    fn judge_first(octets: &[u8], limits: Limits, left: u8) -> Option<&[u8]> {
+        let rest = <Listed as FirstFields>::judge_first(octets, limits, left)?;
+        Some(rest)
     }
 }
 

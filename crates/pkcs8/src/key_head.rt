@@ -6,15 +6,20 @@ ghost use Rattle.pkix_definitions.proofs.LawfulTypes.{honest_ec_parameters};
 ghost use Rattle.pkix_definitions.specs.Identifiers.{ec_public_key, rsa_encryption};
 ghost use Rattle.pkix_definitions.specs.Rules.{container_curve, ec_parameters_rule};
 ghost use Rattle.pkix_values.specs.Algorithms.{algorithm_of};
+ghost use Rattle.pkcs8.specs.HeadInDer.{key_types};
 ghost use Rattle.pkcs8.specs.Keys.{curve_octets, identifier_of};
 ghost use Rattle.x690.specs.Lists.{one_of};
+ghost use Rattle.x690.specs.TypeTerms.{EndOfFields, Fields};
 ghost use Rattle.x690.specs.Values.{leaf_at};
 ghost use Rattle.asn_fields.specs.Listings.{through};
 
+use crate::head_in_der::is_ec;
 use asn_values::any::Any;
 use asn_values::fields::Next;
+use asn_values::in_der::element_in_der;
 use asn_values::ruled::{Ruled, Rules};
 use asn_values::sequence::{FieldsText, FirstFields, Required};
+use asn_values::tags::universal_tag;
 use ber_pull::pull::Pull;
 use pkix_definitions::identifiers::{EC_PUBLIC_KEY, RSA_ENCRYPTION};
 use pkix_values::algorithm::AlgorithmIdentifier;
@@ -22,6 +27,7 @@ use pkix_values::identifiers::has_contents;
 use pkix_values::version::Version;
 use std::alloc::Global;
 use tlv_core::fault::ReadError;
+use tlv_core::limits::Limits;
 use tlv_core::oid::Oid;
 use tlv_core::reason::Reason;
 use tlv_core::sink::{Sink, WriteError};
@@ -30,6 +36,9 @@ use tlv_core::target::Target;
 
 /// Fields that begin with the version and the algorithm of a private key.
 pub trait NamesKey: FieldsText {
+    /// The types of the fields after them.
+    ghost behind: { Fields };
+
     /// These two.
     fn head(&self) -> &KeyHead
         ensures version { leaf_at (0 ∷ []) (Self.values self.now) ≡ result.now.0.0.0.number ∷ [] }
@@ -37,6 +46,9 @@ pub trait NamesKey: FieldsText {
             ≡ algorithm_of result.now.0.1.0.value }
         ensures curve { container_curve (Self.values self.now)
             ≡ container_curve (⟦<KeyHead as FieldsText>⟧.values result.now) };
+
+    /// They are of these types, and then of those.
+    ghost headed: { Self.FieldsText.listing.types EndOfFields ≡ key_types behind };
 }
 
 /// Whether it is version 0, v1.
@@ -81,6 +93,22 @@ impl Rules<AlgorithmIdentifier> for InKeys {
             Some(_) => None,
             None => Some(Reason::Parameters),
         }
+    }
+
+    fn passes_in_der(octets: &[u8]) -> bool {
+        let Some((contents, _)) = element_in_der(octets, universal_tag(16), true) else {
+            return false;
+        };
+        let Some((algorithm, parameters)) = element_in_der(contents, universal_tag(6), false) else {
+            return false;
+        };
+        if !is_ec(algorithm) {
+            return true;
+        }
+        let Some((_curve, _)) = element_in_der(parameters, universal_tag(6), false) else {
+            return false;
+        };
+        true
     }
 }
 
@@ -142,6 +170,10 @@ impl KeyHead {
 }
 
 impl NamesKey for KeyHead {
+    ghost behind = { EndOfFields };
+
+    ghost headed = { refl };
+
     #[tactic(auto, unfolding(x690::specs::Values::leaf_at))]
     fn head(&self) -> &KeyHead {
         self
@@ -177,5 +209,10 @@ impl FirstFields for KeyHead {
             Err(error) => return Err(error),
         };
         Ok(KeyHead(listed))
+    }
+
+    fn judge_first(octets: &[u8], limits: Limits, left: u8) -> Option<&[u8]> {
+        let rest = <Listed as FirstFields>::judge_first(octets, limits, left)?;
+        Some(rest)
     }
 }

@@ -12,6 +12,7 @@ use asn_values::list_of_some::ListOfSome;
 use ber_pull::pull::Pull;
 use std::alloc::Global;
 use tlv_core::fault::ReadError;
+use tlv_core::limits::Limits;
 use tlv_core::sink::{Sink, WriteError};
 use tlv_core::source::Source;
 use tlv_core::tag::Tag;
@@ -63,5 +64,10 @@ impl Element for KeyPackage {
 
     fn read<R: Source>(alloc: Global, pull: &mut Pull<'_, R>) -> Result<KeyPackage, ReadError> {
         Ok(KeyPackage(ListOfSome::<OneAsymmetricKey>::read(alloc, pull)?))
+    }
+
+    fn judge(octets: &[u8], limits: Limits, left: u8) -> Option<&[u8]> {
+        let rest = ListOfSome::<OneAsymmetricKey>::judge(octets, limits, left)?;
+        Some(rest)
     }
 }

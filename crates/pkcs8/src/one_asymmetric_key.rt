@@ -7,6 +7,7 @@ ghost use Rattle.pkix_definitions.proofs.Fairs.{fair_key_version};
 ghost use Rattle.pkix_definitions.proofs.LawfulTypes.{honest_key_version};
 ghost use Rattle.pkix_definitions.specs.DocumentTypes.{OneAsymmetricKey as OneAsymmetricKeyType};
 ghost use Rattle.pkix_definitions.specs.Rules.{key_version_rule};
+ghost use Rattle.pkcs8.specs.HeadInDer.{behind_head};
 ghost use Rattle.pkcs8.specs.Seen.{GoesWith, key_seen};
 ghost use Rattle.pkix_values.specs.Algorithms.{algorithm_of};
 ghost use Rattle.asn_fields.specs.Listings.{through};
@@ -22,15 +23,19 @@ use asn_values::der_text::DerText;
 use asn_values::element::Element;
 use asn_values::fields::Next;
 use asn_values::implicit::Implicit;
+use asn_values::in_der::element_in_der;
 use asn_values::optional_dependent::OptionalDependent;
 use asn_values::ruled_sequence::{RuledFields, RuledSequence};
 use asn_values::sequence::{FieldsText, FirstFields, Optional, SequenceFields};
 use asn_values::set_of::SetOf;
+use asn_values::tags::universal_tag;
 use ber_pull::pull::Pull;
+use pkix_definitions::identifiers::are_same_octets;
 use pkix_values::algorithm::AlgorithmIdentifier;
 use pkix_values::attribute::Attribute;
 use std::alloc::Global;
 use tlv_core::fault::ReadError;
+use tlv_core::limits::Limits;
 use tlv_core::reason::Reason;
 use tlv_core::sink::{Sink, WriteError};
 use tlv_core::source::Source;
@@ -48,6 +53,10 @@ type BodyListed = (
 pub struct KeyBody(BodyListed);
 
 impl NamesKey for KeyBody {
+    ghost behind = { behind_head };
+
+    ghost headed = { refl };
+
     #[tactic(auto, unfolding(x690::specs::Values::leaf_at))]
     fn head(&self) -> &KeyHead {
         self.0.0.earlier()
@@ -83,6 +92,11 @@ impl FirstFields for KeyBody {
             Err(error) => return Err(error),
         };
         Ok(KeyBody(listed))
+    }
+
+    fn judge_first(octets: &[u8], limits: Limits, left: u8) -> Option<&[u8]> {
+        let rest = <BodyListed as FirstFields>::judge_first(octets, limits, left)?;
+        Some(rest)
     }
 }
 
@@ -137,6 +151,11 @@ impl FirstFields for KeyFields {
         };
         Ok(KeyFields(listed))
     }
+
+    fn judge_first(octets: &[u8], limits: Limits, left: u8) -> Option<&[u8]> {
+        let rest = <Listed as FirstFields>::judge_first(octets, limits, left)?;
+        Some(rest)
+    }
 }
 
 impl SequenceFields for KeyFields {
@@ -166,6 +185,14 @@ impl RuledFields for KeyFields {
         match self.public_key() {
             Some(_) => None,
             None => Some(Reason::VersionRule),
+        }
+    }
+
+    /// Of version 0 alone.
+    fn pass_in_der(octets: &[u8]) -> bool {
+        match element_in_der(octets, universal_tag(2), false) {
+            Some((version, _)) => are_same_octets(version, &[0]),
+            None => false,
         }
     }
 }
@@ -265,5 +292,10 @@ impl Element for OneAsymmetricKey {
             Err(error) => return Err(error),
         };
         Ok(OneAsymmetricKey(key))
+    }
+
+    fn judge(octets: &[u8], limits: Limits, left: u8) -> Option<&[u8]> {
+        let rest = RuledSequence::<KeyFields>::judge(octets, limits, left)?;
+        Some(rest)
     }
 }

@@ -1,3 +1,4 @@
+pub mod InDer
 pub mod Rules
 pub mod SameOctets
 pub mod VersionTests

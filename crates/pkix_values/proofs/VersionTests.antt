@@ -1,15 +1,21 @@
 -- The versions of a type, by their numbers: what is listed, the rule, and the text.
-use Rattle.std.proofs.Common.{arith, nat_le, nat_lt, ◌≡◌, ◌≤◌, ◌<◌, ◌+◌, ◌-◌, ◌==◌, ◌&&◌, ◌||◌, ◌⊎◌, ◌∷◌, ◌∙◌, ⊎_elim, Bool, List, None, Some, [], ap, cond, false, length, refl, suc, sym, true, zero, ℕ}
+use Rattle.std.proofs.Common.{◌++◌, arith, nat_le, nat_lt, ◌≡◌, ◌≤◌, ◌<◌, ◌+◌, ◌-◌, ◌==◌, ◌&&◌, ◌||◌, ◌⊎◌, ◌∷◌, ◌∙◌, ⊎_elim, Bool, List, None, Some, [], ap, cond, false, length, refl, suc, sym, true, zero, ℕ}
 use Rattle.std.proofs.lemmas.Bool.Decides.{nat_tests}
-use Rattle.tlv_core.specs.Identifier.{identifier}
+use Rattle.tlv_core.specs.Identifier.{IsTag, identifier}
 use Rattle.tlv_core.specs.Length.{shortest_length}
 use Rattle.tlv_core.specs.declared.reason.Reason.TheVariants.{Version}
+use Rattle.x690.specs.Contents.{Integer}
 use Rattle.x690.specs.DerTexts.{der, der_element}
-use Rattle.x690.specs.Layouts.{universal}
+use Rattle.x690.specs.Fitting.{Fits}
+use Rattle.x690.specs.Layouts.{LaidOut, Primitive, universal}
 use Rattle.x690.specs.Lists.{one_of}
+use Rattle.pkix_definitions.specs.DocumentTypes.{version}
 use Rattle.pkix_definitions.specs.Rules.{else_refused, version_rule}
 use Rattle.x690.specs.Values.{Leaf, Same, Value}
 use Rattle.pkix_definitions.proofs.Fairs.{fair_version}
+use Rattle.x690_laws.proofs.ReadingLeavesSound.{contents_fit}
+use Rattle.x690_laws.proofs.TextsAsTrees.{element_definite}
+use Rattle.asn_elements.specs.InDer.{BeginsInDer}
 use Rattle.pkix_values.specs.Versions.{one_octets, versions}
 
 -- those that documents have
@@ -94,3 +100,26 @@ module _ (allowed : List (List ℕ)) (contents : List ℕ) (v : Value) (same : S
 pub version_text : (number : ℕ) → der (Leaf (universal 2) (number ∷ [])) ≡ 2 ∷ 1 ∷ number ∷ []
 unfolding der der_element identifier shortest_length
 version_text number = refl
+
+-- a version in DER
+
+is_integer : IsTag (universal 2)
+is_integer = record { class_fits = omega arith; number_fits = omega arith; not_end = omega arith }
+
+pub version_begins : (limit left : ℕ) (allowed : List (List ℕ)) (number : ℕ) (octets rest : List ℕ)
+    → octets ≡ 2 ∷ 1 ∷ number ∷ rest → true ≡ one_of (number ∷ []) allowed
+    → BeginsInDer limit left (version allowed) octets rest
+unfolding Fits LaidOut der
+version_begins limit left allowed number octets rest is listed = (
+  Leaf (universal 2) (number ∷ []),
+  λ earlier. record {
+    is = is ∙ sym (ap (λ z. z ++ rest) (version_text number));
+    tree = Primitive (universal 2) (number ∷ []);
+    laid_out = (is_integer, element_definite (universal 2) false (number ∷ []) (omega arith));
+    depth_fits = omega arith;
+    fits = (
+      ap (λ b. else_refused b Version) (sym listed),
+      (refl, number ∷ [], contents_fit Integer (universal 2) (number ∷ []) refl, refl),
+    );
+  },
+)

@@ -1,6 +1,6 @@
 //! AlgorithmIdentifier of RFC 5280 section 4.1.1.2.
 ghost use Rattle.std.proofs.lemmas.Bool.{ltb-true};
-ghost use Rattle.std.specs.Prelude.{◌≡◌, ◌∷◌, [], None, refl, true};
+ghost use Rattle.std.specs.Prelude.{◌≡◌, ◌∷◌, [], IfSome, List, None, refl, true, ℕ};
 ghost use Rattle.std.specs.Option.{option_map};
 ghost use Rattle.pkix_definitions.specs.DocumentTypes.{AlgorithmIdentifier as AlgorithmIdentifierType};
 ghost use Rattle.pkix_definitions.proofs.ClosedTypes.{algorithm_closed};
@@ -10,7 +10,8 @@ ghost use Rattle.x690.specs.Lists.{one_of};
 ghost use Rattle.x690.specs.TypeTerms.{EndOfFields, SequenceType};
 ghost use Rattle.asn_fields.specs.Listings.{through};
 ghost use Rattle.pkix_definitions.specs.Rules.{parameters_rule};
-ghost use Rattle.x690.specs.Values.{leaf_at};
+ghost use Rattle.x690.specs.Values.{Value, leaf_at};
+ghost use Rattle.asn_elements.specs.InDer.{BeginsWithText};
 ghost use Rattle.pkix_definitions.proofs.Fairs.{fair_parameters};
 ghost use Rattle.pkix_values.specs.Forms.{honest_parameters};
 
@@ -19,11 +20,15 @@ use asn_values::any::Any;
 use asn_values::der_text::DerText;
 use asn_values::element::Element;
 use asn_values::fields::Next;
+use asn_values::in_der::element_in_der;
 use asn_values::ruled_sequence::{RuledFields, RuledSequence};
 use asn_values::sequence::{FieldsText, FirstFields, Optional, Required, SequenceFields};
+use asn_values::tags::universal_tag;
 use ber_pull::pull::Pull;
+use pkix_definitions::identifiers::rfc8410_length;
 use std::alloc::Global;
 use tlv_core::fault::ReadError;
+use tlv_core::limits::Limits;
 use tlv_core::oid::Oid;
 use tlv_core::reason::Reason;
 use tlv_core::sink::{Sink, WriteError};
@@ -81,6 +86,11 @@ impl FirstFields for AlgorithmFields {
             Err(error) => Err(error),
         }
     }
+
+    fn judge_first(octets: &[u8], limits: Limits, left: u8) -> Option<&[u8]> {
+        let rest = <Listed as FirstFields>::judge_first(octets, limits, left)?;
+        Some(rest)
+    }
 }
 
 impl SequenceFields for AlgorithmFields {
@@ -109,6 +119,16 @@ impl RuledFields for AlgorithmFields {
         } else {
             None
         }
+    }
+
+    fn pass_in_der(octets: &[u8]) -> bool {
+        let Some((algorithm, behind)) = element_in_der(octets, universal_tag(6), false) else {
+            return false;
+        };
+        if behind.is_empty() {
+            return true;
+        }
+        rfc8410_length(algorithm).is_none()
     }
 }
 
@@ -140,12 +160,24 @@ pub trait NamesAlgorithm: Element {
     /// Which one it is.
     fn algorithm(&self) -> &Oid
         ensures { result.now ≡ leaf_at (0 ∷ 0 ∷ []) (Self.value self.now ∷ []) };
+
+    /// Which one it is, of what octets begin with, in DER; `None` says nothing of them.
+    fn algorithm_in_der(octets: &[u8]) -> Option<&[u8]>
+        ensures { IfSome result (λ algorithm. (limit : ℕ) (value : Value) (rest : List ℕ)
+            → BeginsWithText limit Self.Element.type_term [] value octets.now rest
+            → leaf_at (0 ∷ 0 ∷ []) (value ∷ []) ≡ algorithm.now) };
 }
 
 impl NamesAlgorithm for AlgorithmIdentifier {
     #[tactic(auto, unfolding(x690::specs::Values::leaf_at))]
     fn algorithm(&self) -> &Oid {
         AlgorithmIdentifier::algorithm(self)
+    }
+
+    fn algorithm_in_der(octets: &[u8]) -> Option<&[u8]> {
+        let (contents, _) = element_in_der(octets, universal_tag(16), true)?;
+        let (algorithm, _) = element_in_der(contents, universal_tag(6), false)?;
+        Some(algorithm)
     }
 }
 
@@ -183,5 +215,10 @@ impl Element for AlgorithmIdentifier {
         pull: &mut Pull<'_, R>,
     ) -> Result<AlgorithmIdentifier, ReadError> {
         Ok(AlgorithmIdentifier(RuledSequence::<AlgorithmFields>::read(alloc, pull)?))
+    }
+
+    fn judge(octets: &[u8], limits: Limits, left: u8) -> Option<&[u8]> {
+        let rest = RuledSequence::<AlgorithmFields>::judge(octets, limits, left)?;
+        Some(rest)
     }
 }

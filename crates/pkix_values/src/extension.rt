@@ -13,6 +13,7 @@ use asn_values::sequence::{
 use ber_pull::pull::Pull;
 use std::alloc::Global;
 use tlv_core::fault::ReadError;
+use tlv_core::limits::Limits;
 use tlv_core::oid::Oid;
 use tlv_core::sink::{Sink, WriteError};
 use tlv_core::source::Source;
@@ -78,6 +79,11 @@ impl FirstFields for ExtensionFields {
             Ok(listed) => Ok(ExtensionFields(listed)),
             Err(error) => Err(error),
         }
+    }
+
+    fn judge_first(octets: &[u8], limits: Limits, left: u8) -> Option<&[u8]> {
+        let rest = <Listed as FirstFields>::judge_first(octets, limits, left)?;
+        Some(rest)
     }
 }
 

@@ -5,7 +5,7 @@ ghost use Rattle.pkix_definitions.specs.Identifiers.{entry_under, extension_requ
 ghost use Rattle.pkix_definitions.specs.Identifiers.{rfc8410_lengths};
 ghost use Rattle.x690.specs.Lists.{one_of, same_octets};
 
-use pkix_definitions::identifiers::{EXTENSION_REQUEST, rfc8410_length};
+use pkix_definitions::identifiers::{EXTENSION_REQUEST, are_same_octets, rfc8410_length};
 use tlv_core::oid::Oid;
 
 /// Whether the identifier has these contents.
@@ -30,4 +30,11 @@ pub fn is_extension_request(id: &Oid) -> bool
     ensures { result ≡ one_of id.now (extension_request ∷ []) }
 {
     has_contents(id, EXTENSION_REQUEST)
+}
+
+/// The same of the contents of its type.
+pub fn names_extensions(id: &[u8]) -> bool
+    ensures { result ≡ one_of id.now (extension_request ∷ []) }
+{
+    are_same_octets(id, EXTENSION_REQUEST)
 }

@@ -16,6 +16,7 @@ use asn_values::sequence::{FieldsText, FirstFields, Required, Sequence, Sequence
 use ber_pull::pull::Pull;
 use std::alloc::Global;
 use tlv_core::fault::ReadError;
+use tlv_core::limits::Limits;
 use tlv_core::oid::Oid;
 use tlv_core::sink::{Sink, WriteError};
 use tlv_core::source::Source;
@@ -75,6 +76,11 @@ impl FirstFields for NameItemFields {
             Ok(listed) => Ok(NameItemFields(listed)),
             Err(error) => Err(error),
         }
+    }
+
+    fn judge_first(octets: &[u8], limits: Limits, left: u8) -> Option<&[u8]> {
+        let rest = <Listed as FirstFields>::judge_first(octets, limits, left)?;
+        Some(rest)
     }
 }
 
@@ -145,5 +151,10 @@ impl Element for Name {
     fn read<R: Source>(alloc: Global, pull: &mut Pull<'_, R>) -> Result<Name, ReadError> {
         let rdns = List::read(alloc, pull)?;
         Ok(Name { rdns })
+    }
+
+    fn judge(octets: &[u8], limits: Limits, left: u8) -> Option<&[u8]> {
+        let rest = List::<Rdn>::judge(octets, limits, left)?;
+        Some(rest)
     }
 }

@@ -15,11 +15,15 @@ use crate::identifiers::public_key_length;
 use asn_values::bits::Bits;
 use asn_values::dependent::Dependent;
 use asn_values::fields::Next;
+use asn_values::in_der::element_in_der;
 use asn_values::ruled_behind::{FieldRules, RuledBehind};
 use asn_values::sequence::{FieldsText, FirstFields, Required, Sequence, SequenceFields};
+use asn_values::tags::universal_tag;
 use ber_pull::pull::Pull;
+use pkix_definitions::identifiers::rfc8410_length;
 use std::alloc::Global;
 use tlv_core::fault::ReadError;
+use tlv_core::limits::Limits;
 use tlv_core::oid::Oid;
 use tlv_core::reason::Reason;
 use tlv_core::sink::{Sink, WriteError};
@@ -44,6 +48,32 @@ impl<T: NamesAlgorithm> FieldRules<Required<T>, Bits> for KeyLength {
             Some(Reason::KeyLength)
         }
     }
+
+    fn passes_in_der(earlier: &[u8], octets: &[u8]) -> bool {
+        let Some(algorithm) = T::algorithm_in_der(earlier) else {
+            return false;
+        };
+        match element_in_der(octets, universal_tag(3), false) {
+            Some((key, _)) => has_length_of(algorithm, key),
+            None => false,
+        }
+    }
+}
+
+/// Whether the contents of a BIT STRING are a key as RFC 8410 has it, where the algorithm is one of its four.
+pub fn has_length_of(algorithm: &[u8], key: &[u8]) -> bool
+    ensures { result ≡ true → key_fits algorithm.now key.now ≡ true }
+{
+    let Some(length) = rfc8410_length(algorithm) else {
+        return true;
+    };
+    let [unused, octets @ ..] = key else {
+        return false;
+    };
+    if *unused != 0 {
+        return false;
+    }
+    octets.len() == length
 }
 
 /// Whether the key is as RFC 8410 has it, where the algorithm is one of its four: of the length that goes with it,
@@ -113,6 +143,11 @@ impl FirstFields for PublicKeyFields {
             Ok(listed) => Ok(PublicKeyFields(listed)),
             Err(error) => Err(error),
         }
+    }
+
+    fn judge_first(octets: &[u8], limits: Limits, left: u8) -> Option<&[u8]> {
+        let rest = <Listed as FirstFields>::judge_first(octets, limits, left)?;
+        Some(rest)
     }
 }
 

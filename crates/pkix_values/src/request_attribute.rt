@@ -1,16 +1,17 @@
 //! Attributes of certification requests (RFC 2986 section 4.1, RFC 2985 section 5.4.2).
 ghost use Rattle.std.proofs.lemmas.Bool.{ltb-true};
-ghost use Rattle.std.specs.Prelude.{◌≡◌, ◌∷◌, [], not, refl};
+ghost use Rattle.std.specs.Prelude.{◌≡◌, ◌∷◌, [], IfSome, List as Lists, not, refl, ℕ};
 ghost use Rattle.std.specs.Option.{is_some, option_map};
 ghost use Rattle.pkix_definitions.specs.DocumentTypes.{RequestAttribute as RequestAttributeType};
 ghost use Rattle.pkix_definitions.specs.Identifiers.{extension_request};
 ghost use Rattle.x690.specs.Lists.{one_of};
-ghost use Rattle.x690.specs.Values.{leaf_at};
+ghost use Rattle.x690.specs.Values.{Value, leaf_at};
+ghost use Rattle.asn_elements.specs.InDer.{BeginsWithText};
 ghost use Rattle.asn_fields.specs.Listings.{through};
 ghost use Rattle.pkix_definitions.proofs.Sequences.{request_attribute_is};
 
 use crate::extension::Extension;
-use crate::identifiers::is_extension_request;
+use crate::identifiers::{is_extension_request, names_extensions};
 use crate::set_of_some::SetOfSome;
 use asn_values::any::Any;
 use asn_values::defined_by::{DefinedBy, Defines};
@@ -18,12 +19,15 @@ use asn_values::dependent::{Dependent, Independent};
 use asn_values::either::Either;
 use asn_values::element::Element;
 use asn_values::fields::Next;
+use asn_values::in_der::element_in_der;
 use asn_values::list::List;
 use asn_values::sequence::{FieldsText, FirstFields, Required, Sequence, SequenceFields};
 use asn_values::set_of::SetOf;
+use asn_values::tags::universal_tag;
 use ber_pull::pull::Pull;
 use std::alloc::Global;
 use tlv_core::fault::ReadError;
+use tlv_core::limits::Limits;
 use tlv_core::oid::Oid;
 use tlv_core::sink::{Sink, WriteError};
 use tlv_core::source::Source;
@@ -38,12 +42,23 @@ pub trait IsOid: Element {
     /// It.
     fn oid(&self) -> &Oid
         ensures { leaf_at (0 ∷ []) (Self.value self.now ∷ []) ≡ result.now };
+
+    /// Its contents, of what octets begin with, in DER; `None` says nothing of them.
+    fn oid_in_der(octets: &[u8]) -> Option<&[u8]>
+        ensures { IfSome result (λ oid. (limit : ℕ) (value : Value) (rest : Lists ℕ)
+            → BeginsWithText limit Self.Element.type_term [] value octets.now rest
+            → leaf_at (0 ∷ []) (value ∷ []) ≡ oid.now) };
 }
 
 impl IsOid for Oid {
     #[tactic(auto, unfolding(x690::specs::Values::leaf_at))]
     fn oid(&self) -> &Oid {
         self
+    }
+
+    fn oid_in_der(octets: &[u8]) -> Option<&[u8]> {
+        let (contents, _) = element_in_der(octets, universal_tag(6), false)?;
+        Some(contents)
     }
 }
 
@@ -54,6 +69,11 @@ impl<T: IsOid> Defines<Required<T>> for ByType {
 
     fn is_first(earlier: &Required<T>) -> bool {
         is_extension_request(earlier.0.oid())
+    }
+
+    fn is_first_in_der(earlier: &[u8]) -> Option<bool> {
+        let oid = T::oid_in_der(earlier)?;
+        Some(names_extensions(oid))
     }
 }
 
@@ -132,6 +152,11 @@ impl FirstFields for RequestAttributeFields {
             Ok(listed) => Ok(RequestAttributeFields(listed)),
             Err(error) => Err(error),
         }
+    }
+
+    fn judge_first(octets: &[u8], limits: Limits, left: u8) -> Option<&[u8]> {
+        let rest = <Listed as FirstFields>::judge_first(octets, limits, left)?;
+        Some(rest)
     }
 }
 

@@ -13,6 +13,7 @@ use asn_values::tags::{is_same_tag, universal_tag};
 use ber_pull::pull::Pull;
 use std::alloc::Global;
 use tlv_core::fault::ReadError;
+use tlv_core::limits::Limits;
 use tlv_core::sink::{Sink, WriteError};
 use tlv_core::source::Source;
 use tlv_core::tag::Tag;
@@ -72,5 +73,10 @@ impl<T: Element> Element for SetOfSome<T> {
     fn read<R: Source>(alloc: Global, pull: &mut Pull<'_, R>) -> Result<SetOfSome<T>, ReadError> {
         let items = SetOf::read_some(alloc, pull)?;
         Ok(SetOfSome { items })
+    }
+
+    fn judge(octets: &[u8], limits: Limits, left: u8) -> Option<&[u8]> {
+        let rest = SetOf::<T>::judge_some(octets, limits, left)?;
+        Some(rest)
     }
 }

@@ -17,6 +17,7 @@ use asn_values::tags::{is_same_tag, universal_tag};
 use ber_pull::pull::Pull;
 use std::alloc::Global;
 use tlv_core::fault::ReadError;
+use tlv_core::limits::Limits;
 use tlv_core::reason::Reason;
 use tlv_core::sink::{Sink, WriteError};
 use tlv_core::source::Source;
@@ -60,6 +61,20 @@ fn is_version<const LEAST: u8, const MOST: u8>(number: u8) -> bool
         return false;
     }
     number < 128
+}
+
+/// The contents of the INTEGER of one octet that octets begin with, and what stands after it.
+#[inline(always)]
+fn octet_in_der(octets: &[u8]) -> Option<(u8, &[u8])>
+    ensures { IfSome result (λ x. octets.now ≡ 2 ∷ 1 ∷ x.0 ∷ x.1.now) }
+{
+    let [identifier, length, number, rest @ ..] = octets else {
+        return None;
+    };
+    if *identifier != 2 || *length != 1 {
+        return None;
+    }
+    Some((*number, rest))
 }
 
 impl<const LEAST: u8, const MOST: u8> DerText for Version<LEAST, MOST> {
@@ -107,5 +122,13 @@ impl<const LEAST: u8, const MOST: u8> Element for Version<LEAST, MOST> {
             Some(number) if is_version::<LEAST, MOST>(number) => Ok(Version { number }),
             _ => Err(pull.refuse(at, Reason::Version, None)),
         }
+    }
+
+    fn judge(octets: &[u8], _limits: Limits, _left: u8) -> Option<&[u8]> {
+        let (number, rest) = octet_in_der(octets)?;
+        if !is_version::<LEAST, MOST>(number) {
+            return None;
+        }
+        Some(rest)
     }
 }

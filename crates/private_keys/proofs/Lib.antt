@@ -1,3 +1,4 @@
+pub mod EcInDer
 pub mod NumberReading
 pub mod RsaNumbers
 pub mod Rules

@@ -1,4 +1,5 @@
 pub mod CurveKeys
+pub mod EcInDer
 pub mod EcKeys
 pub mod EcParts
 pub mod OtherPrimes

@@ -4,7 +4,9 @@ use Rattle.std.specs.Option.{option_map}
 use Rattle.x690.specs.Layouts.{universal}
 use Rattle.x690.specs.Values.{Sequence as SequenceValue, Value, values_of}
 use Rattle.asn_elements.specs.declared.der_text.DerText.{Ghosts}
+use Rattle.asn_elements.specs.declared.element.Element as elements
 use Rattle.asn_fields.specs.contracts.sequence.SequenceDerText.TheImpl as sequence_text
+use Rattle.asn_fields.specs.contracts.sequence.SequenceElement.TheImpl as sequence_element
 use Rattle.asn_fields.specs.contracts.ruled_sequence.RuleOfFieldsRulesSequence.TheImpl as rules
 use Rattle.asn_fields.specs.declared.ruled.Ruled.{Ruled}
 use Rattle.asn_fields.specs.declared.ruled_sequence.RuleOfFields.{RuleOfFields}
@@ -28,9 +30,14 @@ rsa_text =
     sequence_text.ghosts of.the_row fields.ghosts sequence_text.no_dict first_fields.ghosts sequence_text.no_dict
     fields_text.ghosts sequence_text.no_dict sequence_text.no_dict
 
+abbrev rsa_element : elements.Ghosts RsaSequence
+rsa_element =
+    sequence_element.ghosts of.the_row fields.ghosts sequence_element.no_dict first_fields.ghosts
+    sequence_element.no_dict fields_text.ghosts sequence_element.no_dict sequence_element.no_dict
+
 abbrev pub RsaPrivateKey : Type 0
 RsaPrivateKey =
-    Ruled RsaSequence RuleOfFields rsa_text
+    Ruled RsaSequence RuleOfFields rsa_element rsa_text
     (rules.ghosts of.the_row ruled_fields.ghosts rules.no_dict fields.ghosts rules.no_dict first_fields.ghosts
     rules.no_dict fields_text.ghosts rules.no_dict rules.no_dict)
 

@@ -11,6 +11,7 @@ use asn_values::octets::Octets;
 use ber_pull::pull::Pull;
 use std::alloc::Global;
 use tlv_core::fault::ReadError;
+use tlv_core::limits::Limits;
 use tlv_core::sink::{Sink, WriteError};
 use tlv_core::source::Source;
 use tlv_core::tag::Tag;
@@ -62,5 +63,10 @@ impl Element for CurveKey {
 
     fn read<R: Source>(alloc: Global, pull: &mut Pull<'_, R>) -> Result<CurveKey, ReadError> {
         Ok(CurveKey(Octets::read(alloc, pull)?))
+    }
+
+    fn judge(octets: &[u8], limits: Limits, left: u8) -> Option<&[u8]> {
+        let rest = Octets::judge(octets, limits, left)?;
+        Some(rest)
     }
 }

@@ -1,6 +1,6 @@
 //! ECPrivateKey of RFC 5915 section 3.
 ghost use Rattle.std.proofs.lemmas.Bool.{ltb-true};
-ghost use Rattle.std.specs.Prelude.{◌≡◌, length, refl, true};
+ghost use Rattle.std.specs.Prelude.{◌≡◌, [], IfSome, List, length, refl, true, ℕ};
 ghost use Rattle.std.specs.Option.{option_map};
 ghost use Rattle.pkix_definitions.specs.DocumentTypes.{ECPrivateKey};
 ghost use Rattle.pkix_definitions.specs.Rules.{ec_rule, has_length};
@@ -8,8 +8,12 @@ ghost use Rattle.pkix_definitions.proofs.Fairs.{fair_ec};
 ghost use Rattle.pkix_definitions.proofs.ClosedTypes.{ec_key_closed};
 ghost use Rattle.x690.specs.Layouts.{universal};
 ghost use Rattle.x690.specs.TypeTerms.{EndOfFields, SequenceType};
+ghost use Rattle.x690.specs.Values.{Sequence as SequenceValue, Value, values_of};
 ghost use Rattle.asn_elements.specs.Leaves.{octets_of};
+ghost use Rattle.asn_fields.specs.FieldsInDer.{AreFields};
 ghost use Rattle.asn_fields.specs.Listings.{through};
+ghost use Rattle.pkix_definitions.specs.Identifiers.{curve_lengths, entry_under};
+ghost use Rattle.private_keys.specs.EcInDer.{HasParts, NamesCurve, ec_types};
 ghost use Rattle.private_keys.specs.EcKeys.{honest_ec, named_length};
 
 use crate::curves::private_key_length;
@@ -17,14 +21,18 @@ use asn_values::bits::Bits;
 use asn_values::der_text::DerText;
 use asn_values::element::Element;
 use asn_values::fields::Next;
+use asn_values::in_der::element_in_der;
 use asn_values::octets::Octets;
 use asn_values::ruled_sequence::{RuledFields, RuledSequence};
 use asn_values::sequence::{FieldsText, FirstFields, Optional, Required, SequenceFields};
 use asn_values::tagged::Tagged;
+use asn_values::tags::{context_tag, universal_tag};
 use ber_pull::pull::Pull;
+use pkix_definitions::identifiers::curve_length;
 use pkix_values::version::Version;
 use std::alloc::Global;
 use tlv_core::fault::ReadError;
+use tlv_core::limits::Limits;
 use tlv_core::oid::Oid;
 use tlv_core::reason::Reason;
 use tlv_core::sink::{Sink, WriteError};
@@ -91,6 +99,11 @@ impl FirstFields for EcFields {
             Err(error) => Err(error),
         }
     }
+
+    fn judge_first(octets: &[u8], limits: Limits, left: u8) -> Option<&[u8]> {
+        let rest = <Listed as FirstFields>::judge_first(octets, limits, left)?;
+        Some(rest)
+    }
 }
 
 impl SequenceFields for EcFields {
@@ -120,6 +133,51 @@ impl RuledFields for EcFields {
             Some(Reason::KeyLength)
         }
     }
+
+    fn pass_in_der(octets: &[u8]) -> bool {
+        match parts_in_der(octets) {
+            Some((key, curve)) => is_long_enough(curve, key),
+            None => false,
+        }
+    }
+}
+
+/// Whether a key has as many octets as go with the curve, where it has a length of its own.
+pub fn is_long_enough(curve: &[u8], key: &[u8]) -> bool
+    ensures { result ≡ has_length (entry_under curve_lengths curve.now) (length key.now) }
+{
+    match curve_length(curve) {
+        Some(length) => key.len() == length,
+        None => true,
+    }
+}
+
+/// The key, and the curve that is named, of the fields of an ECPrivateKey whose texts in DER these octets are; no
+/// octets where none is named.
+pub fn parts_in_der(octets: &[u8]) -> Option<(&[u8], &[u8])>
+    ensures { IfSome result (λ parts. (limit : ℕ) (values : List Value)
+        → AreFields limit ec_types values octets.now []
+        → HasParts (SequenceValue (universal 16) (values_of values)) parts.0.now parts.1.now) }
+{
+    let (_version, behind) = element_in_der(octets, universal_tag(2), false)?;
+    let (key, others) = element_in_der(behind, universal_tag(4), false)?;
+    let curve = curve_in_der(others)?;
+    Some((key, curve))
+}
+
+/// The curve that parameters [0] name, where octets begin with them; else no octets.
+fn curve_in_der(octets: &[u8]) -> Option<&[u8]>
+    ensures { IfSome result (λ curve. NamesCurve octets.now curve.now) }
+{
+    let [first, ..] = octets else {
+        return Some(octets);
+    };
+    if *first != 0xA0 {
+        return Some(&octets[..0]);
+    }
+    let (contents, _) = element_in_der(octets, context_tag(0), true)?;
+    let (curve, _) = element_in_der(contents, universal_tag(6), false)?;
+    Some(curve)
 }
 
 /// Whether the key has the length that goes with the curve, where it names one that has a length of its own.
@@ -208,5 +266,10 @@ impl Element for EcPrivateKey {
             Ok(key) => Ok(EcPrivateKey(key)),
             Err(error) => Err(error),
         }
+    }
+
+    fn judge(octets: &[u8], limits: Limits, left: u8) -> Option<&[u8]> {
+        let rest = RuledSequence::<EcFields>::judge(octets, limits, left)?;
+        Some(rest)
     }
 }

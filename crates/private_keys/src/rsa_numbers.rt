@@ -12,10 +12,12 @@ ghost use Rattle.private_keys.specs.RsaNumbers.{eight, number_in, values_in};
 
 use crate::number_reading::append_integer;
 use asn_values::fields::Next;
-use asn_values::sequence::{FieldsText, IndependentFields};
+use asn_values::integer::Int;
+use asn_values::sequence::{FieldsText, IndependentFields, Required};
 use ber_pull::pull::Pull;
 use std::alloc::Global;
 use tlv_core::fault::ReadError;
+use tlv_core::limits::Limits;
 use tlv_core::sink::{Sink, WriteError};
 use tlv_core::source::Source;
 use tlv_core::target::Target;
@@ -74,6 +76,13 @@ impl FieldsText for Numbers {
     }
 }
 
+/// Eight INTEGERs one after another, as they are judged.
+type Eight = (Four, Four);
+
+type Four = (Two, Two);
+
+type Two = (Required<Int>, Required<Int>);
+
 impl IndependentFields for Numbers {
     fn read<R: Source>(
         alloc: Global,
@@ -89,5 +98,10 @@ impl IndependentFields for Numbers {
             ends[i] = text.len();
         }
         Ok(Numbers { text, begins, ends })
+    }
+
+    fn judge(octets: &[u8], limits: Limits, left: u8) -> Option<&[u8]> {
+        let rest = <Eight as IndependentFields>::judge(octets, limits, left)?;
+        Some(rest)
     }
 }

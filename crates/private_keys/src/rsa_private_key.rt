@@ -12,12 +12,16 @@ ghost use Rattle.asn_fields.specs.Listings.{through};
 
 use crate::other_primes::{OtherPrimes, VersionAndNumbers};
 use asn_values::fields::Next;
+use asn_values::in_der::element_in_der;
 use asn_values::optional_dependent::OptionalDependent;
 use asn_values::ruled_sequence::{RuledFields, RuledSequence};
 use asn_values::sequence::{FieldsText, FirstFields, SequenceFields};
+use asn_values::tags::universal_tag;
 use ber_pull::pull::Pull;
+use pkix_definitions::identifiers::are_same_octets;
 use std::alloc::Global;
 use tlv_core::fault::ReadError;
+use tlv_core::limits::Limits;
 use tlv_core::reason::Reason;
 use tlv_core::sink::{Sink, WriteError};
 use tlv_core::source::Source;
@@ -95,6 +99,11 @@ impl FirstFields for RsaFields {
             Err(error) => Err(error),
         }
     }
+
+    fn judge_first(octets: &[u8], limits: Limits, left: u8) -> Option<&[u8]> {
+        let rest = <Listed as FirstFields>::judge_first(octets, limits, left)?;
+        Some(rest)
+    }
 }
 
 impl SequenceFields for RsaFields {
@@ -125,6 +134,13 @@ impl RuledFields for RsaFields {
         match self.other_primes() {
             Some(_) => None,
             None => Some(Reason::VersionRule),
+        }
+    }
+
+    fn pass_in_der(octets: &[u8]) -> bool {
+        match element_in_der(octets, universal_tag(2), false) {
+            Some((version, _)) => are_same_octets(version, &[0]),
+            None => false,
         }
     }
 }

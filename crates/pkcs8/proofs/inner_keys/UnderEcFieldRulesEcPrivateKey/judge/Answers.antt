@@ -3,7 +3,7 @@ use Rattle.tlv_core.specs.declared.reason.Reason.TheVariants.{KeyLength}
 use Rattle.asn_elements.specs.Leaves.{bit_string_of, octets_of}
 use Rattle.pkcs8.specs.Keys.{curve_octets}
 use Rattle.pkcs8.proofs.InnerKeys.{another_curve, of_no_curve, some_is}
-use Rattle.pkcs8.proofs.private_key.UnderEcFieldRulesEcPrivateKey.judge.Goals as goal
+use Rattle.pkcs8.proofs.inner_keys.UnderEcFieldRulesEcPrivateKey.judge.Goals as goal
 
 pub returns-then-eq : goal.returns-then-eq
 returns-then-eq g c =

@@ -1,0 +1,11 @@
+use Rattle.std.proofs.Common.{◌∙◌, ap, subst, sym}
+use Rattle.x690.specs.Lists.{one_of}
+use Rattle.asn_fields.specs.FieldsInDer.{AreFields}
+use Rattle.pkix_definitions.specs.Identifiers.{rfc8410_algorithms}
+use Rattle.pkcs8.proofs.inner_keys.UnderCurveDefines.is_first_in_der.Goals as goal
+
+pub returns : goal.returns
+returns g c = λ limit fields behind are.
+    let head = c.in_ok-_version.ensures limit g.A.NamesKey.behind fields behind
+    (subst (λ types. AreFields limit (λ end. types) fields c.args.earlier.now behind) g.met.A.NamesKey.headed are) in
+    c.is_some.ensures ∙ c.rfc8410_length.ensures.listed ∙ ap (λ a. one_of a rfc8410_algorithms) (sym head.1)
