@@ -1,5 +1,5 @@
 -- What was kept of a value that was read.
-use Rattle.std.proofs.Common.{◌≡◌, ◌∙◌, ◌+◌, ◌++◌, ◌∷◌, ◌≤◌, ⊎_elim, Bool, List, None, Option, Some, [], ℕ, ap, append-nil, append_assoc, arith, drop, false, length, refl, slice_get, subst, suc, sym, take, take-append-drop, true}
+use Rattle.std.proofs.Common.{◌≡◌, ◌∙◌, ◌+◌, ◌++◌, ◌-◌, ◌∷◌, ◌≤◌, ⊎_elim, Bool, List, None, Option, Some, [], ℕ, ap, append-nil, append_assoc, arith, drop, false, length, refl, slice_get, subst, suc, sym, take, take-append-drop, true}
 use Rattle.std.proofs.lemmas.Bool.{cases_lt}
 use Rattle.std.proofs.lemmas.List.{take_all}
 use Rattle.std.specs.Io.KnownBytes.{Consumes, Keeps}
@@ -18,10 +18,12 @@ use Rattle.x690_laws.proofs.LayoutsOfHeaders.{split_alone}
 use Rattle.x690_laws.proofs.TextsSpell.{text_spells}
 use Rattle.x690_laws.proofs.TextsAsLayouts.{same_der}
 use Rattle.asn_elements.specs.Whole.{IsFailedRead, TellsInsideOf}
+use Rattle.asn_documents.specs.AtHand.{StandsAtHand}
 use Rattle.asn_documents.specs.ReadValues.{ReadsValue, StopsReading}
 use Rattle.asn_documents.specs.Checked.{CheckedAs, InBoth, Unchecked, WhereTold}
 use Rattle.asn_documents.specs.Differences.{Differs, DiffersFirst}
 use Rattle.asn_documents.specs.Keepings.{framed, whole}
+use Rattle.asn_documents.proofs.AtHand.{reads_at_hand}
 use Rattle.asn_documents.proofs.Normalising.{one_spelling, took_as, unread_as}
 use Rattle.asn_documents.proofs.ReadValues.{refused_within}
 
@@ -201,3 +203,23 @@ pub failed_still : {R : Type 0} (has_failed : R → Bool) (mid new : R) (failed 
 failed_still has_failed mid new failed refused e ends live broken kept h =
     subst (λ z. IsFailedRead z e)
     (same_failed failed refused (has_failed mid) live broken kept ∙ ap has_failed (sym ends)) h
+
+-- a value that was judged to be in DER where it stands
+
+told : (before : Option (List ℕ)) (claim : Type 0) → claim → WhereTold before claim
+told None claim h = tt
+told (Some octets) claim h = h
+
+pub passed_in_der : (l : Limits) (T : TypeTerm) (octets : List ℕ) (before after : Option (List ℕ)) (taken : ℕ)
+    → Lawful T → IsLimits l → StandsAtHand l T octets taken → Consumes before after (take taken octets)
+    → (value : Value) × CheckedAs l T value before after taken None
+unfolding took_as reads_at_hand
+passed_in_der l T octets before after taken lawful fine s takes = (
+  s.value,
+  record {
+    took = took_as l T s.value before after taken lawful fine
+        (reads_at_hand l T octets before after taken lawful s takes);
+    differs = told before (Differs (der s.value) (der s.value) None) refl;
+    in_both = told before (InBoth (der s.value) (der s.value) None) tt;
+  },
+)

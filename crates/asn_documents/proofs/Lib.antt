@@ -1,3 +1,4 @@
+pub mod AtHand
 pub mod CheckValues
 pub mod Comparing
 pub mod Normalising

@@ -29,7 +29,7 @@ use Rattle.ber_pull.proofs.Hearing.{hears_given}
 use Rattle.asn_documents.specs.ReadValues.{AnswersFault, ReadsValue, StopsReading}
 
 -- what the plain reading answers is the answer by the definitions
-is_answer : (l : Limits) (T : TypeTerm) (octets : List ℕ) (a : Answer) → answer l T octets ≡ a → IsAnswer l T octets a
+pub is_answer : (l : Limits) (T : TypeTerm) (octets : List ℕ) (a : Answer) → answer l T octets ≡ a → IsAnswer l T octets a
 is_answer l T octets a e = subst (IsAnswer l T octets) e (one_answer.is_answer l T octets)
 
 answers_fault : (l : Limits) (T : TypeTerm) (octets : List ℕ) (f : Fault) → answer l T octets ≡ Refused f

@@ -1,3 +1,4 @@
+pub mod AtHand
 pub mod Checked
 pub mod Comparisons
 pub mod Differences

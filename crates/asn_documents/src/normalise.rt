@@ -5,7 +5,8 @@ ghost use Rattle.x690.specs.Values.{Value};
 ghost use Rattle.asn_documents.specs.Normalised.{Failures, IsRead, NormalisedAs, RefusedAs};
 ghost use Rattle.asn_documents.specs.declared.normalise.NormaliseError.TheVariants.{Read as unread, Write as unwritten};
 
-use crate::value::{read_value, write_text};
+use crate::in_der::length_in_der;
+use crate::value::{read_value, write_octets, write_text};
 use asn_elements::element::Element;
 use std::alloc::Global;
 use thiserror::Error;
@@ -43,7 +44,7 @@ impl From<WriteError> for NormaliseError {
 }
 
 /// Reads one value of a type and writes its DER text; answers the octets taken and the octets written. No memory is
-/// taken but for the value.
+/// taken but for the value, and none where the octets at hand are judged to be in DER: then they are written.
 pub fn normalise_value<R: Source, W: Target, T: Element>(
     alloc: Global,
     src: &mut R,
@@ -65,6 +66,15 @@ pub fn normalise_value<R: Source, W: Target, T: Element>(
     ensures failed { Failures result (R.has_failed src.new) (W.has_failed dst.new) }
     ensures frame { R.frame src.new ≡ R.frame src.old }
 {
+    let held = src.held();
+    if let Some(taken) = length_in_der::<T>(held, limits) {
+        let copied = write_octets(&held[..taken], dst);
+        src.pass(taken);
+        return match copied {
+            Ok(written) => Ok((taken as u64, written)),
+            Err(error) => Err(NormaliseError::Write(error)),
+        };
+    }
     let (value, taken) = read_value::<R, T>(alloc, src, limits)?;
     let written = write_text(&value, dst)?;
     Ok((taken, written))

@@ -2,7 +2,7 @@ use Rattle.std.proofs.Common.{rules}
 use Rattle.tlv_core.specs.declared.fault.ReadError.TheVariants as errors
 use Rattle.asn_documents.proofs.ReadValues.{text_within}
 use Rattle.asn_documents.proofs.CheckValues.{checked_still, failed_still, fine_still, no_memory, unchecked_still}
-use Rattle.asn_documents.proofs.check.check_value.Goals as goal
+use Rattle.asn_documents.proofs.check.check_by_reading.Goals as goal
 
 pub returns-in-Ok-clause-checked : goal.returns-in-Ok-clause-checked
 returns-in-Ok-clause-checked g c =
