@@ -141,7 +141,8 @@ remark_said remarks.PointBits = codes "a point with unused bits (RFC 5480 sectio
 remark_said (remarks.PointHybrid octet) = point_said octet
 remark_said remarks.NoNamedCurve = codes "id-ecPublicKey without a named curve (RFC 5480 section 2.1.1)"
 remark_said remarks.ExtensionTwice = codes "an extension that stands there before (RFC 5280 section 4.2)"
-remark_said remarks.AttributeTwice = codes "an attribute that stands there before (RFC 2986 section 4.1)"
+remark_said remarks.AttributeTwice =
+    codes "an attribute of a type that stands there before; one has all its values (RFC 2986 section 4.1)"
 remark_said (remarks.SeveralValues count) = several_values_said count
 remark_said (remarks.KeySize octets due) = due_size_said octets due
 remark_said remarks.NeedlessParameters =

@@ -165,7 +165,7 @@ fn push_remark(alloc: Global, text: &mut String, remark: Remark) -> Result<(), A
             "an extension that stands there before (RFC 5280 section 4.2)",
         ),
         Remark::AttributeTwice => text.push_str(
-            "an attribute that stands there before (RFC 2986 section 4.1)",
+            "an attribute of a type that stands there before; one has all its values (RFC 2986 section 4.1)",
         ),
         Remark::SeveralValues(count) => push_several_values(text, count),
         Remark::KeySize(octets, due) => push_due_size(text, octets, due),
