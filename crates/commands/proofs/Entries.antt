@@ -20,14 +20,14 @@ use Rattle.commands.specs.declared.tally.Verdict.{Verdict}
 use Rattle.commands.specs.declared.task.Task.{Task}
 use Rattle.commands.proofs.NameLists.{list_begins, list_ends, names_go_on}
 
-texts_after : (all : List Entry) (it : Entry) → texts_of (all ++ it ∷ []) ≡ texts_of all ++ it.text
+pub texts_after : (all : List Entry) (it : Entry) → texts_of (all ++ it ∷ []) ≡ texts_of all ++ it.text
 texts_after all it =
     flat_map-append (λ e. e.text) all (it ∷ []) ∙ ap (λ text. texts_of all ++ text) (append-nil it.text)
 
 names_after_all : (all : List Entry) (it : Entry) → names_of (all ++ it ∷ []) ≡ names_of all ++ it.name ∷ []
 names_after_all all it = map-append (λ e. e.name) all (it ∷ [])
 
-verdicts_after : (all : List Entry) (it : Entry) → verdicts_of (all ++ it ∷ []) ≡ verdicts_of all ++ it.verdict ∷ []
+pub verdicts_after : (all : List Entry) (it : Entry) → verdicts_of (all ++ it ∷ []) ≡ verdicts_of all ++ it.verdict ∷ []
 verdicts_after all it = map-append (λ e. e.verdict) all (it ∷ [])
 
 module _ (value_of : Document → Value) (known : List ℕ → Option (List ℕ))

@@ -2,9 +2,11 @@ pub mod AnyReplies
 pub mod BlockTargets
 pub mod Comparisons
 pub mod Conversions
+pub mod EachSteps
 pub mod Entries
 pub mod Escapes
 pub mod Inputs
+pub mod JudgedStreams
 pub mod Judgements
 pub mod NameLists
 pub mod Pairs

@@ -1,6 +1,6 @@
 -- What taking the octets of an input does. They are known before the call and after it, where those of the source are
 -- known.
-use Rattle.std.specs.Prelude.{◌≡◌, ◌++◌, ◌<◌, ◌≤◌, ℕ, List, Option, length}
+use Rattle.std.specs.Prelude.{◌≡◌, ◌++◌, ◌<◌, ◌≤◌, ℕ, Bool, List, Option, false, length, true}
 use Rattle.std.specs.Io.KnownBytes.{Consumes, IsAtEnd, Keeps}
 use Rattle.tlv_core.specs.declared.fault.ReadError.{ReadError}
 use Rattle.tlv_core.specs.declared.fault.ReadError.TheVariants.{Fault, Memory, Read}
@@ -33,3 +33,14 @@ StopsAfter most (Fault found) before after old = ⊥
 StopsAfter most (Read at) before after old = (at ≡ length old) × Keeps before after
 StopsAfter most Memory before after old =
     (octets : List ℕ) × Consumes before after octets × (length octets ≤ most)
+
+-- Octets were taken behind these, some or none;
+pub record TakesMore (before after : Option (List ℕ)) (old new : List ℕ) : Type 0 where
+  pub octets : List ℕ
+  pub takes : Consumes before after octets
+  pub grown : new ≡ old ++ octets
+
+-- some, or all that there were.
+abbrev pub TakesSome : Bool → Option (List ℕ) → Option (List ℕ) → List ℕ → List ℕ → Type 0
+TakesSome true before after old new = TakesMore before after old new × (length old < length new)
+TakesSome false before after old new = TakesMore before after old new × IsAtEnd after

@@ -222,11 +222,3 @@ abbrev pub Closes : Task → Bool → Option (List Verdict) → Seen → Seen �
 Closes task sums None old new status = (new ≡ old) × (status ≡ 3)
 Closes task false (Some verdicts) old new status = (new ≡ old) × (status ≡ greatest verdicts)
 Closes task true (Some verdicts) old new status = SumsUp (EndsAlone old new status) task (tally_of verdicts)
-
-abbrev pub JudgesAll : {Input Opened : Type 0} → (Document → Value) → Sources Input Opened → Task → Bool
-    → List (List ℕ) → Option (List ℕ) → Seen → Seen → ℕ → Type 0
-JudgesAll {Input} {Opened} value_of sources task sums names list old new status =
-    (end : Option (List Verdict))
-    × (between : Seen)
-    × Goes (Judges value_of sources task) (parts_of names list) old between end
-    × Closes task sums end between new status

@@ -1,11 +1,14 @@
 pub mod BlockTargets
 pub mod Comparisons
 pub mod Conversions
+pub mod Each
 pub mod Endings
 pub mod Files
 pub mod Flushed
 pub mod Fronted
 pub mod Inputs
+pub mod JudgedParts
+pub mod JudgedStreams
 pub mod Judgements
 pub mod KnownOctets
 pub mod Lines

@@ -1,5 +1,5 @@
 -- The line that says how many documents count as what.
-use Rattle.std.specs.Prelude.{◌++◌, ◌+◌, ◌&&◌, ◌==◌, ◌∷◌, ◌⊎◌, ℕ, List, None, Option, [], codes, cond, decimal, is_none, length, slice_index}
+use Rattle.std.specs.Prelude.{◌++◌, ◌+◌, ◌==◌, ◌∷◌, ◌⊎◌, ℕ, List, [], codes, cond, decimal, is_none, length, slice_index}
 use Rattle.json.specs.Print.{print}
 use Rattle.json.specs.Token.{Token}
 use Rattle.tlv_core.specs.Reasons.{name_of, number_of as number_of_reason}
@@ -64,15 +64,15 @@ verdict_items task tally =
     (slice_index tally.verdicts 3) (codes "refused" ++ bracketed (reasons_text tally)))
     (slice_index tally.verdicts 4) (codes "unread")
 
-abbrev pub files_word : ℕ → List ℕ
-files_word count = cond (count == 1) (codes " file") (codes " files")
+abbrev pub documents_word : ℕ → List ℕ
+documents_word count = cond (count == 1) (codes " document") (codes " documents")
 
 abbrev pub after_colon : List ℕ → List ℕ
 after_colon text = cond (length text == 0) [] (codes ": " ++ text)
 
 unfoldable pub sum_words : Task → Tally → List ℕ
 sum_words task tally =
-    codes "sum: " ++ decimal tally.files ++ files_word tally.files ++ after_colon (verdict_items task tally) ++ line_feed
+    codes "sum: " ++ decimal tally.files ++ documents_word tally.files ++ after_colon (verdict_items task tally) ++ line_feed
 
 -- ---- as JSON
 
@@ -117,7 +117,7 @@ other_members tally =
 -- how many there are, and of each verdict
 unfoldable pub count_members : Task → Tally → List Token
 count_members task tally =
-    number_member (codes "files") tally.files
+    number_member (codes "documents") tally.files
     ++ number_member (sound_key task.action) (slice_index tally.verdicts 0)
     ++ other_members tally
 

@@ -1,5 +1,5 @@
 -- What documents count as, and how many do.
-use Rattle.std.specs.Prelude.{◌++◌, ◌+◌, ◌-◌, ◌==◌, ◌^◌, ◌∷◌, ℕ, List, None, Option, Some, [], count_by, get_or, length, map, max, min, set}
+use Rattle.std.specs.Prelude.{◌+◌, ◌-◌, ◌==◌, ◌^◌, ◌∷◌, ℕ, List, None, Option, Some, [], count_by, get_or, length, map, max, min, set}
 use Rattle.std.specs.List.{range_with_len}
 use Rattle.tlv_core.specs.Reasons.{number_of as number_of_reason}
 use Rattle.tlv_core.specs.declared.fault.Fault.{Fault}

@@ -48,16 +48,16 @@ pub enum FilesEnd {
 
 /// What is said of a document, and what it counts as.
 #[derive(Drop)]
-struct Said {
-    verdict: Verdict,
-    text: Vec<u8>,
+pub(crate) struct Said {
+    pub(crate) verdict: Verdict,
+    pub(crate) text: Vec<u8>,
 }
 
 /// How far a run has come: what came of the documents, and how many octets are out.
 #[derive(Clone, Copy)]
-struct Progress {
-    tally: Tally,
-    out: u64,
+pub(crate) struct Progress {
+    pub(crate) tally: Tally,
+    pub(crate) out: u64,
 }
 
 /// Goes through the names, and writes what the task has to say of the document of each, one after another.
@@ -133,7 +133,7 @@ fn next_file<N: Names, O: Opener, W: Target>(
 }
 
 /// What the task has to say of the document of a name.
-fn said_of<O: Opener>(
+pub(crate) fn said_of<O: Opener>(
     alloc: Global,
     opener: &O,
     name: &[u8],

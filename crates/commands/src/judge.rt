@@ -2,9 +2,10 @@
 ghost use Rattle.std.specs.Prelude.{◌≡◌, IfSome, false, map};
 ghost use Rattle.std.specs.List.{list_any};
 ghost use Rattle.std.specs.Option.{option_map};
-ghost use Rattle.commands.specs.Judgements.{Goes, Judges, JudgesAll, JudgesInput, JudgesNames, Tallied};
+ghost use Rattle.commands.specs.Judgements.{Goes, Judges, JudgesInput, JudgesNames, Tallied};
 ghost use Rattle.commands.specs.Judgements.{part_of, parts_named, parts_of, sources_of, tally_through, verdicts_after};
 ghost use Rattle.commands.specs.Files.{IsLeft};
+ghost use Rattle.commands.specs.JudgedParts.{GoesBy, JudgesAll};
 ghost use Rattle.commands.specs.Judgements.Part.{Listed, Named};
 ghost use Rattle.commands.specs.Lines.{name_of_line};
 ghost use Rattle.commands.specs.NameLists.{HasStopped};
@@ -17,6 +18,7 @@ use crate::closing::{finish, finish_files, finish_named};
 use crate::ended_names::EndedNames;
 use crate::files::{Came, FilesEnd};
 use crate::flush::Flush;
+use crate::judge_streams::judge_streams;
 use crate::lines::NamedLine;
 use crate::names::{Names, Words};
 use crate::opener::{Opener, RegularFiles};
@@ -41,6 +43,8 @@ const FAILED: u8 = 3;
 pub struct Documents<'a> {
     pub names: &'a [&'a str],
     pub list: Option<&'a str>,
+    /// Whether each name is of documents one behind another, and not of one. There is no list then.
+    pub each: bool,
     /// Whether a line after the last one says how many documents count as what.
     pub sums: bool,
 }
@@ -57,14 +61,14 @@ pub fn judge<R: Source + Drop, W: Flush, E: Target, O: Opener>(
     requires readable { IsReadable R.has_failed standard.old.input }
     requires writable { W.has_failed standard.old.output ≡ false }
     ensures { JudgesAll ⟦<Document as Valued>⟧.value (sources_of R.has_failed R.remaining O.Document.has_failed
-        O.Document.remaining (O.known opener.now) (O.refuses opener.now)) task.now documents.entry.sums
+        O.Document.remaining (O.known opener.now) (O.refuses opener.now)) task.now documents.entry.each
+        documents.entry.sums
         (map (λ r. r.now) documents.entry.names.now) (option_map (λ r. r.now) documents.entry.list)
         (seen R.remaining W.contents W.has_failed W.is_flushed E.contents E.has_failed standard.old)
         (seen R.remaining W.contents W.has_failed W.is_flushed E.contents E.has_failed standard.new)
         result }
 {
-    let names = documents.names;
-    let Some(tally) = judge_all(alloc, task, names, documents.list, standard, opener) else {
+    let Some(tally) = judge_parts(alloc, task, documents, standard, opener) else {
         return FAILED;
     };
     if documents.sums {
@@ -74,6 +78,31 @@ pub fn judge<R: Source + Drop, W: Flush, E: Target, O: Opener>(
 }
 
 /// The same, but nothing where the run ended before the last document, and otherwise how many count as what.
+fn judge_parts<R: Source + Drop, W: Flush, E: Target, O: Opener>(
+    alloc: Global,
+    task: &Task,
+    documents: Documents<'_>,
+    standard: &mut Standard<R, W, E>,
+    opener: &O,
+) -> Option<Tally>
+    requires readable { IsReadable R.has_failed standard.old.input }
+    requires writable { W.has_failed standard.old.output ≡ false }
+    ensures { Tallied (GoesBy ⟦<Document as Valued>⟧.value (sources_of R.has_failed R.remaining
+        O.Document.has_failed O.Document.remaining (O.known opener.now) (O.refuses opener.now)) task.now
+        documents.entry.each (map (λ r. r.now) documents.entry.names.now)
+        (option_map (λ r. r.now) documents.entry.list)
+        (seen R.remaining W.contents W.has_failed W.is_flushed E.contents E.has_failed standard.old)
+        (seen R.remaining W.contents W.has_failed W.is_flushed E.contents E.has_failed standard.new))
+        result }
+{
+    let names = documents.names;
+    if documents.each {
+        return judge_streams(alloc, task, names, standard, opener);
+    }
+    judge_all(alloc, task, names, documents.list, standard, opener)
+}
+
+/// The same of documents that are files of their own.
 fn judge_all<R: Source + Drop, W: Flush, E: Target, O: Opener>(
     alloc: Global,
     task: &Task,
@@ -343,7 +372,7 @@ fn judge_listed<N: Names, R: Source + Drop, W: Flush, E: Target, O: Opener>(
 }
 
 /// What came of documents where a run goes on after them, or nothing where it ends.
-fn tally_through(end: &FilesEnd) -> Option<Tally>
+pub(crate) fn tally_through(end: &FilesEnd) -> Option<Tally>
     ensures { result ≡ tally_through end.now }
 {
     match end {
@@ -353,7 +382,7 @@ fn tally_through(end: &FilesEnd) -> Option<Tally>
 }
 
 /// Says that there is no memory for a name.
-fn unnamed<R: Source + Drop, W: Flush, E: Target>(standard: &mut Standard<R, W, E>)
+pub(crate) fn unnamed<R: Source + Drop, W: Flush, E: Target>(standard: &mut Standard<R, W, E>)
     ensures says { SaysAlone (line_of Memory)
         (seen R.remaining W.contents W.has_failed W.is_flushed E.contents E.has_failed standard.old)
         (seen R.remaining W.contents W.has_failed W.is_flushed E.contents E.has_failed standard.new) }

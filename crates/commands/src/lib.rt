@@ -9,7 +9,8 @@
 //! that then takes its place.
 //!
 //! Over the streams of a program (`standard`) `judge` says what a task has to say of documents by their names,
-//! `convert` writes what it makes of one, and `pair` compares two.
+//! `convert` writes what it makes of one, and `pair` compares two. `each` goes through documents that stand one behind
+//! another in a source, and `judge_streams` does so with files.
 #![tactic(auto)]
 
 mod any;
@@ -17,6 +18,8 @@ mod block_target;
 pub mod closing;
 pub mod compare;
 pub mod convert;
+mod each;
+mod element_end;
 pub mod ended_names;
 pub mod file_system;
 pub mod files;
@@ -24,6 +27,7 @@ pub mod flush;
 mod fronted;
 mod input;
 pub mod judge;
+mod judge_streams;
 pub mod laws;
 pub mod lines;
 pub mod name;

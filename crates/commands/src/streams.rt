@@ -91,7 +91,7 @@ pub fn answer_files<N: Names, O: Opener, W: Flush>(
 }
 
 /// How a run over named documents ends that ended so before the target was flushed.
-fn files_flushed<W: Flush>(dst: &mut W, end: FilesEnd) -> FilesEnd
+pub(crate) fn files_flushed<W: Flush>(dst: &mut W, end: FilesEnd) -> FilesEnd
     requires ended { W.has_failed dst.old ≡ has_failed_write end }
     ensures ends { FilesEndAs end result }
     ensures kept { Keeps (W.contents dst.old) (W.contents dst.new) }

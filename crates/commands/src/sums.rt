@@ -6,7 +6,7 @@ ghost use Rattle.tlv_core.specs.Reasons.{number_of as number_of_reason};
 ghost use Rattle.pk_documents.specs.KindRows.{number_of as number_of_kind};
 ghost use Rattle.commands.specs.Endings.{WritesLine};
 ghost use Rattle.commands.specs.Outcomes.{line_feed};
-ghost use Rattle.commands.specs.Sums.{SumsUp, after_colon, bracketed, count_members, files_word, head_members};
+ghost use Rattle.commands.specs.Sums.{SumsUp, after_colon, bracketed, count_members, documents_word, head_members};
 ghost use Rattle.commands.specs.Sums.{kind_counts, kind_items, kind_object, kind_objects, kinds_member, kinds_text};
 ghost use Rattle.commands.specs.Sums.{list_members, other_members};
 ghost use Rattle.commands.specs.Sums.{reason_items, reason_object, reason_objects, reasons_member, reasons_text};
@@ -89,16 +89,20 @@ fn sum_words(alloc: Global, task: &Task, tally: &Tally) -> Result<String, AllocE
     let items = verdict_items(alloc, task, tally)?;
     let mut text = String::from_str(alloc, "sum: ")?;
     push_number(&mut text, tally.files)?;
-    text.push_str(files_word(tally.files))?;
+    text.push_str(documents_word(tally.files))?;
     push_after_colon(&mut text, items.as_str())?;
     text.push_str("\n")?;
     Ok(text)
 }
 
-fn files_word(count: u64) -> &'static str
-    ensures { result.now ≡ files_word count }
+fn documents_word(count: u64) -> &'static str
+    ensures { result.now ≡ documents_word count }
 {
-    if count == 1 { " file" } else { " files" }
+    if count == 1 {
+        " document"
+    } else {
+        " documents"
+    }
 }
 
 /// Appends what follows a colon, where there is something.
@@ -351,7 +355,7 @@ fn push_reasons_member(json: &mut JsonText, tally: &Tally) -> Result<(), AllocEr
 fn push_counts(json: &mut JsonText, task: &Task, tally: &Tally) -> Result<(), AllocError>
     ensures { OnOk result (json.new ≡ json.old ++ count_members task.now tally.now) }
 {
-    json.number("files", tally.files)?;
+    json.number("documents", tally.files)?;
     json.number(sound_key(task.action), tally.verdicts[0])?;
     push_others(json, tally)
 }

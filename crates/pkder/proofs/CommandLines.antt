@@ -1,10 +1,10 @@
 -- What clap makes of the words, as tasks.
-use Rattle.std.proofs.Common.{Global, String, ℕ, ◌≡◌, ◌∙◌, ◌⊎◌, Bool, List, [], ◌∷◌, None, Option, Some, Result, Ok, Err, ap, cond, false, inl, inr, map, refl, subst, sym, true}
+use Rattle.std.proofs.Common.{Global, String, ℕ, ◌≡◌, ◌∙◌, ◌⊎◌, ◌&&◌, Bool, List, [], ◌∷◌, None, Option, Some, Result, Ok, Err, ap, ap₂, cond, false, inl, inr, map, refl, subst, sym, true}
 use Rattle.std.specs.Prelude.{IfSome, IsErr, MatchResult, option_map, slice_get, string_bytes, codes, unwrap_or}
 use Rattle.std.proofs.lemmas.Option.{same_Some}
 use Rattle.std.specs.Borrow.{Bor}
 use Rattle.std.specs.List.{list_any}
-use Rattle.std.specs.Option.{option_or}
+use Rattle.std.specs.Option.{is_some, option_or}
 use Rattle.clap.specs.Words.{App, FailsBy, HasMatchesOf, IsAmong, Kinds, Row, Text, all_of, fault_of, first_of, first_value, is_simple_and_free, matched_of, raw_values, rows_of, subcommand_of, subcommand_rows_of}
 use Rattle.clap.specs.declared.error.kind.ErrorKind.{ErrorKind}
 use Rattle.clap.specs.declared.error.kind.ErrorKind.TheVariants as errors
@@ -13,7 +13,7 @@ use Rattle.clap.specs.declared.parser.matches.Found.{Found}
 use Rattle.clap.proofs.WalkLemmas.{first_value-rows, raw_values-rows}
 use Rattle.pkder.proofs.OneCommand.{MeansSame}
 use Rattle.pkder.proofs.PlainTexts.{controls_plain}
-use Rattle.pkder.specs.CommandLines.{Invokes, InvokesNothing, BadAction, BadInvocation, BadKindOf, BadKinds, BadNamedKind, BadOther, BadPart, BadPlaces, BadProfile, BadRefuse, IsFaultOf, IsPlainLine, MeansInvocation, MeansBy, MeansNothing, MeansTask, ReadsAction, ReadsKind, ReadsNamedKind, ReadsNotedProfile, ReadsPair, ReadsPlaces, ReadsProfile, ReadsRefuse, ShowsPlaces, ShowsOwn, ShowsWhy, advice_for_command, advised_line, are_of_same, asks_reasons, bad_value_line, both_kinds, command_advised, command_name, controls_line, has_control, is_for_tls, is_same, kinds_given, kinds_of, missing_line, no_kind_line, option_advised, other_taken, part_name, program, refuses, taken_kind, value_of}
+use Rattle.pkder.specs.CommandLines.{Invokes, InvokesNothing, BadAction, BadInvocation, BadKindOf, BadKinds, BadNamedKind, BadOther, BadPart, BadPlaces, BadProfile, BadRefuse, IsFaultOf, IsPlainLine, MeansInvocation, MeansBy, MeansNothing, MeansTask, ReadsAction, ReadsKind, ReadsNamedKind, ReadsNotedProfile, ReadsPair, ReadsPlaces, ReadsProfile, ReadsRefuse, ShowsPlaces, ShowsOwn, ShowsWhy, advice_for_command, advised_line, are_of_same, asks_reasons, bad_value_line, both_kinds, command_advised, command_name, controls_line, has_control, is_each_of_list, is_for_tls, is_given, is_same, kinds_given, kinds_of, missing_line, no_kind_line, option_advised, other_taken, part_name, program, refuses, taken_kind, value_of}
 use Rattle.pk_documents.specs.declared.kind.Kind.{Kind}
 use Rattle.explain.specs.declared.profile.Profile.{Profile}
 use Rattle.explain.specs.declared.received.RequestPart.{RequestPart}
@@ -208,6 +208,24 @@ means_none P Q (Err e) is q = q
 pub option_text : (o : Option (Bor Text)) (f : Found) (id : Text) → option_map (λ s. s.now) o ≡ first_value f id
     → option_map (λ s. s.now) o ≡ first_of id (rows_of f)
 option_text o f id is = is ∙ first_value-rows f id
+
+-- it has one, or none
+is_listed : (o : Option (Bor Text)) (first : Option Text) → option_map (λ s. s.now) o ≡ first
+    → is_some first ≡ is_some o
+is_listed None first is = ap is_some (sym is)
+is_listed (Some text) first is = ap is_some (sym is)
+
+-- whether documents one behind another are to be those of a list
+module _ (each : Bool) (list : Option (Bor Text)) (rows : List Row) (given : each ≡ is_given (codes "each") rows)
+    (listed : option_map (λ s. s.now) list ≡ first_of (codes "files0-from") rows) where
+  pub each_of_list : each ≡ true → is_some list ≡ true → is_each_of_list rows ≡ true
+  each_of_list is some = ap₂ ◌&&◌ (sym given ∙ is) (is_listed list _ listed ∙ some)
+
+  pub each_without_list : each ≡ true → is_some list ≡ false → is_each_of_list rows ≡ false
+  each_without_list is none = ap₂ ◌&&◌ (sym given ∙ is) (is_listed list _ listed ∙ none)
+
+  pub not_each : each ≡ false → is_each_of_list rows ≡ false
+  not_each not = ap (λ it. it && is_some (first_of (codes "files0-from") rows)) (sym given ∙ not)
 
 -- the values of an option, none where it has none
 pub texts_of_option : (o : Option (Bor (List (Bor Text)))) (f : Found) (id : Text)

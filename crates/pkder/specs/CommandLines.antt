@@ -3,7 +3,7 @@
 use Rattle.std.specs.Prelude.{◌≡◌, ◌≤◌, ◌⊎◌, ◌&&◌, ◌||◌, ◌++◌, ◌==◌, ℕ, Bool, IfSome, List, [], ◌∷◌, None, Option, Some, codes, false, if◌then◌else◌, length, map, option_map, string_bytes, true, unwrap_or}
 use Rattle.std.specs.Char.{is_control}
 use Rattle.std.specs.List.{filter, find, flat_map, fold, list_any}
-use Rattle.std.specs.Option.{option_or}
+use Rattle.std.specs.Option.{is_some, option_or}
 use Rattle.std.specs.Str.{bytes_eq, chars}
 use Rattle.std.specs.Str.Parse.{IsNumeral, digits_value, without_leading_plus}
 use Rattle.clap.specs.Words.{App, IsAmong, Row, Rule, Shape, Text, all_of, fault_of, first_of, new_app, new_rule, subcommand_of, with_rule, with_subcommand}
@@ -119,9 +119,11 @@ with_kind_or_any app = with_limit_rules (with_flag (with_rule app optional_kind_
 abbrev pub on_kind_or_any : Text → App
 on_kind_or_any name = with_kind_or_any (new_app name)
 
--- of any number of files, and perhaps with a sum
+-- of any number of files, which may have documents one behind another, and perhaps with a sum
 abbrev pub with_names : App → App
-with_names app = with_rule (with_flag (with_rule app (file_rule (codes "files0-from"))) (codes "sum")) names_rule
+with_names app =
+    with_rule (with_flag (with_flag (with_rule app (file_rule (codes "files0-from"))) (codes "sum")) (codes "each"))
+    names_rule
 
 -- of one file, and into another
 abbrev pub with_name : App → App
@@ -327,6 +329,7 @@ ReadsNames rows order =
     × (option_map (λ name. name.now) order.list ≡ first_of (codes "files0-from") rows)
     × (option_map (λ name. name.now) order.to ≡ first_of (codes "to") rows)
     × (order.sums ≡ is_given (codes "sum") rows)
+    × (order.each ≡ is_given (codes "each") rows)
 
 abbrev pub is_dash : Text → Bool
 is_dash name = bytes_eq name (codes "-")
@@ -341,8 +344,14 @@ has_second_dash already (name ∷ names) =
 abbrev pub is_input_twice : List Row → Bool
 is_input_twice rows = has_second_dash (is_dash (value_of (codes "files0-from") rows)) (names_of rows)
 
+-- documents one behind another are to be those of a list
+abbrev pub is_each_of_list : List Row → Bool
+is_each_of_list rows = is_given (codes "each") rows && is_some (first_of (codes "files0-from") rows)
+
 abbrev pub Means : Text → List Row → Order → Type 0
-Means name rows order = MeansTask name rows order.task × ReadsNames rows order × (is_input_twice rows ≡ false)
+Means name rows order =
+    MeansTask name rows order.task × ReadsNames rows order × (is_input_twice rows ≡ false)
+    × (is_each_of_list rows ≡ false)
 
 -- ---- two documents that are compared
 
@@ -630,9 +639,19 @@ BadInput rows bad =
     × (is_input_twice rows ≡ true)
     × (bad.advice.now ≡ [])
 
--- Why that command orders nothing: it has no task, or is to read standard input twice.
+abbrev pub BadEach : List Row → BadValue → Type 0
+BadEach rows bad =
+    Names bad (codes "--each") (codes "--files0-from") (codes "one of the two")
+    × (is_each_of_list rows ≡ true)
+    × (bad.advice.now ≡ codes "xargs -0 pkder check --any --each < FILE")
+
+-- Why that command orders nothing: it has no task, or is to read standard input twice, or documents one behind another
+-- of a list.
 abbrev pub BadOrder : Text → List Row → BadValue → Type 0
-BadOrder name rows bad = BadTask name rows bad ⊎ (((task : Task) × MeansTask name rows task) × BadInput rows bad)
+BadOrder name rows bad =
+    BadTask name rows bad
+    ⊎ (((task : Task) × MeansTask name rows task)
+    × (BadInput rows bad ⊎ ((is_input_twice rows ≡ false) × BadEach rows bad)))
 
 abbrev pub wanted_kinds : Bool → Text
 wanted_kinds true = KEY_WORDS.now

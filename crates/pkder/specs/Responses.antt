@@ -5,7 +5,8 @@ use Rattle.x690.specs.Values.{Value}
 use Rattle.pk_documents.specs.declared.document.Document.{Document}
 use Rattle.commands.specs.Conversions.{Converts}
 use Rattle.commands.specs.Endings.{SaysText}
-use Rattle.commands.specs.Judgements.{JudgesAll, Sources}
+use Rattle.commands.specs.JudgedParts.{JudgesAll}
+use Rattle.commands.specs.Judgements.{Sources}
 use Rattle.commands.specs.MadeFiles.{Made}
 use Rattle.commands.specs.Outcomes.{IsWhole, line_of, status_of}
 use Rattle.commands.specs.Pairs.{ComparesNamed}
@@ -45,7 +46,7 @@ first_name (name ∷ names) = Some name
 abbrev pub Follows : {Input Opened File : Type 0} → (Document → Value) → Sources Input Opened → (File → Made)
     → (List ℕ → Unmade → Type 0) → Bool → Order → Bool → Bool → Seen → Seen → ℕ → Type 0
 Follows {Input} {Opened} {File} value_of sources made_of refuses is_terminal order false unnamed old new status =
-    JudgesAll value_of sources order.task order.sums (map (λ name. name.now) order.names.items)
+    JudgesAll value_of sources order.task order.each order.sums (map (λ name. name.now) order.names.items)
     (option_map (λ name. name.now) order.list) old new status
 Follows {Input} {Opened} {File} value_of sources made_of refuses is_terminal order true true old new status =
     EndsAlone old new status binary_text 4

@@ -249,7 +249,7 @@ fn with_brief<'a>(alloc: Global, command: Command<'a>) -> Result<Command<'a>, Al
     with_flag.arg(profile(alloc))
 }
 
-/// The command on any number of files, and perhaps with a sum.
+/// The command on any number of files, which may have documents one behind another, and perhaps with a sum.
 fn with_names<'a>(alloc: Global, command: Command<'a>) -> Result<Command<'a>, AllocError>
     requires { (fields_of command).has_globals ≡ false }
     ensures shape { IfOk result (λ new. app_of new ≡ app_with_names (app_of command.entry)) }
@@ -263,9 +263,10 @@ fn with_names<'a>(alloc: Global, command: Command<'a>) -> Result<Command<'a>, Al
     let with_sum = with_list.arg(flag(
         alloc,
         "sum",
-        "say last, on standard error, how many files are in\nDER, not in DER, refused and unread",
+        "say last, on standard error, how many documents\nare in DER, not in DER, refused and unread",
     ))?;
-    with_sum.arg(names(alloc))
+    let with_each = with_sum.arg(flag(alloc, "each", "go through documents one behind another"))?;
+    with_each.arg(names(alloc))
 }
 
 /// The command on two files.

@@ -53,6 +53,8 @@ pub struct Order<'a> {
     pub to: Option<&'a str>,
     /// Whether a last line says how many documents count as what.
     pub sums: bool,
+    /// Whether each name is of documents one behind another.
+    pub each: bool,
 }
 
 /// Why a line asks for nothing that can be done.
@@ -182,12 +184,23 @@ fn read_order<'a>(
             advice: "",
         });
     }
+    let each = is_flagged(options, "each");
+    let list = options.get_str("files0-from");
+    if each && list.is_some() {
+        return Err(BadValue {
+            option: "--each",
+            value: "--files0-from",
+            wanted: "one of the two",
+            advice: "xargs -0 pkder check --any --each < FILE",
+        });
+    }
     Ok(Order {
         task,
         names,
-        list: options.get_str("files0-from"),
+        list,
         to: options.get_str("to"),
         sums: is_flagged(options, "sum"),
+        each,
     })
 }
 

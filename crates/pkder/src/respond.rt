@@ -115,6 +115,7 @@ fn follow<R: Source + Drop, W: Flush, E: Target, O: Opener, M: NewFiles>(
         let documents = Documents {
             names,
             list: order.list,
+            each: order.each,
             sums: order.sums,
         };
         return judge(alloc, &order.task, documents, standard, &system.opener);

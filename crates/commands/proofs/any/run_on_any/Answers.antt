@@ -1,6 +1,4 @@
-use Rattle.std.proofs.Common.{◌+◌, inl, inr, refl, subst, sym, ◌≡◌}
-use Rattle.std.specs.Option.{option_map}
-use Rattle.pk_documents.proofs.DocumentValues.{valued}
+use Rattle.std.proofs.Common.{◌+◌, inl, inr, refl, subst, sym}
 use Rattle.commands.specs.Inputs.{StopsTaking, TakesFirst}
 use Rattle.commands.specs.Replies.{FailedBy, WritesWhole}
 use Rattle.commands.proofs.Replies.{unread_fails}

@@ -1,7 +1,8 @@
 use Rattle.std.proofs.Common.{None, Some, ap, map, refl, subst, sym}
 use Rattle.std.specs.Option.{option_map}
 use Rattle.pk_documents.proofs.DocumentValues.{valued}
-use Rattle.commands.specs.Judgements.{Closes, Goes, Judges, Tallied, parts_of, sources_of}
+use Rattle.commands.specs.JudgedParts.{GoesBy}
+use Rattle.commands.specs.Judgements.{Closes, Tallied, sources_of}
 use Rattle.commands.specs.Standards.{EndsAlone, seen}
 use Rattle.commands.specs.Sums.{SumsUp}
 use Rattle.commands.proofs.Judgements.{none_left, sums_alone}
@@ -12,16 +13,16 @@ returns-in_default g c =
     let see =
     seen g.R.Source.remaining g.W.Target.contents g.W.Target.has_failed g.W.Flush.is_flushed g.E.Target.contents
     g.E.Target.has_failed in
-    let Step = Judges valued (sources_of g.R.Source.has_failed g.R.Source.remaining g.O.Document.Source.has_failed
-    g.O.Document.Source.remaining (g.O.Opener.known c.args.opener.now) (g.O.Opener.refuses c.args.opener.now))
-    c.args.task.now in
-    let parts =
-    parts_of (map (λ it. it.now) c.args.documents.names.now) (option_map (λ it. it.now) c.args.documents.list) in
-    let between = see c.judge_all.new.standard in (
+    let sources = sources_of g.R.Source.has_failed g.R.Source.remaining g.O.Document.Source.has_failed
+    g.O.Document.Source.remaining (g.O.Opener.known c.args.opener.now) (g.O.Opener.refuses c.args.opener.now) in
+    let documents = c.args.documents in
+    let between = see c.judge_parts.new.standard in (
       None,
       between,
-      subst (Tallied (Goes Step parts (see c.args.standard.now) between))
-          (none_left c.judge_all.result c.in_default.not-Some) c.judge_all.ensures,
+      subst
+          (Tallied (GoesBy valued sources c.args.task.now documents.each (map (λ it. it.now) documents.names.now)
+          (option_map (λ it. it.now) documents.list) (see c.args.standard.now) between))
+          (none_left c.judge_parts.result c.in_default.not-Some) c.judge_parts.ensures,
       (refl, refl),
     )
 
@@ -31,11 +32,11 @@ returns-then-documents g c =
     seen g.R.Source.remaining g.W.Target.contents g.W.Target.has_failed g.W.Flush.is_flushed g.E.Target.contents
     g.E.Target.has_failed in
     let task = c.args.task.now in
-    let between = see c.judge_all.new.standard in
+    let between = see c.judge_parts.new.standard in
     let finished = c.finish_sum in
     let new = see (record {
-      input = c.judge_all.new.standard.input;
-      output = c.judge_all.new.standard.output;
+      input = c.judge_parts.new.standard.input;
+      output = c.judge_parts.new.standard.output;
       errors = finished.new.dst;
     }) in
     let came = c.in-Some.ensures in (
@@ -53,7 +54,7 @@ returns g c =
     seen g.R.Source.remaining g.W.Target.contents g.W.Target.has_failed g.W.Flush.is_flushed g.E.Target.contents
     g.E.Target.has_failed in
     let task = c.args.task.now in
-    let between = see c.judge_all.new.standard in
+    let between = see c.judge_parts.new.standard in
     let came = c.in-Some.ensures in (
       Some came.0,
       between,

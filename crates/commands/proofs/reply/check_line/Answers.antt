@@ -1,4 +1,3 @@
-use Rattle.std.proofs.Common.{refl}
 use Rattle.std.proofs.lemmas.Result.{err_from_is_err_and}
 use Rattle.asn_documents.proofs.Normalising.{took_answers}
 use Rattle.pk_documents.proofs.LawfulKinds.{kinds_are_lawful}

@@ -1,6 +1,5 @@
 use Rattle.std.proofs.Common.{◌+◌, subst, sym}
-use Rattle.std.proofs.lemmas.Result.{err_from_is_err_and}
-use Rattle.commands.specs.Inputs.{StopsTaking, TakesFirst}
+use Rattle.commands.specs.Inputs.{TakesFirst}
 use Rattle.commands.proofs.reply.report_of_input.Goals as goal
 
 pub returns-clause-reports : goal.returns-clause-reports

@@ -1,4 +1,4 @@
-use Rattle.std.proofs.Common.{false, inl, inr, refl, subst, sym, ◌∙◌, ◌≡◌}
+use Rattle.std.proofs.Common.{false, inl, inr, refl, subst, ◌≡◌}
 use Rattle.std.proofs.lemmas.Result.{err_from_is_err_and}
 use Rattle.pk_documents.specs.Kinds.{type_of}
 use Rattle.explain.specs.Answers.{IsAnswer}

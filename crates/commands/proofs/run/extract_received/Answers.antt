@@ -1,4 +1,4 @@
-use Rattle.std.proofs.Common.{◌+◌, ◌≡◌, MatchResult, false, inl, refl, subst, sym}
+use Rattle.std.proofs.Common.{◌+◌, ◌≡◌, MatchResult, false, inl, subst, sym}
 use Rattle.pk_documents.specs.declared.kind.Kind.TheVariants.{Request}
 use Rattle.commands.specs.Inputs.{StopsTaking, TakesFirst}
 use Rattle.commands.specs.Replies.{DueOfOctets, DueOfReceived, FailedBy, StopsShowing, unread_outcome}

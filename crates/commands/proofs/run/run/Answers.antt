@@ -1,10 +1,7 @@
 use Rattle.std.proofs.Common.{Some, refl, subst, sym}
 use Rattle.std.specs.Option.{option_map}
-use Rattle.tlv_core.specs.Limits.{Limits}
 use Rattle.pk_documents.proofs.DocumentValues.{valued}
-use Rattle.pk_documents.specs.declared.kind.Kind.{Kind}
 use Rattle.commands.specs.Replies.{RepliedBy, RepliedOn}
-use Rattle.commands.specs.declared.task.Action.{Action}
 use Rattle.commands.proofs.run.run.Goals as goal
 
 pub returns-in-Some-clause-replied : goal.returns-in-Some-clause-replied

@@ -1,4 +1,4 @@
-use Rattle.std.proofs.Common.{MatchResult, Ok, string_bytes, subst, sym, ◌≡◌, false, refl}
+use Rattle.std.proofs.Common.{MatchResult, string_bytes, subst, sym, ◌≡◌, false}
 use Rattle.asn_documents.specs.WrittenValues.{WritesText}
 use Rattle.asn_elements.specs.Whole.{IsFailedRead}
 use Rattle.commands.specs.Replies.{WroteText, unread_outcome}

@@ -1,7 +1,8 @@
 use Rattle.std.proofs.Common.{◌∙◌, ◌&&◌, is_none, map, subst, sym}
 use Rattle.std.specs.Option.{option_map}
 use Rattle.pk_documents.proofs.DocumentValues.{valued}
-use Rattle.commands.specs.Judgements.{JudgesAll, sources_of}
+use Rattle.commands.specs.JudgedParts.{JudgesAll}
+use Rattle.commands.specs.Judgements.{sources_of}
 use Rattle.commands.specs.Standards.{seen}
 use Rattle.pkder.specs.Responses.{Follows}
 use Rattle.pkder.proofs.respond.follow.Goals as goal
@@ -23,6 +24,6 @@ returns-then-not-is_binary g c =
     (sym (c.if-not-is_binary.true) ∙ c.is_binary.ensures)
     (subst
     (λ it.
-    JudgesAll valued sources order.task order.sums (map (λ name. name.now) it) (option_map (λ name. name.now) order.list)
-    old new c.judge.result)
+    JudgesAll valued sources order.task order.each order.sums (map (λ name. name.now) it)
+    (option_map (λ name. name.now) order.list) old new c.judge.result)
     c.as_slice-names.ensures.value c.judge.ensures)
