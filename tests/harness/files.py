@@ -9,6 +9,7 @@ import json
 import os
 import pty
 import re
+import select
 import shutil
 import socket
 import stat
@@ -326,47 +327,103 @@ def summed(at):
     at.write(b"text", b"none")
     check = ("check", "-k", "key", "--sum")
     lines = "der: DER\nber: not DER at 1\ncut: fault at 20: Truncated\nmissing: no such file\n"
-    due = "sum: 4 files: 1 DER, 1 not DER, 1 refused (1 Truncated), 1 unread\n"
+    due = "sum: 4 documents: 1 DER, 1 not DER, 1 refused (1 Truncated), 1 unread\n"
     yield "check --sum", (3, lines, due), at.run(*check, "der", "ber", "cut", "missing")
     yield ("check --sum, names before those of a list", (3, lines, due),
            at.run(*check, "der", "ber", "--files0-from", "-", given=b"cut\0missing\0"))
-    yield "check --sum, no names in a list", (0, "", "sum: 0 files\n"), at.run(*check, "--files0-from", "-")
+    yield "check --sum, no names in a list", (0, "", "sum: 0 documents\n"), at.run(*check, "--files0-from", "-")
     yield ("check --sum, standard input between files, and what is written of it",
-           (2, "der: DER\nder: DER\n", "fault at 20: Truncated\nsum: 3 files: 2 DER, 1 refused (1 Truncated)\n"),
+           (2, "der: DER\nder: DER\n", "fault at 20: Truncated\nsum: 3 documents: 2 DER, 1 refused (1 Truncated)\n"),
            at.run(*check, "der", "-", "der", given=CUT))
     yield ("check --sum, reasons in the order of their numbers",
            (2, "public: fault at 2: WrongTag\ncut: fault at 20: Truncated\nlink: DER\n",
-            "sum: 3 files: 1 DER, 2 refused (1 Truncated, 1 WrongTag)\n"), at.run(*check, "public", "cut", "link"))
+            "sum: 3 documents: 1 DER, 2 refused (1 Truncated, 1 WrongTag)\n"), at.run(*check, "public", "cut", "link"))
     yield ("check --sum, the next name doesn't come, and nothing is summed",
            (3, "der: DER\n", "-: a name is longer than 65536 octets\n"),
            at.run(*check, "--files0-from", "-", given=b"der\0" + b"x" * 65537))
     yield "check --sum, no such list", (3, "der: DER\n", "missing: no such file\n"), at.run(
         *check, "der", "--files0-from", "missing")
-    yield ("check --sum --quiet", (1, "ber: not DER at 1\n", "sum: 2 files: 1 DER, 1 not DER\n"),
+    yield ("check --sum --quiet", (1, "ber: not DER at 1\n", "sum: 2 documents: 1 DER, 1 not DER\n"),
            at.run(*check, "--quiet", "der", "ber"))
     with open("/dev/full", "wb") as full:
         yield ("check --sum, a full disk", (3, None, "write failed after 0\n"),
                at.run(*check, "der", "ber", stdout=full))
-    due = ("sum: 6 files: 3 DER (1 key, 2 public), 1 not DER (1 key), "
+    due = ("sum: 6 documents: 3 DER (1 key, 2 public), 1 not DER (1 key), "
            "2 refused (1 of no kind, 1 Truncated)\n")
     status, _, error = at.run("check", "--any", "--sum", "der", "noted", "text", "ber", "public", "cut")
     yield "check --any --sum", (2, due), (status, error)
-    due = "sum: 3 files: 1 DER (1 key), 1 noted (1 public), 1 unread\n"
+    due = "sum: 3 documents: 1 DER (1 key), 1 noted (1 public), 1 unread\n"
     status, _, error = at.run("check", "--any", "--sum", "--refuse", "must", "noted", "der", "missing")
     yield "check --any --refuse must --sum", (5, due), (status, error)
     for words in (("explain",), ("explain", "--brief")):
         status, _, error = at.run(*words, "-k", "key", "--sum", "der", "cut", "ber")
-        yield (f"{' '.join(words)} --sum", (2, "sum: 3 files: 1 DER, 1 not DER, 1 refused (1 Truncated)\n"),
+        yield (f"{' '.join(words)} --sum", (2, "sum: 3 documents: 1 DER, 1 not DER, 1 refused (1 Truncated)\n"),
                (status, error))
     status, _, error = at.run("show", "-k", "key", "--sum", "der", "cut", "ber")
-    yield "show --sum", (2, "sum: 3 files: 2 shown, 1 refused (1 Truncated)\n"), (status, error)
+    yield "show --sum", (2, "sum: 3 documents: 2 shown, 1 refused (1 Truncated)\n"), (status, error)
     status, text, error = at.run("check", "--any", "--json", "--sum", "der", "ber", "cut", "text", "missing")
     found = json.loads(error)
     yield ("check --json --sum", (3, 5, [5, 1, 1, 0, 2, 1, 1], [{"reason": "Truncated", "count": 1}],
                                   [{"kind": "key", "der": 1, "not_der": 1, "noted": 0}]),
            (status, len(text.splitlines()),
-            [found[it] for it in ("files", "der", "not_der", "noted", "refused", "unread", "no_kind")],
+            [found[it] for it in ("documents", "der", "not_der", "noted", "refused", "unread", "no_kind")],
             found["reasons"], [it for it in found["kinds"] if it["der"] or it["not_der"]]))
+
+
+def streamed(at):
+    """Runs over documents one behind another."""
+    at.write(b"keys", DER + BER + DER)
+    at.write(b"ended", DER + CUT)
+    at.write(b"empty", b"")
+    at.write(b"public", SOUND)
+    each, size = ("check", "-k", "key", "--each"), len(DER)
+    lines = f"keys: 1 at 0: DER\nkeys: 2 at {size}: not DER at 1\nkeys: 3 at {size + len(BER)}: DER\n"
+    ended = f"ended: 1 at 0: DER\nended: 2 at {size}: fault at 20: Truncated\n"
+    yield "check --each", (1, lines, ""), at.run(*each, "keys")
+    yield "check --each, each file by itself", (2, ended + lines, ""), at.run(*each, "ended", "keys")
+    yield "check --each, no document", (0, "", ""), at.run(*each, "empty")
+    yield "check --each, not there", (3, lines, "missing: no such file\n"), at.run(*each, "missing", "keys")
+    yield "check --each, a folder", (3, "", "folder: is a directory\n"), at.run(*each, "folder")
+    yield ("check --each, standard input between files", (1, f"der: 1 at 0: DER\n1 at 0: not DER at 1\n{lines}", ""),
+           at.run(*each, "der", "-", "keys", given=BER))
+    yield ("check --each --sum", (3, lines, "missing: no such file\nsum: 4 documents: 2 DER, 1 not DER, 1 unread\n"),
+           at.run(*each, "--sum", "keys", "missing"))
+    at.write(b"mixed", DER + SOUND)
+    due = f"mixed: 1 at 0: key: DER\nmixed: 2 at {size}: public: DER\n"
+    yield "check --any --each", (0, due, ""), at.run("check", "--any", "--each", "mixed")
+    yield "show --each", (0, f"der: 1 at 0:\n{SHOWN}", ""), at.run("show", "-k", "key", "--each", "der")
+    status, text, error = at.run(*each, "--json", "ended")
+    due = [{"file": "ended: 1 at 0", "status": 0, "verdict": "der"},
+           {"file": f"ended: 2 at {size}", "status": 2, "verdict": "refused", "at": 20}]
+    yield "check --each --json", (2, due, ""), (status, members(text, "file", "status", "verdict", "at"), error)
+    yield ("check --each, a name that is told in quotes", (2, '"line\\nfeed: 1 at 0": fault at 20: Truncated\n', ""),
+           at.run(*each, "line\nfeed"))
+
+
+def in_both_forms(size):
+    """A key in DER with an attribute (1.2.3) of so many octets, and in the indefinite form (X.690 8.1.3.6)."""
+    values = element(0x31, element(0x04, b"\xaa" * size))
+    attributes = element(0xa0, element(0x30, b"\x06\x02\x2a\x03", values))
+    contents = DER[2:] + attributes
+    return element(0x30, contents), b"\x30\x80" + contents + b"\0\0"
+
+
+def streamed_in_turn(at):
+    """A run over documents of a pipe, each of which is written when the line of the one before is read."""
+    (short, loose), (long, looser) = in_both_forms(20000), in_both_forms(200000)
+    how = {"stdin": subprocess.PIPE, "stdout": subprocess.PIPE, "cwd": at.path}
+    with subprocess.Popen([at.program, "check", "-k", "key", "--each"], **how) as ran:
+        number, place = 1, 0
+        for octets in (DER, short, loose, long, looser, DER):
+            verdict = "not DER at 1" if octets in (loose, looser) else "DER"
+            ran.stdin.write(octets)
+            ran.stdin.flush()
+            there = select.select([ran.stdout], [], [], SECONDS)[0]
+            yield (f"check --each, {len(octets)} octets", f"{number} at {place}: {verdict}\n",
+                   os.read(ran.stdout.fileno(), 100).decode() if there else "nothing yet")
+            number, place = number + 1, place + len(octets)
+        yield "check --each, nothing more", b"", ran.communicate(timeout=SECONDS)[0]
+    yield "check --each, its status", 1, ran.returncode
 
 
 def paired(at):
@@ -504,7 +561,8 @@ def closed(at):
 
 def looks(program):
     """Each run of the program, and whether it is right."""
-    for runs in (judged, listed, noted, noted_tls, told_in_json, kinds_found, summed, paired, agreed, made, closed):
+    for runs in (judged, listed, noted, noted_tls, told_in_json, kinds_found, summed, streamed, streamed_in_turn,
+                 paired, agreed, made, closed):
         at = Folder(program)
         try:
             for what, due, found in runs(at):

@@ -25,7 +25,8 @@ from pathlib import Path
 TOP = str(Path(__file__).resolve().parents[2])
 SECONDS = 120
 # what a POSIX system may lack, and what pip builds with
-TOOLS = ("openssl", "xxd", "jq", "mandoc", "cc", "pkg-config", "cargo", "go", "javac", "pip", "sqlite3", "node", "npm")
+TOOLS = ("openssl", "xxd", "jq", "mandoc", "cc", "pkg-config", "cargo", "go", "javac", "pip", "sqlite3", "node", "npm",
+         "pv")
 BUILT_WITH = {"pip": ("setuptools", "wheel")}
 # (a section that has SQLite builds what it loads)
 HEADERS = {"sqlite3": "/usr/include/sqlite3ext.h"}

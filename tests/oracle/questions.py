@@ -13,33 +13,39 @@ FAILING, PIECES = "reading fails", ("pieces 1",)
 class Question:
     """What is asked of a document: an action, under limits, and how standard input comes, as a whole unless said."""
 
-    def __init__(self, name, action, kind, octets, depth=DEPTH, limit=OCTETS, device="", part=PARTS[0], sums=False):
+    def __init__(self, name, action, kind, octets, depth=DEPTH, limit=OCTETS, device="", part=PARTS[0], sums=False,
+                 each=False):
         self.name, self.action, self.kind, self.octets = name, action, kind, octets
-        self.depth, self.limit, self.device, self.part, self.sums = depth, limit, device, part, sums
+        self.depth, self.limit, self.device, self.part = depth, limit, device, part
+        self.sums, self.each = sums, each
 
     @classmethod
     def of_row(cls, row):
         """The question of a row of a table."""
         asked = reader.command_line().parse_args(shlex.split(row.words))
         limits = asked.depth, asked.octets
-        return cls(row.rule, asked.action, asked.kind, row.input, *limits, row.device, asked.part, asked.sum)
+        about = asked.part, asked.sum, asked.each
+        return cls(row.rule, asked.action, asked.kind, row.input, *limits, row.device, *about)
 
     def about(self, name, octets, device=""):
         """The same question about other octets."""
         limits = self.depth, self.limit
-        return Question(f"{self.name}: {name}", self.action, self.kind, octets, *limits, device, self.part, self.sums)
+        about = self.part, self.sums, self.each
+        return Question(f"{self.name}: {name}", self.action, self.kind, octets, *limits, device, *about)
 
     def words(self):
         """The arguments of the program."""
         depth = [] if self.depth == DEPTH else ["--depth", str(self.depth)]
         limit = [] if self.limit == OCTETS else ["--octets", str(self.limit)]
         about = ["--part", self.part] if self.action == "signed" else ["--kind", self.kind]
-        return [self.action, *about, *depth, *limit, *(["--sum"] * self.sums)]
+        return [self.action, *about, *depth, *limit, *(["--sum"] * self.sums), *(["--each"] * self.each)]
 
     def due(self):
         """What the independent reader answers: status, output and line."""
         fails = self.device == FAILING
         limits = self.depth, self.limit
+        if self.each:
+            return reader.each_answer(self.action, self.kind, self.octets, *limits, fails)
         status, output, error = reader.answer(self.action, self.kind, self.octets, *limits, fails, self.part)
         return status, output, reader.summed(self.action, status, error) if self.sums else error
 

@@ -614,18 +614,46 @@ def answer(action, kind, octets, depth=DEPTH, limit=OCTETS, reading_fails=False,
     return 0, written[action](), ""
 
 
+def extent(kind, octets, depth, limit, reading_fails):
+    """How many octets the document has that begins these; all of them where none does."""
+    reader = Reader(octets, depth, limit, reading_fails)
+    try:
+        return reader.at if len(reader.document(SEQUENCE, KINDS[kind])) <= limit else len(octets)
+    except Fault:
+        return len(octets)
+
+
+def each_answer(action, kind, octets, depth=DEPTH, limit=OCTETS, reading_fails=False):
+    """The same of documents one behind another, of which the first that is refused is the last one."""
+    at, number, worst, said = 0, 0, 0, b""
+    while at < len(octets) or reading_fails:
+        try:
+            count = extent(kind, octets[at:], depth, limit, reading_fails)
+        except ReadFailed:
+            return 3, said, "standard input: read failed"
+        status, output, error = answer(action, kind, octets[at : at + count], depth, limit)
+        number, worst = number + 1, max(worst, status)
+        name = b"%d at %d:" % (number, at)
+        said += name + (b" %s\n" % error.encode() if error else (b"\n" if action == "show" else b" ") + output)
+        if status == 2:
+            break
+        at += count
+    return worst, said, ""
+
+
 def summed(action, status, error):
     """What standard error has by --sum after one document: the line, and what that counts as."""
     counts = ["shown" if action == "show" else "DER", "not DER", "", "unread"]
     # (after fault at PLACE: the reason, and one inside after that)
     counted = f"refused (1 {error.split()[3]})" if status == 2 else counts[status]
-    return f"{error}\n" * bool(error) + f"sum: 1 file: 1 {counted}"
+    return f"{error}\n" * bool(error) + f"sum: 1 document: 1 {counted}"
 
 
 def has_part_in(words):
     """Whether the words are of a command that the reader has a part in, ask for no notes, and name the kind."""
-    others = ("--notes", "--refuse", "--profile", "--any", "--json")
-    return bool(words) and words[0] in ACTIONS and not any(it.startswith(others) for it in words)
+    others = ("--notes", "--refuse", "--profile", "--any", "--json", "--quiet")
+    asks_others = any(it.startswith(others) for it in words) or {"--sum", "--each"} <= set(words)
+    return bool(words) and words[0] in ACTIONS and not asks_others
 
 
 def command_line():
@@ -637,6 +665,7 @@ def command_line():
     parser.add_argument("--octets", type=int, choices=range(1, 1 << 31), default=OCTETS, metavar="N")
     parser.add_argument("--reading-fails", action="store_true")
     parser.add_argument("--sum", action="store_true")
+    parser.add_argument("--each", action="store_true")
     return parser
 
 
@@ -644,7 +673,10 @@ def main(words):
     asked = command_line().parse_args(words)
     given = sys.stdin.buffer.read()
     limits = (asked.depth, asked.octets, asked.reading_fails)
-    status, output, error = answer(asked.action, asked.kind, given, *limits, asked.part)
+    if asked.each:
+        status, output, error = each_answer(asked.action, asked.kind, given, *limits)
+    else:
+        status, output, error = answer(asked.action, asked.kind, given, *limits, asked.part)
     error = summed(asked.action, status, error) if asked.sum else error
     sys.stdout.buffer.write(output)
     sys.stderr.write(f"{error}\n" if error else "")

@@ -166,7 +166,7 @@ SOUND = {
         "differences": [{"field": "privateKey", "first": "32 octets", "second": "absent"}], "more": 1,
     },
     "sum": {
-        "form": 1, "version": "2.0.0", "files": 7, "der": 1, "shown": 0, "not_der": 1, "noted": 1, "refused": 3,
+        "form": 1, "version": "2.0.0", "documents": 7, "der": 1, "shown": 0, "not_der": 1, "noted": 1, "refused": 3,
         "unread": 1, "kinds": [{"kind": "key", "der": 1, "shown": 0, "not_der": 1, "noted": 1}], "no_kind": 1,
         "reasons": [{"reason": "Truncated", "count": 2}],
     },
