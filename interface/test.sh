@@ -4,8 +4,8 @@
 # for is left out, and said. The last line is 'interface: N passed, M failed', a command counting once. LIBRARY=built
 # takes the library that stands in interface/out; PACKAGE=FOLDER the modules of this package for npm, whatever they are
 # of.
-# By hand: ROUNDS=5000 DOCUMENTS=20000 sh interface/test.sh probes for minutes (200 and 500 unless said otherwise);
-# HEAP=wiping has the wiping heap tried.
+# By hand: ROUNDS=5000 DOCUMENTS=20000 sh interface/test.sh probes for minutes (200 and 500 unless said otherwise), and
+# JUDGED=10000000 SEED=0 does (200000 documents of seed 1; 0 draws one); HEAP=wiping has the wiping heap tried.
 # shellcheck disable=SC2086 # (lists of flags)
 set -u
 here=$(cd "$(dirname "$0")" && pwd)
@@ -109,6 +109,8 @@ in_c() {
     compiled filter_watched filter -O1 -g -fsanitize=address,undefined -fno-sanitize-recover=all
     compiled refuse refuse -O2 -Wl,--wrap=malloc,--wrap=realloc,--wrap=free
     compiled secrets secrets -O2 -Wl,--wrap=free
+    compiled judged judged -O2 -Wl,--wrap=malloc,--wrap=realloc
+    compiled allocations allocations -O2 -Wl,--wrap=malloc,--wrap=realloc
     try "rows in C" python3 "$top/tests/harness/rows.py" "$work/calls.tsv" "$work/filter" "$work/filter_watched"
     try "pairs in C under ASan and UBSan" pairs pairs_watched
     try "vectors in C under ASan and UBSan" vectors
@@ -119,7 +121,20 @@ in_c() {
     try "probe under ASan and UBSan" env "ROUNDS=$((${ROUNDS:-200} / 10))" "$work/probe_watched" "$top"/examples/*.der
     try "stack" "$work/stack"
     refused
+    try "allocations of check, in DER" judged_files
+    try "check and normalise" "$work/judged" "${JUDGED:-200000}" "${SEED:-1}" "$top"/examples/*.der
     try "freed secrets" secrets
+}
+
+# Of the files in DER these are read, and memory is asked for: what holds a container in an open value, and what is of
+# version 1 where version 0 is usual.
+judged_files() {
+    "$work/allocations" "$top"/examples/*.der > "$work/judged_files" || return 1
+    for name in dsa encrypted-keytool encrypted package public-p256-explicit rfc8410 rsa-pss rsa-three-primes; do
+        echo $name.der
+    done | sort > "$work/due"
+    sed -n 's|^read.*/||p' "$work/judged_files" | sort | diff "$work/due" - || return 1
+    echo "$(grep -c '^judged' "$work/judged_files") files in DER ask for none"
 }
 
 # The library's answers, under ASan and UBSan, beside those of an independent reader, and of the program if it is built.
@@ -193,7 +208,7 @@ refused() {
             try "allocations of $command, $kind" "$work/refuse" $command "$kind" "$top/examples/$file.der"
         done
     done << END
-key p256
+key rfc8410-indefinite
 ec k256-sec1-indefinite
 request request-indefinite
 public public-indefinite
