@@ -9,7 +9,7 @@ import unittest
 from pathlib import Path
 
 TOP = Path(__file__).resolve().parents[2]
-PARTS = ("forms", "spellings", "senders", "other_things", "rules", "lines", "command", "random_inputs")
+PARTS = ("forms", "spellings", "senders", "other_things", "rules", "lines", "command", "progress", "random_inputs")
 
 
 def main(words):

@@ -10,6 +10,7 @@ from . import _lines
 from ._found import NOT_JUDGED, Found
 from ._inputs import STANDARD_INPUT, Input, Unread, inputs_of, list_of, names_in, octets_of
 from ._intake import INPUT_OCTETS, Rules, find
+from ._progress import Progress, shared_lines, standard_error
 from ._writing import NotWritten, Target, note_of, prepare, write
 
 WRONGLY_CALLED = 4
@@ -51,6 +52,7 @@ def parser() -> Parser:
     said = found.add_argument_group("what is said")
     said.add_argument("--json", action="store_true", help="an object of JSON for each document, one a line")
     said.add_argument("--brief", action="store_true", help="the answer for whoever sent it, at the end of the line")
+    said.add_argument("--progress", action="store_true", help="how many inputs are done, on standard error")
     taken = found.add_argument_group("what is taken")
     taken.add_argument("-k", "--kind", action="append", choices=[*KINDS], metavar="KIND", default=[],
                        help="documents of this kind alone, or of these: key, ec, request, public, encrypted, package")
@@ -101,14 +103,15 @@ def rules_of(asked: argparse.Namespace) -> Rules:
 class Intake:
     """Takes in inputs, and says what came of each."""
 
-    def __init__(self, asked: argparse.Namespace, rules: Rules, target: Optional[Target]):
+    def __init__(self, asked: argparse.Namespace, rules: Rules, target: Optional[Target], progress: Progress):
         self.rules, self.target, self.is_json, self.is_brief = rules, target, asked.json, asked.brief
-        self.status = 0
+        self.progress, self.status = progress, 0
 
     def say(self, line: str, told: Dict[str, Any]) -> None:
         """Says the line or the object, and counts the status of that."""
         self.status = max(self.status, told["status"])
         text = _lines.json_line(told) if self.is_json else line
+        self.progress.make_room()
         sys.stdout.buffer.write(f"{text}\n".encode("utf-8", "backslashreplace"))
 
     def take(self, it: Input) -> None:
@@ -170,11 +173,14 @@ def main(words: Optional[List[str]] = None) -> int:
     told = parser()
     asked = told.parse_args(words)
     names = names_of(asked, told)
-    intake = Intake(asked, rules_of(asked), target_of(asked, told))
+    progress = Progress(names, asked.progress, standard_error(), shared_lines())
+    intake = Intake(asked, rules_of(asked), target_of(asked, told), progress)
     try:
-        for it in inputs_of(names):
-            intake.take(it)
-        sys.stdout.buffer.flush()
+        with progress:
+            for it in inputs_of(names):
+                intake.take(it)
+                progress.step()
+            sys.stdout.buffer.flush()
     except OSError as error:
         if not isinstance(error, BrokenPipeError):
             print("pkder-intake: write failed", file=sys.stderr)
