@@ -62,6 +62,12 @@ def test_row(key, test, failing, asked):
     return f"| {key[0]} {key[1]} | {test['result']} | {comment} | {due} | {failing} of {asked} |\n"
 
 
+def wrapped(text):
+    """An item of a list, in lines."""
+    how = {"subsequent_indent": "  ", "break_long_words": False, "break_on_hyphens": False}
+    return textwrap.fill(f"- {text}", 120, **how) + "\n"
+
+
 def crashes(given, all_found, outcome):
     """The tests that peers died at, a line each."""
     for about, answers in all_found:
@@ -75,7 +81,7 @@ def text_of(given, all_found, outcome, counted):
     rows = "".join(row(about, counted(given, answers)) for about, answers in all_found)
     found, asked = failed(given, all_found, outcome)
     tests = [test_row(key, given[key], len(found[key]), asked[key]) for key in [*most_failed(given, found)][:MOST]]
-    calls = "".join(f"- {about['name']}: {about['call']} ({', '.join(about['kinds'])}).\n" for about, _ in all_found)
+    calls = "".join(wrapped(f"{it['name']}: {it['call']} ({', '.join(it['kinds'])}).") for it, _ in all_found)
     died = "".join(crashes(given, all_found, outcome)) or "None.\n"
     return (f"\nVectors {VERSION}.\n\n{HEAD}{rows}\n## The crashes\n\n{died}\n## The calls\n\n{calls}\n"
             "## The tests that most of them fail\n\n"
