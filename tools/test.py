@@ -109,7 +109,10 @@ def parts(program=build.PROGRAM):
         "intake": lambda: [["python3", "tests/intake/run.py", *library_of(program)]],
         "completions": lambda: [["python3", "tests/harness/completions.py", program]],
         "files": lambda: [["python3", "tests/harness/files.py", *builds(program)]],
-        "allocations": lambda: [[*ALLOCATIONS, program, *words] for words in allocating()],
+        "allocations": lambda: [
+            *([*ALLOCATIONS, program, *words] for words in allocating()),
+            ["python3", "tests/harness/longer.py", program],
+        ],
         "reader": lambda: [
             ["python3", "tests/oracle/try_reader.py", *tables("pkder"), "examples/answers.tsv"],
             ["python3", "tests/oracle/random_documents.py", *builds(program)],
