@@ -1,5 +1,6 @@
 -- What was read of a value of a type, and written: by the laws on answers, for every lawful type.
-use Rattle.std.proofs.Common.{◌≡◌, ◌∙◌, ◌++◌, ◌<◌, ◌≤◌, List, None, Option, Some, ℕ, ap, arith, length, sym, subst, take}
+use Rattle.std.proofs.Common.{◌≡◌, ◌∙◌, ◌++◌, ◌<◌, ◌≤◌, List, None, Option, Some, [], ℕ, ap, append-nil, arith, length, sym, subst, take}
+use Rattle.std.proofs.lemmas.List.{take_all}
 use Rattle.std.specs.Io.KnownBytes.{Appends}
 use Rattle.tlv_core.specs.Limits.{IsLimits, Limits}
 use Rattle.tlv_core.specs.declared.fault.ReadError.{ReadError}
@@ -15,9 +16,11 @@ use Rattle.x690_laws.proofs.LayoutsOfHeaders.{split_alone}
 use Rattle.x690_laws.proofs.TextsSpell.{text_spells}
 use Rattle.x690_laws.proofs.ValuesSame.{equivalence}
 use Rattle.x690_laws.proofs.TextsAsLayouts.{same_der}
+use Rattle.asn_documents.specs.AtHand.{StandsAtHand}
 use Rattle.asn_documents.specs.ReadValues.{ReadsValue, StopsReading}
 use Rattle.asn_elements.specs.Whole.{TellsInsideOf}
 use Rattle.asn_documents.specs.Normalised.{NormalisedAs, Took, Unread, WrittenInPart}
+use Rattle.asn_documents.proofs.AtHand.{reads_at_hand}
 
 spelled_text : (t t' : List ℕ) (n n' : ℕ) → Spelled t n ≡ Spelled t' n' → t ≡ t'
 spelled_text t t' n n' e = cc
@@ -82,6 +85,19 @@ normalised_as l T w before after old new taken written lawful fine r text count 
         );
       },
     )
+
+-- octets in DER are written as they are
+pub written_as_given : (l : Limits) (T : TypeTerm) (octets : List ℕ) (taken : ℕ) → Lawful T → IsLimits l
+    → StandsAtHand l T octets taken → taken ≡ length octets
+    → (value : Value)
+    × NormalisedAs l T value (Some octets) (Some []) (Some []) (Some octets) (length octets) (length octets)
+written_as_given l T octets taken lawful fine s all =
+    let whole : take taken octets ≡ octets = take_all taken octets (omega (arith, all)) in
+    let text : octets ≡ der s.value = sym whole ∙ s.text in
+    let reads = reads_at_hand l T octets (Some octets) (Some []) taken lawful s
+    (sym (append-nil (take taken octets) ∙ whole)) in
+    normalised_as l T s.value (Some octets) (Some []) (Some []) (Some octets) (length octets) (length octets) lawful
+    fine (subst (ReadsValue l T s.value (Some octets) (Some [])) all reads) text (ap length text)
 
 pub in_part : (l : Limits) (T : TypeTerm) (w : Value) (before after old new : Option (List ℕ)) (taken written : ℕ)
     → Lawful T → IsLimits l → ReadsValue l T w before after taken → written ≤ length (der w)

@@ -16,7 +16,7 @@
 
 pub mod check;
 pub mod difference;
-mod in_der;
+pub mod in_der;
 mod keeping;
 pub mod normalise;
 pub mod value;

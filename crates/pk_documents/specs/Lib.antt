@@ -1,4 +1,5 @@
 pub mod Documents
+pub mod Encodings
 pub mod KindRows
 pub mod Kinds
 pub mod RequestParts
