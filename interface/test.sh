@@ -332,10 +332,14 @@ java_copies() (
     status=$?
     cat "$work/freed"
     [ $status = 0 ] && grep -qx '0 blocks with octets of the secret' "$work/freed" || exit 1
-    python3 -c 'import sys; sys.stdout.buffer.write(bytes.fromhex(sys.argv[1]))' \
-        "302e020100300506032b657004220420$COPIES_SECRET" > "$work/key"
-    LD_PRELOAD=$work/freed.so "$work/filter" normalise --kind key < "$work/key" > "$work/text" 2> "$work/freed" || exit
-    cmp "$work/text" "$work/key" || exit
+    # (a key in DER, and with a longer length, which isn't judged as it stands but read)
+    for length in 2e 812e; do
+        python3 -c 'import sys; sys.stdout.buffer.write(bytes.fromhex(sys.argv[1]))' \
+            "30${length}020100300506032b657004220420$COPIES_SECRET" > "$work/key_$length"
+    done
+    LD_PRELOAD=$work/freed.so "$work/filter" normalise --kind key < "$work/key_812e" > "$work/text" 2> "$work/freed" ||
+        exit
+    cmp "$work/text" "$work/key_2e" || exit
     cat "$work/freed"
     is_wiping || grep -qx '[1-9][0-9]* blocks with octets of the secret' "$work/freed" || exit 1
     echo "two arrays, and no freed blocks"

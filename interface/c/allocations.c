@@ -1,13 +1,23 @@
 /* allocations FILE..: whether pkder_check asks for memory where a document is in DER: a line for each file that is,
  * "judged" or "read", a tab and its name. Of a request of 10,000 attributes, a package of 1,000 keys and an encrypted
- * key without parameters it asks for none; of what isn't in DER it does. It is linked as counted.h says. */
+ * key without parameters it asks for none; of what isn't in DER it does. Where it asks for none, pkder_normalise and
+ * pkder_same don't either. It is linked as counted.h says. */
 #include "counted.h"
 #include "elements.h"
 
 enum { ATTRIBUTES = 10000, KEYS = 1000, ROOM = 1 << 18 };
 
-static uint8_t room[ROOM];
+static uint8_t room[ROOM], text[ROOM];
 static unsigned long documents;
+
+/* Normalises and compares a document in DER that is judged as it stands. */
+static void take_no_memory(const struct task *task, const uint8_t *octets, size_t len) {
+    asked = 0;
+    pkder_outcome said = pkder_normalise(task->what, task->depth, task->octets, octets, len, text, sizeof text);
+    CHECK(said.status == PKDER_ACCEPTED && said.size == len && memcmp(text, octets, len) == 0);
+    said = pkder_same(task->what, task->depth, task->octets, octets, len, text, len);
+    CHECK(said.status == PKDER_ACCEPTED && asked == 0);
+}
 
 /* Checks a document, of whatever kind it is; whether it is one. */
 static int check_document(const uint8_t *octets, size_t len, int *is_in_der, int *is_read) {
@@ -19,6 +29,9 @@ static int check_document(const uint8_t *octets, size_t len, int *is_in_der, int
         if (said.status != PKDER_FAULT) {
             *is_in_der = said.status == PKDER_ACCEPTED;
             *is_read = times > 0;
+            if (!*is_read) {
+                take_no_memory(&task, octets, len);
+            }
             return 1;
         }
     }

@@ -1,11 +1,12 @@
 /* judged COUNT SEED FILE..: whether pkder_check, which judges octets as they stand and reads those that it doesn't find
- * to be in DER so, agrees with pkder_normalise, which reads, on so many documents that are made of the files by chance.
+ * to be in DER so, agrees with pkder_normalise, pkder_same and pkder_signed on so many documents that are made of the
+ * files by chance.
  * A SEED of 0 draws one. It is linked as counted.h says. A document that fails is shown with its number, which makes it
  * again under the same seed. At the end stands what was said of each kind; the last line is
  * 'judged: N passed, M failed'.
  *
- * A document whose outermost element ends where its length says is read once more in another layout, which no judge
- * passes, whatever the other calls will do one day. */
+ * pkder_normalise and pkder_same judge, too. So a document whose outermost element ends where its length says is read
+ * once more in another layout, which no judge passes. */
 #define _DEFAULT_SOURCE
 #include <sys/mman.h>
 #include <time.h>
@@ -32,7 +33,7 @@ static pkder_outcome write_text(const struct question *it, uint8_t *text, size_t
     return do_task(&it->task, it->src, it->len, text, room);
 }
 
-/* What pkder_check has to say, by what was read, and the text that was written then. */
+/* What pkder_check has to say, by what was answered before, and the text that was written then. */
 static pkder_outcome due_of_check(const struct question *it, const pkder_outcome *read, const uint8_t *text) {
     if (read->status != PKDER_ACCEPTED) {
         return *read;
@@ -52,7 +53,7 @@ static int is_document(const pkder_outcome *said) {
     return said->status == PKDER_ACCEPTED || said->status == PKDER_NOT_DER;
 }
 
-/* pkder_same of the octets and themselves, both of which it reads. */
+/* pkder_same of the octets and themselves. */
 static int agrees_with_same(const struct question *it, const pkder_outcome *said) {
     pkder_outcome due = *said;
     due.which = 1;

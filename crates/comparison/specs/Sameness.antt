@@ -6,6 +6,7 @@ use Rattle.x690.specs.DerTexts.{der}
 use Rattle.x690.specs.Fitting.{Spells}
 use Rattle.x690.specs.TypeTerms.{TypeTerm}
 use Rattle.x690.specs.Values.{Same as SameValue, Value}
+use Rattle.pk_documents.specs.Encodings.{octets_of}
 use Rattle.explain.specs.Answers.{IsRefused}
 use Rattle.comparison.specs.declared.reading.DocumentReading.{DocumentReading}
 use Rattle.comparison.specs.declared.reading.DocumentReading.TheVariants.{Accepted, Refused as RefusedReading}
@@ -22,7 +23,7 @@ pub record IsAccepted (limits : Limits) (type : TypeTerm) (octets encoding : Lis
       → (der other ≡ der value) ↔ SameValue other value
 
 abbrev pub IsReading : Limits → TypeTerm → List ℕ → DocumentReading → Type 0
-IsReading limits type octets (Accepted encoding) = IsAccepted limits type octets encoding.items
+IsReading limits type octets (Accepted encoding) = IsAccepted limits type octets (octets_of encoding)
 IsReading limits type octets (RefusedReading fault) = IsRefused limits type octets fault
 
 -- why octets that were read are refused, if they are, and the DER encoding of those that are a document
@@ -31,7 +32,7 @@ fault_of (Accepted encoding) = None
 fault_of (RefusedReading fault) = Some fault
 
 abbrev pub encoding_of : DocumentReading → List ℕ
-encoding_of (Accepted encoding) = encoding.items
+encoding_of (Accepted encoding) = octets_of encoding
 encoding_of (RefusedReading fault) = []
 
 -- The octets are one document; or they are none, and have this fault.

@@ -3,22 +3,21 @@ ghost use Rattle.std.specs.Prelude.{◌≡◌, ◌||◌, IfOk, is_some};
 ghost use Rattle.pk_documents.specs.Kinds.{type_of};
 ghost use Rattle.comparison.specs.Sameness.{IsReading, encoding_of, fault_of};
 
+use pk_documents::encoding::{Encoding, encoding_of};
 use pk_documents::kind::Kind;
-use pk_documents::normalise::{NormaliseError, normalise_whole_document};
 use std::alloc::{AllocError, Global};
-use tlv_core::fault::{Fault, ReadError};
+use tlv_core::fault::Fault;
 use tlv_core::limits::Limits;
-use tlv_core::target::ToWrite;
 
 /// What octets are that have to be one document.
 #[derive(Drop)]
-pub(crate) enum DocumentReading {
+pub(crate) enum DocumentReading<'a> {
     /// A document, by its DER encoding.
-    Accepted(Vec<u8>),
+    Accepted(Encoding<'a>),
     Refused(Fault),
 }
 
-impl DocumentReading {
+impl DocumentReading<'_> {
     /// Why it is refused, if it is.
     pub(crate) fn fault(&self) -> Option<Fault>
         ensures { result ≡ fault_of self.now }
@@ -34,7 +33,7 @@ impl DocumentReading {
         ensures { result.now ≡ encoding_of self.now }
     {
         match self {
-            DocumentReading::Accepted(encoding) => encoding.as_slice(),
+            DocumentReading::Accepted(encoding) => encoding.octets(),
             DocumentReading::Refused(_) => &[],
         }
     }
@@ -48,23 +47,16 @@ pub fn is_any(fault: Option<Fault>, other: Option<Fault>) -> bool
 }
 
 /// Reads octets that have to be one document of the kind, all of them.
-pub(crate) fn read(
+pub(crate) fn read<'a>(
     alloc: Global,
-    octets: &[u8],
+    octets: &'a [u8],
     kind: Kind,
     limits: Limits,
-) -> Result<DocumentReading, AllocError>
+) -> Result<DocumentReading<'a>, AllocError>
     ensures { IfOk result (λ reading. IsReading limits (type_of kind) octets.now reading) }
 {
-    // (most documents are as long as their DER encodings)
-    let room = Vec::with_capacity(alloc, octets.len())?;
-    let mut source = octets;
-    let mut target = ToWrite::new(room);
-    match normalise_whole_document(alloc, &mut source, &mut target, kind, limits) {
-        Ok(_) => Ok(DocumentReading::Accepted(target.into_inner())),
-        Err(NormaliseError::Read(ReadError::Fault(fault))) => Ok(DocumentReading::Refused(fault)),
-        Err(NormaliseError::Read(ReadError::Read { at: _ })) => unreachable!(),
-        Err(NormaliseError::Read(ReadError::Memory)) => Err(AllocError),
-        Err(NormaliseError::Write(_)) => Err(AllocError),
+    match encoding_of(alloc, octets, kind, limits)? {
+        Ok(encoding) => Ok(DocumentReading::Accepted(encoding)),
+        Err(fault) => Ok(DocumentReading::Refused(fault)),
     }
 }

@@ -2,6 +2,7 @@
 use Rattle.std.proofs.Common.{◌≡◌, Bool, Err, IfErr, IfOk, List, Ok, Option, Result, inl, inr, subst, sym, ℕ}
 use Rattle.tlv_core.specs.Limits.{IsLimits, Limits}
 use Rattle.x690.specs.Values.{Value}
+use Rattle.pk_documents.specs.Encodings.{IsEncoding}
 use Rattle.pk_documents.specs.KindRows.{number_of as kind_number}
 use Rattle.pk_documents.specs.Kinds.{type_of}
 use Rattle.pk_documents.specs.declared.document.Document.{Document}
@@ -14,7 +15,7 @@ use Rattle.reports.specs.declared.report.Answer.{Answer}
 use Rattle.pkder_c.specs.Calls.{AreLines, Checked, Compared, FieldRefused, IsField, IsPartText, IsPlace, IsReport, IsSame, IsText, KindRefused, PairRefused, PartRefused, Put, PutReport, ReportRefused, Reported, Wrote}
 use Rattle.pkder_c.specs.Numbers.{IsFormNumber, IsFormOf, part_number}
 use Rattle.pkder_c.specs.Outcomes.{checked_outcome, compared_outcome, refused_outcome, uncompared_outcome}
-use Rattle.pkder_c.specs.Wholes.{IsWhole, WholeChecked, WholeFault, WholeLines, WholePairRefused, WholePart, WholeRefused, WholeSame, WholeText}
+use Rattle.pkder_c.specs.Wholes.{IsWhole, WholeChecked, WholeFault, WholeLines, WholePairRefused, WholePart, WholeRefused, WholeSame}
 use Rattle.pkder_c.specs.declared.outcome.PkderOutcome.{PkderOutcome}
 use Rattle.pkder_c.specs.declared.refusal.PairRefusal.{PairRefusal}
 use Rattle.pkder_c.specs.declared.refusal.PairRefusal.TheVariants as pairs
@@ -27,10 +28,10 @@ use Rattle.pkder_c.proofs.Wholes.{text_room}
 pub text_for : {V : Type 0} (r : Result V Refusal) (items : V → List ℕ) (number : ℕ) (kind : Kind)
     (made limits : Limits) (given : List ℕ)
     → kind_number kind ≡ number → made ≡ limits → IsLimits limits
-    → IfOk r (λ v. WholeText made (type_of kind) given (items v)) → IfOk r (λ v. IsText number limits given (items v))
+    → IfOk r (λ v. IsEncoding made (type_of kind) given (items v)) → IfOk r (λ v. IsText number limits given (items v))
 text_for (Ok v) items number kind made limits given k e fine h =
-    let whole : WholeText limits (type_of kind) given (items v) =
-    subst (λ z. WholeText z (type_of kind) given (items v)) e h in
+    let whole : IsEncoding limits (type_of kind) given (items v) =
+    subst (λ z. IsEncoding z (type_of kind) given (items v)) e h in
     (kind, k, fine, (whole, text_room limits (type_of kind) given (items v) fine whole))
 text_for (Err refusal) items number kind made limits given k e fine h = tt
 

@@ -1,7 +1,8 @@
 -- Octets that are one document, all of them: what is said where the source ends after it.
-use Rattle.std.proofs.Common.{◌≡◌, ◌↔◌, ◌∙◌, ◌⊎◌, ◌++◌, ◌*◌, ◌≤◌, Bool, Err, IfErr, IfOk, IsTrue, List, None, Ok, Option, Result, Some, [], ℕ, ap, append-nil, append_assoc, arith, inl, inr, length, subst, sym}
+use Rattle.std.proofs.Common.{◌≡◌, ◌↔◌, ◌∙◌, ◌⊎◌, ◌++◌, ◌*◌, ◌≤◌, Bool, Err, IfErr, IfOk, IsTrue, List, MatchResult, None, Ok, Option, Result, Some, [], ℕ, ap, append-nil, append_assoc, arith, inl, inr, length, refl, subst, sym}
 use Rattle.std.proofs.lemmas.List.{length-append}
 use Rattle.tlv_core.specs.Limits.{IsLimits, Limits}
+use Rattle.tlv_core.specs.declared.fault.Fault.{Fault}
 use Rattle.tlv_core.specs.declared.fault.ReadError.{ReadError}
 use Rattle.tlv_core.specs.declared.fault.ReadError.TheVariants as errors
 use Rattle.x690.specs.DerTexts.{der}
@@ -10,13 +11,12 @@ use Rattle.x690.specs.TypeTerms.{TypeTerm}
 use Rattle.x690.specs.Values.{Value}
 use Rattle.x690_laws.proofs.GrowthBounds.{growth_by_two}
 use Rattle.asn_documents.specs.Checked.{CheckedAs, Unchecked}
-use Rattle.asn_documents.specs.Normalised.{NormalisedAs, Took}
+use Rattle.asn_documents.specs.Normalised.{Took}
 use Rattle.asn_documents.specs.ReadValues.{ReadsValue}
-use Rattle.asn_documents.specs.WholeInputs.{Followed, RefusedWhole}
-use Rattle.asn_documents.specs.declared.normalise.NormaliseError.{NormaliseError}
-use Rattle.asn_documents.specs.declared.normalise.NormaliseError.TheVariants.{Read, Write}
+use Rattle.asn_documents.specs.WholeInputs.{Followed}
 use Rattle.asn_documents.proofs.Normalising.{took_as}
 use Rattle.pk_documents.specs.Documents.{kind_of}
+use Rattle.pk_documents.specs.Encodings.{IsEncoding}
 use Rattle.pk_documents.specs.Kinds.{type_of}
 use Rattle.pk_documents.specs.RequestParts.{part_of}
 use Rattle.pk_documents.specs.declared.document.Document.{Document}
@@ -27,8 +27,8 @@ use Rattle.pk_documents.proofs.LawfulKinds.{kinds_are_lawful}
 use Rattle.pk_documents.proofs.RequestParts.{part_same}
 use Rattle.pk_show.specs.Shown.{document_lines}
 use Rattle.explain.specs.Received.{NotReceived, Received}
-use Rattle.pkder_c.specs.Refusals.{first_refusal, unread_refusal, unwritten_refusal}
-use Rattle.pkder_c.specs.Wholes.{WholeChecked, WholeLines, WholePairRefused, WholeRefused, WholeSame, WholeText, WholeWritten}
+use Rattle.pkder_c.specs.Refusals.{first_refusal, second_refusal, unread_refusal}
+use Rattle.pkder_c.specs.Wholes.{WholeChecked, WholeFault, WholeLines, WholePairRefused, WholeRefused, WholeSame, WholeWritten}
 use Rattle.pkder_c.specs.declared.refusal.PairRefusal.{PairRefusal}
 use Rattle.pkder_c.specs.declared.refusal.Refusal.{Refusal}
 use Rattle.pkder_c.specs.declared.refusal.Refusal.TheVariants as refusals
@@ -56,37 +56,12 @@ reads_all l T v given rest taken ends r =
 
 -- ---- what was normalised
 
-text_all : (l : Limits) (T : TypeTerm) (given rest old new : List ℕ) (taken written : ℕ) → rest ≡ []
-    → (value : Value) × NormalisedAs l T value (Some given) (Some rest) (Some old) (Some new) taken written → old ≡ []
-    → WholeText l T given new
-text_all l T given rest old new taken written ends n none =
-    let v = n.0 in
-    let m = n.1 in
-    let taken_is : taken ≡ length given = count_all given rest m.took.octets taken ends m.took.takes m.took.taken_are in
-    let text_is : new ≡ der v = m.writes ∙ ap (λ z. z ++ der v) none in
-    let written_is : written ≡ length new = m.written_are ∙ ap length (sym text_is) in (
-      v,
-      subst (λ z. NormalisedAs l T v (Some given) (Some z) (Some []) (Some new) (length given) (length new)) ends
-          (subst (λ z. NormalisedAs l T v (Some given) (Some rest) (Some z) (Some new) (length given) (length new)) none
-          (subst (λ z. NormalisedAs l T v (Some given) (Some rest) (Some old) (Some new) z (length new)) taken_is
-          (subst (λ z. NormalisedAs l T v (Some given) (Some rest) (Some old) (Some new) taken z) written_is m))),
-    )
-
-pub text_made : {V : Type 0} (made written : V) (items : V → List ℕ) (l : Limits) (T : TypeTerm)
-    (given rest old : List ℕ) (taken count : ℕ)
-    → made ≡ written → rest ≡ []
-    → (value : Value) × NormalisedAs l T value (Some given) (Some rest) (Some old) (Some (items written)) taken count
-    → old ≡ [] → WholeText l T given (items made)
-text_made made written items l T given rest old taken count same ends n none =
-    subst (λ z. WholeText l T given (items z)) (sym same)
-    (text_all l T given rest old (items written) taken count ends n none)
-
 by_two : (l : Limits) (T : TypeTerm) (v : Value) (octets : List ℕ) → IsLimits l → Spells l T v octets
     → length (der v) ≤ 2 * length octets
 by_two l T v octets fine s =
     growth_by_two _ _ _ _ v octets (omega (arith, fine.most_octets, s.octets_fit)) s.laid_out s.fits
 
-pub text_room : (l : Limits) (T : TypeTerm) (given text : List ℕ) → IsLimits l → WholeText l T given text
+pub text_room : (l : Limits) (T : TypeTerm) (given text : List ℕ) → IsLimits l → IsEncoding l T given text
     → length text ≤ 2 * length given
 text_room l T given text fine whole =
     let n = whole.1 in
@@ -108,7 +83,7 @@ place_made l T given rest taken place ends c =
 -- ---- what was compared
 
 pub same_made : (l : Limits) (T : TypeTerm) (first second text other : List ℕ) (same : Bool)
-    → (IsTrue same ↔ (text ≡ other)) → WholeText l T first text → WholeText l T second other
+    → (IsTrue same ↔ (text ≡ other)) → IsEncoding l T first text → IsEncoding l T second other
     → WholeSame l T first second same
 same_made l T first second text other same is n m =
     let took = n.1.took in
@@ -134,6 +109,18 @@ pub first_pair : (l : Limits) (T : TypeTerm) (first second : List ℕ) (refusal 
     → made ≡ first_refusal refusal → WholeRefused l T first refusal → WholePairRefused l T first second made
 first_pair l T first second refusal made is h =
     subst (WholePairRefused l T first second) (sym is) (first_made l T first second refusal h)
+
+second_made : (l : Limits) (T : TypeTerm) (first second text : List ℕ) (refusal : Refusal) → IsEncoding l T first text
+    → WholeRefused l T second refusal → WholePairRefused l T first second (second_refusal refusal)
+second_made l T first second text refusals.Call n h = absurd h
+second_made l T first second text (refusals.Fault found) n h = ((n.0, n.1.took), h)
+second_made l T first second text refusals.Memory n h = tt
+
+pub second_pair : (l : Limits) (T : TypeTerm) (first second text : List ℕ) (refusal : Refusal) (made : PairRefusal)
+    → made ≡ second_refusal refusal → IsEncoding l T first text → WholeRefused l T second refusal
+    → WholePairRefused l T first second made
+second_pair l T first second text refusal made is n h =
+    subst (WholePairRefused l T first second) (sym is) (second_made l T first second text refusal n h)
 
 -- ---- what was shown, and parts
 
@@ -197,17 +184,33 @@ pub unread_made : (l : Limits) (T : TypeTerm) (error : ReadError) (refusal : Ref
     → WholeRefused l T given refusal
 unread_made l T error refusal given rest is h = subst (WholeRefused l T given) (sym is) (unread l T error given rest h)
 
+-- so whatever the source tells after it
+pub found_whole : (l : Limits) (T : TypeTerm) (found : Fault) (given : List ℕ) (after : Option (List ℕ))
+    → Unchecked l T (errors.Fault found) (Some given) after ⊎ Followed l T (errors.Fault found) (Some given) after
+    → WholeFault l T found given
+found_whole l T found given None (inl u) = absurd u.0
+found_whole l T found given None (inr f) = absurd f.takes
+found_whole l T found given (Some rest) h = unread l T (errors.Fault found) given rest h
+
+found_is : {E : Type 0} (answer : Result E Fault) (fault found : Fault) → answer ≡ Err fault → answer ≡ Err found
+    → fault ≡ found
+found_is answer fault found is is' = cc
+
+-- so of an encoding that there isn't
+pub refused_whole : {E : Type 0} (l : Limits) (T : TypeTerm) (given : List ℕ) (answer : Result E Fault) (found : Fault)
+    (Encoded : E → Type 0)
+    → answer ≡ Err found
+    → MatchResult answer Encoded
+    (λ fault. (after : Option (List ℕ))
+    × (Unchecked l T (errors.Fault fault) (Some given) after ⊎ Followed l T (errors.Fault fault) (Some given) after))
+    → WholeFault l T found given
+refused_whole l T given (Ok encoding) found Encoded is h = absurd cc
+refused_whole l T given (Err fault) found Encoded is h =
+    subst (λ z. WholeFault l T z given) (found_is (Err fault) fault found refl is) (found_whole l T fault given h.0 h.1)
+
 not_received : (l : Limits) (error : ReadError) (given : List ℕ) → NotReceived l given error
     → WholeRefused l (type_of Request) given (unread_refusal error)
-not_received l (errors.Fault found) given h = go h.0 h.1
-  where
-    go : (after : Option (List ℕ))
-        → Unchecked l (type_of Request) (errors.Fault found) (Some given) after
-        ⊎ Followed l (type_of Request) (errors.Fault found) (Some given) after
-        → WholeRefused l (type_of Request) given (refusals.Fault found)
-    go None (inl u) = absurd u.0
-    go None (inr f) = absurd f.takes
-    go (Some rest) h = unread l (type_of Request) (errors.Fault found) given rest h
+not_received l (errors.Fault found) given h = found_whole l (type_of Request) found given h.0 h.1
 not_received l (errors.Read at) given h = absurd h
 not_received l errors.Memory given h = tt
 
@@ -215,15 +218,3 @@ pub not_received_made : (l : Limits) (error : ReadError) (refusal : Refusal) (gi
     → refusal ≡ unread_refusal error → NotReceived l given error → WholeRefused l (type_of Request) given refusal
 not_received_made l error refusal given is h =
     subst (WholeRefused l (type_of Request) given) (sym is) (not_received l error given h)
-
-unwritten : (l : Limits) (T : TypeTerm) (error : NormaliseError) (given rest : List ℕ) (old new : Option (List ℕ))
-    → RefusedWhole l T error (Some given) (Some rest) old new → WholeRefused l T given (unwritten_refusal error)
-unwritten l T (Read error) given rest old new h = unread l T error given rest h
-unwritten l T (Write error) given rest old new h = tt
-
-pub unwritten_made : (l : Limits) (T : TypeTerm) (error : NormaliseError) (refusal : Refusal) (given rest : List ℕ)
-    (old new : Option (List ℕ))
-    → refusal ≡ unwritten_refusal error → RefusedWhole l T error (Some given) (Some rest) old new
-    → WholeRefused l T given refusal
-unwritten_made l T error refusal given rest old new is h =
-    subst (WholeRefused l T given) (sym is) (unwritten l T error given rest old new h)

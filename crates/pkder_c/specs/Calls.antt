@@ -4,6 +4,7 @@ use Rattle.tlv_core.specs.Limits.{IsLimits, Limits}
 use Rattle.tlv_core.specs.Reasons.{name_of, number_of}
 use Rattle.tlv_core.specs.declared.reason.Reason.{Reason}
 use Rattle.x690.specs.Values.{Value}
+use Rattle.pk_documents.specs.Encodings.{IsEncoding}
 use Rattle.pk_documents.specs.KindRows.{IsKindNumber, number_of as kind_number}
 use Rattle.pk_documents.specs.Kinds.{type_of}
 use Rattle.pk_documents.specs.declared.document.Document.{Document}
@@ -15,7 +16,7 @@ use Rattle.explain.specs.declared.written.Form.{Form}
 use Rattle.reports.specs.declared.report.Answer.{Answer}
 use Rattle.pkder_c.specs.Numbers.{IsFormNumber, IsFormOf, IsPartNumber, IsReasonNumber, part_number}
 use Rattle.pkder_c.specs.Outcomes.{accepted_outcome, checked_outcome, compared_outcome, refused_outcome, reported_outcome, too_small_outcome, uncompared_outcome, unreported_outcome}
-use Rattle.pkder_c.specs.Wholes.{IsWhole, WholeChecked, WholeFault, WholeLines, WholePart, WholeSame, WholeText}
+use Rattle.pkder_c.specs.Wholes.{IsWhole, WholeChecked, WholeFault, WholeLines, WholePart, WholeSame}
 use Rattle.pkder_c.specs.declared.outcome.PkderOutcome.{PkderOutcome}
 use Rattle.pkder_c.specs.declared.refusal.PairRefusal.{PairRefusal}
 use Rattle.pkder_c.specs.declared.refusal.PairRefusal.TheVariants as pairs
@@ -34,7 +35,7 @@ ForPart number limits P = (part : RequestPart) × (part_number part ≡ number) 
 abbrev pub IsText : ℕ → Limits → List ℕ → List ℕ → Type 0
 IsText number limits given text =
     ForKind number limits
-    (λ allowed kind. WholeText allowed (type_of kind) given text × (length text ≤ 2 * length given))
+    (λ allowed kind. IsEncoding allowed (type_of kind) given text × (length text ≤ 2 * length given))
 
 -- They are one, and this is the first place where they aren't in DER.
 abbrev pub IsPlace : ℕ → Limits → List ℕ → Option ℕ → Type 0

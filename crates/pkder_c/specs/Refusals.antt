@@ -1,8 +1,6 @@
 -- Why a call has nothing to answer, by the errors of what it calls.
 use Rattle.tlv_core.specs.declared.fault.ReadError.{ReadError}
 use Rattle.tlv_core.specs.declared.fault.ReadError.TheVariants as errors
-use Rattle.asn_documents.specs.declared.normalise.NormaliseError.{NormaliseError}
-use Rattle.asn_documents.specs.declared.normalise.NormaliseError.TheVariants.{Read, Write}
 use Rattle.pkder_c.specs.declared.refusal.PairRefusal.{PairRefusal}
 use Rattle.pkder_c.specs.declared.refusal.PairRefusal.TheVariants as pairs
 use Rattle.pkder_c.specs.declared.refusal.Refusal.{Refusal}
@@ -12,10 +10,6 @@ abbrev pub unread_refusal : ReadError → Refusal
 unread_refusal (errors.Fault found) = refusals.Fault found
 unread_refusal (errors.Read at) = refusals.Memory
 unread_refusal errors.Memory = refusals.Memory
-
-abbrev pub unwritten_refusal : NormaliseError → Refusal
-unwritten_refusal (Read error) = unread_refusal error
-unwritten_refusal (Write error) = refusals.Memory
 
 -- Why two documents are not compared, by why one of them has nothing to answer.
 abbrev pub first_refusal : Refusal → PairRefusal

@@ -11,7 +11,7 @@ use Rattle.x690.specs.Points.{fault}
 use Rattle.x690.specs.TypeTerms.{TypeTerm}
 use Rattle.x690.specs.Values.{Same, Value}
 use Rattle.asn_documents.specs.Checked.{CheckedAs}
-use Rattle.asn_documents.specs.Normalised.{NormalisedAs, Took, Unspelled}
+use Rattle.asn_documents.specs.Normalised.{Took, Unspelled}
 use Rattle.asn_documents.specs.ReadValues.{ReadsValue}
 use Rattle.pk_documents.specs.Documents.{kind_of}
 use Rattle.pk_documents.specs.Kinds.{type_of}
@@ -29,14 +29,7 @@ use Rattle.pkder_c.specs.declared.refusal.PairRefusal.TheVariants as pairs
 use Rattle.pkder_c.specs.declared.refusal.Refusal.{Refusal}
 use Rattle.pkder_c.specs.declared.refusal.Refusal.TheVariants as refusals
 
--- All of the octets spell one value, and the text is its DER text; and so on, as `NormalisedAs` says of a source that
--- ends there and a target that was empty.
-abbrev pub WholeText : Limits → TypeTerm → List ℕ → List ℕ → Type 0
-WholeText limits type given text =
-    (value : Value)
-    × NormalisedAs limits type value (Some given) (Some []) (Some []) (Some text) (length given) (length text)
-
--- They spell one value, and this is the first place where they differ from its DER text, if they do.
+-- All of the octets spell one value, and this is the first place where they differ from its DER text, if they do.
 abbrev pub WholeChecked : Limits → TypeTerm → List ℕ → Option ℕ → Type 0
 WholeChecked limits type given place =
     (value : Value) × CheckedAs limits type value (Some given) (Some []) (length given) place

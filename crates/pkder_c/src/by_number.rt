@@ -1,5 +1,6 @@
 //! Documents by arguments that are numbers.
 ghost use Rattle.std.specs.Prelude.{IfErr, IfOk};
+ghost use Rattle.pk_documents.specs.Encodings.{octets_of};
 ghost use Rattle.pkder_c.specs.Calls.{AreLines, FieldRefused, IsField, IsPartText, IsPlace, IsReport, IsSame, IsText};
 ghost use Rattle.pkder_c.specs.Calls.{KindRefused, PairRefused, PartRefused, ReportRefused};
 
@@ -9,19 +10,20 @@ use crate::whole::{
     whole_field, whole_lines, whole_part, whole_place, whole_report, whole_same, whole_text,
 };
 use pk_documents::document::{Document, Valued};
+use pk_documents::encoding::Encoding;
 use reports::report::Answer;
 use std::alloc::Global;
 
 /// The document's DER text.
-pub fn text_of(
+pub fn text_of<'a>(
     alloc: Global,
     kind: u32,
     depth: u32,
     octets: u64,
-    src: &[u8],
-) -> Result<Vec<u8>, Refusal>
+    src: &'a [u8],
+) -> Result<Encoding<'a>, Refusal>
     ensures text { IfOk result (λ text. IsText kind
-        (record { depth = depth; octets = octets }) src.now text.items) }
+        (record { depth = depth; octets = octets }) src.now (octets_of text)) }
     ensures refused { IfErr result (KindRefused kind
         (record { depth = depth; octets = octets }) src.now) }
 {

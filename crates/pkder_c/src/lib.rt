@@ -21,7 +21,7 @@ mod refusal;
 mod whole;
 
 use crate::by_number::{field_of, lines_of, part_of, place_of, report_of, same_of, text_of};
-use crate::delivery::{deliver, pair_outcome, place_outcome, report};
+use crate::delivery::{deliver, deliver_encoding, pair_outcome, place_outcome, report};
 use crate::numbers::reason_of;
 use crate::outcome::PkderOutcome;
 use pk_documents::document::{Document, Valued};
@@ -50,7 +50,7 @@ pub extern "C" fn pkder_normalise(
         (KindRefused kind (record { depth = depth; octets = octets }) src.now)
         (length src.now) dst.old dst.new result }
 {
-    deliver(text_of(alloc, kind, depth, octets, src), src, dst)
+    deliver_encoding(text_of(alloc, kind, depth, octets, src), src, dst)
 }
 
 /// Whether the document is in DER, or where it first isn't.

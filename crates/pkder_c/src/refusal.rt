@@ -1,8 +1,7 @@
 //! Why a call has nothing to answer.
 ghost use Rattle.std.specs.Prelude.{◌≡◌};
-ghost use Rattle.pkder_c.specs.Refusals.{first_refusal, second_refusal, unread_refusal, unwritten_refusal};
+ghost use Rattle.pkder_c.specs.Refusals.{first_refusal, second_refusal, unread_refusal};
 
-use pk_documents::normalise::NormaliseError;
 use tlv_core::fault::{Fault, ReadError};
 
 /// Why there is nothing to answer.
@@ -58,15 +57,5 @@ pub fn unread(error: &ReadError) -> Refusal
     match error {
         ReadError::Fault(fault) => Refusal::Fault(*fault),
         ReadError::Read { .. } | ReadError::Memory => Refusal::Memory,
-    }
-}
-
-/// Why a document was not normalised. So does writing to memory.
-pub fn unwritten(error: &NormaliseError) -> Refusal
-    ensures { result ≡ unwritten_refusal error.now }
-{
-    match error {
-        NormaliseError::Read(error) => unread(error),
-        NormaliseError::Write(_) => Refusal::Memory,
     }
 }

@@ -1,5 +1,6 @@
 //! Octets that have to be one document, all of them.
 ghost use Rattle.std.specs.Prelude.{◌≡◌, IfErr, IfOk};
+ghost use Rattle.pk_documents.specs.Encodings.{IsEncoding, octets_of};
 ghost use Rattle.pk_documents.specs.Kinds.{type_of};
 ghost use Rattle.pk_documents.specs.RequestParts.{part_of};
 ghost use Rattle.pk_documents.specs.declared.kind.Kind.TheVariants.{Request as request_kind};
@@ -7,18 +8,18 @@ ghost use Rattle.pk_show.specs.Shown.{document_lines};
 ghost use Rattle.explain.specs.Received.{Received};
 ghost use Rattle.explain.specs.Written.{IsFieldOf, IsWritten};
 ghost use Rattle.pkder_c.specs.Wholes.{WholeChecked, WholeLines, WholePairRefused, WholePart, WholeRefused};
-ghost use Rattle.pkder_c.specs.Wholes.{WholeSame, WholeText, WholeWritten};
+ghost use Rattle.pkder_c.specs.Wholes.{WholeSame, WholeWritten};
 ghost use Rattle.pkder_c.specs.declared.refusal.Refusal.TheVariants.{Memory};
 
-use crate::refusal::{PairRefusal, Refusal, first_refused, second_refused, unread, unwritten};
+use crate::refusal::{PairRefusal, Refusal, first_refused, second_refused, unread};
 use asn_documents::whole::read_whole_input;
 use asn_values::der_text::DerText;
 use explain::received::{RequestPart, received};
 use explain::written::{Form, explain_text, explained_field};
 use pk_documents::check::check_whole_document;
 use pk_documents::document::{Document, Valued, read_whole_document};
+use pk_documents::encoding::{Encoding, encoding_of};
 use pk_documents::kind::Kind;
-use pk_documents::normalise::normalise_whole_document;
 use pk_documents::request_part::{Part, write_part};
 use pk_show::show_text;
 use pkcs10::request::CertificationRequest;
@@ -28,19 +29,19 @@ use tlv_core::limits::Limits;
 use tlv_core::target::ToWrite;
 
 /// The document's DER text.
-pub fn whole_text(alloc: Global, kind: Kind, limits: Limits, src: &[u8]) -> Result<Vec<u8>, Refusal>
-    ensures text { IfOk result (λ text. WholeText limits (type_of kind) src.now text.items) }
+pub fn whole_text<'a>(
+    alloc: Global,
+    kind: Kind,
+    limits: Limits,
+    src: &'a [u8],
+) -> Result<Encoding<'a>, Refusal>
+    ensures text { IfOk result (λ text. IsEncoding limits (type_of kind) src.now (octets_of text)) }
     ensures refused { IfErr result (WholeRefused limits (type_of kind) src.now) }
 {
-    // (most documents are as long as their DER texts)
-    let Ok(room) = Vec::with_capacity(alloc, src.len()) else {
-        return Err(Refusal::Memory);
-    };
-    let mut rest = src;
-    let mut target = ToWrite::new(room);
-    match normalise_whole_document(alloc, &mut rest, &mut target, kind, limits) {
-        Ok(_) => Ok(target.into_inner()),
-        Err(error) => Err(unwritten(&error)),
+    match encoding_of(alloc, src, kind, limits) {
+        Ok(Ok(encoding)) => Ok(encoding),
+        Ok(Err(fault)) => Err(Refusal::Fault(fault)),
+        Err(_) => Err(Refusal::Memory),
     }
 }
 
@@ -77,7 +78,7 @@ pub fn whole_same(
         Err(refusal) => return Err(first_refused(&refusal)),
     };
     match whole_text(alloc, kind, limits, second) {
-        Ok(other) => Ok(text == other),
+        Ok(other) => Ok(text.octets() == other.octets()),
         Err(refusal) => Err(second_refused(&refusal)),
     }
 }
