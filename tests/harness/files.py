@@ -16,6 +16,7 @@ import stat
 import subprocess
 import sys
 import tempfile
+import time
 from pathlib import Path
 
 TOP = sys.path[0] = str(Path(__file__).resolve().parents[2])
@@ -426,6 +427,69 @@ def streamed_in_turn(at):
     yield "check --each, its status", 1, ran.returncode
 
 
+def sized(size):
+    """A key as `in_both_forms` has it, of so many octets in DER; four are those of its header."""
+    der, loose = next(it for it in map(in_both_forms, range(size)) if len(it[0]) == size)
+    return der, loose
+
+
+def read_ahead(at):
+    """Runs over files that are shorter and longer than what is read of one at once, 512 to 8,192 octets, and over such
+    as can't be read, or whose length the system doesn't know."""
+    check = ("check", "-k", "key")
+    for size in (511, 512, 513, 8191, 8192, 8193, 16384, 16385):
+        der, loose = sized(size)
+        for name, octets in ((b"sized", der), (b"loose", loose), (b"short", der[:-1]), (b"more", der + b"\0")):
+            at.write(name, octets)
+        due = (f"sized: DER\nloose: not DER at 1\nshort: fault at {size - 1}: Truncated\n"
+               f"more: fault at {size}: Trailing\n")
+        names = ("sized", "loose", "short", "more")
+        yield f"check, files of {size} octets", (2, due, ""), at.run(*check, *names)
+        yield (f"check, files of {size} octets in a list", (2, due, ""),
+               at.run(*check, "--files0-from", "-", given="\0".join(names).encode()))
+        yield f"same, files of {size} octets", (0, "the same document\n", ""), at.run(
+            "same", "-k", "key", "sized", "loose")
+        status, text, error = at.run("normalise", "-k", "key", "loose")
+        yield (f"normalise, a file of {size} octets", (0, der, ""),
+               (status, text.encode("utf-8", "surrogateescape"), error))
+    at.write(b"empty", b"")
+    due = "empty: fault at 0: Truncated\nder: DER\n"
+    yield "check, an empty file", (2, due, ""), at.run(*check, "empty", "der")
+    yield "check, an empty file in a list", (2, due, ""), at.run(*check, "--files0-from", "-", given=b"empty\0der\0")
+    # (regular files of length 0: of the first the octets at 0 can't be read, and the second begins with a letter)
+    due = "/proc/self/mem: read failed at 0\n/proc/version: fault at 0: WrongTag\nder: DER\n"
+    names = ("/proc/self/mem", "/proc/version", "der")
+    yield "check, files of the system", (3, due, ""), at.run(*check, *names)
+    yield ("check, files of the system in a list", (3, due, ""),
+           at.run(*check, "--files0-from", "-", given="\0".join(names).encode()))
+    for words in (("normalise", "-k", "key"), ("same", "-k", "key", "der"), ("check", "-k", "key", "--files0-from")):
+        told = "/proc/self/mem: read failed\n" if "--files0-from" in words else "/proc/self/mem: read failed at 0\n"
+        yield f"{words[0]}, a file that can't be read", (3, "", told), at.run(*words, "/proc/self/mem")
+
+
+def read_when_asked(at):
+    """A run of same over two FIFOs, whose writer opens both before it writes to either."""
+    names = [f"{at.path}/{it}" for it in ("left", "right")]
+    for name in names:
+        os.mkfifo(name)
+    how = {"stdout": subprocess.PIPE, "stderr": subprocess.PIPE, "cwd": at.path}
+    with subprocess.Popen([at.program, "same", "-k", "key", "left", "right"], **how) as ran:
+        end = time.monotonic() + SECONDS
+        writers = []
+        while len(writers) < 2 and time.monotonic() < end and ran.poll() is None:
+            # (a FIFO that nobody reads yet isn't opened to be written to without waiting)
+            try:
+                writers.append(os.open(names[len(writers)], os.O_WRONLY | os.O_NONBLOCK))
+            except OSError:
+                time.sleep(0.01)
+        for writer, octets in zip(writers, (DER, BER)):
+            os.write(writer, octets)
+            os.close(writer)
+        said, told = ran.communicate(timeout=SECONDS) if len(writers) == 2 else (b"", b"")
+        ran.kill()
+    yield "same, two FIFOs", (2, b"the same document\n", b""), (len(writers), said, told)
+
+
 def paired(at):
     """Runs of same."""
     same, key = ("same", "-k", "key"), ("same", "--key", "-k", "key")
@@ -562,7 +626,7 @@ def closed(at):
 def looks(program):
     """Each run of the program, and whether it is right."""
     for runs in (judged, listed, noted, noted_tls, told_in_json, kinds_found, summed, streamed, streamed_in_turn,
-                 paired, agreed, made, closed):
+                 read_ahead, read_when_asked, paired, agreed, made, closed):
         at = Folder(program)
         try:
             for what, due, found in runs(at):

@@ -1,5 +1,6 @@
 pub mod AnyReplies
 pub mod BlockTargets
+pub mod Buffers
 pub mod Comparisons
 pub mod Conversions
 pub mod EachSteps

@@ -1,4 +1,5 @@
 pub mod BlockTargets
+pub mod Buffers
 pub mod Comparisons
 pub mod Conversions
 pub mod Each

@@ -1,14 +1,17 @@
 //! Names that are ended by an octet 0, as `find -print0` writes them.
-ghost use Rattle.std.specs.Prelude.{◌≡◌, ◌<◌, IfErr, IfOk, None, Option, Some, [], true};
+ghost use Rattle.std.specs.Prelude.{◌≡◌, ◌++◌, ◌∷◌, IfErr, IfOk, None, OnOk, Option, Some, [], true};
 ghost use Rattle.commands.specs.NameLists.{TakesOctet};
 ghost use Rattle.commands.specs.declared.names.NamesFault.TheVariants.{Read};
 
 use crate::names::{Names, NamesFault};
-use std::alloc::Global;
+use std::alloc::{AllocError, Global};
 use tlv_core::source::{Failed, Source};
 
 /// A name has as many octets, at most.
 const MOST: usize = 65_536;
+
+/// Most names have as many, at most.
+const USUAL: usize = 64;
 
 /// The names that are known of a source, each ended by an octet 0; the last one may be ended by the end.
 #[derive(Drop)]
@@ -41,7 +44,7 @@ impl<R: Source> Names for EndedNames<R> {
             match next_octet(&mut self.src)? {
                 Some(0) => return Ok(Some(name)),
                 Some(octet) => {
-                    if name.push(octet).is_err() {
+                    if push(&mut name, octet).is_err() {
                         return Err(NamesFault::Memory);
                     }
                 }
@@ -53,6 +56,17 @@ impl<R: Source> Names for EndedNames<R> {
     }
 }
 
+/// Appends an octet. Room for a name of usual length is asked for with the first one.
+fn push(name: &mut Vec<u8>, octet: u8) -> Result<(), AllocError>
+    ensures { OnOk result (name.new.items ≡ name.old.items ++ octet ∷ []) }
+{
+    if name.is_empty() {
+        name.reserve(USUAL)?;
+    }
+    name.push(octet)?;
+    Ok(())
+}
+
 /// The next octet, or `None` at the end.
 fn next_octet<R: Source>(src: &mut R) -> Result<Option<u8>, NamesFault>
     ensures octet { IfOk result (TakesOctet (R.remaining src.old) (R.remaining src.new)) }
@@ -60,6 +74,11 @@ fn next_octet<R: Source>(src: &mut R) -> Result<Option<u8>, NamesFault>
 {
     if src.failed() {
         return Err(NamesFault::Read);
+    }
+    if let [octet, ..] = src.held() {
+        let octet = *octet;
+        src.pass(1);
+        return Ok(Some(octet));
     }
     let mut room = [0u8; 1];
     match src.read(&mut room) {

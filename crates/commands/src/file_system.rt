@@ -1,11 +1,18 @@
 //! Documents in files.
-ghost use Rattle.std.specs.Prelude.{None};
+ghost use Rattle.std.specs.Prelude.{◌≡◌, IfOk, None, false};
+ghost use Rattle.commands.specs.Buffers.{is_telling, read_failed, room_for};
 
+use crate::from_buffer::FromBuffer;
 use crate::opener::{Opener, Unopened};
 use std::alloc::Global;
-use std::fs::{self, File, Files, OpenFile};
-use std::io::{BufReader, ErrorKind};
-use tlv_core::source::FromRead;
+use std::fs::{self, File, Files, Metadata, OpenFile};
+use std::io::{BufReader, ErrorKind, Read};
+
+/// As many octets are read ahead of a file at most, and of one whose length isn't known.
+const MOST: u64 = 8192;
+
+/// There is room for as many, however short a file is: it may grow while it is read.
+const LEAST: u64 = 512;
 
 /// Opens files by their paths. What they contain isn't known.
 #[derive(Drop)]
@@ -20,59 +27,80 @@ impl<'a, R: Files> FileSystem<'a, R> {
 }
 
 impl<R: Files> Opener for FileSystem<'_, R> {
-    type Document = FromRead<BufReader<R::File>>;
+    type Document = FromBuffer<R::File>;
 
     ghost known = { λ _ _. None };
 
     // (which file a name has is the system's to say)
     ghost refuses = { λ _ _ _. Unit {0} };
 
-    fn open(&self, alloc: Global, name: &[u8]) -> Result<FromRead<BufReader<R::File>>, Unopened> {
-        let Ok(path) = std::str::from_utf8(name) else {
-            return Err(Unopened::NotUtf8);
-        };
-        let file = match File::open(self.files, path) {
-            Ok(file) => file,
-            Err(error) => return Err(unopened(error.kind())),
-        };
-        if is_directory(&file) {
-            return Err(Unopened::Directory);
-        }
-        match BufReader::new(alloc, file) {
-            Ok(reader) => Ok(FromRead::new(reader)),
-            Err(_) => Err(Unopened::Memory),
-        }
+    fn open(&self, alloc: Global, name: &[u8]) -> Result<FromBuffer<R::File>, Unopened> {
+        let file = file_at(self.files, path_of(name)?)?;
+        let found = file.metadata().ok();
+        document(alloc, file, found.as_ref())
     }
 
-    fn open_regular(
-        &self,
-        alloc: Global,
-        name: &[u8],
-    ) -> Result<FromRead<BufReader<R::File>>, Unopened> {
-        if is_irregular(self.files, name) {
+    fn open_regular(&self, alloc: Global, name: &[u8]) -> Result<FromBuffer<R::File>, Unopened> {
+        let path = path_of(name)?;
+        let Ok(found) = fs::metadata(self.files, path) else {
+            return self.open(alloc, name);
+        };
+        if !found.is_file() && !found.is_dir() {
             return Err(Unopened::Irregular);
         }
-        self.open(alloc, name)
+        document(alloc, file_at(self.files, path)?, Some(&found))
     }
 }
 
-/// Whether a name is known to be that of a FIFO, a socket or a device.
-fn is_irregular<R: Files>(files: &R, name: &[u8]) -> bool {
-    let Ok(path) = std::str::from_utf8(name) else {
-        return false;
+/// The path that a name is.
+fn path_of(name: &[u8]) -> Result<&str, Unopened> {
+    match std::str::from_utf8(name) {
+        Ok(path) => Ok(path),
+        Err(_) => Err(Unopened::NotUtf8),
+    }
+}
+
+/// The file that a path leads to, opened.
+fn file_at<R: Files>(files: &R, path: &str) -> Result<R::File, Unopened> {
+    match File::open(files, path) {
+        Ok(file) => Ok(file),
+        Err(error) => Err(unopened(error.kind())),
+    }
+}
+
+/// The document in an open file of which this is known; none in a directory, which the system opens like a file. The
+/// first block of a regular file is read: another one may have to wait for whoever writes it.
+fn document<F: Read + Drop>(
+    alloc: Global,
+    file: F,
+    found: Option<&Metadata>,
+) -> Result<FromBuffer<F>, Unopened>
+    ensures silent { IfOk result (λ source. is_telling source ≡ false) }
+    ensures fresh { IfOk result (λ source. read_failed source ≡ false) }
+{
+    let (length, is_regular) = match found {
+        Some(found) if found.is_dir() => return Err(Unopened::Directory),
+        Some(found) => (found.len(), found.is_file()),
+        None => (0, false),
     };
-    match fs::metadata(files, path) {
-        Ok(found) => !found.is_file() && !found.is_dir(),
-        Err(_) => false,
+    let Ok(reader) = BufReader::with_capacity(alloc, room_for(length), file) else {
+        return Err(Unopened::Memory);
+    };
+    let mut source = FromBuffer::new(reader);
+    if is_regular {
+        source.fill();
     }
+    Ok(source)
 }
 
-/// Whether it is known to be a directory, which the system opens like a file.
-fn is_directory<F: OpenFile>(file: &F) -> bool {
-    match file.metadata() {
-        Ok(metadata) => metadata.is_dir(),
-        Err(_) => false,
+/// Room for what a file has of so many octets, which the system says are 0 where it doesn't know.
+fn room_for(length: u64) -> usize
+    ensures { result ≡ room_for length }
+{
+    if length == 0 {
+        return MOST as usize;
     }
+    length.clamp(LEAST, MOST) as usize
 }
 
 /// Why a file isn't opened, by the kind of the error.

@@ -12,7 +12,7 @@ ghost use Rattle.commands.specs.Tallies.{verdict_of_came};
 
 use crate::fronted::in_front_of_each;
 use crate::lines::{LineWords, NamedLine};
-use crate::name::{file_name, shown_name};
+use crate::name::{file_name, push_shown_name};
 use crate::names::{Names, NamesFault};
 use crate::opener::{Opener, Unopened};
 use crate::outcome::{Outcome, outcome_words, plain_words, status};
@@ -25,6 +25,9 @@ use pk_documents::document::{Document, Valued};
 use pk_documents::kind::Kind;
 use std::alloc::{AllocError, Global};
 use tlv_core::target::{Target, ToWrite};
+
+/// What comes after a name has as many octets, at most.
+const AFTER: usize = 2;
 
 /// What came of a document that has a name.
 #[derive(Clone, Copy, Debug, PartialEq, Eq)]
@@ -223,7 +226,8 @@ fn named_text(
 ) -> Result<Vec<u8>, AllocError>
     ensures { IfOk result (λ text. text.items ≡ named_text action name.now written.now) }
 {
-    let mut front = Vec::new(alloc);
+    let room = name.len().saturating_add(written.len());
+    let mut front = Vec::with_capacity(alloc, room.saturating_add(AFTER))?;
     push_front_of(alloc, &mut front, action, name)?;
     if fronts_lines(action) {
         return in_front_of_each(alloc, front.as_slice(), written);
@@ -303,8 +307,7 @@ fn after_front(is_brief: bool) -> &'static str
 fn push_front(alloc: Global, text: &mut Vec<u8>, name: &[u8], after: &str) -> Result<(), AllocError>
     ensures { OnOk result (text.new.items ≡ text.old.items ++ shown_name name.now ++ after.now) }
 {
-    let shown = shown_name(alloc, name)?;
-    text.extend_from_slice(shown.as_bytes())?;
+    push_shown_name(alloc, text, name)?;
     text.extend_from_slice(after.as_bytes())
 }
 

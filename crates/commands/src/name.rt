@@ -1,5 +1,5 @@
 //! Names as they are shown.
-ghost use Rattle.std.specs.Prelude.{◌≡◌, ◌++◌, IfOk, OnOk, string_bytes};
+ghost use Rattle.std.specs.Prelude.{◌≡◌, ◌++◌, IfOk, OnOk, string_bytes, true};
 ghost use Rattle.std.specs.Char.Escape.{escape_ascii, escape_default};
 ghost use Rattle.std.specs.List.{list_any};
 ghost use Rattle.std.specs.Str.{chars};
@@ -19,7 +19,28 @@ pub fn shown_name(alloc: Global, name: &[u8]) -> Result<String, AllocError>
     }
 }
 
-/// The same as JSON says it, which escapes by itself: in quotes and escaped only where it isn't UTF-8, or begins with a
+/// Appends a name as lines say it. One that stands as it is asks for no more memory than that.
+pub fn push_shown_name(alloc: Global, text: &mut Vec<u8>, name: &[u8]) -> Result<(), AllocError>
+    ensures { OnOk result (text.new.items ≡ text.old.items ++ shown_name name.now) }
+{
+    if stands_as_it_is(name) {
+        return text.extend_from_slice(name);
+    }
+    let shown = shown_name(alloc, name)?;
+    text.extend_from_slice(shown.as_bytes())
+}
+
+/// Whether lines say a name as it is.
+fn stands_as_it_is(name: &[u8]) -> bool
+    ensures { result ≡ true → shown_name name.now ≡ name.now }
+{
+    match std::str::from_utf8(name) {
+        Ok(text) => is_plain(text),
+        Err(_) => false,
+    }
+}
+
+/// A name as JSON says it, which escapes by itself: in quotes and escaped only where it isn't UTF-8, or begins with a
 /// quote as if it were such a one.
 pub fn file_name(alloc: Global, name: &[u8]) -> Result<String, AllocError>
     ensures { IfOk result (λ text. string_bytes text ≡ file_name name.now) }

@@ -19,6 +19,7 @@ mod terminal;
 use commands::closing::{complain, finish};
 use commands::file_system::FileSystem;
 use commands::flush::ToFlush;
+use commands::from_buffer::FromBuffer;
 use commands::outcome::Outcome;
 use commands::standard::Standard;
 use new_file::FilesBeside;
@@ -26,7 +27,6 @@ use respond::{System, respond};
 use std::io::{BufReader, ErrorKind};
 use std::process::ExitCode;
 use terminal::is_terminal;
-use tlv_core::source::FromRead;
 use tlv_core::target::ToWrite;
 
 const NO_TEXT: &str = "\
@@ -55,7 +55,7 @@ fn main(rt: HostRuntime) -> ExitCode {
         return ExitCode::from(finish(&Outcome::Memory, &mut errors));
     };
     let mut standard = Standard {
-        input: Some(FromRead::new(input)),
+        input: Some(FromBuffer::new(input)),
         output: ToFlush::new(rt.stdout()),
         errors,
     };
