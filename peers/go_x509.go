@@ -1,16 +1,10 @@
 // Go's crypto/x509, by its parsers, and the functions that write what they give. (run.py says what a driver answers)
 package main
 
-import (
-	"bufio"
-	"crypto/ecdsa"
-	"crypto/x509"
-	"encoding/hex"
-	"fmt"
-	"os"
-	"runtime"
-	"strings"
-)
+import "crypto/x509"
+
+const about = `{"name": "Go crypto/x509", "version": "%s", "call": "ParsePKCS8PrivateKey and the like, Marshal..", ` +
+	`"kinds": ["key", "ec", "request", "public"]}`
 
 // Reads a document of a kind, and writes it anew; of a request nothing is written.
 func rewritten(kind string, document []byte) ([]byte, error) {
@@ -22,7 +16,6 @@ func rewritten(kind string, document []byte) ([]byte, error) {
 		}
 		return x509.MarshalPKCS8PrivateKey(key)
 	case "ec":
-		var key *ecdsa.PrivateKey
 		key, err := x509.ParseECPrivateKey(document)
 		if err != nil {
 			return nil, err
@@ -37,21 +30,4 @@ func rewritten(kind string, document []byte) ([]byte, error) {
 	}
 	_, err := x509.ParseCertificateRequest(document)
 	return nil, err
-}
-
-func main() {
-	about := `{"name": "Go crypto/x509", "version": "%s", "call": "ParsePKCS8PrivateKey and the like, Marshal..", ` +
-		`"kinds": ["key", "ec", "request", "public"]}` + "\n"
-	fmt.Printf(about, strings.TrimPrefix(runtime.Version(), "go"))
-	lines := bufio.NewScanner(os.Stdin)
-	lines.Buffer(make([]byte, 1<<20), 1<<20)
-	for lines.Scan() {
-		kind, text, _ := strings.Cut(lines.Text(), " ")
-		document, _ := hex.DecodeString(strings.TrimPrefix(text, "-"))
-		if written, err := rewritten(kind, document); err != nil {
-			fmt.Println("-")
-		} else {
-			fmt.Printf("+%x\n", written)
-		}
-	}
 }

@@ -1,17 +1,17 @@
-"""What run.py writes into docs/peers.md: the table of all peers, their calls, and the tests that most of them fail."""
+"""What run.py writes into docs/peers.md: the table of all peers, the tests that matter most, and the peers' calls."""
 import re
 import textwrap
-from collections import Counter, defaultdict
+from collections import defaultdict
 from pathlib import Path
 
+from peers.matters import MATTERS
 from vectors import VERSION
 
 TOP = str(Path(__file__).resolve().parents[1])
 PAGE = f"{TOP}/docs/peers.md"
 BEGIN, END = "<!-- what peers/run.py writes -->\n", "<!-- until here -->\n"
-HEAD = ("| Reader | Version | Invalid, taken | Valid, refused | Acceptable, as DER | otherwise | nothing written "
-        "| Crashes |\n|---|---|---|---|---|---|---|---|\n")
-MOST = 20
+HEAD = ("| Reader | Version | Invalid, taken | Valid, refused | Acceptable | As DER | In BER | Other value | Nothing "
+        "| Crashes |\n|---|---|---|---|---|---|---|---|---|---|\n")
 
 
 def of(count, whole):
@@ -22,10 +22,9 @@ def row(about, counts):
     """The row of a peer in the table."""
     invalid, valid, acceptable = (counts[it] for it in ("invalid", "valid", "acceptable"))
     crashes = sum(it["crashed"] for it in counts.values())
-    whole = acceptable.total()
-    told = [of(acceptable[it], whole) for it in ("written", "otherwise", "taken")]
+    told = [acceptable[it] for it in ("as DER", "in BER", "as another value", "taken")]
     wrong = [of(it["wrong"], it.total()) for it in (invalid, valid)]
-    cells = [about["name"], about["version"], *wrong, *told, crashes]
+    cells = [about["name"], about["version"], *wrong, acceptable.total(), *told, crashes]
     return f"| {' | '.join(map(str, cells))} |\n"
 
 
@@ -34,32 +33,43 @@ def shown(test):
     return re.sub(r", at .*", "", test["comment"].partition("; new: ")[2])
 
 
+def fails(test, told):
+    """Whether an outcome is a failure of a reader."""
+    return told in ("wrong", "crashed", "as another value") or told == "taken" and "der" not in test
+
+
 def failed(given, all_found, outcome):
-    """The peers that fail a test, by the tests, and how many were asked it."""
-    found, asked = defaultdict(list), Counter()
+    """The readers that were asked each test, and whether each fails it."""
+    found = defaultdict(dict)
     for about, answers in all_found:
         for key, answer in answers.items():
-            asked[key] += 1
-            if outcome(given[key], answer) in ("wrong", "crashed"):
-                found[key].append(about["name"])
-    return found, asked
+            found[key][about["name"]] = fails(given[key], outcome(given[key], answer))
+    return found
 
 
-def most_failed(given, found):
-    """The tests that most peers fail, one for each thing that is shown, of invalid ones and of valid ones."""
-    ordered = sorted(found, key=lambda key: (-len(found[key]), len(given[key]["document"]), key))
-    seen = set()
-    for key in ordered:
-        what = shown(given[key]), given[key]["result"]
-        if what not in seen:
-            seen.add(what)
-            yield key
+def test_of(matter, given, found):
+    """The test of what matters that most readers fail, the shortest of them."""
+    shown_by = [key for key in found if key[0] in matter.kinds.split() and
+                re.search(matter.pattern, given[key]["comment"])]
+    return min(shown_by, key=lambda key: (-sum(found[key].values()), len(given[key]["document"]), key))
 
 
-def test_row(key, test, failing, asked):
-    due = "; ".join(test.get("clauses", [])) or "in DER"
-    comment = textwrap.shorten(test["comment"].replace("; new: ", ": ").replace("|", "\\|"), 120, placeholder=" ..")
-    return f"| {key[0]} {key[1]} | {test['result']} | {comment} | {due} | {failing} of {asked} |\n"
+def by_whom(readers):
+    """Who fails a test, or, where that are most, who doesn't."""
+    failing, right = ([it for it, is_failing in readers.items() if is_failing == which] for which in (True, False))
+    if not failing or not right:
+        return f"all {len(failing)}" if failing else f"none of {len(right)}"
+    names = "; ".join(failing) if len(failing) <= len(right) else f"all but {'; '.join(right)}"
+    return f"{len(failing)} of {len(readers)}: {names}"
+
+
+def matter_text(matter, given, found):
+    """An item of those that matter most: the test, what is due, and who fails it."""
+    key = test_of(matter, given, found)
+    test = given[key]
+    does = "Written as another value" if "der" in test else "Taken"
+    due = "; ".join(test.get("clauses", [])) or ("sound, in BER" if "der" in test else "no clause: it isn't counted")
+    return wrapped(f"{key[0]} {key[1]}, {shown(test)} ({due}): {matter.why}. {does} by {by_whom(found[key])}.")
 
 
 def wrapped(text):
@@ -69,23 +79,25 @@ def wrapped(text):
 
 
 def crashes(given, all_found, outcome):
-    """The tests that peers died at, a line each."""
+    """The tests that readers died at, by the readers and what the tests show."""
     for about, answers in all_found:
+        found = defaultdict(list)
         for key, answer in answers.items():
             if outcome(given[key], answer) == "crashed":
-                yield f"- {about['name']} {about['version']}: {key[0]} {key[1]}, {shown(given[key])}.\n"
+                found[shown(given[key])].append(f"{key[0]} {key[1]}")
+        yield from (wrapped(f"{about['name']} {about['version']}: {what}: {', '.join(numbers)}.")
+                    for what, numbers in found.items())
 
 
 def text_of(given, all_found, outcome, counted):
     """What the page has between its marks."""
     rows = "".join(row(about, counted(given, answers)) for about, answers in all_found)
-    found, asked = failed(given, all_found, outcome)
-    tests = [test_row(key, given[key], len(found[key]), asked[key]) for key in [*most_failed(given, found)][:MOST]]
+    found = failed(given, all_found, outcome)
+    matters = "".join(matter_text(it, given, found) for it in MATTERS)
     calls = "".join(wrapped(f"{it['name']}: {it['call']} ({', '.join(it['kinds'])}).") for it, _ in all_found)
     died = "".join(crashes(given, all_found, outcome)) or "None.\n"
-    return (f"\nVectors {VERSION}.\n\n{HEAD}{rows}\n## The crashes\n\n{died}\n## The calls\n\n{calls}\n"
-            "## The tests that most of them fail\n\n"
-            "| Test | Result | What it shows | Clause | Fail |\n|---|---|---|---|---|\n" + "".join(tests) + "\n")
+    return (f"\nVectors {VERSION}.\n\n{HEAD}{rows}\n## The crashes\n\n{died}\n"
+            f"## The twenty that matter most\n\n{matters}\n## The calls\n\n{calls}\n")
 
 
 def takes_invalid(given, answers, outcome):

@@ -1,25 +1,33 @@
 #!/usr/bin/env python3
-"""run.py [--root DIR] [--write] [PEER..]: the vectors handed to other readers that Debian has, and what each does.
+"""run.py [--root DIR] [--again] [--write] [PEER..]: the vectors handed to other readers that Debian has, and what each
+does.
 
-It is run by hand. Each peer is a driver in this folder: its first line on standard output is what it is, in JSON, and
-then for each line KIND HEX of standard input it answers `-` where it refuses the document, `+` and what it writes of it
-in hex where it takes it. A driver is asked through the call that users of its library make, for the kinds that it
-claims, and counts as crashed where it dies or says nothing for ten seconds. With --root the packages are those that are
-unpacked in DIR (`dpkg -x`), beside the ones that are installed; what can't be built or started is left out, and said.
---write writes the table into docs/peers.md. Not counted are tests under other limits than the usual ones, and those
-with a flag: pkder's own choices, keys that aren't real, signatures that aren't the key's."""
+It is run by hand. Each peer is a driver in this folder, of some 40 lines: its first line on standard output is what it
+is, in JSON, and then for each line KIND HEX of standard input it answers `-` where it refuses the document, `+` and
+what it writes of it in hex where it takes it. A driver is asked through the call that users of its library make, for
+the kinds that it claims, and counts as crashed where it dies or says nothing for ten seconds. With --root the packages
+are those that are unpacked in DIR (`dpkg -x`), beside the ones that are installed; what can't be built or started is
+left out, and said. --write writes docs/peers.md, between its marks; with --again it does so of the answers of the run
+before, and asks nobody. Not counted are tests under other limits than the usual ones, and those with a flag: pkder's
+own choices, keys that aren't real, signatures that aren't the key's."""
 import json
 import os
+import re
 import select
 import subprocess
 import sys
 from collections import Counter, defaultdict
+from functools import lru_cache
 from pathlib import Path
 
 TOP = sys.path[0] = str(Path(__file__).resolve().parents[1])
 from peers import page, started
+from peers.matters import MATTERS
+from tests.oracle.reader import DEPTH, OCTETS, Fault
+from vectors.judging import read
 
 KINDS = ("key", "ec", "request", "public", "encrypted", "package")
+KEPT = f"{started.OUT}/answers.json"
 SECONDS = 10
 CRASHED, REFUSED = "!", "-"
 # RFC 8410's, those of curves and of any EC key, of RSA, DSA and PBES2, as they stand in documents.
@@ -29,13 +37,19 @@ ALGORITHMS = """
 06092a864886f70d01050d""".split()
 
 
+def is_asked(test):
+    """Whether a test is handed to readers: one that is counted, or a choice that is among those that matter most."""
+    is_listed = any(re.search(it.pattern, test["comment"]) for it in MATTERS)
+    return not test["flags"] or test["flags"] == ["profile"] and "reason" in test and is_listed
+
+
 def tests():
-    """The tests that are counted, by their kind and number."""
+    """The tests that are asked, by their kind and number."""
     found = {}
     for kind in KINDS:
         with open(f"{TOP}/vectors/{kind}.json", encoding="utf-8") as file:
             groups = json.load(file)["testGroups"]
-        found |= {(kind, it["tcId"]): it for it in groups[0]["tests"] if not it["flags"]}
+        found |= {(kind, it["tcId"]): it | {"kind": kind} for it in groups[0]["tests"] if is_asked(it)}
     return found
 
 
@@ -99,15 +113,32 @@ def answers(peer, given):
     return {key: peer.answer(key[0], it["document"]) for key, it in asked.items()}
 
 
+@lru_cache(None)
+def value_of(kind, digits):
+    """The DER encoding of a document that a reader wrote; None where it isn't one of this kind."""
+    try:
+        return read(kind, bytes.fromhex(digits), DEPTH, OCTETS).hex()
+    except Fault:
+        return None
+
+
+def outcome_of_written(test, written):
+    """What a reader makes of a document that it may take, by what it writes of it."""
+    if not written or "der" not in test:
+        return "taken"
+    if written == test["der"]:
+        return "as DER"
+    return "in BER" if value_of(test["kind"], written) == test["der"] else "as another value"
+
+
 def outcome(test, found):
     """What an answer is, by what is due."""
     if found == CRASHED:
         return "crashed"
     is_taken, result = found != REFUSED, test["result"]
-    if result == "acceptable" and is_taken:
-        written = found[1:]
-        return "written" if written == test["der"] else "otherwise" if written else "taken"
-    return "refused" if result == "acceptable" else "right" if is_taken == (result == "valid") else "wrong"
+    if result == "acceptable":
+        return outcome_of_written(test, found[1:]) if is_taken else "refused"
+    return "right" if is_taken == (result == "valid") else "wrong"
 
 
 def claimed(given, found):
@@ -120,10 +151,11 @@ def claimed(given, found):
 
 
 def counted(given, found):
-    """How often each outcome came of each result."""
+    """How often each outcome came of each result; choices aren't counted."""
     counts = defaultdict(Counter)
     for key, answer in found.items():
-        counts[given[key]["result"]][outcome(given[key], answer)] += 1
+        if not given[key]["flags"]:
+            counts[given[key]["result"]][outcome(given[key], answer)] += 1
     return counts
 
 
@@ -132,10 +164,8 @@ def told_by(about, counts):
     return f"{about['name']} {about['version']}: {'; '.join(rows)}"
 
 
-def main(words):
-    root = words[words.index("--root") + 1] if "--root" in words else "/"
-    names = [it for it in words if not it.startswith("--") and it != root]
-    given, all_found = tests(), []
+def asked(root, names, given):
+    """Asks the readers of these names, or all: what each says of itself, and its answers."""
     for name, command, environment in started.drivers(root, names):
         try:
             peer = Peer(command, environment)
@@ -144,8 +174,22 @@ def main(words):
             continue
         found = claimed(given, answers(peer, given))
         peer.end()
-        all_found.append((peer.about, found))
         print(told_by(peer.about, counted(given, found)), flush=True)
+        yield peer.about, found
+
+
+def main(words):
+    root = words[words.index("--root") + 1] if "--root" in words else "/"
+    names = [it for it in words if not it.startswith("--") and it != root]
+    given = tests()
+    if "--again" in words:
+        with open(KEPT, encoding="utf-8") as file:
+            kept = json.load(file)
+        all_found = [(about, {(kind, number): it for kind, number, it in found}) for about, found in kept]
+    else:
+        all_found = [*asked(root, names, given)]
+        with open(KEPT, "w", encoding="utf-8") as file:
+            json.dump([(about, [(*key, it) for key, it in found.items()]) for about, found in all_found], file)
     if "--write" in words:
         page.write(given, all_found, outcome, counted)
     return 0

@@ -27,8 +27,9 @@ NOTES = {
     "values": "The key isn't a real one, or a short one: a reader that looks at its values may refuse it.",
     "signature": "The signature isn't that of the key: a reader that verifies it may refuse the request.",
 }
-# The most octets of all files.
+# The most octets of all files, and how many tests they may have.
 MOST = 2_000_000
+TESTS = range(2_000, 5_001)
 
 
 class Chosen:
@@ -117,6 +118,9 @@ def main(words):
     failed += rules.lacking(all_tests)
     if size > MOST:
         failed.append(f"all files have {size} octets, and may have {MOST}")
+    number = sum(map(len, all_tests.values()))
+    if number not in TESTS:
+        failed.append(f"there are {number} tests, and there may be {TESTS[0]} to {TESTS[-1]}")
     print("\n".join([*failed, f"vectors: {max(0, looked - len(failed))} passed, {len(failed)} failed"]))
     return 1 if failed else 0
 

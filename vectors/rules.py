@@ -177,7 +177,7 @@ def lacking_extensions(tests):
 
 def unshown(page):
     """The rules of docs/formats.md that none here states: the points of its lists on leaves, types and kinds."""
-    for section in re.findall(r"(?ms)^## ((?:Leaves|Types|Kind) .*?)(?=^## )", page):
+    for section in re.findall(r"(?ms)^## ((?:Leaves|Types|Kind)\b.*?)(?=^## )", page):
         for point in re.findall(r"(?ms)^- .*?(?=^- |^$|^#)", section):
             if not any(rule.stated in point for rule in RULES):
                 yield f"no rule here is '{point.splitlines()[0]}' of docs/formats.md"
