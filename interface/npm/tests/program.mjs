@@ -56,6 +56,14 @@ export function pipes() {
     assert.ok(stdout.equals(long));
 }
 
+// Documents one behind another on a pipe, and their sum.
+export function each() {
+    const input = Buffer.concat(["smallest", "long-lengths"].map((it) => readFileSync(`${TOP}/examples/${it}.der`)));
+    assert.deepEqual(
+        ran(["check", "--any", "--each", "--sum"], {input}),
+        [1, "1 at 0: key: DER\n2 at 48: key: not DER at 1\n", "sum: 2 documents: 1 DER (1 key), 1 not DER (1 key)\n"]);
+}
+
 // A program that breaks off says so, and nothing else: here its memory is refused.
 export function brokenOff() {
     const folder = mkdtempSync(join(tmpdir(), "pkder"));
