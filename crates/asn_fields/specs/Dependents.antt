@@ -1,6 +1,7 @@
 -- What is read of an element whose type or rule goes by the earlier fields of its container.
-use Rattle.std.specs.Prelude.{Bool, List, None, Option, Result, Some, false, not, true, ◌&&◌, ◌≡◌}
-use Rattle.std.specs.Option.{option_map}
+use Rattle.std.specs.Prelude.{Bool, List, None, Option, Result, Some, [], false, not, true, ◌&&◌, ◌≡◌}
+use Rattle.std.specs.Borrow.{Bor}
+use Rattle.std.specs.Option.{option_copied, option_map}
 use Rattle.tlv_core.specs.declared.fault.ReadError.{ReadError}
 use Rattle.tlv_core.specs.declared.reason.Reason.{Reason}
 use Rattle.tlv_core.specs.declared.source.Source.{Ghosts}
@@ -12,7 +13,7 @@ use Rattle.x690.specs.Reading.{Reading}
 use Rattle.x690.specs.TypeTerms.{TypeTerm}
 use Rattle.x690.specs.Values.{Same, Value}
 use Rattle.asn_fields.specs.Insides.{Inside}
-use Rattle.asn_fields.specs.FieldReadings.{read_due, read_optional, read_take}
+use Rattle.asn_fields.specs.FieldReadings.{read_due, read_optional, read_take, with_field}
 use Rattle.ber_pull.specs.Standing.{Standing, enclosing}
 use Rattle.ber_pull.specs.declared.pull.Pull.{Pull}
 use Rattle.ber_pull.specs.declared.state.Given.{Given}
@@ -78,3 +79,7 @@ suits_as is_first first second (Second b) = not is_first && second b
 abbrev pub suits_where_there : {A : Type 0} → (A → Bool) → Option A → Bool
 suits_where_there suits None = true
 suits_where_there suits (Some a) = suits a
+
+-- its value, where it is there, as fields have theirs
+abbrev pub value_where_there : {A : Type 0} → (A → Value) → Option (Bor A) → List Value
+value_where_there value field = with_field (option_map value (option_copied field)) []

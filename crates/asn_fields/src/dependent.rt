@@ -4,9 +4,10 @@
 //! absent. `F` is put together of `Independent`, an element of any type, `DefinedBy`, one of two by a leaf of the
 //! fields before it, `RuledBehind` and `RuledContaining`, with a rule that looks at these fields, and `Refused`.
 ghost use Rattle.std.specs.Prelude.{◌≡◌, ◌+◌, ◌++◌, ◌<◌, ◌^◌, ◌∷◌, Bool as Truth, IfOk, IfSome, IsSome, List, None};
-ghost use Rattle.std.specs.Prelude.{Ok, OnOk, [], false, length, slice_get, true, ℕ};
+ghost use Rattle.std.specs.Prelude.{Ok, OnOk, Some, [], false, length, slice_get, true, ℕ};
+ghost use Rattle.std.specs.Option.{option_copied};
 ghost use Rattle.tlv_core.specs.Sinks.{count, Puts};
-ghost use Rattle.x690.specs.DerTexts.{der};
+ghost use Rattle.x690.specs.DerTexts.{der, texts_of};
 ghost use Rattle.x690.specs.TypeTerms.{TypeTerm, fits_tag};
 ghost use Rattle.x690.specs.Values.{Value, value_tag};
 ghost use Rattle.ber_pull.specs.View.{standing, AsksNoMemory, Unmoved, Uses, Frame};
@@ -14,18 +15,16 @@ ghost use Rattle.asn_elements.specs.InDer.{StandsInDer};
 ghost use Rattle.asn_fields.specs.Apart.{may_begin};
 ghost use Rattle.asn_fields.specs.Fields.{IsInside, LeavesWithin, StaysInside, stands_next};
 ghost use Rattle.asn_fields.specs.Dependents.{AnswersBehind, RequiredBehind, OneTextBehind, OptionalBehind};
-ghost use Rattle.asn_fields.specs.Dependents.{TakesBehind, suits_where_there};
+ghost use Rattle.asn_fields.specs.Dependents.{TakesBehind, suits_where_there, value_where_there};
 ghost use Rattle.asn_fields.specs.FieldsInDer.{AreFields};
 ghost use Rattle.asn_fields.specs.Listings.{nothing, through};
 ghost use Rattle.asn_fields.specs.DependentLaws.{dependent};
 
+use crate::field_list::{FieldsText, FirstFields};
 use crate::fields::{Next, ahead};
-use crate::parts::Parts;
-use crate::sequence::{FieldsText, FirstFields, Kept};
 use asn_elements::element::Element;
 use ber_pull::pull::Pull;
 use std::alloc::Global;
-use std::marker::PhantomData;
 use tlv_core::fault::ReadError;
 use tlv_core::limits::Limits;
 use tlv_core::reason::Reason;
@@ -277,40 +276,90 @@ impl<A: FieldsText, F: DependentElement<A>> Dependent<A, F> {
         &self.field
     }
 
-    fn parts(&self) -> (Kept<'_, A>, Written<'_, A, F>)
-        ensures earlier { result.0.0.now ≡ self.now.earlier }
-        ensures field { result.1.field.now ≡ self.now.field }
+    fn written(&self) -> Written<'_, A, F>
+        ensures earlier { result.earlier.now ≡ self.now.earlier }
+        ensures field { option_copied result.field ≡ Some self.now.field }
     {
-        (
-            Kept(&self.earlier),
-            Written {
-                field: &self.field,
-                earlier: PhantomData,
-            },
-        )
+        Written {
+            earlier: &self.earlier,
+            field: Some(&self.field),
+        }
     }
 }
 
-/// A field that is due, as it is written.
+/// The fields `A`, and the one after them that depends on them where it is there, as they are written.
 #[derive(Drop)]
-struct Written<'a, A: FieldsText, F: DependentElement<A>> {
-    field: &'a F,
-    earlier: PhantomData<A>,
+pub(crate) struct Written<'a, A: FieldsText, F: DependentElement<A>> {
+    pub(crate) earlier: &'a A,
+    pub(crate) field: Option<&'a F>,
 }
 
-impl<'a, A: FieldsText, F: DependentElement<A>> Parts for Written<'a, A, F> {
-    ghost values = { λ written. F.value written.field.now ∷ [] };
-
-    fn length(&self) -> u64 {
-        self.field.size()
+impl<'a, A: FieldsText, F: DependentElement<A>> Written<'a, A, F> {
+    /// The length of the text of the field.
+    fn field_size(&self) -> u64
+        ensures { result ≡ length (texts_of (value_where_there F.value self.now.field)) }
+    {
+        match self.field {
+            Some(field) => field.size(),
+            None => 0,
+        }
     }
 
-    fn put<W: Target>(&self, sink: &mut Sink<'_, W>) -> Result<(), WriteError> {
-        self.field.put(sink)
+    /// Writes the text of the field.
+    fn put_field<W: Target>(&self, sink: &mut Sink<'_, W>) -> Result<(), WriteError>
+        requires { count sink.old + length (texts_of (value_where_there F.value self.now.field)) < 2 ^ 64 }
+        ensures { Puts (texts_of (value_where_there F.value self.now.field)) sink.old sink.new result }
+    {
+        match self.field {
+            Some(field) => field.put(sink),
+            None => sink.put(&[]),
+        }
     }
 
-    fn octet(&self, i: u64) -> Option<u8> {
-        self.field.octet(i)
+    /// Octet `i` of the text of the field.
+    fn field_octet(&self, i: u64) -> Option<u8>
+        ensures { result ≡ slice_get (texts_of (value_where_there F.value self.now.field)) i }
+    {
+        match self.field {
+            Some(field) => field.octet(i),
+            None => None,
+        }
+    }
+
+    /// The length of their texts.
+    pub(crate) fn size(&self) -> u64
+        requires { length (texts_of (A.values self.now.earlier.now
+            ++ value_where_there F.value self.now.field)) < 2 ^ 63 }
+        ensures { result ≡ length (texts_of (A.values self.now.earlier.now
+            ++ value_where_there F.value self.now.field)) }
+    {
+        self.earlier.size() + self.field_size()
+    }
+
+    /// Writes their texts.
+    pub(crate) fn put<W: Target>(&self, sink: &mut Sink<'_, W>) -> Result<(), WriteError>
+        requires { count sink.old + length (texts_of (A.values self.now.earlier.now
+            ++ value_where_there F.value self.now.field)) < 2 ^ 64 }
+        ensures { Puts (texts_of (A.values self.now.earlier.now
+            ++ value_where_there F.value self.now.field)) sink.old sink.new result }
+    {
+        self.earlier.put(sink)?;
+        self.put_field(sink)
+    }
+
+    /// Octet `i` of their texts.
+    pub(crate) fn octet(&self, i: u64) -> Option<u8>
+        requires { length (texts_of (A.values self.now.earlier.now
+            ++ value_where_there F.value self.now.field)) < 2 ^ 63 }
+        ensures { result ≡ slice_get (texts_of (A.values self.now.earlier.now
+            ++ value_where_there F.value self.now.field)) i }
+    {
+        let size = self.earlier.size();
+        if i < size {
+            self.earlier.octet(i)
+        } else {
+            self.field_octet(i - size)
+        }
     }
 }
 
@@ -321,15 +370,15 @@ impl<A: FieldsText, F: DependentElement<A>> FieldsText for Dependent<A, F> {
         (dependent A.listing F.value F.type_term F.suits F.one_text) };
 
     fn size(&self) -> u64 {
-        Parts::length(&self.parts())
+        self.written().size()
     }
 
     fn put<W: Target>(&self, sink: &mut Sink<'_, W>) -> Result<(), WriteError> {
-        Parts::put(&self.parts(), sink)
+        self.written().put(sink)
     }
 
     fn octet(&self, i: u64) -> Option<u8> {
-        Parts::octet(&self.parts(), i)
+        self.written().octet(i)
     }
 }
 

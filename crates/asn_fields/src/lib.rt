@@ -12,8 +12,8 @@
 //!
 //! `ruled::Ruled` is a value of any type with a rule on it, `ruled_sequence::RuledSequence` a SEQUENCE with one on its
 //! fields together, `tagged::Tagged` one after an explicit tag. `sequence`
-//! reads a SEQUENCE by its list, `parts` writes one, and `fields` has the calls beneath: they begin a SEQUENCE, read
-//! its fields and end it.
+//! reads a SEQUENCE by its list, `sequence_text` writes one, and `fields` has the calls beneath: they begin a SEQUENCE,
+//! read its fields and end it.
 //!
 //! Proved here, once for all types: what `Sequence` and the others read is what the plain reading of the type that
 //! their list says gives for the octets taken, the first fault included, also that of a rule at its place; a value
@@ -28,10 +28,8 @@ pub mod dependent;
 pub mod either;
 pub mod field_list;
 pub mod fields;
-pub mod kept;
 pub mod optional;
 pub mod optional_dependent;
-pub mod parts;
 pub mod refused;
 pub mod required;
 pub mod ruled;
@@ -39,4 +37,5 @@ pub mod ruled_behind;
 pub mod ruled_containing;
 pub mod ruled_sequence;
 pub mod sequence;
+pub mod sequence_text;
 pub mod tagged;

@@ -1,6 +1,6 @@
 //! Fields that may be absent, and whose type or rule goes by those before them.
-ghost use Rattle.std.specs.Prelude.{◌≡◌, ◌+◌, ◌++◌, ◌<◌, IfSome, List, [], false, length, true};
-ghost use Rattle.std.specs.Option.{option_map};
+ghost use Rattle.std.specs.Prelude.{◌≡◌, ◌++◌, ◌<◌, IfSome, List, [], false, true};
+ghost use Rattle.std.specs.Option.{option_copied, option_map};
 ghost use Rattle.x690.specs.Fitting.{next_fits};
 ghost use Rattle.x690.specs.Layouts.{RawTree};
 ghost use Rattle.asn_fields.specs.FieldReadings.{with_field};
@@ -9,14 +9,12 @@ ghost use Rattle.asn_fields.specs.FieldsInDer.{MayStand};
 ghost use Rattle.asn_fields.specs.Listings.{through};
 ghost use Rattle.asn_fields.specs.DependentLaws.{optional_dependent};
 
-use crate::dependent::{DependentElement, optional_dependent};
+use crate::dependent::{DependentElement, Written, optional_dependent};
+use crate::field_list::{FieldsText, FirstFields};
 use crate::fields::Next;
-use crate::parts::Parts;
-use crate::sequence::{FieldsText, FirstFields, Kept};
 use asn_elements::tags::tag_of_identifier;
 use ber_pull::pull::Pull;
 use std::alloc::Global;
-use std::marker::PhantomData;
 use tlv_core::fault::ReadError;
 use tlv_core::limits::Limits;
 use tlv_core::sink::{Sink, WriteError};
@@ -61,48 +59,13 @@ impl<A: FieldsText, F: DependentElement<A>> OptionalDependent<A, F> {
         &self.field
     }
 
-    fn parts(&self) -> (Kept<'_, A>, OptionalWritten<'_, A, F>)
-        ensures earlier { result.0.0.now ≡ self.now.earlier }
-        ensures field { result.1.field.now ≡ self.now.field }
+    fn written(&self) -> Written<'_, A, F>
+        ensures earlier { result.earlier.now ≡ self.now.earlier }
+        ensures field { option_copied result.field ≡ self.now.field }
     {
-        (
-            Kept(&self.earlier),
-            OptionalWritten {
-                field: &self.field,
-                earlier: PhantomData,
-            },
-        )
-    }
-}
-
-/// A field that may be absent, as it is written.
-#[derive(Drop)]
-struct OptionalWritten<'a, A: FieldsText, F: DependentElement<A>> {
-    field: &'a Option<F>,
-    earlier: PhantomData<A>,
-}
-
-impl<'a, A: FieldsText, F: DependentElement<A>> Parts for OptionalWritten<'a, A, F> {
-    ghost values = { λ written. with_field (option_map F.value written.field.now) [] };
-
-    fn length(&self) -> u64 {
-        match self.field {
-            Some(field) => field.size(),
-            None => 0,
-        }
-    }
-
-    fn put<W: Target>(&self, sink: &mut Sink<'_, W>) -> Result<(), WriteError> {
-        match self.field {
-            Some(field) => field.put(sink),
-            None => sink.put(&[]),
-        }
-    }
-
-    fn octet(&self, i: u64) -> Option<u8> {
-        match self.field {
-            Some(field) => field.octet(i),
-            None => None,
+        Written {
+            earlier: &self.earlier,
+            field: self.field.as_ref(),
         }
     }
 }
@@ -114,15 +77,15 @@ impl<A: FieldsText, F: DependentElement<A>> FieldsText for OptionalDependent<A, 
         (optional_dependent A.listing F.value F.type_term F.suits F.one_text) };
 
     fn size(&self) -> u64 {
-        Parts::length(&self.parts())
+        self.written().size()
     }
 
     fn put<W: Target>(&self, sink: &mut Sink<'_, W>) -> Result<(), WriteError> {
-        Parts::put(&self.parts(), sink)
+        self.written().put(sink)
     }
 
     fn octet(&self, i: u64) -> Option<u8> {
-        Parts::octet(&self.parts(), i)
+        self.written().octet(i)
     }
 }
 

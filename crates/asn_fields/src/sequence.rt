@@ -20,10 +20,9 @@ ghost use Rattle.asn_fields.specs.Fields.{AnswersSequence};
 pub use crate::default_false::DefaultFalse;
 pub use crate::field_list::{FieldsText, FirstFields, IndependentFields};
 use crate::fields::{begin, end};
-pub use crate::kept::Kept;
 pub use crate::optional::Optional;
-use crate::parts::{put_sequence, sequence_octet, sequence_size};
 pub use crate::required::Required;
+use crate::sequence_text::{put_sequence, sequence_octet, sequence_size};
 use asn_elements::der_text::DerText;
 use asn_elements::element::Element;
 use asn_elements::in_der::element_in_der;
@@ -80,15 +79,15 @@ impl<K: SequenceFields> DerText for Sequence<K> {
         x.fields y.fields x.known y.known };
 
     fn size(&self) -> u64 {
-        sequence_size(universal_tag(16), &Kept(&self.fields))
+        sequence_size(universal_tag(16), &self.fields)
     }
 
     fn put<W: Target>(&self, sink: &mut Sink<'_, W>) -> Result<(), WriteError> {
-        put_sequence(universal_tag(16), &Kept(&self.fields), sink)
+        put_sequence(universal_tag(16), &self.fields, sink)
     }
 
     fn octet(&self, i: u64) -> Option<u8> {
-        sequence_octet(universal_tag(16), &Kept(&self.fields), i)
+        sequence_octet(universal_tag(16), &self.fields, i)
     }
 }
 

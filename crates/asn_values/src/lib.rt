@@ -4,8 +4,8 @@
 //! are the leaves `Bool`, `Int`, `Null`, `Bits`, `Octets`, `Text` and `tlv_core`'s `Oid`, the containers `List`,
 //! `ListOfSome` and `SetOf`, `Tagged` for explicit tags, `Implicit` for implicit ones, and `Any`, an open value.
 //! `sequence` keeps a SEQUENCE as the list of its fields, with rules on it by `ruled`, and on a field by those before
-//! it by `dependent`; `parts` writes one, `fields` reads one field by field. `Containing` is an OCTET STRING that
-//! contains an element.
+//! it by `dependent`; `sequence_text` writes one, `fields` reads one field by field. `Containing` is an OCTET STRING
+//! that contains an element.
 //!
 //! This crate is the table of contents: what stands here is proved in `asn_elements` (the traits and the leaves),
 //! `asn_fields`, `asn_lists` and `asn_open_values`, each of which says what. `tests/rows/values.tsv` has
@@ -26,8 +26,8 @@ pub use asn_elements::{
     leaf_reading, null, object_identifier, octets, tags, text,
 };
 pub use asn_fields::{
-    defined_by, dependent, either, field_list, fields, optional_dependent, parts, refused, ruled,
-    ruled_behind, ruled_containing, ruled_sequence, sequence, tagged,
+    defined_by, dependent, either, field_list, fields, optional_dependent, refused, ruled,
+    ruled_behind, ruled_containing, ruled_sequence, sequence, sequence_text, tagged,
 };
 pub use asn_lists::{list, list_of_some, set_of};
 pub use asn_open_values::any;
