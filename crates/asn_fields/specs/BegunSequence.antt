@@ -15,7 +15,7 @@ use Rattle.ber_pull.specs.Standing.{Standing}
 use Rattle.ber_pull.specs.View.{told}
 use Rattle.ber_pull.specs.declared.pull.Pull.{Pull}
 use Rattle.asn_fields.specs.Fields.{next_of}
-use Rattle.asn_fields.specs.declared.fields.Next as code
+use Rattle.asn_fields.specs.declared.next.Next as code
 
 -- `whole` was begun at place `k`, with the octets `s` told. It stands inside, before `next`, with `t` told;
 -- `ws` were read, and these fields are left: what is answered of them from here on, with `finish` of all

@@ -21,7 +21,7 @@ use Rattle.asn_elements.specs.Reading.{AnswersValue}
 use Rattle.asn_fields.specs.Fields.{AnswersField, SameField, next_of}
 use Rattle.asn_fields.specs.declared.either.Either.{Either}
 use Rattle.asn_fields.specs.declared.either.Either.TheVariants.{First, Second}
-use Rattle.asn_fields.specs.declared.fields.Next as code
+use Rattle.asn_fields.specs.declared.next.Next as code
 
 -- the element that is given, as the type after these fields
 abbrev pub read_given_behind : TypeTerm → List Value → Standing → Given → Reading Value

@@ -21,7 +21,7 @@ use Rattle.ber_pull.specs.View.{Answers}
 use Rattle.ber_pull.specs.declared.pull.Pull.{Pull}
 use Rattle.ber_pull.specs.declared.state.Given.{Given}
 use Rattle.asn_elements.specs.Reading.{AnswersValue}
-use Rattle.asn_fields.specs.declared.fields.Next.{Next}
+use Rattle.asn_fields.specs.declared.next.Next.{Next}
 
 -- what stands next
 abbrev pub next_of : Next → headers.Next

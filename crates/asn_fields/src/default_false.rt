@@ -13,7 +13,8 @@ ghost use Rattle.asn_fields.specs.ApartLaws.{flag};
 ghost use Rattle.asn_fields.specs.Listings.{through};
 
 use crate::field_list::{FieldsText, FirstFields, IndependentFields};
-use crate::fields::{Next, optional};
+use crate::fields::optional;
+use crate::next::Next;
 use asn_elements::boolean::Bool;
 use asn_elements::der_text::DerText;
 use asn_elements::tags::{is_same_tag, tag_of_identifier, universal_tag};

@@ -21,7 +21,7 @@ ghost use Rattle.asn_fields.specs.Listings.{nothing, through};
 ghost use Rattle.asn_fields.specs.DependentLaws.{dependent};
 
 use crate::field_list::{FieldsText, FirstFields};
-use crate::fields::{Next, ahead};
+use crate::next::{Next, ahead};
 use asn_elements::element::Element;
 use ber_pull::pull::Pull;
 use std::alloc::Global;

@@ -12,7 +12,7 @@ ghost use Rattle.asn_fields.specs.FieldsInDer.{FieldsBegin, FirstFieldsBegin};
 ghost use Rattle.asn_fields.specs.ApartLaws.{both};
 ghost use Rattle.asn_fields.specs.Listings.{Listing};
 
-use crate::fields::Next;
+use crate::next::Next;
 use ber_pull::pull::Pull;
 use std::alloc::Global;
 use tlv_core::fault::ReadError;

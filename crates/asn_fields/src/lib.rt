@@ -13,7 +13,7 @@
 //! `ruled::Ruled` is a value of any type with a rule on it, `ruled_sequence::RuledSequence` a SEQUENCE with one on its
 //! fields together, `tagged::Tagged` one after an explicit tag. `sequence`
 //! reads a SEQUENCE by its list, `sequence_text` writes one, and `fields` has the calls beneath: they begin a SEQUENCE,
-//! read its fields and end it.
+//! read its fields and end it. `next` is what stands next in it.
 //!
 //! Proved here, once for all types: what `Sequence` and the others read is what the plain reading of the type that
 //! their list says gives for the octets taken, the first fault included, also that of a rule at its place; a value
@@ -28,6 +28,7 @@ pub mod dependent;
 pub mod either;
 pub mod field_list;
 pub mod fields;
+pub mod next;
 pub mod optional;
 pub mod optional_dependent;
 pub mod refused;

@@ -10,7 +10,8 @@ ghost use Rattle.asn_fields.specs.ApartLaws.{optional};
 ghost use Rattle.asn_fields.specs.Listings.{through};
 
 use crate::field_list::{FieldsText, FirstFields, IndependentFields};
-use crate::fields::{Next, optional};
+use crate::fields::optional;
+use crate::next::Next;
 use asn_elements::element::Element;
 use asn_elements::tags::tag_of_identifier;
 use ber_pull::pull::Pull;

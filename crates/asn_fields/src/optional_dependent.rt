@@ -11,7 +11,7 @@ ghost use Rattle.asn_fields.specs.DependentLaws.{optional_dependent};
 
 use crate::dependent::{DependentElement, Written, optional_dependent};
 use crate::field_list::{FieldsText, FirstFields};
-use crate::fields::Next;
+use crate::next::Next;
 use asn_elements::tags::tag_of_identifier;
 use ber_pull::pull::Pull;
 use std::alloc::Global;

@@ -4,7 +4,8 @@ ghost use Rattle.asn_fields.specs.ApartLaws.{required};
 ghost use Rattle.asn_fields.specs.Listings.{through};
 
 use crate::field_list::{FieldsText, FirstFields, IndependentFields};
-use crate::fields::{Next, due};
+use crate::fields::due;
+use crate::next::Next;
 use asn_elements::element::Element;
 use ber_pull::pull::Pull;
 use std::alloc::Global;

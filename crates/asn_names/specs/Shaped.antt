@@ -18,7 +18,7 @@ use Rattle.asn_elements.specs.Reading.{ended}
 use Rattle.asn_fields.specs.FieldReadings.{but_default, read_due, read_optional, with_field}
 use Rattle.asn_fields.specs.Fields.{next_of}
 use Rattle.asn_fields.specs.Insides.{Inside}
-use Rattle.asn_fields.specs.declared.fields.Next.{Next}
+use Rattle.asn_fields.specs.declared.next.Next.{Next}
 use Rattle.asn_open_values.specs.OpenTexts.{StandBehind}
 use Rattle.pkix_shapes.specs.Terms.{kind_of, tag_of}
 use Rattle.asn_names.specs.declared.shaped.DefaultLeaf.{DefaultLeaf}

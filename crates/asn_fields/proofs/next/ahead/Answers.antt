@@ -6,7 +6,7 @@ use Rattle.asn_fields.proofs.Insides.{next_inside, within_limits, within_next, w
 use Rattle.x690.specs.ReadHeaders.{next_tag}
 use Rattle.ber_pull.specs.Standing.{enclosing}
 use Rattle.asn_fields.proofs.ShortFields.{begins_here}
-use Rattle.asn_fields.proofs.fields.ahead.Goals as goal
+use Rattle.asn_fields.proofs.next.ahead.Goals as goal
 
 pub returns-in_err-tag-clause-reads : goal.returns-in_err-tag-clause-reads
 returns-in_err-tag-clause-reads g c = λ outer inside w.
