@@ -1,2 +1,4 @@
+pub mod Pieces
 pub mod Rules
 pub mod Samples
+pub mod Stops

@@ -4,13 +4,13 @@ mod reply;
 
 use crate::answer::Answer;
 use crate::line::Line;
+use crate::pieces::Pieces;
 use crate::words::Numbers;
 use make::{Call, replies};
 use reply::Reply;
 use std::alloc::Global;
 use std::str::SplitWhitespace;
 use tlv_core::limits::Limits;
-use tlv_core::source::Pieces;
 
 /// Calls within limits, and how many octets their replies need.
 #[derive(Drop)]

@@ -4,6 +4,7 @@ ghost use Rattle.std.specs.Prelude.{◌<◌};
 use crate::answer::Answer;
 use crate::normalising::stopped;
 use crate::reading::{Reading, Told};
+use crate::stops::Stops;
 use crate::texts::{checked_text, text_of};
 use asn_documents::value::{read_value, write_value};
 use asn_elements::whole::{read_element, read_whole};
@@ -16,7 +17,6 @@ use tlv_core::fault::ReadError;
 use tlv_core::limits::Limits;
 use tlv_core::sink::WriteError;
 use tlv_core::source::Source;
-use tlv_core::target::Stops;
 
 /// The text of a document.
 pub struct DocumentOf<T>(PhantomData<T>);

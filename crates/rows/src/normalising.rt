@@ -8,6 +8,7 @@ use crate::documents::{Room, went_out};
 use crate::line::Line;
 use crate::reading::{Reading, Told};
 use crate::samples::Sample;
+use crate::stops::Stops;
 use asn_documents::check::check_value;
 use asn_documents::normalise::{NormaliseError, normalise_value};
 use asn_values::element::Element;
@@ -16,7 +17,7 @@ use std::marker::PhantomData;
 use tlv_core::fault::ReadError;
 use tlv_core::limits::Limits;
 use tlv_core::source::Source;
-use tlv_core::target::{Stops, ToWrite};
+use tlv_core::target::ToWrite;
 
 /// A type that is as the laws ask.
 pub trait Document: Element {

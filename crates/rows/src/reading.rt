@@ -4,6 +4,7 @@ ghost use Rattle.tlv_core.specs.declared.fault.ReadError.TheVariants.{Memory};
 ghost use Rattle.ber_pull.specs.View.{standing, Keeps, Repeats};
 
 use crate::answer::{Answer, truncated};
+use crate::pieces::Pieces;
 use crate::texts::{checked_text, text_of};
 use asn_values::der_text::DerText;
 use asn_values::element::Element;
@@ -14,7 +15,7 @@ use std::marker::PhantomData;
 use tlv_core::fault::ReadError;
 use tlv_core::limits::Limits;
 use tlv_core::reason::Reason;
-use tlv_core::source::{Pieces, Source};
+use tlv_core::source::Source;
 
 /// How a value is read.
 pub trait Reader {

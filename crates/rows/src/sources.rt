@@ -3,11 +3,12 @@ ghost use Rattle.std.specs.Prelude.{◌<◌};
 
 use crate::answer::Answer;
 use crate::line::Line;
+use crate::pieces::Pieces;
 use crate::words::number;
 use std::alloc::{AllocError, Global};
 use std::io::{self, Read};
 use std::str::SplitWhitespace;
-use tlv_core::source::{Failed, FromRead, Pieces, Source};
+use tlv_core::source::{Failed, FromRead, Source};
 
 /// How often a source is read that is read to its end.
 const ALL: usize = 100;

@@ -3,13 +3,14 @@ ghost use Rattle.std.specs.Prelude.{◌≡◌, false};
 
 use crate::answer::Answer;
 use crate::line::Line;
+use crate::stops::Stops;
 use crate::words::number;
 use std::alloc::{AllocError, Global};
 use std::io::{self, Write};
 use std::str::SplitWhitespace;
 use tlv_core::sink::{Sink, WriteError};
 use tlv_core::source::Failed;
-use tlv_core::target::{Stops, Target, ToWrite};
+use tlv_core::target::{Target, ToWrite};
 
 /// More octets than a task hands out, and more steps than it has.
 const MANY: u64 = 1_000_000;

@@ -2,10 +2,10 @@
 ghost use Rattle.std.specs.Prelude.{◌<◌};
 
 use crate::answer::Answer;
+use crate::stops::Stops;
 use asn_values::der_text::{DerText, der_text};
 use std::alloc::{AllocError, Global};
 use tlv_core::sink::Sink;
-use tlv_core::target::Stops;
 
 /// The text of a value.
 pub fn text_of<T: DerText>(alloc: Global, value: &T) -> Answer {

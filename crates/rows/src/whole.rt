@@ -1,6 +1,7 @@
 //! Values that have to be all of their input.
 use crate::answer::Answer;
 use crate::normalising::{Document, normalised_behind, stopped};
+use crate::pieces::Pieces;
 use crate::reading::{Reading, Told, is_cut_short, is_stopped};
 use crate::texts::checked_text;
 use asn_documents::whole::{normalise_whole, read_whole_input};
@@ -9,7 +10,7 @@ use std::marker::PhantomData;
 use tlv_core::fault::{Fault, ReadError};
 use tlv_core::limits::Limits;
 use tlv_core::reason::Reason;
-use tlv_core::source::{Pieces, Source};
+use tlv_core::source::Source;
 use tlv_core::target::ToWrite;
 
 /// The text of a value that is all of the input.

@@ -2,7 +2,6 @@
 use Rattle.std.specs.Prelude.{ℕ, Bool, List, [], None, Option, false, true}
 use Rattle.std.specs.declared.io.Read.{Ghosts}
 use Rattle.tlv_core.specs.declared.source.FromRead.{FromRead}
-use Rattle.tlv_core.specs.declared.source.Pieces.{Pieces}
 
 -- what no read changes, of a source that holds no reference to another one
 abbrev pub no_frame : List ℕ
@@ -26,17 +25,3 @@ told_by false told = None
 
 abbrev pub read_failed : {R : Type 0} {s : Ghosts R} → FromRead R s → Bool
 read_failed source = source.failed
-
--- the octets that are still to be given
-abbrev pub octets_left : Pieces → List ℕ
-octets_left source = source.left.now
-
-abbrev pub pieces_failed : Pieces → Bool
-pieces_failed source = source.broken
-
--- as many octets are given per read, at most
-abbrev pub piece_size : Pieces → ℕ
-piece_size source = source.piece
-
-abbrev pub fails_at_end : Pieces → Bool
-fails_at_end source = source.fails
