@@ -10,7 +10,7 @@ case $# in
 esac
 case $wanted in
     pull) crate=ber_pull_bench below="tlv_core x690 ber_pull" ;;
-    values) crate=values_bench below="tlv_core x690 x690_laws ber_pull asn_values pk_documents" ;;
+    values) crate=values_bench below="tlv_core x690 x690_laws ber_pull asn_elements asn_lists asn_open_values pk_documents" ;;
     *) echo "build.sh pull | values" >&2 && exit 1 ;;
 esac
 kit=$(dirname "$(rt doc)")

@@ -1,4 +1,4 @@
-// Values of asn_values and private keys read from octets in memory and their texts written: how long it takes, how that
+// Values of ASN.1's types and private keys read from octets in memory and their texts written: how long it takes, how that
 // grows with the document, and how much memory is taken for each octet. Times are the least of many runs, in time of
 // the processor, since machines are shared.
 // `values` runs all; `values NAME` runs the rows whose name begins so, for a profiler. What documents.rs does with

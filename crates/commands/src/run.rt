@@ -22,7 +22,7 @@ use crate::reply::{
 use crate::task::{Action, KindTask, Noting, Task};
 use asn_documents::value::write_octets;
 use asn_documents::whole::read_whole_input;
-use asn_values::der_text::DerText;
+use asn_elements::der_text::DerText;
 use explain::received::{RequestPart, received};
 use pk_documents::document::{Document, Valued};
 use pk_documents::kind::Kind;

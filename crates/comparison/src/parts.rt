@@ -8,7 +8,7 @@ ghost use Rattle.pkcs8.specs.Keys.{curve_octets, identifier_of};
 ghost use Rattle.comparison.specs.Parts.{asymmetric_parts, document_parts, ec_parts, number_octets, parts_seen};
 ghost use Rattle.comparison.specs.Parts.{rsa_parts};
 
-use asn_values::octets::Octets;
+use asn_elements::octets::Octets;
 use pk_documents::document::Document;
 use pkcs8::one_asymmetric_key::OneAsymmetricKey;
 use pkcs8::private_key::PrivateKey;

@@ -10,7 +10,7 @@ ghost use Rattle.pk_documents.specs.Kinds.{type_of};
 use crate::kind::Kind;
 use asn_documents::check::check_value;
 use asn_documents::whole::check_whole;
-use asn_values::boxed::Boxed;
+use asn_elements::boxed::Boxed;
 use pkcs8::encrypted_key::EncryptedKey;
 use pkcs8::key_package::KeyPackage;
 use pkcs8::one_asymmetric_key::OneAsymmetricKey;

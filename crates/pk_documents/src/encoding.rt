@@ -11,7 +11,7 @@ ghost use Rattle.pk_documents.specs.Kinds.{type_of};
 use crate::kind::Kind;
 use crate::normalise::{NormaliseError, normalise_whole_document};
 use asn_documents::in_der::are_in_der;
-use asn_values::boxed::Boxed;
+use asn_elements::boxed::Boxed;
 use pkcs8::encrypted_key::EncryptedKey;
 use pkcs8::key_package::KeyPackage;
 use pkcs8::one_asymmetric_key::OneAsymmetricKey;

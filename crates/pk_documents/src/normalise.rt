@@ -10,7 +10,7 @@ use crate::kind::Kind;
 pub use asn_documents::normalise::NormaliseError;
 use asn_documents::normalise::normalise_value;
 use asn_documents::whole::normalise_whole;
-use asn_values::boxed::Boxed;
+use asn_elements::boxed::Boxed;
 use pkcs8::encrypted_key::EncryptedKey;
 use pkcs8::key_package::KeyPackage;
 use pkcs8::one_asymmetric_key::OneAsymmetricKey;

@@ -5,7 +5,7 @@ ghost use Rattle.pk_documents.specs.RequestParts.{part_of};
 
 use crate::signed_part::write_signed_part;
 use asn_documents::value::{write_octets, write_value};
-use asn_values::der_text::DerText;
+use asn_elements::der_text::DerText;
 use pkcs10::request::CertificationRequest;
 use tlv_core::sink::WriteError;
 use tlv_core::target::Target;

@@ -5,7 +5,7 @@ ghost use Rattle.asn_documents.specs.WrittenValues.{WritesText};
 ghost use Rattle.pkcs10.specs.Requests.{request_info_of};
 
 use asn_documents::value::write_value;
-use asn_values::der_text::DerText;
+use asn_elements::der_text::DerText;
 use pkcs10::info::CertificationRequestInfo;
 use pkcs10::request::CertificationRequest;
 use tlv_core::sink::WriteError;

@@ -10,7 +10,7 @@ use crate::lines::{
     push_optional_bits_line, push_optional_oid_line, push_parameters_line,
 };
 use crate::shown::Shown;
-use asn_values::der_text::DerText;
+use asn_elements::der_text::DerText;
 use pkcs8::encrypted_key::EncryptedKey;
 use pkcs8::key_package::KeyPackage;
 use pkcs8::one_asymmetric_key::OneAsymmetricKey;

@@ -7,11 +7,11 @@ ghost use Rattle.tlv_core.specs.Texts.{oid_text};
 
 use crate::shown::Shown;
 use crate::texts::{push_bits, push_hex};
-use asn_values::any::Any;
-use asn_values::bits::Bits;
-use asn_values::der_text::{DerText, der_text};
-use asn_values::list::List;
-use asn_values::set_of::SetOf;
+use asn_elements::bits::Bits;
+use asn_elements::der_text::{DerText, der_text};
+use asn_lists::list::List;
+use asn_lists::set_of::SetOf;
+use asn_open_values::any::Any;
 use std::alloc::{AllocError, Global};
 use tlv_core::oid::Oid;
 use tlv_core::text::{push_number, push_oid};

@@ -8,7 +8,7 @@ use crate::attributes::push_attributes;
 use crate::keys::{push_algorithm, push_public_key};
 use crate::lines::{push_any_line, push_bits_line, push_number_line, push_set};
 use crate::shown::Shown;
-use asn_values::list::List;
+use asn_lists::list::List;
 use pkcs10::info::CertificationRequestInfo;
 use pkcs10::request::CertificationRequest;
 use pkix_values::name::{Name, NameItem, Rdn};

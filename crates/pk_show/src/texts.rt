@@ -3,7 +3,7 @@ ghost use Rattle.std.specs.Prelude.{◌≡◌, ◌++◌, OnOk, string_bytes};
 ghost use Rattle.asn_elements.specs.Leaves.{bit_string_of};
 ghost use Rattle.pk_show.specs.Texts.{bits_text, hex_text};
 
-use asn_values::bits::Bits;
+use asn_elements::bits::Bits;
 use std::alloc::{AllocError, Global};
 use tlv_core::text::push_number;
 

@@ -6,9 +6,9 @@ ghost use Rattle.asn_fields.specs.Listings.{through};
 ghost use Rattle.pkix_definitions.specs.DocumentTypes.{CertificationRequestInfo as CertificationRequestInfoType};
 ghost use Rattle.pkix_definitions.proofs.Sequences.{info_is};
 
-use asn_values::implicit::Implicit;
-use asn_values::sequence::{FieldsText, Optional, Required, Sequence, SequenceFields};
-use asn_values::set_of::SetOf;
+use asn_elements::implicit::Implicit;
+use asn_fields::sequence::{FieldsText, Optional, Required, Sequence, SequenceFields};
+use asn_lists::set_of::SetOf;
 use pkix_values::name::Name;
 use pkix_values::public_key::SubjectPublicKeyInfo;
 use pkix_values::request_attribute::RequestAttribute;

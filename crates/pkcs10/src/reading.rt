@@ -1,8 +1,8 @@
 //! The fields of a request and of what it asks to be certified, read and judged as they are listed.
 use crate::info::{self, InfoFields};
 use crate::request::{self, RequestFields};
-use asn_values::fields::Next;
-use asn_values::sequence::FirstFields;
+use asn_fields::fields::Next;
+use asn_fields::sequence::FirstFields;
 use ber_pull::pull::Pull;
 use std::alloc::Global;
 use tlv_core::fault::ReadError;

@@ -6,8 +6,8 @@ ghost use Rattle.pkix_definitions.specs.DocumentTypes.{CertificationRequest as C
 ghost use Rattle.pkix_definitions.proofs.Sequences.{request_is};
 
 use crate::info::CertificationRequestInfo;
-use asn_values::bits::Bits;
-use asn_values::sequence::{FieldsText, Required, Sequence, SequenceFields};
+use asn_elements::bits::Bits;
+use asn_fields::sequence::{FieldsText, Required, Sequence, SequenceFields};
 use pkix_values::algorithm::AlgorithmIdentifier;
 use tlv_core::sink::{Sink, WriteError};
 use tlv_core::target::Target;

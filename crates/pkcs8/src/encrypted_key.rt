@@ -5,9 +5,9 @@ ghost use Rattle.pkix_definitions.specs.DocumentTypes.{EncryptedPrivateKeyInfo};
 ghost use Rattle.asn_fields.specs.Listings.{through};
 ghost use Rattle.pkix_definitions.proofs.Sequences.{encrypted_key_is};
 
-use asn_values::fields::Next;
-use asn_values::octets::Octets;
-use asn_values::sequence::{FieldsText, FirstFields, Required, Sequence, SequenceFields};
+use asn_elements::octets::Octets;
+use asn_fields::fields::Next;
+use asn_fields::sequence::{FieldsText, FirstFields, Required, Sequence, SequenceFields};
 use ber_pull::pull::Pull;
 use pkix_values::algorithm::AlgorithmIdentifier;
 use std::alloc::Global;

@@ -8,8 +8,8 @@ ghost use Rattle.x690.specs.Values.{Value};
 ghost use Rattle.asn_fields.specs.FieldsInDer.{AreFields};
 ghost use Rattle.pkcs8.specs.HeadInDer.{HasHead, key_types};
 
-use asn_values::in_der::element_in_der;
-use asn_values::tags::universal_tag;
+use asn_elements::in_der::element_in_der;
+use asn_elements::tags::universal_tag;
 use pkix_definitions::identifiers::{EC_PUBLIC_KEY, RSA_ENCRYPTION, are_same_octets};
 
 /// Whether these are the contents of id-ecPublicKey.

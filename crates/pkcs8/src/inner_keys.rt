@@ -14,11 +14,11 @@ ghost use Rattle.pkcs8.specs.Keys.{curve_octets};
 
 use crate::head_in_der::{curve_in_der, head_in_der, is_ec, is_rsa};
 use crate::key_head::{NamesKey, is_ec_public_key, is_rsa_encryption};
-use asn_values::defined_by::Defines;
-use asn_values::in_der::element_in_der;
-use asn_values::octets::Octets;
-use asn_values::ruled_behind::FieldRules;
-use asn_values::tags::universal_tag;
+use asn_elements::in_der::element_in_der;
+use asn_elements::octets::Octets;
+use asn_elements::tags::universal_tag;
+use asn_fields::defined_by::Defines;
+use asn_fields::ruled_behind::FieldRules;
 use pkix_definitions::identifiers::{are_same_octets, rfc8410_length};
 use pkix_values::identifiers::public_key_length;
 use private_keys::curve_key::CurveKey;

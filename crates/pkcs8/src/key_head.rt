@@ -14,12 +14,12 @@ ghost use Rattle.x690.specs.Values.{leaf_at};
 ghost use Rattle.asn_fields.specs.Listings.{through};
 
 use crate::head_in_der::is_ec;
-use asn_values::any::Any;
-use asn_values::fields::Next;
-use asn_values::in_der::element_in_der;
-use asn_values::ruled::{Ruled, Rules};
-use asn_values::sequence::{FieldsText, FirstFields, Required};
-use asn_values::tags::universal_tag;
+use asn_elements::in_der::element_in_der;
+use asn_elements::tags::universal_tag;
+use asn_fields::fields::Next;
+use asn_fields::ruled::{Ruled, Rules};
+use asn_fields::sequence::{FieldsText, FirstFields, Required};
+use asn_open_values::any::Any;
 use ber_pull::pull::Pull;
 use pkix_definitions::identifiers::{EC_PUBLIC_KEY, RSA_ENCRYPTION};
 use pkix_values::algorithm::AlgorithmIdentifier;

@@ -5,10 +5,10 @@ ghost use Rattle.pkix_definitions.proofs.ClosedTypes.{key_package_closed};
 ghost use Rattle.pkix_definitions.specs.DocumentTypes.{AsymmetricKeyPackage};
 
 use crate::one_asymmetric_key::OneAsymmetricKey;
-use asn_values::der_text::DerText;
-use asn_values::element::Element;
-use asn_values::list::List;
-use asn_values::list_of_some::ListOfSome;
+use asn_elements::der_text::DerText;
+use asn_elements::element::Element;
+use asn_lists::list::List;
+use asn_lists::list_of_some::ListOfSome;
 use ber_pull::pull::Pull;
 use std::alloc::Global;
 use tlv_core::fault::ReadError;

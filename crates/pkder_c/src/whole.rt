@@ -13,7 +13,7 @@ ghost use Rattle.pkder_c.specs.declared.refusal.Refusal.TheVariants.{Memory};
 
 use crate::refusal::{PairRefusal, Refusal, first_refused, second_refused, unread};
 use asn_documents::whole::read_whole_input;
-use asn_values::der_text::DerText;
+use asn_elements::der_text::DerText;
 use explain::received::{RequestPart, received};
 use explain::written::{Form, explain_text, explained_field};
 use pk_documents::check::check_whole_document;

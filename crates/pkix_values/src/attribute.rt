@@ -7,10 +7,10 @@ ghost use Rattle.asn_fields.specs.Listings.{through};
 ghost use Rattle.pkix_definitions.proofs.Sequences.{attribute_is};
 
 use crate::set_of_some::SetOfSome;
-use asn_values::any::Any;
-use asn_values::fields::Next;
-use asn_values::sequence::{FieldsText, FirstFields, Required, Sequence, SequenceFields};
-use asn_values::set_of::SetOf;
+use asn_fields::fields::Next;
+use asn_fields::sequence::{FieldsText, FirstFields, Required, Sequence, SequenceFields};
+use asn_lists::set_of::SetOf;
+use asn_open_values::any::Any;
 use ber_pull::pull::Pull;
 use std::alloc::Global;
 use tlv_core::fault::ReadError;

@@ -5,9 +5,9 @@ ghost use Rattle.pkix_definitions.specs.DocumentTypes.{Extension as ExtensionTyp
 ghost use Rattle.asn_fields.specs.Listings.{through};
 ghost use Rattle.pkix_definitions.proofs.Sequences.{extension_is};
 
-use asn_values::fields::Next;
-use asn_values::octets::Octets;
-use asn_values::sequence::{
+use asn_elements::octets::Octets;
+use asn_fields::fields::Next;
+use asn_fields::sequence::{
     DefaultFalse, FieldsText, FirstFields, Required, Sequence, SequenceFields,
 };
 use ber_pull::pull::Pull;

@@ -7,12 +7,12 @@ ghost use Rattle.pkix_definitions.proofs.ClosedTypes.{name_closed};
 ghost use Rattle.pkix_definitions.proofs.Sequences.{name_item_is};
 
 use crate::set_of_some::SetOfSome;
-use asn_values::any::Any;
-use asn_values::der_text::DerText;
-use asn_values::element::Element;
-use asn_values::fields::Next;
-use asn_values::list::List;
-use asn_values::sequence::{FieldsText, FirstFields, Required, Sequence, SequenceFields};
+use asn_elements::der_text::DerText;
+use asn_elements::element::Element;
+use asn_fields::fields::Next;
+use asn_fields::sequence::{FieldsText, FirstFields, Required, Sequence, SequenceFields};
+use asn_lists::list::List;
+use asn_open_values::any::Any;
 use ber_pull::pull::Pull;
 use std::alloc::Global;
 use tlv_core::fault::ReadError;

@@ -6,10 +6,10 @@ ghost use Rattle.x690.specs.Values.{SetOf as SetValue, values_of};
 ghost use Rattle.asn_lists.specs.Containers.{set_items};
 ghost use Rattle.x690_laws.proofs.TypesClosed.{set_of_closed};
 
-use asn_values::der_text::DerText;
-use asn_values::element::Element;
-use asn_values::set_of::SetOf;
-use asn_values::tags::{is_same_tag, universal_tag};
+use asn_elements::der_text::DerText;
+use asn_elements::element::Element;
+use asn_elements::tags::{is_same_tag, universal_tag};
+use asn_lists::set_of::SetOf;
 use ber_pull::pull::Pull;
 use std::alloc::Global;
 use tlv_core::fault::ReadError;

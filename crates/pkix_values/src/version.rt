@@ -10,10 +10,10 @@ ghost use Rattle.x690.specs.Values.{Leaf};
 ghost use Rattle.pkix_definitions.proofs.ClosedTypes.{version_closed};
 ghost use Rattle.pkix_values.specs.Versions.{versions};
 
-use asn_values::der_text::DerText;
-use asn_values::element::Element;
-use asn_values::integer::read_integer_octet;
-use asn_values::tags::{is_same_tag, universal_tag};
+use asn_elements::der_text::DerText;
+use asn_elements::element::Element;
+use asn_elements::integer::read_integer_octet;
+use asn_elements::tags::{is_same_tag, universal_tag};
 use ber_pull::pull::Pull;
 use std::alloc::Global;
 use tlv_core::fault::ReadError;

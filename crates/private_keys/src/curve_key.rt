@@ -5,9 +5,9 @@ ghost use Rattle.x690.specs.Layouts.{universal};
 ghost use Rattle.x690.specs.UniversalTypes.{octet_string};
 ghost use Rattle.x690_laws.proofs.TypesClosed.{leaf_closed};
 
-use asn_values::der_text::DerText;
-use asn_values::element::Element;
-use asn_values::octets::Octets;
+use asn_elements::der_text::DerText;
+use asn_elements::element::Element;
+use asn_elements::octets::Octets;
 use ber_pull::pull::Pull;
 use std::alloc::Global;
 use tlv_core::fault::ReadError;

@@ -12,11 +12,11 @@ ghost use Rattle.asn_fields.specs.BegunSequence.{ReadsFields};
 ghost use Rattle.asn_fields.specs.Fields.{AnswersDue, AnswersTake, IsInside, LeavesWithin, StaysInside};
 ghost use Rattle.private_keys.specs.RsaNumbers.{integer_value, integers_due};
 
-use asn_values::element::Element;
-use asn_values::fields::{Next, ahead};
-use asn_values::integer::Int;
-use asn_values::leaf_reading::{SimpleType, read_leaf_into};
-use asn_values::tags::universal_tag;
+use asn_elements::element::Element;
+use asn_elements::integer::Int;
+use asn_elements::leaf_reading::{SimpleType, read_leaf_into};
+use asn_elements::tags::universal_tag;
+use asn_fields::fields::{Next, ahead};
 use ber_pull::pull::Pull;
 use std::alloc::{AllocError, Global};
 use tlv_core::der::{header, short_header};

@@ -7,9 +7,9 @@ ghost use Rattle.asn_elements.specs.Leaves.{integer_of};
 ghost use Rattle.asn_fields.specs.Listings.{through};
 ghost use Rattle.pkix_definitions.proofs.Sequences.{other_prime_is};
 
-use asn_values::fields::Next;
-use asn_values::integer::Int;
-use asn_values::sequence::{FieldsText, FirstFields, Required, Sequence, SequenceFields};
+use asn_elements::integer::Int;
+use asn_fields::fields::Next;
+use asn_fields::sequence::{FieldsText, FirstFields, Required, Sequence, SequenceFields};
 use ber_pull::pull::Pull;
 use std::alloc::Global;
 use tlv_core::fault::ReadError;

@@ -11,9 +11,9 @@ ghost use Rattle.asn_fields.specs.Listings.{through};
 ghost use Rattle.private_keys.specs.RsaNumbers.{eight, number_in, values_in};
 
 use crate::number_reading::append_integer;
-use asn_values::fields::Next;
-use asn_values::integer::Int;
-use asn_values::sequence::{FieldsText, IndependentFields, Required};
+use asn_elements::integer::Int;
+use asn_fields::fields::Next;
+use asn_fields::sequence::{FieldsText, IndependentFields, Required};
 use ber_pull::pull::Pull;
 use std::alloc::Global;
 use tlv_core::fault::ReadError;

@@ -11,12 +11,12 @@ ghost use Rattle.x690.specs.TypeTerms.{EndOfFields, SequenceType};
 ghost use Rattle.asn_fields.specs.Listings.{through};
 
 use crate::other_primes::{OtherPrimes, VersionAndNumbers};
-use asn_values::fields::Next;
-use asn_values::in_der::element_in_der;
-use asn_values::optional_dependent::OptionalDependent;
-use asn_values::ruled_sequence::{RuledFields, RuledSequence};
-use asn_values::sequence::{FieldsText, FirstFields, SequenceFields};
-use asn_values::tags::universal_tag;
+use asn_elements::in_der::element_in_der;
+use asn_elements::tags::universal_tag;
+use asn_fields::fields::Next;
+use asn_fields::optional_dependent::OptionalDependent;
+use asn_fields::ruled_sequence::{RuledFields, RuledSequence};
+use asn_fields::sequence::{FieldsText, FirstFields, SequenceFields};
 use ber_pull::pull::Pull;
 use pkix_definitions::identifiers::are_same_octets;
 use std::alloc::Global;

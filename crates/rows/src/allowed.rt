@@ -8,16 +8,16 @@ ghost use Rattle.rows.specs.Rules.{fair_length, honest_left_out, honest_length, 
 ghost use Rattle.asn_fields.specs.Listings.{through};
 ghost use Rattle.x690.specs.TypeTerms.{EndOfFields, SequenceType};
 
-use asn_values::defined_by::{DefinedBy, Defines};
-use asn_values::dependent::Independent;
-use asn_values::fields::Next;
-use asn_values::integer::Int;
-use asn_values::octets::Octets;
-use asn_values::optional_dependent::OptionalDependent;
-use asn_values::refused::{Refused, RefusedTag};
-use asn_values::ruled_behind::{FieldRules, RuledBehind};
-use asn_values::sequence::{FieldsText, FirstFields, Optional, Required, Sequence, SequenceFields};
-use asn_values::tags::{context_tag, universal_tag};
+use asn_elements::integer::Int;
+use asn_elements::octets::Octets;
+use asn_elements::tags::{context_tag, universal_tag};
+use asn_fields::defined_by::{DefinedBy, Defines};
+use asn_fields::dependent::Independent;
+use asn_fields::fields::Next;
+use asn_fields::optional_dependent::OptionalDependent;
+use asn_fields::refused::{Refused, RefusedTag};
+use asn_fields::ruled_behind::{FieldRules, RuledBehind};
+use asn_fields::sequence::{FieldsText, FirstFields, Optional, Required, Sequence, SequenceFields};
 use ber_pull::pull::Pull;
 use std::alloc::Global;
 use tlv_core::fault::ReadError;

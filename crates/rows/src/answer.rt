@@ -1,5 +1,5 @@
 //! What is answered to a task.
-use asn_values::build::BuildError;
+use asn_elements::build::BuildError;
 use std::alloc::{AllocError, AllocFailed, Global};
 use tlv_core::fault::{Fault, ReadError};
 use tlv_core::oid::OidError;

@@ -2,8 +2,8 @@
 use crate::answer::Answer;
 use crate::line::Line;
 use asn_documents::value::read_value;
-use asn_values::der_text::DerText;
-use asn_values::element::Element;
+use asn_elements::der_text::DerText;
+use asn_elements::element::Element;
 use std::alloc::{AllocError, Global};
 use tlv_core::fault::ReadError;
 use tlv_core::limits::Limits;

@@ -2,7 +2,7 @@
 use crate::fields::Described;
 use crate::fields_of_types::describe_bits;
 use crate::line::Line;
-use asn_values::der_text::DerText;
+use asn_elements::der_text::DerText;
 use pkcs8::encrypted_key::EncryptedKey;
 use private_keys::curve_key::CurveKey;
 use private_keys::ec_private_key::EcPrivateKey;

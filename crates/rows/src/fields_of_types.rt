@@ -1,13 +1,13 @@
 //! The field readers of each type.
 use crate::fields::Described;
 use crate::line::Line;
-use asn_values::any::Any;
-use asn_values::bits::Bits;
-use asn_values::element::Element;
-use asn_values::implicit::Implicit;
-use asn_values::integer::Int;
-use asn_values::set_of::SetOf;
-use asn_values::text::Text;
+use asn_elements::bits::Bits;
+use asn_elements::element::Element;
+use asn_elements::implicit::Implicit;
+use asn_elements::integer::Int;
+use asn_elements::text::Text;
+use asn_lists::set_of::SetOf;
+use asn_open_values::any::Any;
 use pkcs10::info::CertificationRequestInfo;
 use pkcs10::request::CertificationRequest;
 use pkix_values::algorithm::AlgorithmIdentifier;

@@ -6,12 +6,12 @@ ghost use Rattle.asn_fields.specs.Listings.{through};
 ghost use Rattle.x690.specs.TypeTerms.{EndOfFields, SequenceType};
 ghost use Rattle.x690.specs.Layouts.{universal};
 
-use asn_values::boolean::Bool;
-use asn_values::dependent::Dependent;
-use asn_values::fields::Next;
-use asn_values::octets::Octets;
-use asn_values::ruled_behind::{FieldRules, RuledBehind};
-use asn_values::sequence::{FieldsText, FirstFields, Required, Sequence, SequenceFields};
+use asn_elements::boolean::Bool;
+use asn_elements::octets::Octets;
+use asn_fields::dependent::Dependent;
+use asn_fields::fields::Next;
+use asn_fields::ruled_behind::{FieldRules, RuledBehind};
+use asn_fields::sequence::{FieldsText, FirstFields, Required, Sequence, SequenceFields};
 use ber_pull::pull::Pull;
 use std::alloc::Global;
 use tlv_core::fault::ReadError;

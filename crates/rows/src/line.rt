@@ -1,6 +1,6 @@
 //! A line of parts.
 use crate::printing::is_error_written;
-use asn_values::der_text::DerText;
+use asn_elements::der_text::DerText;
 use itoa::{Buffer, Integer};
 use std::alloc::{AllocError, Global};
 use tlv_core::fault::ReadError;

@@ -2,11 +2,11 @@
 use crate::answer::Answer;
 use crate::line::Line;
 use crate::texts::{checked_text, text_of};
-use asn_values::build::BuildError;
-use asn_values::der_text::DerText;
-use asn_values::integer::Int;
-use asn_values::octets::Octets;
-use asn_values::set_of::SetOf;
+use asn_elements::build::BuildError;
+use asn_elements::der_text::DerText;
+use asn_elements::integer::Int;
+use asn_elements::octets::Octets;
+use asn_lists::set_of::SetOf;
 use std::alloc::{AllocError, Global};
 
 /// The INTEGER with these contents, the OCTET STRING of these octets, the SET OF an INTEGER for each of them, or the

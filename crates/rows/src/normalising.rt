@@ -11,7 +11,7 @@ use crate::samples::Sample;
 use crate::stops::Stops;
 use asn_documents::check::check_value;
 use asn_documents::normalise::{NormaliseError, normalise_value};
-use asn_values::element::Element;
+use asn_elements::element::Element;
 use std::alloc::{AllocError, Global};
 use std::marker::PhantomData;
 use tlv_core::fault::ReadError;

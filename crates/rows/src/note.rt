@@ -6,11 +6,11 @@ ghost use Rattle.asn_fields.specs.Listings.{through};
 ghost use Rattle.x690.specs.TypeTerms.{EndOfFields, SequenceType};
 ghost use Rattle.x690.specs.Layouts.{universal};
 
-use asn_values::fields::Next;
-use asn_values::integer::Int;
-use asn_values::list_of_some::ListOfSome;
-use asn_values::octets::Octets;
-use asn_values::sequence::{FieldsText, FirstFields, Optional, Required, Sequence, SequenceFields};
+use asn_elements::integer::Int;
+use asn_elements::octets::Octets;
+use asn_fields::fields::Next;
+use asn_fields::sequence::{FieldsText, FirstFields, Optional, Required, Sequence, SequenceFields};
+use asn_lists::list_of_some::ListOfSome;
 use ber_pull::pull::Pull;
 use std::alloc::Global;
 use tlv_core::fault::ReadError;

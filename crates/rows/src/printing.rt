@@ -1,6 +1,6 @@
 //! An answer on standard output and standard error.
 use crate::answer::Answer;
-use asn_values::build::BuildError;
+use asn_elements::build::BuildError;
 use itoa::Buffer;
 use std::io::Write;
 use tlv_core::fault::ReadError;

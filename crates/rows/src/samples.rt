@@ -7,12 +7,12 @@ ghost use Rattle.rows.specs.Samples.{SampleType};
 ghost use Rattle.x690.specs.TypeTerms.{EndOfFields, SequenceType};
 ghost use Rattle.x690.specs.Layouts.{universal};
 
-use asn_values::der_text::DerText;
-use asn_values::element::Element;
-use asn_values::fields::Next;
-use asn_values::integer::Int;
-use asn_values::sequence::{FieldsText, FirstFields, Required, Sequence, SequenceFields};
-use asn_values::set_of::SetOf;
+use asn_elements::der_text::DerText;
+use asn_elements::element::Element;
+use asn_elements::integer::Int;
+use asn_fields::fields::Next;
+use asn_fields::sequence::{FieldsText, FirstFields, Required, Sequence, SequenceFields};
+use asn_lists::set_of::SetOf;
 use ber_pull::pull::Pull;
 use std::alloc::Global;
 use tlv_core::fault::ReadError;

@@ -2,10 +2,10 @@
 use crate::answer::Answer;
 use crate::line::Line;
 use crate::reading::{Reading, Told};
-use asn_values::boolean::Bool;
-use asn_values::integer::Int;
-use asn_values::sequence::{DefaultFalse, FirstFields, Optional, Required, read_sequence_as};
-use asn_values::tags::universal_tag;
+use asn_elements::boolean::Bool;
+use asn_elements::integer::Int;
+use asn_elements::tags::universal_tag;
+use asn_fields::sequence::{DefaultFalse, FirstFields, Optional, Required, read_sequence_as};
 use ber_pull::pull::Pull;
 use std::alloc::{AllocError, Global};
 use std::marker::PhantomData;

@@ -14,19 +14,19 @@ use crate::sequences::{IntegerAndBoolean, LineOf};
 use crate::whole::{NormalisedWholeOf, WholeOf, checked_whole};
 use crate::words::{Way, Words, words_of};
 use crate::{calls, identifiers, sources, targets};
-use asn_values::any::Any;
-use asn_values::bits::Bits;
-use asn_values::boolean::Bool;
-use asn_values::element::Element;
-use asn_values::implicit::Implicit;
-use asn_values::integer::Int;
-use asn_values::list::List;
-use asn_values::null::Null;
-use asn_values::octets::Octets;
-use asn_values::sequence::{DefaultFalse, Optional, Required};
-use asn_values::set_of::SetOf;
-use asn_values::tagged::Tagged;
-use asn_values::text::Text;
+use asn_elements::bits::Bits;
+use asn_elements::boolean::Bool;
+use asn_elements::element::Element;
+use asn_elements::implicit::Implicit;
+use asn_elements::integer::Int;
+use asn_elements::null::Null;
+use asn_elements::octets::Octets;
+use asn_elements::text::Text;
+use asn_fields::sequence::{DefaultFalse, Optional, Required};
+use asn_fields::tagged::Tagged;
+use asn_lists::list::List;
+use asn_lists::set_of::SetOf;
+use asn_open_values::any::Any;
 use pkcs8::encrypted_key::EncryptedKey;
 use pkcs10::info::CertificationRequestInfo;
 use pkcs10::request::CertificationRequest;
@@ -120,7 +120,7 @@ fn of_own_type(alloc: Global, task: &Task<'_>) -> Answer {
     }
 }
 
-/// What is done with a value of a type of `asn_values`, or of one of those below.
+/// What is done with a value of a type of ASN.1, or of one of those below.
 fn of_plain_type(alloc: Global, task: &Task<'_>) -> Answer {
     match task.words.name {
         "boolean" => plain::<Bool>(alloc, task),

@@ -3,7 +3,7 @@ ghost use Rattle.std.specs.Prelude.{◌<◌};
 
 use crate::answer::Answer;
 use crate::stops::Stops;
-use asn_values::der_text::{DerText, der_text};
+use asn_elements::der_text::{DerText, der_text};
 use std::alloc::{AllocError, Global};
 use tlv_core::sink::Sink;
 
