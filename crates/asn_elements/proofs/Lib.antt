@@ -22,3 +22,4 @@ pub mod ShortElements
 pub mod StringReadings
 pub mod TypeReadings
 pub mod InDerTexts
+pub mod MembersInDer

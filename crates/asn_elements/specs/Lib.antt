@@ -7,5 +7,6 @@ pub mod Implicits
 pub mod InDer
 pub mod Leaves
 pub mod Members
+pub mod MembersInDer
 pub mod Reading
 pub mod Whole

@@ -1,2 +1,1 @@
 pub mod LaterStarts
-pub mod MembersInDer

@@ -1,2 +1,1 @@
 pub mod Containers
-pub mod MembersInDer

@@ -2,7 +2,7 @@
 ghost use Rattle.std.specs.Prelude.{◌≡◌, ◌≤◌, IfSome, cond, length, true};
 ghost use Rattle.x690.specs.TypeTerms.{SequenceOfType, SetOfType};
 ghost use Rattle.asn_elements.specs.InDer.{BeginsInDer};
-ghost use Rattle.asn_lists.specs.MembersInDer.{AreMembers, AreOrderedMembers};
+ghost use Rattle.asn_elements.specs.MembersInDer.{AreMembers, AreOrderedMembers};
 
 use asn_elements::element::Element;
 use asn_elements::in_der::element_in_der;

@@ -1,8 +1,8 @@
 use Rattle.std.proofs.Common.{◌≡◌, ◌==◌, ◌∙◌, [], arith, length, subst, sym, true}
 use Rattle.std.proofs.lemmas.Bool.Decides.{nat_tests}
 use Rattle.std.proofs.lemmas.List.{nil_from_length}
-use Rattle.asn_lists.specs.MembersInDer.{AreMembers}
-use Rattle.asn_lists.proofs.MembersInDer.{are_members, fewer, no_members}
+use Rattle.asn_elements.specs.MembersInDer.{AreMembers}
+use Rattle.asn_elements.proofs.MembersInDer.{are_members, fewer, no_members}
 use Rattle.asn_lists.proofs.in_der.are_members.Goals as goal
 
 pub loop-rest-preserved : goal.loop-rest-preserved

@@ -1,5 +1,5 @@
 use Rattle.std.proofs.Common.{length}
-use Rattle.asn_lists.specs.MembersInDer.{AreMembers}
+use Rattle.asn_elements.specs.MembersInDer.{AreMembers}
 use Rattle.asn_lists.proofs.in_der.are_members.Given as goal
 
 abbrev pub invariant-loop-rest : goal.invariant-loop-rest

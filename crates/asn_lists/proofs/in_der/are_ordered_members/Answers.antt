@@ -2,7 +2,7 @@ use Rattle.std.proofs.Common.{◌≡◌, ◌==◌, ◌∙◌, ap, arith, length,
 use Rattle.std.proofs.lemmas.Bool.Decides.{nat_tests}
 use Rattle.std.proofs.lemmas.List.{nil_from_length}
 use Rattle.std.specs.Ordering.{is_lt}
-use Rattle.asn_lists.proofs.MembersInDer.{GoesOn, fewer, goes_on_all, goes_on_first, goes_on_next}
+use Rattle.asn_elements.proofs.MembersInDer.{GoesOn, fewer, goes_on_all, goes_on_first, goes_on_next}
 use Rattle.asn_lists.proofs.in_der.are_ordered_members.Goals as goal
 
 pub slice_bounds-text-count : goal.slice_bounds-text-count

@@ -1,5 +1,5 @@
 use Rattle.std.proofs.Common.{◌-◌, arith, rules}
-use Rattle.asn_lists.proofs.MembersInDer.{sequence_of_begins}
+use Rattle.asn_elements.proofs.MembersInDer.{sequence_of_begins}
 use Rattle.asn_lists.proofs.in_der.judge_list.Goals as goal
 
 pub returns : goal.returns

@@ -1,5 +1,5 @@
 use Rattle.std.proofs.Common.{◌-◌, arith, rules}
-use Rattle.asn_lists.proofs.MembersInDer.{set_of_begins}
+use Rattle.asn_elements.proofs.MembersInDer.{set_of_begins}
 use Rattle.asn_lists.proofs.in_der.judge_set.Goals as goal
 
 pub returns : goal.returns

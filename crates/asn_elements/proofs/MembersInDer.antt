@@ -19,7 +19,7 @@ use Rattle.x690_laws.proofs.TextsAsTrees.{members_raws, raws_of}
 use Rattle.asn_elements.specs.InDer.{BeginsInDer}
 use Rattle.asn_elements.proofs.ArrangedTexts.{IsText, not_less}
 use Rattle.asn_elements.proofs.InDerTexts.{container_laid_out}
-use Rattle.asn_lists.specs.MembersInDer.{AreMembers, AreOrderedMembers, MembersStand}
+use Rattle.asn_elements.specs.MembersInDer.{AreMembers, AreOrderedMembers, MembersStand}
 
 -- an element has some octets
 text_some : (v : Value) → 1 ≤ length (der v)
