@@ -126,14 +126,10 @@ in_c() {
     try "freed secrets" secrets
 }
 
-# Of the files in DER these are read, and memory is asked for: what holds a container in an open value, and what is of
-# version 1 where version 0 is usual.
+# Each file in DER is judged as it stands, and no memory is asked for.
 judged_files() {
     "$work/allocations" "$top"/examples/*.der > "$work/judged_files" || return 1
-    for name in dsa encrypted-keytool encrypted package public-p256-explicit rfc8410 rsa-pss rsa-three-primes; do
-        echo $name.der
-    done | sort > "$work/due"
-    sed -n 's|^read.*/||p' "$work/judged_files" | sort | diff "$work/due" - || return 1
+    ! grep '^read' "$work/judged_files" || return 1
     echo "$(grep -c '^judged' "$work/judged_files") files in DER ask for none"
 }
 

@@ -1,7 +1,7 @@
 /* allocations FILE..: whether pkder_check asks for memory where a document is in DER: a line for each file that is,
- * "judged" or "read", a tab and its name. Of a request of 10,000 attributes, a package of 1,000 keys and an encrypted
- * key without parameters it asks for none; of what isn't in DER it does. Where it asks for none, pkder_normalise and
- * pkder_same don't either. It is linked as counted.h says. */
+ * "judged" or "read", a tab and its name. Of a request of 10,000 attributes, a package of 1,000 keys and encrypted keys
+ * with parameters of any form it asks for none; of what isn't in DER, and of an identifier of two octets, it does. Where
+ * it asks for none, pkder_normalise and pkder_same don't either. It is linked as counted.h says. */
 #include "counted.h"
 #include "elements.h"
 
@@ -58,9 +58,10 @@ static uint8_t *put_header(uint8_t identifier, uint8_t *at, const uint8_t *end) 
     return at;
 }
 
-static void check_judged(const uint8_t *at, const uint8_t *end) {
+/* A document in DER, which is judged as it stands or read. */
+static void check_in_der(const uint8_t *at, const uint8_t *end, int is_to_be_read) {
     int is_in_der, is_read;
-    CHECK(check_document(at, (size_t)(end - at), &is_in_der, &is_read) && is_in_der && !is_read);
+    CHECK(check_document(at, (size_t)(end - at), &is_in_der, &is_read) && is_in_der && is_read == is_to_be_read);
     documents++;
 }
 
@@ -78,7 +79,7 @@ static void check_attributes(void) {
     }
     at = put_octets(put_header(0xA0, at, info_end), key, sizeof key);
     at = put_header(0x30, put_octets(at, before, sizeof before), info_end);
-    check_judged(put_header(0x30, at, end), end);
+    check_in_der(put_header(0x30, at, end), end, 0);
 }
 
 /* A package of one Ed25519 key, again and again. */
@@ -89,13 +90,35 @@ static void check_keys(void) {
     for (unsigned left = KEYS; left > 0; left--) {
         at = put_octets(put_octets(at, key, sizeof key), before, sizeof before);
     }
-    check_judged(put_header(0x30, at, end), end);
+    check_in_der(put_header(0x30, at, end), end, 0);
 }
 
-/* (those of files hold a SEQUENCE in their parameters) */
-static void check_encrypted(void) {
-    static const uint8_t key[] = {0x30, 13, 0x30, 5, 6, 3, 0x2A, 3, 4, 4, 4, 1, 2, 3, 4};
-    check_judged(key, key + sizeof key);
+/* An encrypted key with these parameters. */
+static void check_parameters(const uint8_t *parameters, size_t len, int is_to_be_read) {
+    static const uint8_t algorithm[] = {6, 3, 0x2A, 3, 4}, encrypted[] = {4, 4, 1, 2, 3, 4};
+    uint8_t *end = room + sizeof room, *behind = put_octets(end, encrypted, sizeof encrypted);
+    uint8_t *at = put_octets(put_octets(behind, parameters, len), algorithm, sizeof algorithm);
+    check_in_der(put_header(0x30, put_header(0x30, at, behind), end), end, is_to_be_read);
+}
+
+/* Open values of each form: none, a leaf, a SEQUENCE, a SET in order, elements of another class, and SETs in each other
+ * as deep as they may be; and one whose identifier has two octets. */
+static void check_open_values(void) {
+    static const uint8_t null[] = {5, 0}, sequence[] = {0x30, 5, 2, 1, 7, 0x31, 0};
+    static const uint8_t set[] = {0x31, 6, 2, 1, 7, 2, 1, 8}, primitive[] = {0x80, 2, 1, 2};
+    static const uint8_t constructed[] = {0xA1, 4, 0x80, 0, 5, 0}, tag_31[] = {0x9F, 0x1F, 0};
+    check_parameters(NULL, 0, 0);
+    check_parameters(null, sizeof null, 0);
+    check_parameters(sequence, sizeof sequence, 0);
+    check_parameters(set, sizeof set, 0);
+    check_parameters(primitive, sizeof primitive, 0);
+    check_parameters(constructed, sizeof constructed, 0);
+    uint8_t deep[2 * (PKDER_DEPTH - 2)], *at = deep + sizeof deep;
+    while (at > deep) {
+        at = put_header(0x31, at, deep + sizeof deep);
+    }
+    check_parameters(deep, sizeof deep, 0);
+    check_parameters(tag_31, sizeof tag_31, 1);
 }
 
 int main(int count, char **names) {
@@ -104,7 +127,7 @@ int main(int count, char **names) {
     }
     check_attributes();
     check_keys();
-    check_encrypted();
+    check_open_values();
     printf("%lu documents\n", documents);
     return 0;
 }
