@@ -1,4 +1,5 @@
 pub mod KeptValues
+pub mod OpenInDer
 pub mod OpenTexts
 pub mod OpenValues
 pub mod TextValues

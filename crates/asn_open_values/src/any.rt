@@ -13,13 +13,12 @@ ghost use Rattle.x690_laws.proofs.TypesClosed.{open_closed};
 ghost use Rattle.asn_open_values.specs.TextValues.{identifier_in, open_value};
 ghost use Rattle.asn_open_values.specs.KeptValues.{identifier_kept, text_kept};
 
-use crate::open_form::{OpenForm, open_form};
+use crate::in_der::judge_open;
 use crate::open_value::append_open;
 use asn_elements::der_text::DerText;
 use asn_elements::element::Element;
-use asn_elements::in_der::leaf_in_der;
 use asn_elements::leaf_reading::{SimpleType, read_leaf_into};
-use asn_elements::tags::{is_same_tag, tag_of_identifier, universal_tag};
+use asn_elements::tags::{is_same_tag, universal_tag};
 use ber_pull::pull::Pull;
 use std::alloc::Global;
 use tlv_core::fault::ReadError;
@@ -124,16 +123,8 @@ impl Element for Any {
         })
     }
 
-    /// Of leaves that have a kind by their tag; of other elements nothing is said.
-    fn judge(octets: &[u8], _limits: Limits, _left: u8) -> Option<&[u8]> {
-        let [first, ..] = octets else {
-            return None;
-        };
-        let tag = tag_of_identifier(*first)?;
-        let OpenForm::Leaf(kind) = open_form(tag) else {
-            return None;
-        };
-        let rest = leaf_in_der(octets, tag, kind)?;
+    fn judge(octets: &[u8], _limits: Limits, left: u8) -> Option<&[u8]> {
+        let rest = judge_open(octets, left)?;
         Some(rest)
     }
 }

@@ -10,6 +10,7 @@
 #![tactic(auto)]
 
 pub mod any;
+mod in_der;
 mod open_form;
 pub mod open_value;
 mod texts;
