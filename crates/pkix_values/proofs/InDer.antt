@@ -1,18 +1,19 @@
 -- Algorithms and keys in octets in DER.
-use Rattle.std.proofs.Common.{◌≡◌, ◌∙◌, ◌+◌, ◌++◌, ◌-◌, ◌==◌, ◌&&◌, ◌||◌, ◌<◌, ◌∷◌, ◌⊎◌, ⊎_elim, Bool, List, None, Option, Some, [], ap, append-nil, arith, false, inl, inr, length, not, refl, subst, sym, true, ℕ}
-use Rattle.std.specs.Option.{is_some}
+use Rattle.std.proofs.Common.{◌≡◌, ◌∙◌, ◌++◌, ◌-◌, ◌==◌, ◌&&◌, ◌||◌, ◌∷◌, ◌⊎◌, ⊎_elim, Bool, List, None, Some, [], ap, arith, false, inl, inr, length, not, refl, subst, sym, true, ℕ}
 use Rattle.std.proofs.lemmas.Bool.Decides.{nat_tests}
 use Rattle.std.proofs.lemmas.List.{nil_from_length}
 use Rattle.tlv_core.specs.Identifier.{Tag}
 use Rattle.tlv_core.specs.declared.reason.Reason.TheVariants.{KeyLength, Parameters}
 use Rattle.x690.specs.Contents.{BitString, Integer, ObjectIdentifier}
-use Rattle.x690.specs.DerTexts.{der, der_element, texts_of}
-use Rattle.x690.specs.Fitting.{Fits, FitsFields}
+use Rattle.x690.specs.DerTexts.{arrange, der, der_element, der_texts, texts_of}
+use Rattle.x690.specs.Fitting.{Fits}
 use Rattle.x690.specs.Layouts.{universal}
-use Rattle.x690.specs.Lists.{one_of, same_octets}
-use Rattle.x690.specs.TypeTerms.{EndOfFields, Fields, OpenType, Optional, Required, RuledType, SequenceType, TypeTerm}
+use Rattle.x690.specs.Lists.{join, one_of}
+use Rattle.x690.specs.TypeTerms.{EndOfFields, Fields, LeafType, OpenType, Optional, Required, TypeTerm}
 use Rattle.x690.specs.UniversalTypes.{bit_string, object_identifier}
-use Rattle.x690.specs.Values.{Leaf, Sequence, Value, leaf_at, leaf_contents, members, values_of}
+use Rattle.x690.specs.Values.{Leaf, Sequence, SetOf, Value, leaf_at, leaf_contents, members, value_tag, values_of}
+use Rattle.x690_laws.proofs.ReadingSound.{items_values}
+use Rattle.x690_laws.proofs.TextsAsLayouts.{element_alone}
 use Rattle.pkix_definitions.specs.DocumentTypes.{AlgorithmIdentifier, version}
 use Rattle.pkix_definitions.specs.Identifiers.{entry_under, rfc8410_algorithms, rfc8410_lengths}
 use Rattle.pkix_definitions.specs.Paths.{first_field, version_0}
@@ -20,7 +21,7 @@ use Rattle.pkix_definitions.specs.Rules.{else_refused, has_length, key_bits_rule
 use Rattle.asn_elements.specs.InDer.{BeginsWithText}
 use Rattle.asn_fields.specs.FieldsInDer.{AreFields}
 use Rattle.asn_fields.proofs.FieldsInDer.{sequence_fields}
-use Rattle.asn_fields.proofs.PartsInDer.{leaf_alone, leaf_first, leaf_split, none_there, only_field, ruled_leaf_first}
+use Rattle.asn_fields.proofs.PartsInDer.{leaf_alone, leaf_first, leaf_split, no_element, none_there, only_field, ruled_leaf_first}
 use Rattle.pkix_values.specs.Values.{key_fits}
 
 abbrev pub algorithm_types : Fields → Fields
@@ -115,6 +116,16 @@ of_its_length algorithm octets unused due entry many none =
     go : (b : Bool) → (not b || ((due == (length (unused ∷ octets) - 1)) && (unused == 0))) ≡ true
     go b = grind (arith, nat_tests, many, none)
 
+pub key_bits_pass : (limit : ℕ) (own tag : Tag) (path : List ℕ) (fields : List Value) (value : Value)
+    (octets algorithm key rest rest' : List ℕ)
+    → BeginsWithText limit (LeafType own BitString) fields value octets rest → leaf_at path fields ≡ algorithm
+    → octets ≡ der_element tag false key ++ rest' → key_fits algorithm key ≡ true
+    → key_bits_rule path fields value ≡ None
+key_bits_pass limit own tag path fields value octets algorithm key rest rest' b names e h =
+    ap (λ x. key_bits_rule path fields x) (leaf_alone limit own tag BitString fields value octets key rest rest' b e)
+    ∙ ap (λ a. else_refused (key_fits a key) KeyLength) names
+    ∙ ap (λ t. else_refused t KeyLength) h
+
 pub key_passes : (limit : ℕ) (T : TypeTerm) (fields : List Value) (value : Value)
     (earlier octets algorithm key behind rest rest' : List ℕ) (tag : Tag)
     → AreFields limit (λ more. Required T more) fields earlier behind
@@ -124,27 +135,56 @@ pub key_passes : (limit : ℕ) (T : TypeTerm) (fields : List Value) (value : Val
     → key_bits_rule (0 ∷ 0 ∷ []) fields value ≡ None
 key_passes limit T fields value earlier octets algorithm key behind rest rest' tag are b names e h =
     let f = only_field limit T fields earlier behind are in
-    ap (λ x. key_bits_rule (0 ∷ 0 ∷ []) fields x)
-    (leaf_alone limit (universal 3) tag BitString fields value octets key rest rest' b e)
-    ∙ ap (λ z. else_refused (key_fits (leaf_at (0 ∷ 0 ∷ []) z) key) KeyLength) f.1
-    ∙ ap (λ a. else_refused (key_fits a key) KeyLength) (names f.0 f.2)
-    ∙ ap (λ t. else_refused t KeyLength) h
+    key_bits_pass limit (universal 3) tag (0 ∷ 0 ∷ []) fields value octets algorithm key rest rest' b
+    (ap (leaf_at (0 ∷ 0 ∷ [])) f.1 ∙ names f.0 f.2) e h
 
 -- a version that stands first
 
-pub version_0_first : (limit : ℕ) (allowed : List (List ℕ)) (tail : Fields → Fields) (values : List Value)
+pub version_first : (limit : ℕ) (allowed : List (List ℕ)) (tail : Fields → Fields) (values : List Value)
     (octets contents rest behind : List ℕ) (tag : Tag)
     → AreFields limit (λ more. Required (version allowed) (tail more)) values octets behind
-    → octets ≡ der_element tag false contents ++ rest → same_octets contents (0 ∷ []) ≡ true
-    → leaf_is_one_of first_field (version_0 ∷ []) (members (values_of values)) ≡ true
+    → octets ≡ der_element tag false contents ++ rest → leaf_at first_field values ≡ contents
 unfolding leaf_at
-version_0_first limit allowed tail values octets contents rest behind tag are e zero =
+version_first limit allowed tail values octets contents rest behind tag are e =
     let v = ruled_leaf_first limit (universal 2) (version_rule allowed) Integer (tail EndOfFields) [] are.0 values are.2 in
     let s = leaf_split (universal 2) tag v.contents contents v.others octets behind rest
     (are.1 ∙ ap (λ z. texts_of z ++ behind) v.is) e in
-    ap (λ z. leaf_is_one_of first_field (version_0 ∷ []) (members (values_of z))) v.is
-    ∙ ap (λ c. same_octets c (0 ∷ []) || false) s.0
-    ∙ ap (λ b. b || false) zero
+    ap (leaf_at first_field) v.is ∙ s.0
+
+-- The members of a SEQUENCE whose fields begin with version 0 do so, too.
+pub version_0_first : (limit : ℕ) (allowed : List (List ℕ)) (tail : Fields → Fields) (values : List Value)
+    (octets contents rest behind : List ℕ) (tag : Tag)
+    → AreFields limit (λ more. Required (version allowed) (tail more)) values octets behind
+    → octets ≡ der_element tag false contents ++ rest → one_of contents (version_0 ∷ []) ≡ true
+    → leaf_is_one_of first_field (version_0 ∷ []) (members (values_of values)) ≡ true
+version_0_first limit allowed tail values octets contents rest behind tag are e zero =
+    ap (leaf_is_one_of first_field (version_0 ∷ [])) (items_values values)
+    ∙ ap (λ c. one_of c (version_0 ∷ []))
+    (version_first limit allowed tail values octets contents rest behind tag are e)
+    ∙ zero
+
+-- values, by the element that their texts begin with
+
+pub record FirstOf (tag : Tag) (values : List Value) (rest : List ℕ) : Type 0 where
+  pub value : Value
+  pub others : List Value
+  pub is : values ≡ value ∷ others
+  pub tagged : value_tag value ≡ tag
+  pub behind : rest ≡ texts_of others
+
+pub first_of : (tag : Tag) (form : Bool) (contents rest octets : List ℕ) (values : List Value)
+    → octets ≡ texts_of values → octets ≡ der_element tag form contents ++ rest → FirstOf tag values rest
+unfolding der
+first_of tag form contents rest octets [] is e = absurd (no_element tag form contents rest (sym e ∙ is))
+first_of tag form contents rest octets (Leaf own c ∷ vs) is e =
+    let same = element_alone own tag false form c contents (texts_of vs) rest (sym is ∙ e) in
+    record { value = Leaf own c; others = vs; is = refl; tagged = same.tags; behind = sym same.rests }
+first_of tag form contents rest octets (Sequence own ws ∷ vs) is e =
+    let same = element_alone own tag true form (join (der_texts ws)) contents (texts_of vs) rest (sym is ∙ e) in
+    record { value = Sequence own ws; others = vs; is = refl; tagged = same.tags; behind = sym same.rests }
+first_of tag form contents rest octets (SetOf own ws ∷ vs) is e =
+    let same = element_alone own tag true form (join (arrange (der_texts ws))) contents (texts_of vs) rest (sym is ∙ e) in
+    record { value = SetOf own ws; others = vs; is = refl; tagged = same.tags; behind = sym same.rests }
 
 pub oid_there : (limit : ℕ) (value : Value) (octets contents rest behind : List ℕ) (tag : Tag)
     → BeginsWithText limit object_identifier [] value octets rest → octets ≡ der_element tag false contents ++ behind

@@ -8,6 +8,7 @@ ghost use Rattle.x690.specs.Layouts.{universal};
 ghost use Rattle.x690.specs.Lists.{one_of};
 ghost use Rattle.x690.specs.Values.{Leaf};
 ghost use Rattle.pkix_definitions.proofs.ClosedTypes.{version_closed};
+ghost use Rattle.pkix_definitions.specs.Paths.{version_0};
 ghost use Rattle.pkix_values.specs.Versions.{versions};
 
 use asn_elements::der_text::DerText;
@@ -15,6 +16,7 @@ use asn_elements::element::Element;
 use asn_elements::integer::read_integer_octet;
 use asn_elements::tags::{is_same_tag, universal_tag};
 use ber_pull::pull::Pull;
+use pkix_definitions::identifiers::are_same_octets;
 use std::alloc::Global;
 use tlv_core::fault::ReadError;
 use tlv_core::limits::Limits;
@@ -61,6 +63,14 @@ fn is_version<const LEAST: u8, const MOST: u8>(number: u8) -> bool
         return false;
     }
     number < 128
+}
+
+/// Whether these are the contents of version 0, v1.
+#[inline(always)]
+pub fn names_version_0(version: &[u8]) -> bool
+    ensures { result ≡ one_of version.now (version_0 ∷ []) }
+{
+    are_same_octets(version, &[0])
 }
 
 /// The contents of the INTEGER of one octet that octets begin with, and what stands after it.
