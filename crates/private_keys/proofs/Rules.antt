@@ -38,13 +38,14 @@ module _ {A B : Type 0} (f : A → List ℕ) (g : B → List ℕ) (number key : 
       go true e = refl
       go false e = cc
 
+-- a key may have any version where it has what version 1 needs
+pub of_any_version : (is_0 has : Bool) → has ≡ true → else_refused (is_0 || has) VersionRule ≡ None
+of_any_version true has e = refl
+of_any_version false has e = ap (λ b. else_refused b VersionRule) e
+
 -- an RSA private key of ten fields may have any version
 pub rsa_of_more : (a b c d e f g h i j : Value)
     → rsa_version_rule []
     (Sequence (universal 16) (values_of (a ∷ b ∷ c ∷ d ∷ e ∷ f ∷ g ∷ h ∷ i ∷ j ∷ []))) ≡ None
 rsa_of_more a b c d e f g h i j =
-    any (leaf_is_one_of first_field (version_0 ∷ []) (a ∷ b ∷ c ∷ d ∷ e ∷ f ∷ g ∷ h ∷ i ∷ j ∷ []))
-  where
-    any : (is_first : Bool) → else_refused (is_first || true) VersionRule ≡ None
-    any true = refl
-    any false = refl
+    of_any_version (leaf_is_one_of first_field (version_0 ∷ []) (a ∷ b ∷ c ∷ d ∷ e ∷ f ∷ g ∷ h ∷ i ∷ j ∷ [])) true refl

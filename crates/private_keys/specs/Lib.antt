@@ -3,6 +3,7 @@ pub mod EcInDer
 pub mod EcKeys
 pub mod EcParts
 pub mod OtherPrimes
+pub mod RsaInDer
 pub mod RsaKeys
 pub mod RsaNumbers
 pub mod RsaParts

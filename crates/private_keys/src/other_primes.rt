@@ -9,6 +9,7 @@ ghost use Rattle.private_keys.specs.RsaKeys.{infos};
 
 use crate::other_prime_info::OtherPrimeInfo;
 use crate::rsa_numbers::Numbers;
+use asn_elements::in_der::element_in_der;
 use asn_elements::tags::universal_tag;
 use asn_fields::defined_by::{DefinedBy, Defines};
 use asn_fields::dependent::{DependentElement, Independent};
@@ -17,9 +18,10 @@ use asn_fields::refused::{Refused, RefusedTag};
 use asn_fields::sequence::Required;
 use asn_lists::list_of_some::ListOfSome;
 use ber_pull::pull::Pull;
-use pkix_values::version::Version;
+use pkix_values::version::{Version, names_version_0};
 use std::alloc::Global;
 use tlv_core::fault::ReadError;
+use tlv_core::limits::Limits;
 use tlv_core::reason::Reason;
 use tlv_core::sink::{Sink, WriteError};
 use tlv_core::source::Source;
@@ -57,6 +59,11 @@ impl Defines<VersionAndNumbers> for PrimesUnderVersion0 {
     #[tactic(auto, unfolding(x690::specs::Values::leaf_at))]
     fn is_first(earlier: &VersionAndNumbers) -> bool {
         earlier.0.0.number() == 0
+    }
+
+    fn is_first_in_der(earlier: &[u8]) -> Option<bool> {
+        let (version, _) = element_in_der(earlier, universal_tag(2), false)?;
+        Some(names_version_0(version))
     }
 }
 
@@ -103,6 +110,13 @@ impl DependentElement<VersionAndNumbers> for OtherPrimes {
         earlier: &VersionAndNumbers,
     ) -> Result<OtherPrimes, ReadError> {
         Ok(OtherPrimes(<Infos as DependentElement<VersionAndNumbers>>::read(alloc, pull, earlier)?))
+    }
+
+    fn judge<'a>(earlier: &[u8], octets: &'a [u8], limits: Limits, left: u8) -> Option<&'a [u8]> {
+        let rest = <Infos as DependentElement<VersionAndNumbers>>::judge(
+            earlier, octets, limits, left,
+        )?;
+        Some(rest)
     }
 
     fn size(&self) -> u64 {

@@ -1,6 +1,6 @@
 //! RSAPrivateKey of RFC 8017 A.1.2.
 ghost use Rattle.std.proofs.lemmas.Bool.{ltb-true};
-ghost use Rattle.std.specs.Prelude.{◌≡◌, IfSome, length, refl, slice_get};
+ghost use Rattle.std.specs.Prelude.{◌≡◌, IfSome, length, refl, slice_get, true};
 ghost use Rattle.std.specs.Option.{option_map};
 ghost use Rattle.pkix_definitions.specs.Rules.{rsa_version_rule};
 ghost use Rattle.pkix_definitions.proofs.Fairs.{fair_rsa_version};
@@ -9,6 +9,7 @@ ghost use Rattle.x690.specs.Contents.{IsInteger};
 ghost use Rattle.x690.specs.Layouts.{universal};
 ghost use Rattle.x690.specs.TypeTerms.{EndOfFields, SequenceType};
 ghost use Rattle.asn_fields.specs.Listings.{through};
+ghost use Rattle.private_keys.specs.RsaInDer.{HasFields};
 
 use crate::other_primes::{OtherPrimes, VersionAndNumbers};
 use asn_elements::in_der::element_in_der;
@@ -18,7 +19,7 @@ use asn_fields::optional_dependent::OptionalDependent;
 use asn_fields::ruled_sequence::{RuledFields, RuledSequence};
 use asn_fields::sequence::{FieldsText, FirstFields, SequenceFields};
 use ber_pull::pull::Pull;
-use pkix_definitions::identifiers::are_same_octets;
+use pkix_values::version::names_version_0;
 use std::alloc::Global;
 use tlv_core::fault::ReadError;
 use tlv_core::limits::Limits;
@@ -138,10 +139,31 @@ impl RuledFields for RsaFields {
     }
 
     fn pass_in_der(octets: &[u8]) -> bool {
-        match element_in_der(octets, universal_tag(2), false) {
-            Some((version, _)) => are_same_octets(version, &[0]),
-            None => false,
+        let Some((version, behind)) = element_in_der(octets, universal_tag(2), false) else {
+            return false;
+        };
+        if names_version_0(version) {
+            return true;
         }
+        are_numbers_and_primes(behind)
+    }
+}
+
+/// Whether octets are, in DER, eight INTEGERs and a SEQUENCE after them, as the fields of a key of more than two primes
+/// are after its version.
+fn are_numbers_and_primes(octets: &[u8]) -> bool
+    ensures { result ≡ true → HasFields 9 octets.now }
+{
+    let mut rest = octets;
+    for _ in 0..8u8 {
+        let Some((_number, behind)) = element_in_der(rest, universal_tag(2), false) else {
+            return false;
+        };
+        rest = behind;
+    }
+    match element_in_der(rest, universal_tag(16), true) {
+        Some((_primes, behind)) => behind.is_empty(),
+        None => false,
     }
 }
 
