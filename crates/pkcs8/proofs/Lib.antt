@@ -3,3 +3,4 @@ pub mod HeadInDer
 pub mod InnerKeys
 pub mod KeyVersions
 pub mod KindsOfKeys
+pub mod PublicKeyInDer

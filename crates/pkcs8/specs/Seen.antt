@@ -15,7 +15,7 @@ use Rattle.x690.specs.Lists.{one_of}
 use Rattle.pkcs8.specs.declared.private_key.ContainedKey.{ContainedKey}
 use Rattle.pkcs8.specs.declared.private_key.PrivateKey.{PrivateKey}
 use Rattle.pkcs8.specs.declared.private_key.PrivateKey.TheVariants.{Carried, Curve, Ec, Rsa}
-use Rattle.pkcs8.specs.declared.public_key.KeyBits.{KeyBits}
+use Rattle.pkcs8.specs.declared.key_bits.KeyBits.{KeyBits}
 use Rattle.pkcs8.specs.declared.public_key.PublicKeyUnderVersion0.{PublicKeyUnderVersion0}
 use Rattle.private_keys.specs.declared.curve_key.CurveKey.{CurveKey}
 use Rattle.private_keys.specs.declared.ec_private_key.EcPrivateKey.{EcPrivateKey}

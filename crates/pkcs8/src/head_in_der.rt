@@ -1,5 +1,5 @@
-//! version and privateKeyAlgorithm of a OneAsymmetricKey, in octets in DER.
-ghost use Rattle.std.specs.Prelude.{◌≡◌, ◌∷◌, [], IfSome, List, ℕ};
+//! Fields of a OneAsymmetricKey in octets in DER: version and privateKeyAlgorithm, and whether publicKey is there.
+ghost use Rattle.std.specs.Prelude.{◌≡◌, ◌∷◌, [], IfSome, List, true, ℕ};
 ghost use Rattle.pkix_definitions.specs.Identifiers.{ec_public_key, rsa_encryption};
 ghost use Rattle.pkix_definitions.specs.Rules.{container_curve};
 ghost use Rattle.x690.specs.Lists.{one_of};
@@ -7,9 +7,10 @@ ghost use Rattle.x690.specs.TypeTerms.{Fields};
 ghost use Rattle.x690.specs.Values.{Value};
 ghost use Rattle.asn_fields.specs.FieldsInDer.{AreFields};
 ghost use Rattle.pkcs8.specs.HeadInDer.{HasHead, key_types};
+ghost use Rattle.pkcs8.specs.PublicKeyInDer.{HasPublicKey};
 
 use asn_elements::in_der::element_in_der;
-use asn_elements::tags::universal_tag;
+use asn_elements::tags::{context_tag, universal_tag};
 use pkix_definitions::identifiers::{EC_PUBLIC_KEY, RSA_ENCRYPTION, are_same_octets};
 
 /// Whether these are the contents of id-ecPublicKey.
@@ -51,4 +52,30 @@ pub fn curve_in_der(octets: &[u8]) -> Option<&[u8]>
     }
     let (curve, _) = element_in_der(parameters, universal_tag(6), false)?;
     Some(curve)
+}
+
+/// Whether publicKey stands among the fields after version that octets are, in DER.
+pub fn has_public_key(octets: &[u8]) -> bool
+    ensures { result ≡ true → HasPublicKey octets.now }
+{
+    let Some((_algorithm, key)) = element_in_der(octets, universal_tag(16), true) else {
+        return false;
+    };
+    let Some((_key, behind)) = element_in_der(key, universal_tag(4), false) else {
+        return false;
+    };
+    let Some((_bits, _)) = element_in_der(behind_attributes(behind), context_tag(1), false) else {
+        return false;
+    };
+    true
+}
+
+/// What stands after attributes, which may be absent, where octets are fields in DER.
+fn behind_attributes(octets: &[u8]) -> &[u8]
+    ensures { HasPublicKey result.now → HasPublicKey octets.now }
+{
+    match element_in_der(octets, context_tag(0), true) {
+        Some((_attributes, behind)) => behind,
+        None => octets,
+    }
 }

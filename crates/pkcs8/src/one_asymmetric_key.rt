@@ -14,6 +14,7 @@ ghost use Rattle.asn_fields.specs.Listings.{through};
 ghost use Rattle.x690.specs.Layouts.{universal};
 ghost use Rattle.x690.specs.TypeTerms.{EndOfFields, SequenceType};
 
+use crate::head_in_der::has_public_key;
 use crate::key_head::{KeyHead, NamesKey, is_version_0};
 use crate::private_key::{ContainedKey, PrivateKey};
 use crate::public_key::{PublicKey, key_bits};
@@ -30,9 +31,9 @@ use asn_fields::ruled_sequence::{RuledFields, RuledSequence};
 use asn_fields::sequence::{FieldsText, FirstFields, Optional, SequenceFields};
 use asn_lists::set_of::SetOf;
 use ber_pull::pull::Pull;
-use pkix_definitions::identifiers::are_same_octets;
 use pkix_values::algorithm::AlgorithmIdentifier;
 use pkix_values::attribute::Attribute;
+use pkix_values::version::names_version_0;
 use std::alloc::Global;
 use tlv_core::fault::ReadError;
 use tlv_core::limits::Limits;
@@ -188,12 +189,14 @@ impl RuledFields for KeyFields {
         }
     }
 
-    /// Of version 0 alone.
     fn pass_in_der(octets: &[u8]) -> bool {
-        match element_in_der(octets, universal_tag(2), false) {
-            Some((version, _)) => are_same_octets(version, &[0]),
-            None => false,
+        let Some((version, behind)) = element_in_der(octets, universal_tag(2), false) else {
+            return false;
+        };
+        if names_version_0(version) {
+            return true;
         }
+        has_public_key(behind)
     }
 }
 

@@ -1,23 +1,23 @@
 //! publicKey of a OneAsymmetricKey (RFC 5958 section 2): it stands under version 1 alone.
 ghost use Rattle.std.specs.Option.{option_map};
 ghost use Rattle.std.specs.Prelude.{◌≡◌, ◌<◌, ◌∷◌, []};
-ghost use Rattle.pkix_definitions.proofs.Fairs.{fair_key_bits};
-ghost use Rattle.pkix_definitions.proofs.LawfulTypes.{honest_key_bits, rule_honest};
-ghost use Rattle.pkix_definitions.specs.Rules.{key_bits_rule};
+ghost use Rattle.pkix_definitions.proofs.LawfulTypes.{rule_honest};
 ghost use Rattle.pkcs8.specs.Seen.{bits_in};
 ghost use Rattle.tlv_core.specs.declared.reason.Reason.TheVariants as why;
 ghost use Rattle.x690.specs.Layouts.{context_specific};
 
+use crate::key_bits::KeyBits;
 use crate::key_head::{NamesKey, is_version_0};
 use asn_elements::bits::Bits;
 use asn_elements::implicit::Implicit;
-use asn_elements::tags::context_tag;
+use asn_elements::in_der::element_in_der;
+use asn_elements::tags::{context_tag, universal_tag};
 use asn_fields::defined_by::{DefinedBy, Defines};
 use asn_fields::dependent::Independent;
 use asn_fields::either::Either;
 use asn_fields::refused::{Refused, RefusedTag};
-use asn_fields::ruled_behind::{FieldRules, RuledBehind};
-use pkix_values::public_key::is_key_of;
+use asn_fields::ruled_behind::RuledBehind;
+use pkix_values::version::names_version_0;
 use tlv_core::reason::Reason;
 use tlv_core::tag::Tag;
 
@@ -49,21 +49,10 @@ impl<A: NamesKey> Defines<A> for PublicKeyUnderVersion0 {
     fn is_first(earlier: &A) -> bool {
         is_version_0(earlier.head().version())
     }
-}
 
-/// Under the algorithms of RFC 8410 it has the length that goes with the algorithm, and no unused bits.
-#[derive(Drop)]
-pub struct KeyBits;
-
-impl<A: NamesKey> FieldRules<A, Implicit<1, Bits>> for KeyBits {
-    ghost rule = { key_bits_rule (1 ∷ 0 ∷ []) };
-
-    ghost fair = { fair_key_bits (1 ∷ 0 ∷ []) };
-
-    ghost honest = { honest_key_bits (1 ∷ 0 ∷ []) };
-
-    fn judge(earlier: &A, field: &Implicit<1, Bits>) -> Option<Reason> {
-        (!is_key_of(earlier.head().algorithm(), field.value())).then_some(Reason::KeyLength)
+    fn is_first_in_der(earlier: &[u8]) -> Option<bool> {
+        let (version, _) = element_in_der(earlier, universal_tag(2), false)?;
+        Some(names_version_0(version))
     }
 }
 
