@@ -124,7 +124,6 @@ impl Element for Any {
     }
 
     fn judge(octets: &[u8], _limits: Limits, left: u8) -> Option<&[u8]> {
-        let rest = judge_open(octets, left)?;
-        Some(rest)
+        judge_open(octets, left)
     }
 }

@@ -52,6 +52,7 @@ fn judge_container(octets: &[u8], tag: Tag, left: u8, is_set: bool) -> Option<&[
 /// What stands after the open value that octets begin with, where it is in DER as it stands, with no more than `left`
 /// containers in each other.
 #[cycle(judged)]
+#[inline(always)]
 pub fn judge_open(octets: &[u8], left: u8) -> Option<&[u8]>
     ensures { IfSome result (λ rest. (limit : ℕ) → BeginsInDer limit left OpenType octets.now rest.now) }
 {
@@ -60,23 +61,11 @@ pub fn judge_open(octets: &[u8], left: u8) -> Option<&[u8]>
     };
     let tag = tag_of_identifier(*first)?;
     match open_form(tag) {
-        OpenForm::Leaf(kind) => {
-            let rest = leaf_in_der(octets, tag, kind)?;
-            Some(rest)
-        }
-        OpenForm::Sequence => {
-            let rest = judge_container(octets, tag, left, false)?;
-            Some(rest)
-        }
-        OpenForm::SetOf => {
-            let rest = judge_container(octets, tag, left, true)?;
-            Some(rest)
-        }
+        OpenForm::Leaf(kind) => leaf_in_der(octets, tag, kind),
+        OpenForm::Sequence => judge_container(octets, tag, left, false),
+        OpenForm::SetOf => judge_container(octets, tag, left, true),
         // (the bit of constructed elements, X.690 8.1.2.5)
-        OpenForm::Plain if *first % 64 >= 32 => {
-            let rest = judge_container(octets, tag, left, false)?;
-            Some(rest)
-        }
+        OpenForm::Plain if *first % 64 >= 32 => judge_container(octets, tag, left, false),
         OpenForm::Plain => {
             let (_, rest) = element_in_der(octets, tag, false)?;
             Some(rest)

@@ -1,6 +1,7 @@
 use Rattle.std.proofs.Common.{◌≡◌, ◌==◌, ◌∙◌, ◌-◌, ap, arith, inl, inr, length, refl, rules, subst, sym, true}
 use Rattle.std.proofs.lemmas.Bool.Decides.{nat_tests}
 use Rattle.std.proofs.lemmas.List.{nil_from_length}
+use Rattle.std.proofs.lemmas.Option.{IfSome_then}
 use Rattle.std.specs.Ordering.{is_lt}
 use Rattle.x690.specs.TypeTerms.{OpenType}
 use Rattle.asn_elements.specs.Reading.{kind_of}
@@ -53,26 +54,29 @@ are_open_members-loop-rest-preserved t c = λ limit.
     c.in-Some.behind.now c.loop-rest.before.now c.if-is_set.false (c.loop-rest.invariant limit)
     (c.in-Some.ensures limit)
 
-pub judge_open-returns-in_ok-rest-in-Leaf : goal.judge_open-returns-in_ok-rest-in-Leaf
-judge_open-returns-in_ok-rest-in-Leaf t c = λ limit.
-    open_leaf_begins limit c.args.left c.in_ok-tag.tag (kind_of c.in-Leaf.kind) c.args.octets.now
-    c.in_ok-rest-in-Leaf.rest.now (sym c.open_form.ensures ∙ ap form_of c.in-Leaf.is)
-    (c.in_ok-rest-in-Leaf.ensures limit c.args.left)
+pub judge_open-returns-in-Leaf : goal.judge_open-returns-in-Leaf
+judge_open-returns-in-Leaf t c =
+    IfSome_then c.leaf_in_der.result c.leaf_in_der.ensures (λ rest begins limit.
+    open_leaf_begins limit c.args.left c.in_ok-tag.tag (kind_of c.in-Leaf.kind) c.args.octets.now rest.now
+    (sym c.open_form.ensures ∙ ap form_of c.in-Leaf.is) (begins limit c.args.left))
 
-pub judge_open-returns-in_ok-rest-in-Sequence : goal.judge_open-returns-in_ok-rest-in-Sequence
-judge_open-returns-in_ok-rest-in-Sequence t c = λ limit.
-    open_sequence_begins limit c.args.left c.in_ok-tag.tag c.args.octets.now c.in_ok-rest-in-Sequence.rest.now
-    (inl (sym c.open_form.ensures ∙ ap form_of c.in-Sequence.is)) (c.in_ok-rest-in-Sequence.ensures limit)
+pub judge_open-returns-in-Sequence : goal.judge_open-returns-in-Sequence
+judge_open-returns-in-Sequence t c =
+    IfSome_then c.judge_container.result c.judge_container.ensures (λ rest begins limit.
+    open_sequence_begins limit c.args.left c.in_ok-tag.tag c.args.octets.now rest.now
+    (inl (sym c.open_form.ensures ∙ ap form_of c.in-Sequence.is)) (begins limit))
 
-pub judge_open-returns-in_ok-rest-in-SetOf : goal.judge_open-returns-in_ok-rest-in-SetOf
-judge_open-returns-in_ok-rest-in-SetOf t c = λ limit.
-    open_set_begins limit c.args.left c.in_ok-tag.tag c.args.octets.now c.in_ok-rest-in-SetOf.rest.now
-    (sym c.open_form.ensures ∙ ap form_of c.in-SetOf.is) (c.in_ok-rest-in-SetOf.ensures limit)
+pub judge_open-returns-in-SetOf : goal.judge_open-returns-in-SetOf
+judge_open-returns-in-SetOf t c =
+    IfSome_then c.judge_container-in-SetOf.result c.judge_container-in-SetOf.ensures (λ rest begins limit.
+    open_set_begins limit c.args.left c.in_ok-tag.tag c.args.octets.now rest.now
+    (sym c.open_form.ensures ∙ ap form_of c.in-SetOf.is) (begins limit))
 
-pub judge_open-returns-in_ok-rest-in-Plain : goal.judge_open-returns-in_ok-rest-in-Plain
-judge_open-returns-in_ok-rest-in-Plain t c = λ limit.
-    open_sequence_begins limit c.args.left c.in_ok-tag.tag c.args.octets.now c.in_ok-rest-in-Plain.rest.now
-    (inr (sym c.open_form.ensures ∙ ap form_of c.in-Plain.is)) (c.in_ok-rest-in-Plain.ensures limit)
+pub judge_open-returns-in-Plain : goal.judge_open-returns-in-Plain
+judge_open-returns-in-Plain t c =
+    IfSome_then c.judge_container-in-Plain.result c.judge_container-in-Plain.ensures (λ rest begins limit.
+    open_sequence_begins limit c.args.left c.in_ok-tag.tag c.args.octets.now rest.now
+    (inr (sym c.open_form.ensures ∙ ap form_of c.in-Plain.is)) (begins limit))
 
 pub judge_open-returns-in_ok-rest-in-Plain-2 : goal.judge_open-returns-in_ok-rest-in-Plain-2
 judge_open-returns-in_ok-rest-in-Plain-2 t c = λ limit.

@@ -1,4 +1,5 @@
+use Rattle.std.proofs.lemmas.Option.{IfSome_then}
 use Rattle.asn_open_values.proofs.any.AnyElement.judge.Goals as goal
 
 pub returns : goal.returns
-returns c = c.in_ok-rest.ensures c.args._limits.depth
+returns c = IfSome_then c.judge_open.result c.judge_open.ensures (λ rest begins. begins c.args._limits.depth)
