@@ -101,8 +101,17 @@ static void check_parameters(const uint8_t *parameters, size_t len, int is_to_be
     check_in_der(put_header(0x30, put_header(0x30, at, behind), end), end, is_to_be_read);
 }
 
+/* SETs in each other, so many. */
+static void check_nested(unsigned many, int is_to_be_read) {
+    uint8_t sets[2 * PKDER_DEPTH], *end = sets + sizeof sets, *at = end;
+    for (unsigned left = many; left > 0; left--) {
+        at = put_header(0x31, at, end);
+    }
+    check_parameters(at, (size_t)(end - at), is_to_be_read);
+}
+
 /* Open values of each form: none, a leaf, a SEQUENCE, a SET in order, elements of another class, and SETs in each other
- * as deep as they may be; and one whose identifier has two octets. */
+ * within two SEQUENCEs; and what no judge passes, as many containers as there may be, and an identifier of two octets. */
 static void check_open_values(void) {
     static const uint8_t null[] = {5, 0}, sequence[] = {0x30, 5, 2, 1, 7, 0x31, 0};
     static const uint8_t set[] = {0x31, 6, 2, 1, 7, 2, 1, 8}, primitive[] = {0x80, 2, 1, 2};
@@ -113,11 +122,8 @@ static void check_open_values(void) {
     check_parameters(set, sizeof set, 0);
     check_parameters(primitive, sizeof primitive, 0);
     check_parameters(constructed, sizeof constructed, 0);
-    uint8_t deep[2 * (PKDER_DEPTH - 2)], *at = deep + sizeof deep;
-    while (at > deep) {
-        at = put_header(0x31, at, deep + sizeof deep);
-    }
-    check_parameters(deep, sizeof deep, 0);
+    check_nested(PKDER_DEPTH - 3, 0);
+    check_nested(PKDER_DEPTH - 2, 1);
     check_parameters(tag_31, sizeof tag_31, 1);
 }
 
