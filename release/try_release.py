@@ -21,6 +21,8 @@ NEEDS = {"debootstrap": "debootstrap", "lintian": "lintian", "qemu-x86_64": "qem
 WITH = "python3,python3-venv,python3-setuptools,python3-wheel"
 FIRST_PROCESSOR = ["sh", "-c", "ulimit -v 8000000; exec qemu-x86_64 -cpu qemu64 \"$@\"", "-"]
 PAGE = "docs/install.md"
+# what the packages' own tests read of the source
+SOURCES = ("debian", "docs", "interface", "tests", "examples", "tools")
 
 
 def ran(*words, **how):
@@ -100,8 +102,7 @@ def package_tests(root_of):
         root = root_of()
         for name in glob.glob(f"{root.folder}/root/release/*_arm64.deb"):
             os.remove(name)
-        subprocess.run(["cp", "-R", *(f"{TOP}/{it}" for it in ("debian", "docs", "interface", "tests", "examples")),
-                        f"{root.folder}/root/release"], check=True)
+        subprocess.run(["cp", "-R", *(f"{TOP}/{it}" for it in SOURCES), f"{root.folder}/root/release"], check=True)
         depends = fields["Depends"].replace(",", " ")
         said, status = root.run(f"""set -e
 apt-get update -qq
