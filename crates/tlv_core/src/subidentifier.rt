@@ -55,7 +55,7 @@ fn wide_subidentifier(octets: &[u8]) -> Option<(u128, usize)>
     None
 }
 
-/// How many octets the first subidentifier has: 0 where none stands there. Most have one or two.
+/// How many octets the first subidentifier has: 0 where none stands there. Most have one, two or three.
 #[inline(always)]
 pub(crate) fn subidentifier_size(octets: &[u8]) -> usize
     ensures within { result ≤ length octets.now }
@@ -70,8 +70,13 @@ pub(crate) fn subidentifier_size(octets: &[u8]) -> usize
     if first < 128 {
         return 1;
     }
-    if first > 128 && octets.len() > 1 && octets[1] < 128 {
-        return 2;
+    if first > 128 && octets.len() > 1 {
+        if octets[1] < 128 {
+            return 2;
+        }
+        if octets.len() > 2 && octets[2] < 128 {
+            return 3;
+        }
     }
     match first_subidentifier(octets) {
         Some((_, size)) => size,
