@@ -1,5 +1,5 @@
 -- Headers and leaves that stand in DER.
-use Rattle.std.proofs.Common.{◌≡◌, ◌∙◌, ◌*◌, ◌+◌, ◌++◌, ◌-◌, ◌/◌, ◌%◌, ◌<◌, ◌≤◌, ◌∷◌, ⊎_elim, Bool, List, None, [], ap, ap₂, append-nil, append_assoc, arith, cond, drop, false, get_or, inl, length, nat_lt, refl, subst, sym, take, true, ℕ}
+use Rattle.std.proofs.Common.{◌≡◌, ◌∙◌, ◌*◌, ◌+◌, ◌++◌, ◌-◌, ◌/◌, ◌%◌, ◌<◌, ◌≤◌, ◌∷◌, ⊎_elim, Bool, List, None, [], ap, ap₂, append-nil, append_assoc, arith, cond, drop, false, get_or, inl, length, nat_le, refl, subst, sym, take, true, ℕ}
 use Rattle.std.proofs.lemmas.Bool.Decides.{nat_tests}
 use Rattle.std.proofs.lemmas.List.{length-take-le, take-append-drop, take_rest}
 use Rattle.tlv_core.specs.Identifier.{IsTag, Tag, identifier}
@@ -116,17 +116,17 @@ short_identifier t f class form number same_class same_form same_number small = 
     (λ a. absurd (omega (arith, a.large)))
     (identifier_cases t f)
 
-pub identifier_of : (t : Tag) (first : ℕ) → t.class ≡ first / 64 → t.number ≡ first % 32 → t.number < 31
-    → (constructed : Bool) × (identifier t constructed ≡ first ∷ [])
-identifier_of t first same_class same_number small = go (nat_lt (first % 64) 32) refl
+pub identifier_from : (t : Tag) (first : ℕ) → t.class ≡ first / 64 → t.number ≡ first % 32 → t.number < 31
+    → identifier t (nat_le 32 (first % 64)) ≡ first ∷ []
+identifier_from t first same_class same_number small = go (nat_le 32 (first % 64)) refl
   where
-    go : (b : Bool) → nat_lt (first % 64) 32 ≡ b → (constructed : Bool) × (identifier t constructed ≡ first ∷ [])
-    go true e =
-        let low : first % 64 < 32 = grind (arith, nat_tests) in
-        (false, short_identifier t false t.class 0 t.number refl refl refl small ∙ ap (λ x. x ∷ []) (omega arith))
+    go : (b : Bool) → nat_le 32 (first % 64) ≡ b → identifier t b ≡ first ∷ []
     go false e =
+        let low : first % 64 < 32 = grind (arith, nat_tests) in
+        short_identifier t false t.class 0 t.number refl refl refl small ∙ ap (λ x. x ∷ []) (omega arith)
+    go true e =
         let high : 32 ≤ first % 64 = grind (arith, nat_tests) in
-        (true, short_identifier t true t.class 32 t.number refl refl refl small ∙ ap (λ x. x ∷ []) (omega arith))
+        short_identifier t true t.class 32 t.number refl refl refl small ∙ ap (λ x. x ∷ []) (omega arith)
 
 -- trees that are laid out one after another
 

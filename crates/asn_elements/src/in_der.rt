@@ -11,7 +11,7 @@ ghost use Rattle.asn_elements.specs.InDer.{BeginsInDer};
 ghost use Rattle.asn_elements.specs.Reading.{kind_of};
 
 use crate::leaf_reading::{SimpleType, is_contents};
-use crate::tags::{identifier_octet, universal_tag};
+use crate::tags::{identifier_octet, tag_of_identifier, universal_tag};
 use ber_pull::bits::without_last_bits;
 use tlv_core::tag::Tag;
 
@@ -58,6 +58,27 @@ pub fn element_in_der(octets: &[u8], tag: Tag, constructed: bool) -> Option<(&[u
     Some((&contents[..size], &contents[size..]))
 }
 
+/// The tag, the form and the contents of the element that octets begin with, and what stands after it: where its
+/// identifier is one octet, and its length is in the fewest octets.
+#[inline(always)]
+pub fn any_element_in_der(octets: &[u8]) -> Option<(Tag, bool, &[u8], &[u8])>
+    ensures is { IfSome result (λ x. octets.now ≡ der_element x.0 x.1 x.2.now ++ x.3.now) }
+    ensures small { IfSome result (λ x. length x.2.now < 2 ^ 24) }
+    ensures tag { IfSome result (λ x. IsTag x.0) }
+{
+    let [first, behind @ ..] = octets else {
+        return None;
+    };
+    let tag = tag_of_identifier(*first)?;
+    // (the bit of constructed elements, X.690 8.1.2.5)
+    let constructed = *first % 64 >= 32;
+    let (size, contents) = length_in_der(behind)?;
+    if contents.len() < size {
+        return None;
+    }
+    Some((tag, constructed, &contents[..size], &contents[size..]))
+}
+
 /// Whether the unused bits of a BIT STRING of these contents are 0 (X.690 11.2.1).
 fn has_cleared_bits(contents: &[u8]) -> bool
     requires { reading.is_bit_segment contents.now ≡ true }
@@ -69,7 +90,7 @@ fn has_cleared_bits(contents: &[u8]) -> bool
 
 /// Whether the octets are the contents in DER of a leaf of the kind.
 #[inline(always)]
-fn is_der_contents(kind: SimpleType, contents: &[u8]) -> bool
+pub fn is_der_contents(kind: SimpleType, contents: &[u8]) -> bool
     ensures contents { result ≡ true → reading.is_contents (kind_of kind) contents.now ≡ true }
     ensures der { result ≡ true → reading.der_contents (kind_of kind) contents.now ≡ contents.now }
 {
@@ -89,7 +110,7 @@ fn is_der_contents(kind: SimpleType, contents: &[u8]) -> bool
 
 /// What stands after the leaf of this tag and kind that octets begin with.
 #[inline(always)]
-pub fn leaf_in_der(octets: &[u8], tag: Tag, kind: SimpleType) -> Option<&[u8]>
+pub(crate) fn leaf_in_der(octets: &[u8], tag: Tag, kind: SimpleType) -> Option<&[u8]>
     ensures { IfSome result (λ rest. (limit left : ℕ)
         → BeginsInDer limit left (LeafType tag (kind_of kind)) octets.now rest.now) }
 {

@@ -1,5 +1,7 @@
 // Reading leaves.
-ghost use Rattle.std.specs.Prelude.{◌≡◌, ◌∷◌, [], None, Some, IfOk, IfErr, IsSome, OnOk, ◌<◌, length, true};
+ghost use Rattle.std.specs.Str.{IsUtf8};
+ghost use Rattle.std.specs.Prelude.{◌≡◌, ◌↔◌, ◌∷◌, [], None, Some, IfOk, IfErr, IsSome, IsTrue, OnOk, ◌<◌};
+ghost use Rattle.std.specs.Prelude.{length, true};
 ghost use Rattle.tlv_core.specs.Identifier.{Tag as Identified};
 ghost use Rattle.tlv_core.specs.declared.reason.Reason.TheVariants.{Inner, WrongTag};
 ghost use Rattle.x690.specs.ReadContents as reading;
@@ -20,7 +22,7 @@ use crate::integer::is_integer;
 use crate::tags::is_same_tag;
 use ber_pull::bits::{is_bit_segment, without_last_bits};
 use ber_pull::pull::Pull;
-use simdutf8::is_utf8;
+use simdutf8::basic::from_utf8;
 use std::alloc::Global;
 use tlv_core::fault::ReadError;
 use tlv_core::oid::is_object_identifier;
@@ -72,11 +74,18 @@ pub fn expect_tag<R: Source>(pull: &mut Pull<'_, R>, own: Tag) -> Result<u64, Re
     Ok(at)
 }
 
+/// Whether the octets are UTF-8. (`simdutf8::is_utf8` takes a whole block of a short string.)
+fn is_text(octets: &[u8]) -> bool
+    ensures { IsTrue result ↔ IsUtf8 octets.now }
+{
+    from_utf8(octets).is_ok()
+}
+
 /// Whether the octets are those of a string.
 fn is_string(utf8: bool, octets: &[u8]) -> bool
     ensures { result ≡ reading.is_contents (string_kind utf8) octets.now }
 {
-    !utf8 || is_utf8(octets)
+    !utf8 || is_text(octets)
 }
 
 /// Whether the octets are the contents of a primitive leaf of the kind.

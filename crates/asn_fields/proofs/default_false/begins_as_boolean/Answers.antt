@@ -5,7 +5,7 @@ use Rattle.x690.specs.Contents.{Boolean}
 use Rattle.x690.specs.Layouts.{same_tag, universal}
 use Rattle.x690.specs.TypeTerms.{LeafType}
 use Rattle.x690_laws.proofs.TypesOfOneTag.{leaf_fits}
-use Rattle.asn_elements.proofs.InDerTexts.{identifier_of}
+use Rattle.asn_elements.proofs.InDerTexts.{identifier_from}
 use Rattle.asn_fields.specs.FieldsInDer.{MayStand}
 use Rattle.asn_fields.proofs.FieldsInDer.{none_next, other_next}
 use Rattle.asn_fields.proofs.default_false.begins_as_boolean.Goals as goal
@@ -20,8 +20,8 @@ returns c = λ no trees stand.
     let octets = c.args.octets.now in
     let behind = take (length octets - 1) (drop 1 octets) in
     let tag = c.in_ok-tag.ensures in
-    let id = identifier_of c.in_ok-tag.tag (get_or octets 0 0) tag.class tag.number tag.low in
+    let id = identifier_from c.in_ok-tag.tag (get_or octets 0 0) tag.class tag.number tag.low in
     let not = leaf_fits Boolean (universal 1) c.in_ok-tag.tag
     ∙ ap (λ own. same_tag own c.in_ok-tag.tag) (sym c.universal_tag.ensures) ∙ sym c.is_same_tag.ensures ∙ no in
-    other_next (LeafType (universal 1) Boolean) c.in_ok-tag.tag id.0 behind octets
-    (first_rest octets 0 c.in-len1-up.len_at_least ∙ ap (λ z. z ++ behind) (sym id.1)) not trees stand
+    other_next (LeafType (universal 1) Boolean) c.in_ok-tag.tag _ behind octets
+    (first_rest octets 0 c.in-len1-up.len_at_least ∙ ap (λ z. z ++ behind) (sym id)) not trees stand
