@@ -14,8 +14,10 @@ use Rattle.x690_laws.proofs.TextsAsTrees.{element_definite}
 use Rattle.x690_laws.proofs.TextsSpell.{open_sequence_is, open_set_is}
 use Rattle.asn_elements.specs.InDer.{BeginsInDer}
 use Rattle.asn_elements.specs.MembersInDer.{AreMembers}
+use Rattle.x690.specs.ReadContents.{der_contents, is_contents}
+use Rattle.asn_elements.proofs.InDerTexts.{leaf_stands}
 use Rattle.asn_elements.proofs.MembersInDer.{GoesOn, are_members, goes_on_all, goes_on_first, goes_on_next, no_members, sequence_of_begins, set_of_begins}
-use Rattle.asn_open_values.specs.OpenInDer.{AreOpenMembers, container_type}
+use Rattle.asn_open_values.specs.OpenInDer.{AreContents, AreOpenMembers, container_type}
 
 -- leaves
 
@@ -37,22 +39,24 @@ leaf_fits own kind (Constructed t trees) v form tag octets contents is = inl rec
   is = is ∙ ap (λ t. Leaf t octets) (sym tag);
 }
 
-pub open_leaf_begins : (limit left : ℕ) (own : Tag) (kind : LeafKind) (octets rest : List ℕ)
-    → open_form own ≡ OpenLeaf kind → BeginsInDer limit left (LeafType own kind) octets rest
+pub open_leaf : (limit left : ℕ) (own : Tag) (kind : LeafKind) (octets contents rest : List ℕ)
+    → open_form own ≡ OpenLeaf kind → IsTag own → octets ≡ der_element own false contents ++ rest
+    → length contents < 16777216 → is_contents kind contents ≡ true → der_contents kind contents ≡ contents
     → BeginsInDer limit left OpenType octets rest
 unfolding Fits
-open_leaf_begins limit left own kind octets rest form b = (
-  b.0,
-  λ earlier.
-      let s = b.1 earlier in
-      record {
-        is = s.is;
-        tree = s.tree;
-        laid_out = s.laid_out;
-        depth_fits = s.depth_fits;
-        fits = leaf_fits own kind s.tree b.0 form s.fits.0 s.fits.1 s.fits.2 s.fits.3;
-      },
-)
+open_leaf limit left own kind octets contents rest form tag is small h same =
+    let b = leaf_stands limit left own kind octets contents rest tag is small h same in (
+      b.0,
+      λ earlier.
+          let s = b.1 earlier in
+          record {
+            is = s.is;
+            tree = s.tree;
+            laid_out = s.laid_out;
+            depth_fits = s.depth_fits;
+            fits = leaf_fits own kind s.tree b.0 form s.fits.0 s.fits.1 s.fits.2 s.fits.3;
+          },
+    )
 
 -- the octets of a primitive element of another class
 pub open_octets_begin : (limit left : ℕ) (own : Tag) (octets contents rest : List ℕ) → open_form own ≡ OpenPlain
@@ -111,13 +115,13 @@ open_set_begins limit left own octets rest form b = (
       },
 )
 
-pub open_container_begins : (is_set : Bool) (limit left outer : ℕ) (own : Tag) (octets contents rest : List ℕ)
-    → IsTag own → octets ≡ der_element own true contents ++ rest → length contents < 16777216 → left + 1 ≡ outer
-    → AreOpenMembers is_set limit left contents → BeginsInDer limit outer (container_type is_set own) octets rest
-open_container_begins true limit left outer own octets contents rest tag is small deep m =
-    set_of_begins limit left outer own false OpenType octets contents rest tag is small deep (omega arith) m
-open_container_begins false limit left outer own octets contents rest tag is small deep m =
-    sequence_of_begins limit left outer own false OpenType octets contents rest tag is small deep (omega arith) m
+pub open_container : (is_set : Bool) (limit left : ℕ) (own : Tag) (octets contents rest : List ℕ)
+    → IsTag own → octets ≡ der_element own true contents ++ rest → length contents < 16777216
+    → AreContents is_set limit left contents → BeginsInDer limit left (container_type is_set own) octets rest
+open_container true limit left own octets contents rest tag is small m =
+    set_of_begins limit m.0 left own false OpenType octets contents rest tag is small m.1 (omega arith) m.2
+open_container false limit left own octets contents rest tag is small m =
+    sequence_of_begins limit m.0 left own false OpenType octets contents rest tag is small m.1 (omega arith) m.2
 
 -- members
 

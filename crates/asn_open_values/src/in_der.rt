@@ -1,12 +1,13 @@
 // Open values in octets at hand that are in DER as they stand: no octet is copied, and no memory is taken.
-ghost use Rattle.std.specs.Prelude.{◌≡◌, IfSome, ℕ, true};
+ghost use Rattle.std.specs.Prelude.{◌≡◌, ◌++◌, ◌<◌, ◌^◌, IfSome, List, false, length, true, ℕ};
+ghost use Rattle.tlv_core.specs.Identifier.{IsTag};
+ghost use Rattle.x690.specs.DerTexts.{der_element};
 ghost use Rattle.x690.specs.TypeTerms.{OpenType};
 ghost use Rattle.asn_elements.specs.InDer.{BeginsInDer};
-ghost use Rattle.asn_open_values.specs.OpenInDer.{AreOpenMembers, container_type};
+ghost use Rattle.asn_open_values.specs.OpenInDer.{AreContents, AreOpenMembers};
 
 use crate::open_form::{OpenForm, open_form};
-use asn_elements::in_der::{element_in_der, leaf_in_der};
-use asn_elements::tags::tag_of_identifier;
+use asn_elements::in_der::{any_element_in_der, is_der_contents};
 use tlv_core::tag::Tag;
 
 /// Whether all of the octets are open values, one after another; those of a SET stand in the order of SET OF (X.690
@@ -33,20 +34,49 @@ fn are_open_members(octets: &[u8], left: u8, is_set: bool) -> bool
     true
 }
 
-/// What stands after the container of open values under this tag that octets begin with.
+/// Whether these are the contents of a container of open values, with no more than `left` containers in each other, it
+/// among them; those of a SET stand in the order of SET OF.
 #[cycle(judged)]
-fn judge_container(octets: &[u8], tag: Tag, left: u8, is_set: bool) -> Option<&[u8]>
-    ensures { IfSome result (λ rest. (limit : ℕ)
-        → BeginsInDer limit left (container_type is_set tag) octets.now rest.now) }
+fn are_contents(octets: &[u8], left: u8, is_set: bool) -> bool
+    ensures { result ≡ true → (limit : ℕ) → AreContents is_set limit left octets.now }
 {
-    if left == 0 {
-        return None;
+    left > 0 && are_open_members(octets, left - 1, is_set)
+}
+
+/// Whether a constructed element of this tag with these contents is an open value in DER, with no more than `left`
+/// containers in each other.
+#[cycle(judged)]
+#[inline(always)]
+fn is_open_container(tag: Tag, contents: &[u8], left: u8) -> bool
+    requires { length contents.now < 2 ^ 24 }
+    ensures { result ≡ true → (limit : ℕ) (octets rest : List ℕ) → IsTag tag
+        → octets ≡ der_element tag true contents.now ++ rest
+        → BeginsInDer limit left OpenType octets rest }
+{
+    match open_form(tag) {
+        OpenForm::Sequence => are_contents(contents, left, false),
+        OpenForm::SetOf => are_contents(contents, left, true),
+        OpenForm::Plain => are_contents(contents, left, false),
+        OpenForm::Leaf(_) => false,
+        OpenForm::Refused => false,
     }
-    let (contents, rest) = element_in_der(octets, tag, true)?;
-    if !are_open_members(contents, left - 1, is_set) {
-        return None;
+}
+
+/// The same of a primitive element.
+#[inline(always)]
+fn is_open_leaf(tag: Tag, contents: &[u8]) -> bool
+    requires { length contents.now < 2 ^ 24 }
+    ensures { result ≡ true → (limit left : ℕ) (octets rest : List ℕ) → IsTag tag
+        → octets ≡ der_element tag false contents.now ++ rest
+        → BeginsInDer limit left OpenType octets rest }
+{
+    match open_form(tag) {
+        OpenForm::Leaf(kind) => is_der_contents(kind, contents),
+        OpenForm::Plain => true,
+        OpenForm::Sequence => false,
+        OpenForm::SetOf => false,
+        OpenForm::Refused => false,
     }
-    Some(rest)
 }
 
 /// What stands after the open value that octets begin with, where it is in DER as it stands, with no more than `left`
@@ -56,20 +86,17 @@ fn judge_container(octets: &[u8], tag: Tag, left: u8, is_set: bool) -> Option<&[
 pub fn judge_open(octets: &[u8], left: u8) -> Option<&[u8]>
     ensures { IfSome result (λ rest. (limit : ℕ) → BeginsInDer limit left OpenType octets.now rest.now) }
 {
-    let [first, ..] = octets else {
+    let Some((tag, constructed, contents, rest)) = any_element_in_der(octets) else {
         return None;
     };
-    let tag = tag_of_identifier(*first)?;
-    match open_form(tag) {
-        OpenForm::Leaf(kind) => leaf_in_der(octets, tag, kind),
-        OpenForm::Sequence => judge_container(octets, tag, left, false),
-        OpenForm::SetOf => judge_container(octets, tag, left, true),
-        // (the bit of constructed elements, X.690 8.1.2.5)
-        OpenForm::Plain if *first % 64 >= 32 => judge_container(octets, tag, left, false),
-        OpenForm::Plain => {
-            let (_, rest) = element_in_der(octets, tag, false)?;
-            Some(rest)
+    if constructed {
+        if !is_open_container(tag, contents, left) {
+            return None;
         }
-        OpenForm::Refused => None,
+        return Some(rest);
     }
+    if !is_open_leaf(tag, contents) {
+        return None;
+    }
+    Some(rest)
 }

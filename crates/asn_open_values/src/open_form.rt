@@ -19,6 +19,7 @@ pub enum OpenForm {
 
 /// What an open value of this tag is read as.
 #[tactic(auto, unfolding(x690::specs::OpenValues::open_form))]
+#[inline(always)]
 pub fn open_form(tag: Tag) -> OpenForm
     ensures { form_of result ≡ forms.open_form tag }
 {

@@ -1,13 +1,13 @@
-use Rattle.std.proofs.Common.{◌≡◌, ◌==◌, ◌∙◌, ◌-◌, ap, arith, inl, inr, length, refl, rules, subst, sym, true}
+use Rattle.std.proofs.Common.{◌≡◌, ◌==◌, ◌∙◌, ◌++◌, ◌-◌, ap, arith, false, inl, inr, length, refl, rules, subst, sym, true}
 use Rattle.std.proofs.lemmas.Bool.Decides.{nat_tests}
 use Rattle.std.proofs.lemmas.List.{nil_from_length}
-use Rattle.std.proofs.lemmas.Option.{IfSome_then}
 use Rattle.std.specs.Ordering.{is_lt}
+use Rattle.x690.specs.DerTexts.{der_element}
 use Rattle.x690.specs.TypeTerms.{OpenType}
 use Rattle.asn_elements.specs.Reading.{kind_of}
 use Rattle.asn_elements.proofs.MembersInDer.{fewer}
 use Rattle.asn_open_values.specs.OpenTexts.{form_of}
-use Rattle.asn_open_values.proofs.OpenInDer.{OpenGoesOn, open_all, open_container_begins, open_first, open_leaf_begins, open_next_in_sequence, open_next_in_set, open_octets_begin, open_sequence_begins, open_set_begins}
+use Rattle.asn_open_values.proofs.OpenInDer.{OpenGoesOn, open_all, open_container, open_first, open_next_in_sequence, open_next_in_set, open_sequence_begins, open_set_begins}
 use Rattle.asn_open_values.proofs.in_der.+judged.Goals as goal
 
 pub are_open_members-slice_bounds-text-count : goal.are_open_members-slice_bounds-text-count
@@ -31,13 +31,6 @@ are_open_members-returns t c = λ _ limit.
     (subst (λ z. OpenGoesOn c.args.is_set limit c.args.left c.args.octets.now z c.loop-rest.before.now)
     (nil_from_length rest none) (c.loop-rest.invariant limit))
 
-pub judge_container-returns : goal.judge_container-returns
-judge_container-returns t c = λ limit.
-    open_container_begins c.args.is_set limit (c.args.left - 1) c.args.left c.args.tag c.args.octets.now
-    c.in_ok-contents.contents.now c.in_ok-contents.rest.now c.in_ok-contents.ensures.tag c.in_ok-contents.ensures.is
-    c.in_ok-contents.ensures.small (omega (arith, c.if-left-eq0.false))
-    (c.are_open_members.ensures (search rules) limit)
-
 pub are_open_members-loop-rest-smaller-else-is_lt : goal.are_open_members-loop-rest-smaller-else-is_lt
 are_open_members-loop-rest-smaller-else-is_lt t c =
     fewer 0 c.args.left OpenType c.loop-rest.rest.now c.in-Some.behind.now (c.in-Some.ensures 0)
@@ -54,32 +47,38 @@ are_open_members-loop-rest-preserved t c = λ limit.
     c.in-Some.behind.now c.loop-rest.before.now c.if-is_set.false (c.loop-rest.invariant limit)
     (c.in-Some.ensures limit)
 
-pub judge_open-returns-in-Leaf : goal.judge_open-returns-in-Leaf
-judge_open-returns-in-Leaf t c =
-    IfSome_then c.leaf_in_der.result c.leaf_in_der.ensures (λ rest begins limit.
-    open_leaf_begins limit c.args.left c.in_ok-tag.tag (kind_of c.in-Leaf.kind) c.args.octets.now rest.now
-    (sym c.open_form.ensures ∙ ap form_of c.in-Leaf.is) (begins limit c.args.left))
+pub are_contents-returns-then-left-gt0 : goal.are_contents-returns-then-left-gt0
+are_contents-returns-then-left-gt0 t c = λ yes limit.
+    (c.args.left - 1, omega (arith, c.if-left-gt0.true), c.are_open_members.ensures yes limit)
 
-pub judge_open-returns-in-Sequence : goal.judge_open-returns-in-Sequence
-judge_open-returns-in-Sequence t c =
-    IfSome_then c.judge_container.result c.judge_container.ensures (λ rest begins limit.
-    open_sequence_begins limit c.args.left c.in_ok-tag.tag c.args.octets.now rest.now
-    (inl (sym c.open_form.ensures ∙ ap form_of c.in-Sequence.is)) (begins limit))
+pub is_open_container-returns-in-Sequence : goal.is_open_container-returns-in-Sequence
+is_open_container-returns-in-Sequence t c = λ yes limit octets rest tag is.
+    open_sequence_begins limit c.args.left c.args.tag octets rest
+    (inl (sym c.open_form.ensures ∙ ap form_of c.in-Sequence.is))
+    (open_container false limit c.args.left c.args.tag octets c.args.contents.now rest tag is c.requires
+    (c.are_contents.ensures yes limit))
 
-pub judge_open-returns-in-SetOf : goal.judge_open-returns-in-SetOf
-judge_open-returns-in-SetOf t c =
-    IfSome_then c.judge_container-in-SetOf.result c.judge_container-in-SetOf.ensures (λ rest begins limit.
-    open_set_begins limit c.args.left c.in_ok-tag.tag c.args.octets.now rest.now
-    (sym c.open_form.ensures ∙ ap form_of c.in-SetOf.is) (begins limit))
+pub is_open_container-returns-in-SetOf : goal.is_open_container-returns-in-SetOf
+is_open_container-returns-in-SetOf t c = λ yes limit octets rest tag is.
+    open_set_begins limit c.args.left c.args.tag octets rest (sym c.open_form.ensures ∙ ap form_of c.in-SetOf.is)
+    (open_container true limit c.args.left c.args.tag octets c.args.contents.now rest tag is c.requires
+    (c.are_contents-in-SetOf.ensures yes limit))
 
-pub judge_open-returns-in-Plain : goal.judge_open-returns-in-Plain
-judge_open-returns-in-Plain t c =
-    IfSome_then c.judge_container-in-Plain.result c.judge_container-in-Plain.ensures (λ rest begins limit.
-    open_sequence_begins limit c.args.left c.in_ok-tag.tag c.args.octets.now rest.now
-    (inr (sym c.open_form.ensures ∙ ap form_of c.in-Plain.is)) (begins limit))
+pub is_open_container-returns-in-Plain : goal.is_open_container-returns-in-Plain
+is_open_container-returns-in-Plain t c = λ yes limit octets rest tag is.
+    open_sequence_begins limit c.args.left c.args.tag octets rest
+    (inr (sym c.open_form.ensures ∙ ap form_of c.in-Plain.is))
+    (open_container false limit c.args.left c.args.tag octets c.args.contents.now rest tag is c.requires
+    (c.are_contents-in-Plain.ensures yes limit))
 
-pub judge_open-returns-in_ok-rest-in-Plain-2 : goal.judge_open-returns-in_ok-rest-in-Plain-2
-judge_open-returns-in_ok-rest-in-Plain-2 t c = λ limit.
-    let e = c.in_ok-rest-in-Plain-2.ensures in
-    open_octets_begin limit c.args.left c.in_ok-tag.tag c.args.octets.now _ c.in_ok-rest-in-Plain-2.rest.now
-    (sym c.open_form.ensures ∙ ap form_of c.in-Plain-2.is) e.tag e.is e.small
+pub judge_open-returns-then-constructed : goal.judge_open-returns-then-constructed
+judge_open-returns-then-constructed t c = λ limit.
+    let e = c.in-Some.ensures in
+    c.is_open_container.ensures (search rules) limit c.args.octets.now _ (search (rules, e.tag))
+    (search (rules, e.is))
+
+pub judge_open-returns : goal.judge_open-returns
+judge_open-returns t c = λ limit.
+    let e = c.in-Some.ensures in
+    c.is_open_leaf.ensures (search rules) limit c.args.left c.args.octets.now _
+    (search (rules, e.tag)) (search (rules, e.is))
