@@ -1,6 +1,8 @@
 -- version and privateKeyAlgorithm of a OneAsymmetricKey, in octets in DER.
-use Rattle.std.proofs.Common.{◌≡◌, ◌∙◌, ◌++◌, ◌==◌, ◌||◌, ◌∷◌, ◌⊎◌, ⊎_elim, Bool, List, None, Option, [], ap, append_assoc, false, length, not, refl, subst, sym, true, ℕ}
-use Rattle.tlv_core.specs.Identifier.{Tag}
+use Rattle.std.proofs.Common.{◌≡◌, ◌∙◌, ◌++◌, ◌-◌, ◌≤◌, ◌==◌, ◌||◌, ◌∷◌, ◌⊎◌, ⊎_elim, Bool, List, None, Option, [], ap, ap₂, append_assoc, arith, drop, false, get_or, length, not, refl, subst, sym, take, true, ℕ}
+use Rattle.std.proofs.lemmas.List.{take_rest}
+use Rattle.tlv_core.specs.Identifier.{Tag, identifier}
+use Rattle.tlv_core.specs.Length.{shortest_length}
 use Rattle.tlv_core.specs.declared.reason.Reason.TheVariants.{Curve, KeyLength, Parameters}
 use Rattle.tlv_core.specs.declared.reason.Reason.{Reason}
 use Rattle.x690.specs.Contents.{Integer, OctetString}
@@ -98,6 +100,18 @@ parameters_pass limit value octets contents algorithm parameters rest behind tag
     pass
 
 -- the head
+
+pub version_stands : (octets : List ℕ) → 3 ≤ length octets → get_or octets 0 0 ≡ 2 → get_or octets 1 0 ≡ 1
+    → octets ≡ der_element (universal 2) false (take 1 (drop 2 octets)) ++ take (length octets - 3) (drop 3 octets)
+unfolding der_element identifier shortest_length
+version_stands [] some first second = absurd (omega arith)
+version_stands (x ∷ []) some first second = absurd (omega arith)
+version_stands (x ∷ y ∷ []) some first second = absurd (omega arith)
+version_stands (x ∷ y ∷ z ∷ octets) some first second =
+    let rest : take (length (x ∷ y ∷ z ∷ octets) - 3) (drop 3 (x ∷ y ∷ z ∷ octets)) ≡ octets =
+    take_rest (x ∷ y ∷ z ∷ octets) 3 in
+    ap₂ (λ a b. a ∷ b ∷ z ∷ octets) first second
+    ∙ sym (ap (λ r. der_element (universal 2) false (z ∷ []) ++ r) rest)
 
 head_of : (number algorithm : List ℕ) (more others : List Value) (identifier : List ℕ)
     → more ≡ Leaf (universal 6) identifier ∷ []

@@ -14,7 +14,7 @@ ghost use Rattle.asn_fields.specs.Listings.{through};
 ghost use Rattle.x690.specs.Layouts.{universal};
 ghost use Rattle.x690.specs.TypeTerms.{EndOfFields, SequenceType};
 
-use crate::head_in_der::has_public_key;
+use crate::head_in_der::{has_public_key, version_in_der};
 use crate::key_head::{KeyHead, NamesKey, is_version_0};
 use crate::private_key::{ContainedKey, PrivateKey};
 use crate::public_key::{PublicKey, key_bits};
@@ -22,8 +22,6 @@ use asn_elements::bits::Bits;
 use asn_elements::der_text::DerText;
 use asn_elements::element::Element;
 use asn_elements::implicit::Implicit;
-use asn_elements::in_der::element_in_der;
-use asn_elements::tags::universal_tag;
 use asn_fields::dependent::Dependent;
 use asn_fields::fields::Next;
 use asn_fields::optional_dependent::OptionalDependent;
@@ -190,7 +188,7 @@ impl RuledFields for KeyFields {
     }
 
     fn pass_in_der(octets: &[u8]) -> bool {
-        let Some((version, behind)) = element_in_der(octets, universal_tag(2), false) else {
+        let Some((version, behind)) = version_in_der(octets) else {
             return false;
         };
         if names_version_0(version) {

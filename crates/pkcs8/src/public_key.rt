@@ -6,12 +6,12 @@ ghost use Rattle.pkcs8.specs.Seen.{bits_in};
 ghost use Rattle.tlv_core.specs.declared.reason.Reason.TheVariants as why;
 ghost use Rattle.x690.specs.Layouts.{context_specific};
 
+use crate::head_in_der::version_in_der;
 use crate::key_bits::KeyBits;
 use crate::key_head::{NamesKey, is_version_0};
 use asn_elements::bits::Bits;
 use asn_elements::implicit::Implicit;
-use asn_elements::in_der::element_in_der;
-use asn_elements::tags::{context_tag, universal_tag};
+use asn_elements::tags::context_tag;
 use asn_fields::defined_by::{DefinedBy, Defines};
 use asn_fields::dependent::Independent;
 use asn_fields::either::Either;
@@ -51,7 +51,7 @@ impl<A: NamesKey> Defines<A> for PublicKeyUnderVersion0 {
     }
 
     fn is_first_in_der(earlier: &[u8]) -> Option<bool> {
-        let (version, _) = element_in_der(earlier, universal_tag(2), false)?;
+        let (version, _) = version_in_der(earlier)?;
         Some(names_version_0(version))
     }
 }

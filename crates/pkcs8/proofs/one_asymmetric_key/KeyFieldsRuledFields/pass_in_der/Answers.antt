@@ -20,10 +20,10 @@ pub returns-then-names_version_0 : goal.returns-then-names_version_0
 returns-then-names_version_0 c = λ pass limit values are.
     ap (λ b. else_refused (b || has_key (members (values_of values))) VersionRule)
     (version_0_first limit (version_0 ∷ version_1 ∷ []) behind_version values c.args.octets.now c.in-Some.version.now _ []
-    _ are c.in-Some.ensures.is (sym c.names_version_0.ensures ∙ c.if-names_version_0.true))
+    _ are c.in-Some.ensures (sym c.names_version_0.ensures ∙ c.if-names_version_0.true))
 
 pub returns : goal.returns
 returns c = λ pass limit values are.
     version_passes limit (λ more. Required (version (version_0 ∷ version_1 ∷ [])) (behind_version more)) values
-    c.args.octets.now c.in-Some.version.now c.in-Some.behind.now _ are c.in-Some.ensures.is
+    c.args.octets.now c.in-Some.version.now c.in-Some.behind.now _ are c.in-Some.ensures
     (c.has_public_key.ensures pass)

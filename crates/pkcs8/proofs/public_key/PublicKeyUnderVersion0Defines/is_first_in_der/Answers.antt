@@ -16,4 +16,4 @@ returns g c = λ limit fields behind are.
     (λ end. Required (RuledType ec_parameters_rule AlgorithmIdentifier) g.A.NamesKey.behind) fields c.args.earlier.now
     c.in_ok-version.version.now _ behind _
     (subst (λ types. AreFields limit (λ end. types) fields c.args.earlier.now behind) g.met.A.NamesKey.headed are)
-    c.in_ok-version.ensures.is))
+    c.in_ok-version.ensures))
