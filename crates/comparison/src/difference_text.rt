@@ -116,6 +116,6 @@ fn side_value(alloc: Global, lines: &[Line], number: Option<u64>) -> Result<Stri
         return String::from_str(alloc, "absent");
     };
     let mut text = String::new(alloc);
-    push_value(alloc, &mut text, lines_from(lines, number))?;
+    push_value(&mut text, lines_from(lines, number))?;
     Ok(text)
 }

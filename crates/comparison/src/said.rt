@@ -114,16 +114,16 @@ fn identifier_said(value: &Value) -> &str
 }
 
 /// The value of the first line: of what is under an explicit tag alone that.
-pub(crate) fn push_value(alloc: Global, text: &mut String, lines: &[Line]) -> Result<(), AllocError>
+pub(crate) fn push_value(text: &mut String, lines: &[Line]) -> Result<(), AllocError>
     ensures { OnOk result (string_bytes text.new ≡ string_bytes text.old ++ value_said lines.now) }
 {
     let [line, later @ ..] = lines else {
         return Ok(());
     };
     if wraps(line, later) {
-        return push_value(alloc, text, later);
+        return push_value(text, later);
     }
-    push_line_value(alloc, text, line)
+    push_line_value(text, line)
 }
 
 /// Whether an element is an explicit tag: what is in it has no name of its own.
@@ -146,7 +146,7 @@ fn is_unnamed(step: Step) -> bool
 }
 
 /// What is shown of the contents of an element: they themselves where they are public and short, else their number.
-fn push_line_value(alloc: Global, text: &mut String, line: &Line) -> Result<(), AllocError>
+fn push_line_value(text: &mut String, line: &Line) -> Result<(), AllocError>
     ensures { OnOk result (string_bytes text.new ≡ string_bytes text.old ++ line_said line.now line.now.value) }
 {
     match &line.value {
@@ -167,7 +167,7 @@ fn push_line_value(alloc: Global, text: &mut String, line: &Line) -> Result<(), 
             text.push_str(")")
         }
         Value::Arcs(arcs) => push_arcs(text, arcs.as_str(), line.length),
-        Value::Characters(octets) => push_characters(alloc, text, line.tag, octets),
+        Value::Characters(octets) => push_characters(text, line.tag, octets),
         Value::Octets(octets) => push_size(text, octets.len() as u64),
     }
 }
@@ -200,12 +200,7 @@ fn push_arcs(text: &mut String, arcs: &str, length: Option<Length>) -> Result<()
 }
 
 /// A character string with its type, where it is short.
-fn push_characters(
-    alloc: Global,
-    text: &mut String,
-    tag: Tag,
-    octets: &[u8],
-) -> Result<(), AllocError>
+fn push_characters(text: &mut String, tag: Tag, octets: &[u8]) -> Result<(), AllocError>
     ensures { OnOk result (string_bytes text.new ≡ string_bytes text.old
         ++ characters_said tag octets.now) }
 {
@@ -214,5 +209,5 @@ fn push_characters(
     }
     push_tag(text, tag)?;
     text.push_str(" ")?;
-    push_quoted(alloc, text, octets)
+    push_quoted(text, octets)
 }

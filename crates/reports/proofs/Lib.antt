@@ -1,5 +1,6 @@
 pub mod Appends
 pub mod Characters
+pub mod Headers
 pub mod Steps
 pub mod Tags
 pub mod Utf8

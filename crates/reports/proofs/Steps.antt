@@ -1,12 +1,8 @@
--- One step of each pass over the lines of a listing, over the octets of a number and over the steps of a path.
-use Rattle.std.proofs.Common.{◌≡◌, ℕ, Bool, ◌+◌, ◌-◌, ◌/◌, ◌%◌, ◌<◌, List, None, Some, [], ◌∷◌, ◌++◌, zero, suc, true, false, ap, sym, refl, ◌∙◌, arith, cond, drop, get_or, length, length-append, nat_lt, reverse, take, take_all}
+-- One step of each pass over the lines of a listing and over the steps of a path.
+use Rattle.std.proofs.Common.{◌≡◌, ℕ, Bool, ◌+◌, ◌-◌, ◌<◌, List, None, Some, [], ◌∷◌, ◌++◌, zero, suc, true, false, ap, sym, refl, ◌∙◌, arith, cond, drop, get_or, length, nat_lt, reverse}
 use Rattle.std.specs.List.{slice_get}
-use Rattle.std.proofs.lemmas.List.{drop_more, reverse-append, take-append-le}
-use Rattle.tlv_core.specs.Header.{der_header}
-use Rattle.tlv_core.specs.Identifier.{Tag, identifier}
-use Rattle.tlv_core.specs.Length.{shortest_length}
+use Rattle.std.proofs.lemmas.List.{drop_more, reverse-append}
 use Rattle.reports.specs.Picks.{state_from, judge_line, numbers_from, steps_to, steps_with}
-use Rattle.reports.specs.Lines.{number_in}
 use Rattle.reports.specs.declared.picks.PickState.{PickState}
 use Rattle.reports.specs.declared.picks.Pick.{Pick}
 use Rattle.reports.specs.declared.report.Line.{Line}
@@ -30,13 +26,6 @@ pub numbers_back : (pick : Pick) (start : PickState) (lines : List Line) (i : �
     (i ∷ numbers_from pick start (i + 1) (drop (i + 1) lines)) (numbers_from pick start (i + 1) (drop (i + 1) lines))
     ≡ numbers_from pick start i (drop i lines)
 numbers_back pick start lines i line h e = ap (numbers_from pick start i) (sym (drop_with lines i line h e))
-
-pub number_in_more : (count number : ℕ) → (count ≡ 0 → ⊥)
-    → number_in count number ≡ number_in (count - 1) (number / 256) ++ (number % 256) ∷ []
-number_in_more zero number h = absurd (h refl)
-number_in_more (suc count) number h =
-    let e : count ≡ suc count - 1 = omega arith in
-    ap (λ n. number_in n (number / 256) ++ (number % 256) ∷ []) e
 
 pub steps_more : (most : ℕ) (lines : List Line) (number : ℕ) → (most ≡ 0 → ⊥)
     → steps_to most lines number
@@ -66,16 +55,3 @@ steps_line most before lines number line h e b =
     ∙ ap (λ s. s ++ line.step ∷ []) (steps_chosen (nat_lt line.around number) (most - 1) lines line.around)
     ∙ ap (steps_with (λ around. steps_to (most - 1) lines around) number) e
     ∙ sym (steps_more most lines number h)
-
-take_but_last : (xs : List ℕ) (x : ℕ) → take (length (xs ++ x ∷ []) - 1) (xs ++ x ∷ []) ≡ xs
-take_but_last xs x =
-    let n = length (xs ++ x ∷ []) - 1 in
-    let one = length-append xs (x ∷ []) in
-    let same : n ≡ length xs = omega (arith, one) in
-    take-append-le n xs (x ∷ []) (omega (arith, same)) ∙ take_all n xs (omega (arith, same))
-
--- a header of no contents octets without its last octet
-pub identifier_alone : (tag : Tag) (constructed : Bool)
-    → take (length (der_header tag constructed 0) - 1) (der_header tag constructed 0) ≡ identifier tag constructed
-unfolding der_header shortest_length
-identifier_alone tag constructed = take_but_last (identifier tag constructed) 0

@@ -13,7 +13,7 @@ ghost use Rattle.reports.specs.Asks.{usual_name, value_said, value_size};
 use crate::letters::push_letters;
 use crate::picks::up_to;
 use crate::report::{Answer, Carried, Length, Line, Report, Value};
-use crate::text::push_number;
+use crate::text::{push_digits, push_number};
 use crate::usages::push_usages;
 use crate::words::push_size;
 use asn_names::element::Step;
@@ -253,20 +253,15 @@ pub(crate) fn push_value(
         Value::Named(identifier) => text.push_str(identifier.name),
         Value::Arcs(arcs) => text.push_str(arcs.as_str()),
         Value::Characters(octets) => push_letters(alloc, text, in_name, tag, octets),
-        Value::Octets(octets) => push_first_octets(alloc, text, octets),
+        Value::Octets(octets) => push_first_octets(text, octets),
     }
 }
 
 /// Octets in hexadecimal digits, 32 at most.
-pub(crate) fn push_first_octets(
-    alloc: Global,
-    text: &mut String,
-    octets: &[u8],
-) -> Result<(), AllocError>
+pub(crate) fn push_first_octets(text: &mut String, octets: &[u8]) -> Result<(), AllocError>
     ensures { OnOk result (string_bytes text.new ≡ string_bytes text.old ++ first_octets octets.now) }
 {
-    let digits = hex::encode(alloc, up_to(octets, MOST_OCTETS))?;
-    text.push_str(digits.as_str())?;
+    push_digits(text, up_to(octets, MOST_OCTETS))?;
     if octets.len() as u64 > MOST_OCTETS {
         return text.push_str("..");
     }
@@ -571,9 +566,9 @@ fn push_fact_value(alloc: Global, text: &mut String, line: &Line) -> Result<(), 
     match &line.value {
         Value::Octets(octets) => {
             if is_of(line, "iPAddress") {
-                push_address(alloc, text, octets)
+                push_address(text, octets)
             } else {
-                push_first_octets(alloc, text, octets)
+                push_first_octets(text, octets)
             }
         }
         value => push_value(alloc, text, false, line.tag, value),
@@ -581,11 +576,7 @@ fn push_fact_value(alloc: Global, text: &mut String, line: &Line) -> Result<(), 
 }
 
 /// An address, and in a subtree a mask after it (RFC 5280 sections 4.2.1.6, 4.2.1.10).
-pub(crate) fn push_address(
-    alloc: Global,
-    text: &mut String,
-    octets: &[u8],
-) -> Result<(), AllocError>
+pub(crate) fn push_address(text: &mut String, octets: &[u8]) -> Result<(), AllocError>
     ensures { OnOk result (string_bytes text.new ≡ string_bytes text.old ++ address_said octets.now) }
 {
     match octets {
@@ -595,47 +586,40 @@ pub(crate) fn push_address(
             text.push_str("/")?;
             push_dotted(text, *e, *f, *g, *h)
         }
-        _ => push_other_address(alloc, text, octets),
+        _ => push_other_address(text, octets),
     }
 }
 
 /// An address of sixteen octets in groups of two, others as they are.
-fn push_other_address(alloc: Global, text: &mut String, octets: &[u8]) -> Result<(), AllocError>
+fn push_other_address(text: &mut String, octets: &[u8]) -> Result<(), AllocError>
     ensures { OnOk result (string_bytes text.new ≡ string_bytes text.old
         ++ cond (length octets.now == 16) (groups octets.now) (first_octets octets.now)) }
 {
     if octets.len() == 16 {
-        push_groups(alloc, text, octets)
+        push_groups(text, octets)
     } else {
-        push_first_octets(alloc, text, octets)
+        push_first_octets(text, octets)
     }
 }
 
 /// Octets in groups of two.
-fn push_groups(alloc: Global, text: &mut String, octets: &[u8]) -> Result<(), AllocError>
+fn push_groups(text: &mut String, octets: &[u8]) -> Result<(), AllocError>
     ensures { OnOk result (string_bytes text.new ≡ string_bytes text.old ++ groups octets.now) }
 {
     let mut left = octets;
     while let [first, second, rest @ ..] = left {
-        push_group(alloc, text, *first, *second, rest.is_empty())?;
+        push_group(text, *first, *second, rest.is_empty())?;
         left = rest;
     }
     Ok(())
 }
 
 /// Two octets, and a colon where others follow.
-fn push_group(
-    alloc: Global,
-    text: &mut String,
-    first: u8,
-    second: u8,
-    is_last: bool,
-) -> Result<(), AllocError>
+fn push_group(text: &mut String, first: u8, second: u8, is_last: bool) -> Result<(), AllocError>
     ensures { OnOk result (string_bytes text.new ≡ string_bytes text.old
         ++ (encode_lower (first ∷ second ∷ []) ++ cond is_last [] (codes ":"))) }
 {
-    let digits = hex::encode(alloc, [first, second])?;
-    text.push_str(digits.as_str())?;
+    push_digits(text, &[first, second])?;
     text.push_str(if is_last { "" } else { ":" })
 }
 

@@ -146,18 +146,18 @@ pub(crate) fn note_text(alloc: Global, remark: Remark) -> Result<String, AllocEr
     ensures { IfOk result (λ text. string_bytes text ≡ remark_said remark) }
 {
     let mut text = String::new(alloc);
-    push_remark(alloc, &mut text, remark)?;
+    push_remark(&mut text, remark)?;
     Ok(text)
 }
 
 #[tactic(auto, unfolding(crate::specs::Hints::remark_said))]
-fn push_remark(alloc: Global, text: &mut String, remark: Remark) -> Result<(), AllocError>
+fn push_remark(text: &mut String, remark: Remark) -> Result<(), AllocError>
     ensures { OnOk result (string_bytes text.new ≡ string_bytes text.old ++ remark_said remark) }
 {
     match remark {
         Remark::PointSize(octets) => push_point_size(text, octets),
         Remark::PointBits => text.push_str("a point with unused bits (RFC 5480 section 2.2)"),
-        Remark::PointHybrid(octet) => push_point(alloc, text, octet),
+        Remark::PointHybrid(octet) => push_point(text, octet),
         Remark::NoNamedCurve => text.push_str(
             "id-ecPublicKey without a named curve (RFC 5480 section 2.1.1)",
         ),
@@ -194,11 +194,11 @@ fn push_point_size(text: &mut String, octets: u64) -> Result<(), AllocError>
 }
 
 #[tactic(auto, unfolding(crate::specs::Hints::point_said))]
-fn push_point(alloc: Global, text: &mut String, octet: u8) -> Result<(), AllocError>
+fn push_point(text: &mut String, octet: u8) -> Result<(), AllocError>
     ensures { OnOk result (string_bytes text.new ≡ string_bytes text.old ++ point_said octet) }
 {
     text.push_str("a point whose first octet is ")?;
-    push_octet(alloc, text, octet)?;
+    push_octet(text, octet)?;
     text.push_str(", which none of its length has (RFC 5480 section 2.2)")
 }
 

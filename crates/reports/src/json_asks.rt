@@ -538,7 +538,7 @@ fn name_text(alloc: Global, tag: Tag, value: &Value) -> Result<String, AllocErro
     let mut text = String::new(alloc);
     match value {
         Value::Characters(octets) => push_string(&mut text, tag, octets)?,
-        Value::Octets(octets) => push_address(alloc, &mut text, octets)?,
+        Value::Octets(octets) => push_address(&mut text, octets)?,
         Value::Named(identifier) => text.push_str(identifier.arcs)?,
         Value::Arcs(arcs) => text.push_str(arcs.as_str())?,
         _ => (),

@@ -240,7 +240,7 @@ fn push_exponent(alloc: Global, json: &mut JsonText, value: &Value) -> Result<()
     ensures { OnOk result (json.new ≡ json.old ++ said_member (codes "exponent") (integer_said value.now)) }
 {
     let mut text = String::new(alloc);
-    push_integer(alloc, &mut text, value)?;
+    push_integer(&mut text, value)?;
     json.said("exponent", text.as_str())
 }
 

@@ -11,7 +11,7 @@ ghost use Rattle.reports.specs.JsonLists.{tls_remark_members};
 ghost use Rattle.reports.specs.JsonLists.{remark_words};
 ghost use Rattle.reports.specs.JsonLists.{remark_members, some_members, tag_member, tag_members, value_member};
 ghost use Rattle.reports.specs.JsonLists.{value_members};
-ghost use Rattle.reports.specs.JsonMembers.{list_member, number_member, object_member, optional};
+ghost use Rattle.reports.specs.JsonMembers.{list_member, number_member, object_member, optional, said_member};
 ghost use Rattle.reports.specs.JsonWords.{class_word};
 ghost use Rattle.reports.specs.Paths.{with_step};
 ghost use Rattle.tlv_core.specs.Classes.{class_of};
@@ -489,13 +489,17 @@ pub(crate) fn push_value(
     json.end_object()
 }
 
-/// The name by which an element is in the one around it.
-fn name_of(alloc: Global, step: Step) -> Result<String, AllocError>
-    ensures { IfOk result (λ text. string_bytes text ≡ with_step [] step) }
+/// The name by which an element is in the one around it, where it has one.
+#[tactic(auto, unfolding(crate::specs::Paths::with_step))]
+fn push_line_name(alloc: Global, json: &mut JsonText, step: Step) -> Result<(), AllocError>
+    ensures { OnOk result (json.new ≡ json.old ++ said_member (codes "name") (with_step [] step)) }
 {
+    if let Step::Field(name) = step {
+        return json.said("name", name);
+    }
     let mut name = String::new(alloc);
     push_step(&mut name, step)?;
-    Ok(name)
+    json.said("name", name.as_str())
 }
 
 /// The tag of an element and whether it is constructed, where more than its place is shown.
@@ -514,11 +518,10 @@ fn push_form(json: &mut JsonText, line: &Line) -> Result<(), AllocError>
 fn push_line_members(alloc: Global, json: &mut JsonText, line: &Line) -> Result<(), AllocError>
     ensures { OnOk result (json.new ≡ json.old ++ line_members line.now) }
 {
-    let name = name_of(alloc, line.step)?;
     json.number("at", line.at)?;
     push_length(json, line.length)?;
     json.number("depth", line.depth)?;
-    json.said("name", name.as_str())?;
+    push_line_name(alloc, json, line.step)?;
     json.said("type", line.type_name)?;
     push_form(json, line)?;
     json.optional_number("end", line.end)?;

@@ -68,7 +68,7 @@ fn push_key_part(alloc: Global, text: &mut String, line: &Line) -> Result<(), Al
         return push_modulus(text, &line.value);
     }
     if is_step(line.step, "publicExponent") {
-        return push_exponent(alloc, text, &line.value);
+        return push_exponent(text, &line.value);
     }
     Ok(())
 }
@@ -130,11 +130,11 @@ fn push_bits(text: &mut String, bits: u64) -> Result<(), AllocError>
 }
 
 /// Its exponent.
-fn push_exponent(alloc: Global, text: &mut String, value: &Value) -> Result<(), AllocError>
+fn push_exponent(text: &mut String, value: &Value) -> Result<(), AllocError>
     ensures { OnOk result (string_bytes text.new ≡ string_bytes text.old ++ exponent_said value.now) }
 {
     text.push_str(", exponent ")?;
-    push_integer(alloc, text, value)
+    push_integer(text, value)
 }
 
 /// The size of a private key of RSA, where its modulus has so many bits, and the exponent where that is short.
@@ -184,18 +184,14 @@ fn number_in(value: &Value) -> Option<u64>
 }
 
 /// An INTEGER in decimal digits, a large one in hexadecimal ones.
-pub(crate) fn push_integer(
-    alloc: Global,
-    text: &mut String,
-    value: &Value,
-) -> Result<(), AllocError>
+pub(crate) fn push_integer(text: &mut String, value: &Value) -> Result<(), AllocError>
     ensures { OnOk result (string_bytes text.new ≡ string_bytes text.old ++ integer_said value.now) }
 {
     match value {
         Value::Number(number) => push_number(text, *number),
         Value::Octets(contents) => {
             text.push_str("0x")?;
-            push_first_octets(alloc, text, contents)
+            push_first_octets(text, contents)
         }
         _ => Ok(()),
     }

@@ -1,11 +1,11 @@
 //! The characters of a string: as they are where they are printable, else by their numbers.
 ghost use Rattle.std.specs.Prelude.{◌≡◌, ◌++◌, OnOk, chars, encode_utf8, flat_map, string_bytes};
 ghost use Rattle.std.specs.List.{list_any};
-ghost use Rattle.hex.specs.Hex.{encode_lower};
 ghost use Rattle.reports.specs.Letters.{are_units, by_units, by_utf8, characters, code_digits, codes_in_utf8};
 ghost use Rattle.reports.specs.Letters.{has_hidden, is_hidden, is_printable, is_special, is_string, letter, letters};
 ghost use Rattle.reports.specs.Letters.{unit, unit_code, unit_codes, units};
 
+use crate::text::push_digits;
 use std::alloc::{AllocError, Global};
 use tlv_core::tag::{Class, Tag};
 use ucd_category::{GeneralCategory, GeneralCategoryGroup};
@@ -27,7 +27,7 @@ pub(crate) fn push_letters(
 {
     let mut string = String::new(alloc);
     push_string(&mut string, tag, octets)?;
-    push_all(alloc, text, in_name, string.as_str())
+    push_all(text, in_name, string.as_str())
 }
 
 /// The characters of a string in UTF-8.
@@ -126,18 +126,18 @@ fn push_each(text: &mut String, octets: &[u8]) -> Result<(), AllocError>
     Ok(())
 }
 
-fn push_all(alloc: Global, text: &mut String, in_name: bool, string: &str) -> Result<(), AllocError>
+fn push_all(text: &mut String, in_name: bool, string: &str) -> Result<(), AllocError>
     ensures { OnOk result (string_bytes text.new ≡ string_bytes text.old
         ++ flat_map (letter in_name) (chars string.now)) }
 {
     for c in string.chars() {
-        push_letter(alloc, text, in_name, c)?;
+        push_letter(text, in_name, c)?;
     }
     Ok(())
 }
 
 #[tactic(auto, unfolding(crate::specs::Letters::letter))]
-fn push_letter(alloc: Global, text: &mut String, in_name: bool, c: char) -> Result<(), AllocError>
+fn push_letter(text: &mut String, in_name: bool, c: char) -> Result<(), AllocError>
     ensures { OnOk result (string_bytes text.new ≡ string_bytes text.old ++ letter in_name c) }
 {
     if c == '\\' || in_name && is_special(c) {
@@ -148,7 +148,7 @@ fn push_letter(alloc: Global, text: &mut String, in_name: bool, c: char) -> Resu
         return text.push(c);
     }
     text.push_str("\\u{")?;
-    push_code(alloc, text, c as u32)?;
+    push_code(text, c as u32)?;
     text.push_str("}")
 }
 
@@ -170,24 +170,17 @@ fn is_printable(c: char) -> bool
 }
 
 /// The number of a character in four hexadecimal digits, or in six.
-fn push_code(alloc: Global, text: &mut String, code: u32) -> Result<(), AllocError>
+fn push_code(text: &mut String, code: u32) -> Result<(), AllocError>
     ensures { OnOk result (string_bytes text.new ≡ string_bytes text.old ++ code_digits code) }
 {
     let first = (code / 65536 % 256) as u8;
     let second = (code / 256 % 256) as u8;
     let last = (code % 256) as u8;
     if code < 65536 {
-        push_digits(alloc, text, &[second, last])
+        push_digits(text, &[second, last])
     } else {
-        push_digits(alloc, text, &[first, second, last])
+        push_digits(text, &[first, second, last])
     }
-}
-
-fn push_digits(alloc: Global, text: &mut String, octets: &[u8]) -> Result<(), AllocError>
-    ensures { OnOk result (string_bytes text.new ≡ string_bytes text.old ++ encode_lower octets.now) }
-{
-    let digits = hex::encode(alloc, octets)?;
-    text.push_str(digits.as_str())
 }
 
 /// Whether a reader doesn't see all characters of a string, as one of them controls or formats text.

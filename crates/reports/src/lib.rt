@@ -47,9 +47,12 @@ pub mod words;
 
 use crate::report::Report;
 use crate::summaries::push_summary;
-use crate::text_listing::push_listing;
+use crate::text_listing::{SHORT, push_listing};
 use crate::text_report::{push_answer, push_answer_lines, push_head, push_notes};
 use std::alloc::{AllocError, Global};
+
+/// How many octets a line of the listing has at most, where nothing in it is long.
+const LINE_ROOM: usize = 96;
 
 /// The report in lines, each ended by a line feed: with all lines of the listing, or with those that matter; of a
 /// document that isn't in DER with up to so many places.
@@ -61,7 +64,10 @@ pub fn report_text(
 ) -> Result<String, AllocError>
     ensures { IfOk result (λ text. string_bytes text ≡ report_lines report.now all places) }
 {
-    let mut text = String::new(alloc);
+    // (so that it isn't copied while it grows)
+    let lines = report.lines.len();
+    let shown = if all { lines } else { lines.min(SHORT) };
+    let mut text = String::with_capacity(alloc, shown.saturating_mul(LINE_ROOM))?;
     push_head(&mut text, report)?;
     push_answer(&mut text, report.answer)?;
     push_summary(alloc, &mut text, report, &report.lines)?;

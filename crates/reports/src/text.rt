@@ -1,9 +1,13 @@
 //! Numbers, blanks, octets and characters in text.
-ghost use Rattle.std.specs.Prelude.{◌≡◌, ◌+◌, ◌++◌, ◌<◌, OnOk, decimal, flat_map, replicate, string_bytes};
+ghost use Rattle.std.specs.Prelude.{◌≡◌, ◌+◌, ◌++◌, ◌<◌, OnOk, decimal, flat_map, replicate, slice_index};
+ghost use Rattle.std.specs.Prelude.{string_bytes};
+ghost use Rattle.hex.specs.Hex.{encode_lower, lower_digits};
 ghost use Rattle.reports.specs.Texts.{escaped, octet_after, octet_text, octets_text, quoted};
 
 use itoa::Buffer;
-use std::alloc::{AllocError, Global};
+use std::alloc::AllocError;
+
+const DIGITS: &[u8; 16] = b"0123456789abcdef";
 
 /// A number in decimal digits.
 pub fn push_number(text: &mut String, number: u64) -> Result<(), AllocError>
@@ -49,34 +53,64 @@ pub(crate) fn push_marks(text: &mut String, mark: char, count: u64) -> Result<()
 }
 
 /// An octet in two hexadecimal digits.
-pub(crate) fn push_octet(alloc: Global, text: &mut String, octet: u8) -> Result<(), AllocError>
+#[tactic(auto, unfolding(hex::specs::Hex::encode_with))]
+pub(crate) fn push_octet(text: &mut String, octet: u8) -> Result<(), AllocError>
     ensures { OnOk result (string_bytes text.new ≡ string_bytes text.old ++ octet_text octet) }
 {
-    let digits = hex::encode(alloc, [octet])?;
-    text.push_str(digits.as_str())
+    text.push(digit(octet / 16))?;
+    text.push(digit(octet % 16))
+}
+
+/// A number below 16 as a hexadecimal digit.
+fn digit(number: u8) -> char
+    requires { number < 16 }
+    ensures is { result ≡ slice_index lower_digits number }
+    ensures ascii { result < 128 }
+{
+    char::from(DIGITS[usize::from(number)])
 }
 
 /// Octets in hexadecimal digits, a blank between each two.
-pub(crate) fn push_octets(alloc: Global, text: &mut String, octets: &[u8]) -> Result<(), AllocError>
+pub(crate) fn push_octets(text: &mut String, octets: &[u8]) -> Result<(), AllocError>
     ensures { OnOk result (string_bytes text.new ≡ string_bytes text.old
         ++ octets_text octets.now) }
 {
     let [first, rest @ ..] = octets else {
         return Ok(());
     };
-    push_octet(alloc, text, *first)?;
-    push_octets_after(alloc, text, rest)
+    push_octet(text, *first)?;
+    push_octets_after(text, rest)
 }
 
 /// Octets after others.
-fn push_octets_after(alloc: Global, text: &mut String, octets: &[u8]) -> Result<(), AllocError>
+fn push_octets_after(text: &mut String, octets: &[u8]) -> Result<(), AllocError>
     ensures { OnOk result (string_bytes text.new ≡ string_bytes text.old
         ++ flat_map octet_after octets.now) }
 {
     let mut left = octets;
     while let [octet, rest @ ..] = left {
-        text.push_str(" ")?;
-        push_octet(alloc, text, *octet)?;
+        push_octet_after(text, *octet)?;
+        left = rest;
+    }
+    Ok(())
+}
+
+/// An octet after others: a blank before it.
+pub(crate) fn push_octet_after(text: &mut String, octet: u8) -> Result<(), AllocError>
+    ensures { OnOk result (string_bytes text.new ≡ string_bytes text.old ++ octet_after octet) }
+{
+    text.push(' ')?;
+    push_octet(text, octet)
+}
+
+/// Octets in hexadecimal digits, with nothing between them.
+#[tactic(auto, unfolding(hex::specs::Hex::encode_with))]
+pub(crate) fn push_digits(text: &mut String, octets: &[u8]) -> Result<(), AllocError>
+    ensures { OnOk result (string_bytes text.new ≡ string_bytes text.old ++ encode_lower octets.now) }
+{
+    let mut left = octets;
+    while let [octet, rest @ ..] = left {
+        push_octet(text, *octet)?;
         left = rest;
     }
     Ok(())
@@ -84,33 +118,29 @@ fn push_octets_after(alloc: Global, text: &mut String, octets: &[u8]) -> Result<
 
 /// Characters between quotes.
 #[tactic(auto, unfolding(crate::specs::Texts::quoted))]
-pub fn push_quoted(alloc: Global, text: &mut String, octets: &[u8]) -> Result<(), AllocError>
+pub fn push_quoted(text: &mut String, octets: &[u8]) -> Result<(), AllocError>
     ensures { OnOk result (string_bytes text.new ≡ string_bytes text.old ++ quoted octets.now) }
 {
     text.push_str("'")?;
-    push_characters(alloc, text, octets)?;
+    push_characters(text, octets)?;
     text.push_str("'")
 }
 
 /// The octets of a character string.
-pub(crate) fn push_characters(
-    alloc: Global,
-    text: &mut String,
-    octets: &[u8],
-) -> Result<(), AllocError>
+pub(crate) fn push_characters(text: &mut String, octets: &[u8]) -> Result<(), AllocError>
     ensures { OnOk result (string_bytes text.new ≡ string_bytes text.old
         ++ flat_map escaped octets.now) }
 {
     let mut left = octets;
     while let [octet, rest @ ..] = left {
-        push_escaped(alloc, text, *octet)?;
+        push_escaped(text, *octet)?;
         left = rest;
     }
     Ok(())
 }
 
 /// An octet of a character string: printable ASCII as it is, all else by its hexadecimal digits.
-fn push_escaped(alloc: Global, text: &mut String, octet: u8) -> Result<(), AllocError>
+fn push_escaped(text: &mut String, octet: u8) -> Result<(), AllocError>
     ensures { OnOk result (string_bytes text.new ≡ string_bytes text.old ++ escaped octet) }
 {
     if octet == b'\'' {
@@ -121,7 +151,7 @@ fn push_escaped(alloc: Global, text: &mut String, octet: u8) -> Result<(), Alloc
     }
     if octet < 32 || octet > 126 {
         text.push_str("\\x")?;
-        return push_octet(alloc, text, octet);
+        return push_octet(text, octet);
     }
     text.push(char::from(octet))
 }

@@ -1,20 +1,22 @@
 //! A line of the listing: an element.
-ghost use Rattle.std.specs.Prelude.{◌≡◌, ◌-◌, ◌<◌, ◌++◌, IfOk, OnOk, decimal, length, string_bytes, take};
-ghost use Rattle.tlv_core.specs.Identifier.{identifier};
+ghost use Rattle.std.specs.Prelude.{◌≡◌, ◌-◌, ◌<◌, ◌++◌, IfOk, OnOk, decimal, flat_map, length, string_bytes, take};
 ghost use Rattle.reports.specs.Lines.{below, carets, contents_part, element_said, element_shown, end_part};
 ghost use Rattle.reports.specs.Lines.{extent_part, header_octets, header_text, length_octets, line_lines, line_start};
-ghost use Rattle.reports.specs.Lines.{name_said, number_in, padding, place_column, sized_part, type_said, unread};
-ghost use Rattle.reports.specs.Lines.{unused_part, value_part};
+ghost use Rattle.reports.specs.Lines.{name_said, number_in, place_column, sized_part, type_said, unread, unused_part};
+ghost use Rattle.reports.specs.Lines.{value_part};
+ghost use Rattle.reports.specs.Texts.{octet_after, octets_text};
 
 use crate::hints::cause_words;
 use crate::picks::is_place_alone;
 use crate::report::{Length, Line, Value};
-use crate::text::{push_between, push_marks, push_number, push_octets, push_quoted};
+use crate::text::{
+    push_between, push_marks, push_number, push_octet_after, push_octets, push_quoted,
+};
 use crate::type_words::push_tag;
 use crate::words::push_size;
 use asn_names::element::Step;
 use itoa::Buffer;
-use std::alloc::{AllocError, Global};
+use std::alloc::AllocError;
 use tlv_core::der;
 use tlv_core::tag::Tag;
 
@@ -29,7 +31,6 @@ pub(crate) struct Layout {
 /// The line of this number, and what is below it.
 #[tactic(auto, unfolding(crate::specs::Lines::line_lines))]
 pub(crate) fn push_line(
-    alloc: Global,
     text: &mut String,
     layout: Layout,
     number: u64,
@@ -38,40 +39,27 @@ pub(crate) fn push_line(
     ensures { OnOk result (string_bytes text.new ≡ string_bytes text.old
         ++ line_lines layout number line.now) }
 {
-    let octets = header_text(alloc, line)?;
-    let header = octets.as_str();
-    push_start(text, layout, line, header)?;
-    push_element(alloc, text, line)?;
+    let columns = push_start(text, layout, line)?;
+    push_element(text, line)?;
     text.push_str("\n")?;
-    push_below(text, layout, number, line, header.len() as u64)
+    push_below(text, layout, number, line, columns)
 }
 
-/// What comes before an element: its place, its header, and two blanks for each element around it.
-#[tactic(auto, unfolding(crate::specs::Lines::line_start))]
-fn push_start(
-    text: &mut String,
-    layout: Layout,
-    line: &Line,
-    header: &str,
-) -> Result<(), AllocError>
-    ensures { OnOk result (string_bytes text.new ≡ string_bytes text.old
-        ++ line_start layout line.now header.now) }
+/// What comes before an element: its place, its header, and two blanks for each element around it. The columns that its
+/// header takes.
+#[tactic(auto, unfolding(crate::specs::Lines::line_start, crate::specs::Lines::padding))]
+fn push_start(text: &mut String, layout: Layout, line: &Line) -> Result<u64, AllocError>
+    ensures start { OnOk result (string_bytes text.new ≡ string_bytes text.old
+        ++ line_start layout line.now (header_text line.now)) }
+    ensures columns { IfOk result (λ columns. columns ≡ length (header_text line.now)) }
 {
     push_place(text, layout.place, line.at)?;
-    text.push_str(header)?;
-    push_padding(text, layout.header, header)?;
+    let columns = push_header(text, line)?;
+    push_marks(text, ' ', layout.header.saturating_sub(columns))?;
+    text.push_str("  ")?;
     push_marks(text, ' ', line.depth)?;
-    push_marks(text, ' ', line.depth)
-}
-
-/// Blanks after a text up to a column, and two more.
-#[tactic(auto, unfolding(crate::specs::Lines::padding))]
-fn push_padding(text: &mut String, columns: u64, after: &str) -> Result<(), AllocError>
-    ensures { OnOk result (string_bytes text.new ≡ string_bytes text.old
-        ++ padding columns after.now) }
-{
-    push_marks(text, ' ', columns.saturating_sub(after.len() as u64))?;
-    text.push_str("  ")
+    push_marks(text, ' ', line.depth)?;
+    Ok(columns)
 }
 
 /// A place, right-aligned, and two blanks.
@@ -80,8 +68,10 @@ fn push_place(text: &mut String, width: u64, at: u64) -> Result<(), AllocError>
     ensures { OnOk result (string_bytes text.new ≡ string_bytes text.old
         ++ place_column width at) }
 {
-    push_marks(text, ' ', width.saturating_sub(digits(at)))?;
-    push_number(text, at)?;
+    let mut buffer = Buffer::new();
+    let digits = buffer.format(at);
+    push_marks(text, ' ', width.saturating_sub(digits.len() as u64))?;
+    text.push_str(digits)?;
     text.push_str("  ")
 }
 
@@ -128,40 +118,34 @@ fn push_carets(text: &mut String, place: u64, size: u64) -> Result<(), AllocErro
     push_marks(text, '^', size.max(2))
 }
 
-/// The octets of a header in hexadecimal digits; empty where they aren't shown.
-fn header_text(alloc: Global, line: &Line) -> Result<String, AllocError>
-    ensures { IfOk result (λ text. string_bytes text ≡ header_text line.now) }
+/// The octets of a header in hexadecimal digits, none where they aren't shown, and how many columns they take.
+fn push_header(text: &mut String, line: &Line) -> Result<u64, AllocError>
+    ensures header { OnOk result (string_bytes text.new ≡ string_bytes text.old
+        ++ header_text line.now) }
+    ensures columns { IfOk result (λ columns. columns ≡ length (header_text line.now)) }
 {
-    let mut text = String::new(alloc);
+    let before = text.as_str().len();
     if let Some(length) = line.length {
-        let octets = header_octets(alloc, line.tag, line.constructed, length)?;
-        push_octets(alloc, &mut text, &octets)?;
+        push_header_octets(text, line.tag, line.constructed, length)?;
     }
-    Ok(text)
+    Ok((text.as_str().len() - before) as u64)
 }
 
 /// The octets of a header (X.690 8.1.2, 8.1.3).
-fn header_octets(
-    alloc: Global,
+fn push_header_octets(
+    text: &mut String,
     tag: Tag,
     constructed: bool,
     length: Length,
-) -> Result<Vec<u8>, AllocError>
-    ensures { IfOk result (λ octets. octets.items ≡ header_octets tag constructed length) }
-{
-    let mut octets = identifier_octets(alloc, tag, constructed)?;
-    let count = length.header.saturating_sub(octets.as_slice().len() as u64);
-    push_length(&mut octets, count.min(127), length.contents)?;
-    Ok(octets)
-}
-
-/// Identifier octets (X.690 8.1.2): those of a header, without its one length octet.
-fn identifier_octets(alloc: Global, tag: Tag, constructed: bool) -> Result<Vec<u8>, AllocError>
-    ensures { IfOk result (λ octets. octets.items ≡ identifier tag constructed) }
+) -> Result<(), AllocError>
+    ensures { OnOk result (string_bytes text.new ≡ string_bytes text.old
+        ++ octets_text (header_octets tag constructed length)) }
 {
     let header = der::header(tag, constructed, 0);
-    let identifier = Vec::from_slice(alloc, but_last(header.octets()))?;
-    Ok(identifier)
+    let identifier = but_last(header.octets());
+    push_octets(text, identifier)?;
+    let count = length.header.saturating_sub(identifier.len() as u64);
+    push_length(text, count.min(127), length.contents)
 }
 
 /// All octets but the last.
@@ -174,58 +158,57 @@ fn but_last(octets: &[u8]) -> &[u8]
     }
 }
 
-/// So many length octets, which announce this.
+/// So many length octets, which announce this, after others.
 #[tactic(auto, unfolding(crate::specs::Lines::length_octets))]
-fn push_length(octets: &mut Vec<u8>, count: u64, contents: Option<u64>) -> Result<(), AllocError>
+fn push_length(text: &mut String, count: u64, contents: Option<u64>) -> Result<(), AllocError>
     requires { count < 128 }
-    ensures { OnOk result (octets.new.items ≡ octets.old.items ++ length_octets count contents) }
+    ensures { OnOk result (string_bytes text.new ≡ string_bytes text.old
+        ++ flat_map octet_after (length_octets count contents)) }
 {
     let Some(contents) = contents else {
-        octets.push(128)?;
-        return Ok(());
+        return push_octet_after(text, 128);
     };
     if count < 2 {
-        octets.push((contents % 256) as u8)?;
-        return Ok(());
+        return push_octet_after(text, (contents % 256) as u8);
     }
-    octets.push((128 + (count - 1)) as u8)?;
-    push_big_endian(octets, count - 1, contents)
+    push_octet_after(text, (128 + (count - 1)) as u8)?;
+    push_big_endian(text, count - 1, contents)
 }
 
-/// A number in so many octets, the most significant first.
-fn push_big_endian(octets: &mut Vec<u8>, count: u64, number: u64) -> Result<(), AllocError>
-    ensures { OnOk result (octets.new.items ≡ octets.old.items ++ number_in count number) }
+/// A number in so many octets, the most significant first, after others.
+fn push_big_endian(text: &mut String, count: u64, number: u64) -> Result<(), AllocError>
+    ensures { OnOk result (string_bytes text.new ≡ string_bytes text.old
+        ++ flat_map octet_after (number_in count number)) }
 {
     if count == 0 {
         return Ok(());
     }
-    push_big_endian(octets, count - 1, number / 256)?;
-    octets.push((number % 256) as u8)?;
-    Ok(())
+    push_big_endian(text, count - 1, number / 256)?;
+    push_octet_after(text, (number % 256) as u8)
 }
 
 /// An element, where more than its place is shown.
 #[tactic(auto, unfolding(crate::specs::Lines::element_said))]
-fn push_element(alloc: Global, text: &mut String, line: &Line) -> Result<(), AllocError>
+fn push_element(text: &mut String, line: &Line) -> Result<(), AllocError>
     ensures { OnOk result (string_bytes text.new ≡ string_bytes text.old
         ++ element_said line.now) }
 {
     if is_place_alone(line) {
         text.push_str("(not shown)")
     } else {
-        push_shown_element(alloc, text, line)
+        push_shown_element(text, line)
     }
 }
 
 /// An element: its name, and what is shown of it.
 #[tactic(auto, unfolding(crate::specs::Lines::element_shown))]
-fn push_shown_element(alloc: Global, text: &mut String, line: &Line) -> Result<(), AllocError>
+fn push_shown_element(text: &mut String, line: &Line) -> Result<(), AllocError>
     ensures { OnOk result (string_bytes text.new ≡ string_bytes text.old
         ++ element_shown line.now) }
 {
     push_name(text, line)?;
     push_extent(text, line)?;
-    push_value(alloc, text, line)
+    push_value(text, line)
 }
 
 /// Of a constructed element: its length and its end.
@@ -305,7 +288,7 @@ fn push_end(text: &mut String, end: Option<u64>) -> Result<(), AllocError>
 
 /// What is shown of contents.
 #[tactic(auto, unfolding(crate::specs::Lines::value_part))]
-fn push_value(alloc: Global, text: &mut String, line: &Line) -> Result<(), AllocError>
+fn push_value(text: &mut String, line: &Line) -> Result<(), AllocError>
     ensures { OnOk result (string_bytes text.new ≡ string_bytes text.old
         ++ value_part line.now) }
 {
@@ -338,7 +321,7 @@ fn push_value(alloc: Global, text: &mut String, line: &Line) -> Result<(), Alloc
             text.push_str(": ")?;
             push_tag(text, line.tag)?;
             text.push_str(" ")?;
-            push_quoted(alloc, text, octets)
+            push_quoted(text, octets)
         }
         Value::Octets(octets) => push_sized(text, line, octets.len() as u64),
     }

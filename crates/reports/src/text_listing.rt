@@ -12,7 +12,7 @@ use crate::text_lines::{Layout, digits, push_line};
 use std::alloc::{AllocError, Global};
 
 /// How many lines a listing has that is shown whole.
-const SHORT: usize = 16;
+pub(crate) const SHORT: usize = 16;
 
 /// The listing of a report, with up to so many places that aren't in DER where not all lines are shown.
 pub(crate) fn push_listing(
@@ -32,7 +32,7 @@ pub(crate) fn push_listing(
     }
     text.push_str("\n")?;
     if all {
-        return push_all(alloc, text, layout, lines);
+        return push_all(text, layout, lines);
     }
     match report.answer {
         Answer::NotDer(_) => push_causes(alloc, text, layout, lines, places),
@@ -108,17 +108,12 @@ fn header_width(line: &Line) -> u64
 }
 
 /// All lines.
-fn push_all(
-    alloc: Global,
-    text: &mut String,
-    layout: Layout,
-    lines: &[Line],
-) -> Result<(), AllocError>
+fn push_all(text: &mut String, layout: Layout, lines: &[Line]) -> Result<(), AllocError>
     ensures { OnOk result (string_bytes text.new ≡ string_bytes text.old
         ++ all_lines layout 0 lines.now) }
 {
     for number in 0..lines.len() {
-        push_line(alloc, text, layout, number as u64, &lines[number])?;
+        push_line(text, layout, number as u64, &lines[number])?;
     }
     Ok(())
 }
@@ -137,7 +132,7 @@ fn push_causes(
 {
     let others = causes(lines).saturating_sub(places);
     let numbers = picked(alloc, lines, Pick::Causes, others)?;
-    push_listed(alloc, text, layout, lines, numbers, false)?;
+    push_listed(text, layout, lines, numbers, false)?;
     push_others(text, others)
 }
 
@@ -154,19 +149,18 @@ fn push_some(
         ++ some_listing layout lines.now) }
 {
     if lines.len() <= SHORT {
-        return push_all(alloc, text, layout, lines);
+        return push_all(text, layout, lines);
     }
     let fault = match layout.fault {
         Some(fault) => fault,
         None => lines.len() as u64 - 1,
     };
     let numbers = picked(alloc, lines, Pick::Fault(fault), 0)?;
-    push_listed(alloc, text, layout, lines, numbers, true)
+    push_listed(text, layout, lines, numbers, true)
 }
 
 /// The lines of these numbers, of which the first one comes last, and how many lines are left out between them.
 fn push_listed(
-    alloc: Global,
     text: &mut String,
     layout: Layout,
     lines: &[Line],
@@ -180,7 +174,7 @@ fn push_listed(
     let mut last = 0;
     while let Some(number) = left.pop() {
         push_gap(text, layout, gaps, last, number)?;
-        push_line_at(alloc, text, layout, lines, number)?;
+        push_line_at(text, layout, lines, number)?;
         last = number;
     }
     push_gap(text, layout, gaps, last, lines.len() as u64)
@@ -188,7 +182,6 @@ fn push_listed(
 
 /// The line of this number.
 fn push_line_at(
-    alloc: Global,
     text: &mut String,
     layout: Layout,
     lines: &[Line],
@@ -198,7 +191,7 @@ fn push_line_at(
         ++ line_at layout lines.now number) }
 {
     match line_of(lines, number) {
-        Some(line) => push_line(alloc, text, layout, number, line),
+        Some(line) => push_line(text, layout, number, line),
         None => Ok(()),
     }
 }

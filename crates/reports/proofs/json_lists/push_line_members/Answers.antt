@@ -1,4 +1,4 @@
-use Rattle.std.proofs.Common.{[], ◌++◌, ◌∙◌, ap, codes}
+use Rattle.std.proofs.Common.{[], ◌++◌, codes}
 use Rattle.reports.specs.JsonLists.{carried_member, form_members, length_members, line_members, value_member}
 use Rattle.reports.specs.JsonMembers.{number_member, optional, said_member}
 use Rattle.reports.specs.Paths.{with_step}
@@ -17,16 +17,15 @@ returns c =
     let type = said_member (codes "type") line.type_name.now in
     let form = form_members line in
     let end = optional (number_member (codes "end")) line.end in
-    let named = c.in_ok-said.ensures
-    ∙ ap (λ w. c.number-2.new.self ++ said_member (codes "name") w) (c.as_str.ensures.value ∙ c.in_ok-name.ensures) in
     let two = further c.push_length.new.json c.number.new.self old at header
     c.in_ok-number.ensures c.in_ok-push_length.ensures in
     let three = further c.number-2.new.self c.push_length.new.json old (at ++ header) depth
     two c.in_ok-number-2.ensures in
-    let four = further c.said.new.self c.number-2.new.self old (at ++ header ++ depth) name three named in
-    let five = further c.said-2.new.self c.said.new.self old (at ++ header ++ depth ++ name) type
-    four c.in_ok-said-2.ensures in
-    let six = further c.push_form.new.json c.said-2.new.self old (at ++ header ++ depth ++ name ++ type) form
+    let four = further c.push_line_name.new.json c.number-2.new.self old (at ++ header ++ depth) name
+    three c.in_ok-push_line_name.ensures in
+    let five = further c.said.new.self c.push_line_name.new.json old (at ++ header ++ depth ++ name) type
+    four c.in_ok-said.ensures in
+    let six = further c.push_form.new.json c.said.new.self old (at ++ header ++ depth ++ name ++ type) form
     five c.in_ok-push_form.ensures in
     let seven = further c.optional_number.new.self c.push_form.new.json old
     (at ++ header ++ depth ++ name ++ type ++ form) end six c.in_ok-optional_number.ensures in
