@@ -1,7 +1,8 @@
 #!/bin/sh
 # build.sh: proves crates/pkder_c and makes libpkder.a, libpkder.so.0 and pkder.pc in interface/out, and in its folder
-# musl the shared library for musl. It takes no words; tools/build.py calls it once `rt ci` has proved every crate. By
-# the environment:
+# musl the shared library for musl. It takes no words; tools/build.py calls it once `rt ci` has proved every crate. With
+# LIBRARIES=proved, for any x86-64, it leaves there what the compiler hands to clang, too, as module.bc: interface/web
+# makes its module of that. By the environment:
 #   HEAP=wiping       heap_wiping.c in the place of the toolchain's heap: it wipes what it frees, and isn't proved
 #   CPU=x86-64        the processor; x86-64-v2 or x86-64-v3 for later ones alone (nothing looks at the one it runs on)
 #   LIBRARIES=proved  over the libraries as `rt ci` left them just before, where `rt lib` proves them all again
@@ -29,17 +30,23 @@ kit=$(dirname "$(rt doc)")
 compiled() (
     cd "$crate" && mkdir -p out || exit
     if [ "${LIBRARIES:-}" = proved ]; then
-        over_proved "$here/.." pkder_c "$kit/toolchain" "$crate/out/libpkder_c.a" --cpu "${CPU:-x86-64}" && exit
+        keeping_toolchain "$work/toolchain" "$work/module.bc"
+        over_proved "$here/.." pkder_c "$work/toolchain" "$crate/out/libpkder_c.a" --cpu "${CPU:-x86-64}" && exit
         echo "build.sh: the libraries of crates/ can't be taken as they are, so rt proves them"
     fi
     rt lib --cpu "${CPU:-x86-64}"
 )
 
 mkdir -p "$out"
-compiled > "$out/lib.log" 2>&1 || { cat "$out/lib.log" >&2 && exit 1; }
+rm -f "$out/module.bc"
 work=$(mktemp -d)
 trap 'rm -rf "$work"' EXIT
-cd "$work"
+compiled > "$out/lib.log" 2>&1 || { cat "$out/lib.log" >&2 && exit 1; }
+if [ "${CPU:-x86-64}" = x86-64 ] && [ -f "$work/module.bc" ]; then
+    mv "$work/module.bc" "$out"
+fi
+mkdir "$work/objects"
+cd "$work/objects"
 ar x "$crate/out/libpkder_c.a"
 if [ "${HEAP:-}" = wiping ]; then
     cc -O2 -Wall -Wextra -fPIC -fvisibility=hidden -c -o heap.pic.o "$here/heap_wiping.c"

@@ -1,8 +1,8 @@
 """The library and the program as modules of WebAssembly, and what is made of them: the page, and the package for npm.
 
-interface/web/build.sh leaves the library's module and the page. Of the program release/static_program.sh leaves what
-the compiler handed to clang, of which interface/npm/build.sh makes the module. Both are compiled by the proofs that
-serve other targets (interface/compile.sh)."""
+interface/web/build.sh leaves the library's module and the page, of what clang was handed when tools/build.py had the
+library made. Of the program release/static_program.sh leaves what clang was handed, of which
+interface/npm/build.sh makes the module."""
 import os
 import shutil
 import subprocess
@@ -12,9 +12,17 @@ from release.packing import NUMBER, TOP
 from release.targets import OUT, X86_64, Part
 from tools import build
 
+MODULE = f"{TOP}/interface/out/module.bc"
+
+
+def told():
+    """What interface/web/build.sh is told: the library as clang was handed it, where that stands."""
+    return {"MODULE": MODULE} if os.path.isfile(MODULE) and build.stands() else {}
+
+
 WEB = Part(["interface/web/build.sh"], f"{TOP}/interface/web/out", ("pkder.wasm", "pkder.html"),
            ["interface/web", "interface/pkder.map", "interface/pkder.h", "interface/pkder.pc.in"],
-           [["wasm-opt", "--version"]])
+           [["wasm-opt", "--version"]], told)
 LIBRARY, PAGE = WEB.files
 PROGRAM = f"{OUT}/program.bc"
 # what makes these

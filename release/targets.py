@@ -22,10 +22,10 @@ def sum_of_files(*below):
 
 class Part:
     """What a script makes of the crates, beside what tools/build.py makes of them; a text beside it says of what, and
-    what these commands say of the tools that it takes."""
+    what these commands say of the tools that it takes. `told` gives what it finds in its environment."""
 
-    def __init__(self, words, folder, files, sources, tools=()):
-        self.words, self.sources, self.tools = words, (words[0], *sources), tools
+    def __init__(self, words, folder, files, sources, tools=(), told=dict):
+        self.words, self.sources, self.tools, self.told = words, (words[0], *sources), tools, told
         self.made_by = f"{folder}/MADE-BY-{files[0]}"
         self.files = [f"{folder}/{it}" for it in files]
 
@@ -53,7 +53,8 @@ class Part:
         if self.stands():
             return
         print(f"release: {' '.join(self.words)}: a minute or two, or ten where no proof is kept", flush=True)
-        subprocess.run(["sh", *(f"{TOP}/{it}" for it in self.words[:1]), *self.words[1:]], check=True)
+        words = ["sh", *(f"{TOP}/{it}" for it in self.words[:1]), *self.words[1:]]
+        subprocess.run(words, env={**os.environ, **self.told()}, check=True)
         packing.write(self.made_by, self.text())
 
 
