@@ -1,3 +1,4 @@
 pub mod CommandLines
 pub mod OneCommand
 pub mod PlainTexts
+pub mod Tables

@@ -8,7 +8,7 @@ use Rattle.std.specs.Str.{bytes_eq, chars}
 use Rattle.std.specs.Str.Parse.{IsNumeral, digits_value, without_leading_plus}
 use Rattle.clap.specs.Words.{App, IsAmong, Row, Rule, Shape, Text, all_of, fault_of, first_of, new_app, new_rule, subcommand_of, with_rule, with_subcommand}
 use Rattle.clap.specs.Simple.{on_top}
-use Rattle.clap.specs.declared.builder.action.ArgAction.TheVariants.{Append, SetTrue}
+use Rattle.clap.specs.declared.builder.action.ArgAction.TheVariants.{Append, Set, SetTrue}
 use Rattle.clap.specs.declared.error.kind.ErrorKind.{ErrorKind}
 use Rattle.clap.specs.declared.error.kind.ErrorKind.TheVariants as errors
 use Rattle.tlv_core.specs.Limits.{IsLimits, Limits}
@@ -44,9 +44,12 @@ use Rattle.comparison.specs.declared.same.Style.TheVariants.{Json, Text as TextF
 
 -- ---- the options: their names, and what stands for one that isn't given
 
+-- an option with a value
+abbrev pub option_rule : Text → Rule
+option_rule name = record (new_rule name) { long = Some name; action = Some Set; value_names = 1 }
+
 abbrev pub kind_rule : Rule
-kind_rule =
-    record (new_rule (codes "kind")) { long = Some (codes "kind"); short = Some 107; value_names = 1; required = true }
+kind_rule = record (option_rule (codes "kind")) { short = Some 107; required = true }
 
 -- the kind of a command that finds it by itself with `--any`
 abbrev pub optional_kind_rule : Rule
@@ -56,118 +59,89 @@ optional_kind_rule = record kind_rule { required = false }
 abbrev pub request_rule : Rule
 request_rule = record kind_rule { required = false; defaults = word_of kinds.Request ∷ [] }
 
+-- the kind of two documents, or the kinds of both
+abbrev pub pair_kinds_rule : Rule
+pair_kinds_rule = record kind_rule { action = Some Append }
+
 abbrev pub part_rule : Rule
-part_rule =
-    record (new_rule (codes "part")) { long = Some (codes "part"); value_names = 1; defaults = codes "info" ∷ [] }
+part_rule = record (option_rule (codes "part")) { defaults = codes "info" ∷ [] }
 
 abbrev pub depth_rule : Rule
-depth_rule =
-    record (new_rule (codes "depth")) { long = Some (codes "depth"); value_names = 1; defaults = codes "32" ∷ [] }
+depth_rule = record (option_rule (codes "depth")) { defaults = codes "32" ∷ [] }
 
 abbrev pub octets_rule : Rule
-octets_rule = record
-    (new_rule (codes "octets")) { long = Some (codes "octets"); value_names = 1; defaults = codes "1048576" ∷ [] }
+octets_rule = record (option_rule (codes "octets")) { defaults = codes "1048576" ∷ [] }
 
 abbrev pub places_rule : Rule
-places_rule =
-    record (new_rule (codes "places")) { long = Some (codes "places"); value_names = 1; defaults = codes "100" ∷ [] }
+places_rule = record (option_rule (codes "places")) { defaults = codes "100" ∷ [] }
 
 -- the level of notes that no document is to have
 abbrev pub refuse_rule : Rule
-refuse_rule = record (new_rule (codes "refuse")) { long = Some (codes "refuse"); value_names = 1 }
+refuse_rule = option_rule (codes "refuse")
 
 -- what a document is for
 abbrev pub profile_rule : Rule
-profile_rule = record (new_rule (codes "profile")) { long = Some (codes "profile"); value_names = 1 }
+profile_rule = option_rule (codes "profile")
 
 abbrev pub flag_rule : Text → Rule
 flag_rule name = record (new_rule name) { long = Some name; action = Some SetTrue }
 
--- an option whose value names a file
-abbrev pub file_rule : Text → Rule
-file_rule name = record (new_rule name) { long = Some name; value_names = 1 }
-
 -- the name of a file, and the names of any number of them
 abbrev pub name_rule : Rule
-name_rule = record (new_rule (codes "file")) { value_names = 1 }
+name_rule = record (new_rule (codes "file")) { action = Some Set; value_names = 1 }
 
 abbrev pub names_rule : Rule
 names_rule = record name_rule { action = Some Append }
 
 -- the name of a file that has to be given
 abbrev pub required_rule : Text → Rule
-required_rule id = record (new_rule id) { value_names = 1; required = true }
-
--- the kind of two documents, or the kinds of both
-abbrev pub pair_kinds_rule : Rule
-pair_kinds_rule = record kind_rule { action = Some Append }
+required_rule id = record name_rule { id = id; required = true }
 
 -- ---- the commands
 
-abbrev pub with_limit_rules : App → App
-with_limit_rules app = with_rule (with_rule app depth_rule) octets_rule
+abbrev pub limit_rules : List Rule
+limit_rules = depth_rule ∷ octets_rule ∷ []
 
-abbrev pub on_kind : Text → App
-on_kind name = with_limit_rules (with_rule (new_app name) kind_rule)
+-- of a command that finds out the kind by itself with `--any`
+abbrev pub any_rules : List Rule
+any_rules = optional_kind_rule ∷ flag_rule (codes "any") ∷ limit_rules
 
-abbrev pub with_flag : App → Text → App
-with_flag app name = with_rule app (flag_rule name)
+-- any number of files, which may have documents one behind another, and perhaps a sum
+abbrev pub names_rules : List Rule
+names_rules = option_rule (codes "files0-from") ∷ flag_rule (codes "sum") ∷ flag_rule (codes "each") ∷ names_rule ∷ []
 
-abbrev pub with_kind_or_any : App → App
-with_kind_or_any app = with_limit_rules (with_flag (with_rule app optional_kind_rule) (codes "any"))
+-- one file, and another one that is written
+abbrev pub name_rules : List Rule
+name_rules = option_rule (codes "to") ∷ name_rule ∷ []
 
-abbrev pub on_kind_or_any : Text → App
-on_kind_or_any name = with_kind_or_any (new_app name)
-
--- of any number of files, which may have documents one behind another, and perhaps with a sum
-abbrev pub with_names : App → App
-with_names app =
-    with_rule (with_flag (with_flag (with_rule app (file_rule (codes "files0-from"))) (codes "sum")) (codes "each"))
-    names_rule
-
--- of one file, and into another
-abbrev pub with_name : App → App
-with_name app = with_rule (with_rule app (file_rule (codes "to"))) name_rule
-
--- with objects of JSON, and a number of places that aren't in DER
-abbrev pub with_json_and_places : App → App
-with_json_and_places app = with_rule (with_flag app (codes "json")) places_rule
-
--- with notes, with those that no document is to have, and with a profile
-abbrev pub with_notes : App → App
-with_notes app = with_rule (with_rule (with_flag app (codes "notes")) refuse_rule) profile_rule
+-- a command with these options and files
+abbrev pub command_of : Text → List Rule → Shape
+command_of name rules = record (new_app name).top { rules = rules }
 
 abbrev pub check_shape : Shape
-check_shape =
-    (with_names (with_json_and_places (with_notes (with_flag (on_kind_or_any (codes "check")) (codes "quiet"))))).top
-
--- with the answer for whoever sent the file alone, or with a profile
-abbrev pub with_brief : App → App
-with_brief app = with_rule (with_flag app (codes "brief")) profile_rule
+check_shape = command_of (codes "check") (any_rules
+    ++ (flag_rule (codes "quiet") ∷ flag_rule (codes "notes") ∷ refuse_rule ∷ profile_rule ∷ [])
+    ++ (flag_rule (codes "json") ∷ places_rule ∷ names_rules))
 
 abbrev pub explain_shape : Shape
-explain_shape =
-    (with_names (with_json_and_places (with_brief (with_flag (on_kind_or_any (codes "explain")) (codes "all"))))).top
+explain_shape = command_of (codes "explain") (any_rules
+    ++ (flag_rule (codes "all") ∷ flag_rule (codes "brief") ∷ profile_rule ∷ [])
+    ++ (flag_rule (codes "json") ∷ places_rule ∷ names_rules))
 
 abbrev pub show_shape : Shape
-show_shape = (with_names (with_flag (on_kind_or_any (codes "show")) (codes "json"))).top
+show_shape = command_of (codes "show") (any_rules ++ flag_rule (codes "json") ∷ names_rules)
 
 -- of two documents of a kind, or of two kinds
-abbrev pub on_kinds : Text → App
-on_kinds name = with_limit_rules (with_rule (new_app name) pair_kinds_rule)
-
-abbrev pub with_pair : App → App
-with_pair app = with_rule (with_rule app (required_rule (codes "first"))) (required_rule (codes "second"))
-
 abbrev pub same_shape : Shape
-same_shape = (with_pair (with_flag (with_flag (on_kinds (codes "same")) (codes "key")) (codes "json"))).top
+same_shape = command_of (codes "same") (pair_kinds_rule ∷ limit_rules
+    ++ (flag_rule (codes "key") ∷ flag_rule (codes "json") ∷ [])
+    ++ (required_rule (codes "first") ∷ required_rule (codes "second") ∷ []))
 
 abbrev pub normalise_shape : Shape
-normalise_shape = (with_name (on_kind (codes "normalise"))).top
+normalise_shape = command_of (codes "normalise") (kind_rule ∷ limit_rules ++ name_rules)
 
 abbrev pub signed_shape : Shape
-signed_shape =
-    (with_name (with_limit_rules (with_rule (with_rule (new_app (codes "signed")) part_rule) request_rule))).top
+signed_shape = command_of (codes "signed") (part_rule ∷ request_rule ∷ limit_rules ++ name_rules)
 
 abbrev pub top : App
 top = on_top (λ s. record s { has_version = true; subcommand_required = true }) (new_app (codes "pkder"))

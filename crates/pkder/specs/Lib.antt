@@ -1,3 +1,4 @@
 pub mod CommandLines
 pub mod NewFiles
 pub mod Responses
+pub mod Tables

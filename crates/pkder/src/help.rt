@@ -1,5 +1,30 @@
 //! What help says after the options.
 
+/// A command, as far as help has a text of it.
+#[derive(Clone, Copy)]
+pub enum Topic {
+    Check,
+    Explain,
+    Show,
+    Same,
+    Normalise,
+    Signed,
+}
+
+impl Topic {
+    /// What help says of it after its options.
+    pub fn text(self) -> &'static str {
+        match self {
+            Topic::Check => CHECK,
+            Topic::Explain => EXPLAIN,
+            Topic::Show => SHOW,
+            Topic::Same => SAME,
+            Topic::Normalise => NORMALISE,
+            Topic::Signed => SIGNED,
+        }
+    }
+}
+
 pub const PROGRAM: &str = "\
 Kinds, by the line that their PEM files begin with:
   key        BEGIN PRIVATE KEY: PKCS #8, RFC 5958 (or pkcs8)
@@ -29,7 +54,7 @@ with the notes of what a certificate of a TLS
 server may not have (Baseline Requirements of the
 CA/Browser Forum): tls";
 
-pub const CHECK: &str = "\
+const CHECK: &str = "\
 It says 'DER', 'not DER at PLACE' (status 1) or 'fault at PLACE: REASON'
 (status 2), of a file after its name. Kinds and statuses: pkder help.
 
@@ -46,20 +71,20 @@ with --notes, and those for TLS servers after them.
   pkder check --kind request --refuse must request.der
   pkder check --kind request --refuse tls request.der";
 
-pub const EXPLAIN: &str = "\
+const EXPLAIN: &str = "\
 The report has no octets of private keys and no values of attributes. It is
 written of a document that is refused, too. Kinds and statuses: pkder help.
 
   pkder explain --kind request request.der
   pkder explain --kind request --profile tls request.der";
 
-pub const SHOW: &str = "\
+const SHOW: &str = "\
 It shows all that is in the document but private octets, as the
 challengePassword of a request. Kinds and statuses: pkder help.
 
   pkder show --kind request request.der";
 
-pub const SAME: &str = "\
+const SAME: &str = "\
 It says 'the same document', or 'another document:' (status 1) and the fields
 that differ, with what each has there; of what is private the number of octets
 alone. A document that is refused (status 2) is never the same as another.
@@ -72,13 +97,13 @@ is computed, and no public key is held against its private one.
   pkder same --kind request request.der new.der
   pkder same --key --kind key --kind ec key.der ec.der";
 
-pub const NORMALISE: &str = "\
+const NORMALISE: &str = "\
 It is binary, and private where the document is: send it to a file, and never
 by > into the one that is read. Kinds and statuses: pkder help.
 
   pkder normalise --kind key key.der > new.der";
 
-pub const SIGNED: &str = "\
+const SIGNED: &str = "\
 Parts of a request (RFC 2986 section 4), all of them binary:
   info       what the signature covers: certificationRequestInfo in DER
   algorithm  signatureAlgorithm in DER

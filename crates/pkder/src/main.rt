@@ -7,6 +7,7 @@
 //! gives.
 #![tactic(auto)]
 
+mod arguments;
 mod command;
 mod help;
 mod line;
