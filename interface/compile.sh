@@ -6,7 +6,8 @@
 # the libraries that stand in TOP/crates, with the clang of the folder TOOLCHAIN, for the target and the processor that
 # the flags name. What is proved is kept in crates/CRATE/out/kept, and the call for another target takes from there
 # what still is of these sources. Whoever can write to that folder is trusted (incremental=trusted). `rt ci` and
-# tools/build.py remove it.
+# tools/build.py remove it. It is one job, since each further one takes more of a processor: of tlv_core, four took
+# half as much again.
 over_proved() (
     root=$1 crate=$2 toolchain=$3 made=$4
     shift 4
@@ -24,7 +25,7 @@ over_proved() (
         set -- "$@" -L "dependency=$folder"
     done
     cd "$root/crates/$crate" && mkdir -p out || exit
-    "$kit/bin/rattle" build --crate-name "$crate" "$@" --links "$crate=" --jobs "$(nproc)" \
+    "$kit/bin/rattle" build --crate-name "$crate" "$@" --links "$crate=" --jobs 1 \
         --extern "std=$kit/rlibs/std.rlib" -L "dependency=$kit/rlibs" --toolchain "$toolchain" \
         --antt-project "$kit/rattle/logic/antt-project.json" --logic-built "$kit/logic_built" \
         --incremental out/kept --backend llvm -o "$made"
