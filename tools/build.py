@@ -35,7 +35,7 @@ SECONDS = {"tlv_core": 120, "x690": 10, "x690_laws": 70, "pkix_definitions": 20,
            "ber_pull": 290, "asn_elements": 280, "ber_outline": 60, "asn_names": 300, "reports": 1100,
            "asn_fields": 280, "asn_lists": 240, "asn_open_values": 180, "asn_documents": 120,
            "pkix_values": 460, "pkcs10": 160, "private_keys": 190, "pkcs8": 370, "pk_documents": 320,
-           "pk_show": 250, "explain": 900, "comparison": 330, "commands": 300, "pkder": 300, "pkder_c": 240,
+           "pk_show": 250, "explain": 900, "comparison": 330, "commands": 750, "pkder": 300, "pkder_c": 240,
            "rows": 400}
 OTHERS, LIBRARY, FIRST = 250, 200, 300
 
